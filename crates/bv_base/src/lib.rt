@@ -1,0 +1,10 @@
+//! What every crate of Volutecress stands on: places in a text, statuses, lists and byte strings that contracts
+//! read as lists, the classes of bytes of the style language, and the files and sinks of a run.
+#![tactic(auto)]
+
+pub mod bytes;
+pub mod memory;
+pub mod place;
+pub mod seq;
+pub mod status;
+pub mod text;

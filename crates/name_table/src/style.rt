@@ -1,0 +1,101 @@
+//! A style as it has been read.
+
+use crate::names::{NameId, Names};
+use bv_base::place::Place;
+use bv_base::seq::Seq;
+use bv_base::text::Text;
+
+/// A body of a function or a block, as its number in `Style::bodies`.
+#[derive(Clone, Copy, Debug, PartialEq, Eq)]
+pub struct BodyId(pub u32);
+
+/// A text of a body, as its number in `Style::texts`.
+#[derive(Clone, Copy, Debug, PartialEq, Eq)]
+pub struct TextId(pub u32);
+
+/// One token of a body.
+#[derive(Clone, Copy, Debug, PartialEq, Eq)]
+pub enum Token {
+    /// An integer, which is pushed.
+    Int(i32),
+    /// A text, which is pushed.
+    Str(TextId),
+    /// A quoted name, whose function is pushed.
+    Quote(NameId),
+    /// A block in braces, whose function is pushed.
+    Block(BodyId),
+    /// A name, which is called.
+    Call(NameId),
+}
+
+/// A token with the place of its first byte.
+#[derive(Clone, Copy, Debug, PartialEq, Eq)]
+pub struct TokenAt {
+    pub token: Token,
+    pub place: Place,
+}
+
+/// The tokens between two braces.
+#[derive(Debug, Drop)]
+pub struct Body {
+    pub tokens: Seq<TokenAt>,
+    /// The block's number, and `None` for the body of a FUNCTION command. Blocks are numbered from 0 in the order
+    /// of their opening braces.
+    pub block: Option<u32>,
+    /// The place of the opening brace.
+    pub place: Place,
+}
+
+/// A command of a style. Declarations are known by the names and bodies that they made.
+#[derive(Clone, Copy, Debug, PartialEq, Eq)]
+pub enum Command {
+    Entry,
+    Execute(NameId),
+    Function(NameId),
+    Integers,
+    Iterate(NameId),
+    Macro,
+    Read,
+    Reverse(NameId),
+    Sort,
+    Strings,
+}
+
+/// A command with the place of its first byte.
+#[derive(Clone, Copy, Debug, PartialEq, Eq)]
+pub struct CommandAt {
+    pub command: Command,
+    pub place: Place,
+}
+
+/// A macro of a style: its lowered name, and its value without the marks.
+#[derive(Debug, Drop)]
+pub struct Macro {
+    pub name: Text,
+    pub value: Text,
+}
+
+/// A style as it has been read.
+#[derive(Drop)]
+pub struct Style {
+    pub names: Names,
+    /// The commands in order, declarations included.
+    pub commands: Seq<CommandAt>,
+    /// The bodies of functions and blocks, in the order of their opening braces.
+    pub bodies: Seq<Body>,
+    /// The texts of the bodies, in order and without their marks.
+    pub texts: Seq<Text>,
+    /// The MACRO commands, in order.
+    pub macros: Seq<Macro>,
+}
+
+/// What `call.type$` enters for an entry's type.
+#[derive(Clone, Copy, Debug, PartialEq, Eq)]
+pub enum TypeTarget {
+    /// The function of the type's name.
+    Function(NameId),
+    /// `default.type`.
+    Default(NameId),
+    /// `skip$`, where neither is there.
+    Skip,
+}
