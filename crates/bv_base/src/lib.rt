@@ -3,8 +3,10 @@
 #![tactic(auto)]
 
 pub mod bytes;
+pub mod files;
 pub mod memory;
 pub mod place;
 pub mod seq;
+pub mod sink;
 pub mod status;
 pub mod text;
