@@ -1,3 +1,4 @@
 pub mod Bytes
+pub mod Levels
 pub mod Outside
 pub mod Status
