@@ -1,5 +1,5 @@
 -- What a run sees of files and sinks (docs/COMMANDS.md, "Files and sinks").
-use Rattle.std.specs.Prelude.{◌≡◌, ℕ, ◌<◌, ◌⊎◌, Bool, true, false, List, ◌++◌, Option, Some, None, Result, Ok, Err}
+use Rattle.std.specs.Prelude.{◌≡◌, ℕ, ◌+◌, ◌<◌, ◌⊎◌, length, drop, IsSomeAnd, Bool, true, false, List, ◌++◌, Option, Some, None, Result, Ok, Err}
 use Rattle.std.specs.FinMap.{FinMap}
 use Rattle.std.specs.Ordering.{nat_cmp}
 use Rattle.std.specs.Cmp.Lexicographic.{slice_cmp}
@@ -30,3 +30,14 @@ Rose old new = (old < new) ⊎ (new ≡ 18446744073709551615)
 abbrev pub appended : Option (List ℕ) → List ℕ → Option (List ℕ)
 appended None bytes = None
 appended (Some written) bytes = Some (written ++ bytes)
+
+-- what was begun last, where a file of this name was there, and where none was
+abbrev pub opened : List ℕ → Option Begun
+opened name = Some (record { name = name; absent = false })
+
+abbrev pub missing : List ℕ → Option Begun
+missing name = Some (record { name = name; absent = true })
+
+-- a file that is there has more bytes than the limit, and one byte more than the limit of them was read
+abbrev pub IsReadPast : ℕ → Option (List ℕ) → List ℕ → Type 0
+IsReadPast limit file rest = IsSomeAnd file (λ bytes. (limit < length bytes) × (rest ≡ drop (limit + 1) bytes))
