@@ -1,0 +1,4 @@
+pub mod AddPeriod
+pub mod Blank
+pub mod IntToStr
+pub mod Substring

@@ -1,0 +1,7 @@
+//! What the built-in functions on texts make of a text (docs/TEXTS.md).
+#![tactic(auto)]
+
+pub mod add_period;
+pub mod int_to_str;
+pub mod is_blank;
+pub mod substring;
