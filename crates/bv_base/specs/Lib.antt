@@ -1,4 +1,7 @@
 pub mod Bytes
+pub mod HostView
 pub mod Levels
+pub mod Memory
+pub mod MemoryView
 pub mod Outside
 pub mod Status

@@ -1,6 +1,6 @@
 //! The files that a run reads, as a trait: the same code reads real files and files in memory.
 
-ghost use Rattle.std.specs.Prelude.{◌≡◌, ◌≢◌, ℕ, ◌<◌, ◌≤◌, List, [], ◌++◌, take, length, Option, Some, None, is_err, OnOk, OnErr, IfOk, IfSome, IsErrOf, ◌==◌};
+ghost use Rattle.std.specs.Prelude.{◌≡◌, ℕ, ◌<◌, ◌≤◌, List, [], ◌++◌, take, length, Option, Some, None, OnOk, OnErr, IfOk, IfSome, IsErrOf};
 ghost use Rattle.std.specs.FinMap.{get};
 ghost use Rattle.bv_base.specs.Outside.{Listing, Begun, Rose, begun_by};
 

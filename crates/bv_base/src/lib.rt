@@ -4,6 +4,10 @@
 
 pub mod bytes;
 pub mod files;
+pub mod host_files;
+pub mod host_sink;
+pub mod mem_files;
+pub mod mem_sink;
 pub mod memory;
 pub mod place;
 pub mod read_file;

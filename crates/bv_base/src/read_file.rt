@@ -1,6 +1,6 @@
 //! Reading a whole file within a limit.
 
-ghost use Rattle.std.specs.Prelude.{◌≡◌, ◌+◌, ◌<◌, ◌≤◌, ◌⊎◌, ◌++◌, None, Some, length, drop, vec_len, OnOk, IfOk, IfSome, IsErrOf};
+ghost use Rattle.std.specs.Prelude.{◌≡◌, ◌+◌, ◌<◌, ◌≤◌, ◌⊎◌, None, Some, vec_len, OnOk, IfOk, IfSome, IsErrOf};
 ghost use Rattle.std.specs.FinMap.{get};
 ghost use Rattle.bv_base.specs.Outside.{Rose, opened, missing, IsReadPast};
 
