@@ -1,0 +1,3 @@
+pub mod Defining
+pub mod Names
+pub mod TypeTarget

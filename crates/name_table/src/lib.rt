@@ -4,4 +4,7 @@
 
 pub mod builtin;
 pub mod names;
+pub mod opening;
 pub mod style;
+#[cfg(test)]
+mod tests;

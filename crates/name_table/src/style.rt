@@ -1,5 +1,8 @@
 //! A style as it has been read.
 
+ghost use Rattle.std.specs.Prelude.{◌≡◌};
+ghost use Rattle.name_table.specs.TypeTarget.{stands_before_read, target_of, type_function};
+
 use crate::names::{NameId, Names};
 use bv_base::place::Place;
 use bv_base::seq::Seq;
@@ -98,4 +101,47 @@ pub enum TypeTarget {
     Default(NameId),
     /// `skip$`, where neither is there.
     Skip,
+}
+
+impl Style {
+    /// What `call.type$` enters for a lowered type: the function of that name whose FUNCTION command stands before
+    /// READ, else `default.type` where it so stands, else `skip$`.
+    pub fn type_target(&self, entry_type: &[u8]) -> TypeTarget
+        ensures { result ≡ target_of entry_type.now self.now }
+    {
+        if let Some(id) = self.type_function(entry_type) {
+            return TypeTarget::Function(id);
+        }
+        match self.type_function(b"default.type") {
+            Some(id) => TypeTarget::Default(id),
+            None => TypeTarget::Skip,
+        }
+    }
+
+    /// The function of this name whose FUNCTION command stands before READ.
+    fn type_function(&self, name: &[u8]) -> Option<NameId>
+        ensures { result ≡ type_function name.now self.now }
+    {
+        let id = self.names.find(name)?;
+        if stands_before_read(self.commands.as_slice(), id) {
+            Some(id)
+        } else {
+            None
+        }
+    }
+}
+
+/// Whether a FUNCTION command of this name stands before a READ command.
+fn stands_before_read(commands: &[CommandAt], id: NameId) -> bool
+    ensures { result ≡ stands_before_read id commands.now }
+{
+    let mut defined = false;
+    for at in commands {
+        match at.command {
+            Command::Function(other) => defined = defined || id.0 == other.0,
+            Command::Read if defined => return true,
+            _ => {}
+        }
+    }
+    false
 }

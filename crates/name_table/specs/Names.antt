@@ -1,0 +1,28 @@
+-- The names of a style in the order of their ids, each with its kind (docs/LANGUAGE.md, "Names").
+use Rattle.std.specs.Prelude.{ℕ, suc, Bool, List, [], ◌∷◌, Option, None, Some, nat_eq, if◌then◌else◌, slice_get}
+use Rattle.std.specs.Option.{option_map}
+use Rattle.std.specs.Cmp.Lexicographic.{pointwise}
+use Rattle.name_table.specs.declared.names.Kind.{Kind}
+use Rattle.name_table.specs.declared.names.NameId.{NameId}
+
+-- two names are the same bytes
+abbrev pub same_name : List ℕ → List ℕ → Bool
+same_name a b = pointwise nat_eq a b
+
+-- the id that a name has once another stands before it
+abbrev pub later : NameId → NameId
+later id = record { 0 = suc id.0 }
+
+-- the id of a name: the place at which it stands, counted from 0
+abbrev pub id_of : List ℕ → List (List ℕ × Kind) → Option NameId
+id_of name [] = None
+id_of name (first ∷ rest) =
+    if same_name name first.0 then Some (record { 0 = 0 }) else option_map later (id_of name rest)
+
+-- the kind of the name with an id
+abbrev pub kind_at : NameId → List (List ℕ × Kind) → Option Kind
+kind_at id names = option_map (λ entry. entry.1) (slice_get names id.0)
+
+-- the bytes of the name with an id
+abbrev pub text_at : NameId → List (List ℕ × Kind) → Option (List ℕ)
+text_at id names = option_map (λ entry. entry.0) (slice_get names id.0)

@@ -1,0 +1,50 @@
+//! The names that every style has before its first command.
+
+use crate::builtin::Builtin;
+use crate::names::Kind;
+
+/// The names of every style in the order of their ids: the built-in functions, the field `crossref`, the string
+/// variable `sort.key$` of each entry, and the integer variables `entry.max$` and `global.max$`.
+pub const OPENING: [(&[u8], Kind); 41] = [
+    (b"=", Kind::Builtin(Builtin::Equal)),
+    (b">", Kind::Builtin(Builtin::Greater)),
+    (b"<", Kind::Builtin(Builtin::Less)),
+    (b"+", Kind::Builtin(Builtin::Plus)),
+    (b"-", Kind::Builtin(Builtin::Minus)),
+    (b"*", Kind::Builtin(Builtin::Join)),
+    (b":=", Kind::Builtin(Builtin::Assign)),
+    (b"add.period$", Kind::Builtin(Builtin::AddPeriod)),
+    (b"call.type$", Kind::Builtin(Builtin::CallType)),
+    (b"change.case$", Kind::Builtin(Builtin::ChangeCase)),
+    (b"chr.to.int$", Kind::Builtin(Builtin::ChrToInt)),
+    (b"cite$", Kind::Builtin(Builtin::Cite)),
+    (b"duplicate$", Kind::Builtin(Builtin::Duplicate)),
+    (b"empty$", Kind::Builtin(Builtin::Empty)),
+    (b"format.name$", Kind::Builtin(Builtin::FormatName)),
+    (b"if$", Kind::Builtin(Builtin::IfElse)),
+    (b"int.to.chr$", Kind::Builtin(Builtin::IntToChr)),
+    (b"int.to.str$", Kind::Builtin(Builtin::IntToStr)),
+    (b"missing$", Kind::Builtin(Builtin::Missing)),
+    (b"newline$", Kind::Builtin(Builtin::Newline)),
+    (b"num.names$", Kind::Builtin(Builtin::NumNames)),
+    (b"pop$", Kind::Builtin(Builtin::Pop)),
+    (b"preamble$", Kind::Builtin(Builtin::Preamble)),
+    (b"purify$", Kind::Builtin(Builtin::Purify)),
+    (b"quote$", Kind::Builtin(Builtin::Quote)),
+    (b"skip$", Kind::Builtin(Builtin::Skip)),
+    (b"stack$", Kind::Builtin(Builtin::Stack)),
+    (b"substring$", Kind::Builtin(Builtin::Substring)),
+    (b"swap$", Kind::Builtin(Builtin::Swap)),
+    (b"text.length$", Kind::Builtin(Builtin::TextLength)),
+    (b"text.prefix$", Kind::Builtin(Builtin::TextPrefix)),
+    (b"top$", Kind::Builtin(Builtin::Top)),
+    (b"type$", Kind::Builtin(Builtin::TypeName)),
+    (b"warning$", Kind::Builtin(Builtin::Warning)),
+    (b"while$", Kind::Builtin(Builtin::WhileDo)),
+    (b"width$", Kind::Builtin(Builtin::Width)),
+    (b"write$", Kind::Builtin(Builtin::Write)),
+    (b"crossref", Kind::Field),
+    (b"sort.key$", Kind::StrEntry),
+    (b"entry.max$", Kind::IntGlobal),
+    (b"global.max$", Kind::IntGlobal),
+];
