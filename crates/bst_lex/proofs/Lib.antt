@@ -1,0 +1,4 @@
+pub mod Moving
+pub mod Passing
+pub mod Reaching
+pub mod Remaining

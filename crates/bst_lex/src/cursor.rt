@@ -1,0 +1,57 @@
+//! How far a source is read.
+
+ghost use Rattle.std.specs.Prelude.{◌≡◌, ◌+◌, ◌≤◌, length, take, drop};
+ghost use Rattle.bst_lex.specs.Places.{after_bytes};
+
+use bv_base::place::Place;
+
+/// What is left of a source, how many bytes stand before it, and the place of its first byte.
+#[derive(Clone, Copy)]
+pub(crate) struct Cursor<'a> {
+    pub(crate) rest: &'a [u8],
+    pub(crate) start: u32,
+    pub(crate) place: Place,
+}
+
+impl<'a> Cursor<'a> {
+    /// Passes over some bytes.
+    pub(crate) fn passed(self, count: usize) -> Cursor<'a>
+        requires count { count ≤ length self.rest.now }
+        requires small { self.start + length self.rest.now ≤ 4194304 }
+        requires line { self.place.line ≤ self.start + 1 }
+        requires column { self.place.column ≤ self.start + 1 }
+        ensures rest { result.rest.now ≡ drop count self.entry.rest.now }
+        ensures start { result.start ≡ self.entry.start + count }
+        ensures place { result.place ≡ after_bytes (take count self.entry.rest.now) self.entry.place }
+        ensures line { result.place.line ≤ result.start + 1 }
+        ensures column { result.place.column ≤ result.start + 1 }
+    {
+        let (passed, rest) = self.rest.split_at(count);
+        Cursor {
+            rest,
+            start: self.start + count as u32,
+            place: place_after(self.place, passed),
+        }
+    }
+}
+
+/// The place after some bytes.
+fn place_after(place: Place, bytes: &[u8]) -> Place
+    requires line { place.line + length bytes.now ≤ 4294967295 }
+    requires column { place.column + length bytes.now ≤ 4294967295 }
+    ensures place { result ≡ after_bytes bytes.now place }
+    ensures line { result.line ≤ place.line + length bytes.now }
+    ensures column { result.column ≤ place.column + length bytes.now }
+{
+    let mut line = place.line;
+    let mut column = place.column;
+    for b in bytes {
+        if *b == b'\n' {
+            line += 1;
+            column = 1;
+        } else {
+            column += 1;
+        }
+    }
+    Place { line, column }
+}
