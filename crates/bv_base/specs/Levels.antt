@@ -40,11 +40,11 @@ pub data Piece : Type 0 where
 abbrev pub begins_special : ℕ → List ℕ → Bool
 begins_special level [] = false
 begins_special level (a ∷ []) = false
-begins_special level (a ∷ b ∷ bs) = nat_eq level 0 && (nat_eq a 123 && nat_eq b 92)
+begins_special level (a ∷ b ∷ bs) = nat_eq a 123 && nat_eq b 92 && nat_eq level 0
 
 -- the brace that matches one at level 0
 abbrev pub is_closing : ℕ → ℕ → Bool
-is_closing level b = nat_eq level 1 && nat_eq b 125
+is_closing level b = nat_eq b 125 && nat_eq level 1
 
 -- the bytes before the closing brace, where the first has this level
 abbrev pub inside : ℕ → List ℕ → List ℕ
@@ -55,6 +55,10 @@ inside level (b ∷ bs) = if is_closing level b then [] else b ∷ inside (next_
 abbrev pub closing : ℕ → List ℕ → List ℕ
 closing level [] = []
 closing level (b ∷ bs) = if is_closing level b then b ∷ [] else closing (next_level level b) bs
+
+-- what follows the closing brace
+abbrev pub beyond : ℕ → List ℕ → List ℕ
+beyond level bs = drop (length (inside level bs ++ closing level bs)) bs
 
 -- the pieces of a text whose first byte has this level, without so many of its bytes: they belong to a special
 -- character that began before

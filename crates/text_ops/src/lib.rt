@@ -4,4 +4,7 @@
 pub mod add_period;
 pub mod int_to_str;
 pub mod is_blank;
+mod levels;
 pub mod substring;
+pub mod text_length;
+pub mod text_prefix;

@@ -1,0 +1,3 @@
+pub mod LevelSteps
+pub mod PieceSteps
+pub mod PrefixSteps
