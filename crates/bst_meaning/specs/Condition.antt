@@ -1,0 +1,37 @@
+-- Entry lists that meet a condition (docs/MACHINE.md, "Conditions"): a sentence for each line of it. The sentence on lines
+-- `names` comes with the reader of names; until then no certificate that is accepted has such a line.
+use Rattle.std.specs.Prelude.{◌≡◌, ℕ, ◌≤◌, true, not, nat_eq, List, None, length, Contains, IsSome, ◌⊎◌}
+use Rattle.std.specs.List.{list_any, AllByRecursion}
+use Rattle.std.specs.Option.{ForSome}
+use Rattle.bv_base.specs.Bytes.{is_white}
+use Rattle.name_table.specs.declared.names.NameId.{NameId}
+use Rattle.name_table.specs.declared.style.Style.{Style}
+use Rattle.name_table.specs.TypeTarget.{type_function}
+use Rattle.bst_meaning.specs.declared.entry.FieldValue.{FieldValue}
+use Rattle.bst_meaning.specs.declared.entry.Entry.{Entry}
+use Rattle.bst_meaning.specs.declared.entry.EntryList.{EntryList}
+use Rattle.bst_meaning.specs.declared.condition.Cond.{Cond}
+
+-- the string has a byte that isn't white space
+abbrev pub HasInk : List ℕ → Type 0
+HasInk bytes = list_any (λ b. not (is_white b)) bytes ≡ true
+
+-- where this is the field, it is there and has such a byte
+abbrev pub FieldIsNonblank : NameId → FieldValue → Type 0
+FieldIsNonblank name field = nat_eq field.name.0 name.0 ≡ true → IsSome field.value × ForSome field.value HasInk
+
+-- the type is listed, or the style doesn't define it and other types are let in
+abbrev pub TypeIsAdmitted : Style → Cond → List ℕ → Type 0
+TypeIsAdmitted style cond type = Contains cond.types type ⊎ ((type_function type style ≡ None) × (cond.other ≡ true))
+
+-- one entry keeps the lines on entries
+pub record EntryMeets (style : Style) (cond : Cond) (entry : Entry) : Type 0 where
+  pub key : length entry.key ≤ cond.key
+  pub length : AllByRecursion (λ field. ForSome field.value (λ bytes. length bytes ≤ cond.length)) entry.fields
+  pub nonblank : AllByRecursion (λ name. AllByRecursion (FieldIsNonblank name) entry.fields) cond.nonblank
+  pub types : TypeIsAdmitted style cond entry.entry_type
+
+pub record Meets (style : Style) (cond : Cond) (list : EntryList) : Type 0 where
+  pub entries : length list.entries ≤ cond.entries
+  pub preamble : length list.preamble ≤ cond.preamble
+  pub each : AllByRecursion (EntryMeets style cond) list.entries

@@ -1,0 +1,25 @@
+//! The values of the machine.
+
+use bv_base::text::Text;
+use name_table::names::NameId;
+use name_table::style::BodyId;
+
+/// What can be entered: a name of the style, or a block.
+#[derive(Clone, Copy, Debug, PartialEq, Eq)]
+pub enum Target {
+    Named(NameId),
+    Block(BodyId),
+}
+
+/// A value on the literal stack or in a variable.
+#[derive(Debug, Drop)]
+pub enum Value {
+    /// An integer of 32 bits.
+    Int(i32),
+    /// A byte string.
+    Str(Text),
+    /// A field that the entry doesn't have.
+    Missing(NameId),
+    /// A function, by its name or as a block.
+    Func(Target),
+}
