@@ -5,3 +5,5 @@ mod cursor;
 pub mod lexeme;
 pub mod lexer;
 mod pieces;
+#[cfg(test)]
+mod tests;
