@@ -1,3 +1,4 @@
+pub mod Grammar
 pub mod Lexemes
 pub mod Lexer
 pub mod Pieces
