@@ -14,5 +14,7 @@ pub mod read_file;
 pub mod seq;
 pub mod sink;
 pub mod status;
+#[cfg(test)]
+mod tests;
 pub mod text;
 pub mod write_all;

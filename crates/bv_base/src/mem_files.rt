@@ -121,7 +121,8 @@ impl Files for MemFiles {
         let Ok(text) = Text::from_slice(self.alloc, name.as_bytes()) else {
             return Err(BeginAnswer::NoMemory);
         };
-        if self.failing.contains(&self.calls) {
+        let fails = self.failing.contains(&self.calls);
+        if fails {
             self.faults = self.faults.saturating_add(1);
             self.begun = Some(BegunFile {
                 name: text,
