@@ -84,4 +84,8 @@ pub put_bytes : (before after whole rest all bytes : List ℕ) → after ≡ bef
 put_bytes before after whole rest all bytes put so_far step = rw (put, append_assoc, ← step) so_far
 
 pub put_special : (before after whole rest all body : List ℕ) (b : ℕ) → after ≡ (before ++ b ∷ []) ++ body → before ++ whole ≡ all → whole ≡ b ∷ (body ++ rest) → after ++ rest ≡ all
-put_special before after whole rest all body b put so_far step = rw (put, append_assoc, append_assoc, ← step) so_far
+put_special before after whole rest all body b put so_far step = rw (put, append_assoc (before ++ b ∷ []) body rest, append_assoc, ← step) so_far
+
+pub tail_length : (text : List ℕ) → 0 < length text → length (tail text) + 1 ≡ length text
+tail_length [] h = absurd (omega arith)
+tail_length (b ∷ bs) h = rw (tail_is (b ∷ bs)) (omega arith)

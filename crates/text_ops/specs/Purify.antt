@@ -1,11 +1,14 @@
 -- The letters, digits and spaces of a text (docs/TEXTS.md, "purify$").
-use Rattle.std.specs.Prelude.{ℕ, ◌||◌, if◌then◌else◌, List, [], ◌∷◌, take, flat_map, codes}
+use Rattle.std.specs.Prelude.{ℕ, Bool, ◌||◌, if◌then◌else◌, List, [], ◌∷◌, take, flat_map, codes}
 use Rattle.bv_base.specs.Bytes.{is_among, is_white}
 use Rattle.bv_base.specs.Levels.{is_letter, is_digit, is_one_of, Piece, Plain, Special, SpecialPart, ControlWord, Other, pieces, special_parts}
 
--- letters and digits are kept, and all else is dropped
+-- letters and digits are kept
+abbrev pub is_kept : ℕ → Bool
+is_kept b = is_letter b || is_digit b
+
 abbrev pub kept_byte : ℕ → List ℕ
-kept_byte b = if is_letter b || is_digit b then b ∷ [] else []
+kept_byte b = if is_kept b then b ∷ [] else []
 
 -- outside special characters white space, `~` and `-` become a space
 abbrev pub purified_byte : ℕ → List ℕ

@@ -1,7 +1,7 @@
 -- The width of a text in print (docs/TEXTS.md, "width$").
-use Rattle.std.specs.Prelude.{ℕ, zero, suc, ◌-◌, nat_eq, nat_le, if◌then◌else◌, List, [], ◌∷◌, ◌++◌, length, take, drop, slice_index, sum_by, codes}
+use Rattle.std.specs.Prelude.{ℕ, zero, suc, ◌-◌, ◌&&◌, nat_eq, nat_le, if◌then◌else◌, List, [], ◌∷◌, ◌++◌, length, take, drop, slice_index, sum_by, codes, bytes_eq}
 use Rattle.bv_base.specs.Bytes.{is_white}
-use Rattle.bv_base.specs.Levels.{is_brace, is_foreign, is_one_of, run, word_letters, Piece, Plain, Special, SpecialPart, ControlWord, Other, pieces}
+use Rattle.bv_base.specs.Levels.{is_brace, is_foreign, run, word_letters, Piece, Plain, Special, SpecialPart, ControlWord, Other, pieces}
 
 -- the widths of the bytes from 32 to 126, in order
 abbrev pub widths : List ℕ
@@ -18,7 +18,7 @@ widths =
 
 -- bytes outside the table have no width
 abbrev pub byte_width : ℕ → ℕ
-byte_width b = if nat_le 32 b then slice_index widths (b - 32) else 0
+byte_width b = if nat_le 32 b && nat_le b 126 then slice_index widths (b - 32) else 0
 
 -- what belongs to a control word, of the bytes after its `\`: its letters, or the one byte directly after the `\`
 -- where there are none
@@ -45,11 +45,11 @@ printed_parts inner = printed_after 0 inner
 -- the ligatures have widths of their own, and the other foreign words that of their first letter
 abbrev pub word_width : List ℕ → ℕ
 word_width letters =
-    if is_one_of (codes "ss" ∷ []) letters then 500
-    else if is_one_of (codes "ae" ∷ []) letters then 722
-    else if is_one_of (codes "oe" ∷ []) letters then 778
-    else if is_one_of (codes "AE" ∷ []) letters then 903
-    else if is_one_of (codes "OE" ∷ []) letters then 1014
+    if bytes_eq letters (codes "ss") then 500
+    else if bytes_eq letters (codes "ae") then 722
+    else if bytes_eq letters (codes "oe") then 778
+    else if bytes_eq letters (codes "AE") then 903
+    else if bytes_eq letters (codes "OE") then 1014
     else if is_foreign letters then byte_width (slice_index letters 0)
     else 0
 
