@@ -1,4 +1,7 @@
 pub mod Moving
+pub mod Ordering
 pub mod Passing
 pub mod Reaching
+pub mod Reading
 pub mod Remaining
+pub mod Spelling

@@ -12,7 +12,7 @@ drop_more (suc start) count (b ∷ source) =
     drop_more start count source
     ∙ ap (λ n. drop n (b ∷ source)) {x = suc (start + count)} {y = suc start + count} (omega arith)
 
-place_more : (start count : ℕ) (source : List ℕ) (place : Place)
+pub place_more : (start count : ℕ) (source : List ℕ) (place : Place)
     → after_bytes (take count (drop start source)) (after_bytes (take start source) place)
     ≡ after_bytes (take (start + count) source) place
 place_more zero count source place =

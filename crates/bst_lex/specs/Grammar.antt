@@ -96,7 +96,7 @@ IsFault place bytes (StuffAfterToken at) =
     (text : List ℕ) × (rest : List ℕ)
     × (bytes ≡ text ++ rest) × (at ≡ along place (length text)) × (may_follow rest ≡ false)
     × (((minus : Bool) × (digits : List ℕ) × IsInteger minus digits text × EndsBy ends_digits rest)
-       ⊎ ((inside : List ℕ) × IsText inside text))
+    ⊎ ((inside : List ℕ) × IsText inside text))
 IsFault place bytes (IllegalByte at) =
     (run : List ℕ) × (b : ℕ) × (rest : List ℕ)
     × (bytes ≡ run ++ b ∷ rest) × (at ≡ along place (length run)) × (begins_run bytes ≡ true) × NoneOf ends_clean run

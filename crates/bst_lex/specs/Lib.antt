@@ -1,5 +1,6 @@
 pub mod Grammar
 pub mod Lexemes
 pub mod Lexer
+pub mod Order
 pub mod Pieces
 pub mod Places

@@ -2,6 +2,7 @@
 #![tactic(auto)]
 
 mod cursor;
+pub mod laws;
 pub mod lexeme;
 pub mod lexer;
 mod pieces;
