@@ -1,3 +1,4 @@
+pub mod CaseSteps
 pub mod LevelSteps
 pub mod PartSteps
 pub mod PieceSteps

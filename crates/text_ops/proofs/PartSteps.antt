@@ -3,7 +3,7 @@ use Rattle.std.proofs.Common.{◌≡◌, ◌∙◌, ℕ, zero, suc, ◌+◌, ◌
 use Rattle.std.proofs.lemmas.List.{length-append, length-drop, drop-drop}
 use Rattle.std.proofs.lemmas.Bool.Decides.{nat_tests}
 use Rattle.bv_base.specs.Bytes.{is_white}
-use Rattle.bv_base.specs.Levels.{next_level, is_brace, is_ascii_letter, is_closing, inside, beyond, run, word_letters, word_space, ControlWord, Other, parts_after, special_parts}
+use Rattle.bv_base.specs.Levels.{next_level, is_brace, is_ascii_letter, is_closing, inside, closing, beyond, run, word_letters, word_space, ControlWord, Other, parts_after, special_parts}
 use Rattle.text_ops.proofs.PieceSteps.{tail, tail_is}
 
 no_brace_closing : (level b : ℕ) → is_brace b ≡ false → is_closing level b ≡ false
@@ -45,6 +45,15 @@ module _ (test : ℕ → Bool) (no_brace : (b : ℕ) → test b ≡ true → is_
       let M : Bool → Type 0 = λ v. test b ≡ v → beyond level (drop (length (run test (b ∷ bs))) (b ∷ bs)) ≡ beyond level (b ∷ bs) in
       (elim (test b) as M [
         | true ↦ λ e. rw (e, no_brace_closing level b (no_brace b e), no_brace_level level b (no_brace b e)) (beyond_run level bs)
+        | false ↦ λ e. rw e refl
+      ]) refl
+
+  pub closing_run : (level : ℕ) (bs : List ℕ) → closing level (drop (length (run test bs)) bs) ≡ closing level bs
+  closing_run level [] = refl
+  closing_run level (b ∷ bs) =
+      let M : Bool → Type 0 = λ v. test b ≡ v → closing level (drop (length (run test (b ∷ bs))) (b ∷ bs)) ≡ closing level (b ∷ bs) in
+      (elim (test b) as M [
+        | true ↦ λ e. rw (e, no_brace_closing level b (no_brace b e), no_brace_level level b (no_brace b e)) (closing_run level bs)
         | false ↦ λ e. rw e refl
       ]) refl
 
@@ -91,6 +100,12 @@ word_part level (b ∷ bs) h e =
 pub word_beyond : (level : ℕ) (text : List ℕ) → 0 < length text → get_or text 0 0 ≡ 92 → beyond level (drop (word_length (tail text)) (tail text)) ≡ beyond level text
 word_beyond level [] h e = absurd (omega arith)
 word_beyond level (b ∷ bs) h e = rw (tail_is (b ∷ bs), e) (word_after level bs)
+
+pub word_closing : (level : ℕ) (text : List ℕ) → 0 < length text → get_or text 0 0 ≡ 92 → closing level (drop (word_length (tail text)) (tail text)) ≡ closing level text
+word_closing level [] h e = absurd (omega arith)
+word_closing level (b ∷ bs) h e =
+    rw (tail_is (b ∷ bs), e, drop_word bs bs)
+    (closing_run is_white white_no_brace level (drop (length (word_letters bs)) bs) ∙ closing_run is_ascii_letter letter_no_brace level bs)
 
 pub word_bound : (text : List ℕ) → 0 < length text → length (drop (word_length (tail text)) (tail text)) + 1 ≤ length text
 word_bound [] h = absurd (omega arith)

@@ -1,5 +1,6 @@
 pub mod AddPeriod
 pub mod Blank
+pub mod ChangeCase
 pub mod IntToStr
 pub mod Purify
 pub mod Substring

@@ -2,6 +2,7 @@
 #![tactic(auto)]
 
 pub mod add_period;
+pub mod change_case;
 pub mod int_to_str;
 pub mod is_blank;
 mod levels;
