@@ -2,7 +2,10 @@ pub mod StyleParts
 pub mod Entries
 pub mod Condition
 pub mod Config
+pub mod Effect
+pub mod Operands
 pub mod Builtins
+pub mod Sorting
 pub mod Machine
 pub mod Lines
 pub mod Safe
