@@ -184,3 +184,79 @@ fn push_changed(out: &mut Vec<u8>, mode: Case, letters: &[u8]) -> Result<(), NoM
     }
     Ok(())
 }
+
+#[cfg(test)]
+mod tests {
+    use super::Case::{Lower, Title, Upper};
+    use super::*;
+    use std::test::Fail;
+
+    #[test]
+    fn a_title_keeps_what_begins_it(rt: HostRuntime) -> Result<(), Fail> {
+        let rows: [(&[u8], &[u8]); 16] = [
+            (b"The {TeX}book: A Guide", b"The {TeX}book: A guide"),
+            (b"", b""),
+            (b"ABC", b"Abc"),
+            (b" AB", b" ab"),
+            (b": AB", b": Ab"),
+            (b"A:B", b"A:b"),
+            (b"A:  BC", b"A:  Bc"),
+            (b"A :\tBC", b"A :\tBc"),
+            (b"A: {B} C", b"A: {B} c"),
+            (b"{A}B", b"{A}b"),
+            (br"{\'E}COLE", br"{\'E}cole"),
+            (br"A {\'E}C", br"A {\'e}c"),
+            (br"A: {\'E}C", br"A: {\'E}c"),
+            (br"A:{\'E}C", br"A:{\'e}c"),
+            (br"X{\AE A: B}", br"X{\ae a: b}"),
+            (br"{\L}: {\AE}X", br"{\L}: {\AE}x"),
+        ];
+        for (text, wanted) in rows {
+            assert_eq!(rt; change_case(rt.alloc(), text, Title)?.as_slice(), wanted);
+        }
+        Ok(())
+    }
+
+    #[test]
+    fn small_letters_and_capitals(rt: HostRuntime) -> Result<(), Fail> {
+        let rows: [(&[u8], Case, &[u8]); 21] = [
+            (b"The {TeX}book: A Guide", Upper, b"THE {TeX}BOOK: A GUIDE"),
+            (br"{\OE}uvre", Lower, br"{\oe}uvre"),
+            (br"{\ss}x", Upper, br"{SS}X"),
+            (b"ABC: Z", Lower, b"abc: z"),
+            (b"{Ab}}a", Upper, b"{Ab}}A"),
+            (br"{{\ss}A}", Upper, br"{{\ss}A}"),
+            (br"{\i x}", Upper, br"{IX}"),
+            (b"{\\j\t\n}", Upper, b"{J}"),
+            (
+                br"{\oe x}{\ae}{\aa}{\o}{\l}",
+                Upper,
+                br"{\OE X}{\AE}{\AA}{\O}{\L}",
+            ),
+            (
+                br"{\OE}{\AE}{\AA}{\O}{\L}",
+                Upper,
+                br"{\OE}{\AE}{\AA}{\O}{\L}",
+            ),
+            (
+                br"{\OE}{\AE}{\AA}{\O}{\L}",
+                Lower,
+                br"{\oe}{\ae}{\aa}{\o}{\l}",
+            ),
+            (br"{\i X}{\ss}", Lower, br"{\i x}{\ss}"),
+            (br"{\'\i}", Upper, br"{\'I}"),
+            (br"{\bf Xy}", Upper, br"{\bf XY}"),
+            (br"{\TeX Xy}", Lower, br"{\TeX xy}"),
+            (br"{\\ss}", Upper, br"{\SS}"),
+            (br"{\ss", Upper, b"{SS"),
+            (br"{\v{S}}", Lower, br"{\v{s}}"),
+            (br"{\}a", Upper, br"{\}A"),
+            (b"\xc3\x89E", Lower, b"\xc3\x89e"),
+            (b"\xe9e", Upper, b"\xe9E"),
+        ];
+        for (text, mode, wanted) in rows {
+            assert_eq!(rt; change_case(rt.alloc(), text, mode)?.as_slice(), wanted);
+        }
+        Ok(())
+    }
+}

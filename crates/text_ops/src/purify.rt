@@ -104,3 +104,40 @@ fn purified_word(letters: &[u8]) -> &[u8]
         &letters[..0]
     }
 }
+
+#[cfg(test)]
+mod tests {
+    use super::*;
+    use std::test::Fail;
+
+    #[test]
+    fn letters_digits_and_spaces_are_left(rt: HostRuntime) -> Result<(), Fail> {
+        let rows: [(&[u8], &[u8]); 21] = [
+            (br"{\'E}cole {TeX}-x", b"Ecole TeX x"),
+            (b"", b""),
+            (br"{\OE}uvre", b"OEuvre"),
+            (br"{\oe}{\ae}{\AE}{\ss}", b"oeaeAEss"),
+            (br"{\o}{\O}{\l}{\L}{\i}{\j}", b"oOlLij"),
+            (br"{\aa}{\AA}", b"aA"),
+            (br"{\aax}{\oeuvre}{\bf}", b""),
+            (br"{\\ss}", b"ss"),
+            (br"{\i }x", b"ix"),
+            (br"{\bf x1 - y}", b"x1y"),
+            (br"{\'{e}}{\v{S}}", b"eS"),
+            (br"{\ss", b"ss"),
+            (br"{\", b""),
+            (br"}{\i}", b"i"),
+            (b"a~b-c", b"a b c"),
+            (b"a\tb\n", b"a b "),
+            (b"{a-b}", b"a b"),
+            (br"{{\aa}}", b"aa"),
+            (br"\ss.", b"ss"),
+            (b"\xc3\xa9!\x7f", b"\xc3\xa9"),
+            (b"{\\'\xc3\xa9}", b"\xc3\xa9"),
+        ];
+        for (text, wanted) in rows {
+            assert_eq!(rt; purify(rt.alloc(), text)?.as_slice(), wanted);
+        }
+        Ok(())
+    }
+}

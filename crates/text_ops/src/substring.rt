@@ -25,3 +25,45 @@ pub fn substring(alloc: Global, s: &[u8], start: i32, length: i32) -> Result<Vec
     };
     Ok(part.to_vec(alloc)?)
 }
+
+#[cfg(test)]
+mod tests {
+    use super::*;
+    use std::test::Fail;
+
+    #[test]
+    fn places_count_from_both_ends(rt: HostRuntime) -> Result<(), Fail> {
+        let rows: [(i32, i32, &[u8]); 21] = [
+            (2, 3, b"bcd"),
+            (-1, 2, b"ef"),
+            (-2, 3, b"cde"),
+            (7, 1, b""),
+            (-6, 9, b"a"),
+            (1, 6, b"abcdef"),
+            (6, 1, b"f"),
+            (6, 5, b"f"),
+            (-6, 1, b"a"),
+            (-7, 1, b""),
+            (-3, 1, b"d"),
+            (0, 3, b""),
+            (1, 0, b""),
+            (-1, 0, b""),
+            (1, -1, b""),
+            (1, i32::MIN, b""),
+            (1, i32::MAX, b"abcdef"),
+            (-1, i32::MAX, b"abcdef"),
+            (i32::MAX, 1, b""),
+            (i32::MIN, 1, b""),
+            (i32::MIN, i32::MAX, b""),
+        ];
+        for (start, length, wanted) in rows {
+            assert_eq!(rt;
+                substring(rt.alloc(), b"abcdef", start, length)?.as_slice(),
+                wanted
+            );
+        }
+        assert!(rt; substring(rt.alloc(), b"", 1, 1)?.is_empty());
+        assert!(rt; substring(rt.alloc(), b"", -1, 1)?.is_empty());
+        Ok(())
+    }
+}

@@ -158,3 +158,103 @@ fn word_width(letters: &[u8]) -> u16
         _ => 0,
     }
 }
+
+#[cfg(test)]
+mod tests {
+    use super::*;
+
+    #[test]
+    fn each_printing_byte_has_its_width(rt: HostRuntime) {
+        let groups: [(&[u8], u128); 36] = [
+            (b" !", 278),
+            (b"\"", 500),
+            (b"#", 833),
+            (b"$", 500),
+            (b"%", 833),
+            (b"&", 778),
+            (b"'", 278),
+            (b"()", 389),
+            (b"*", 500),
+            (b"+", 778),
+            (b",", 278),
+            (b"-", 333),
+            (b".", 278),
+            (b"/0123456789", 500),
+            (b":;<", 278),
+            (b"=@KOQ", 778),
+            (b">?", 472),
+            (b"AHNUVXY", 750),
+            (b"B", 708),
+            (b"CT", 722),
+            (b"D", 764),
+            (b"EP", 681),
+            (b"F", 653),
+            (b"G", 785),
+            (b"I", 361),
+            (b"J", 514),
+            (b"L", 625),
+            (b"M", 917),
+            (b"R", 736),
+            (b"S", 556),
+            (b"W", 1028),
+            (b"Z", 611),
+            (b"[]_`", 278),
+            (b"\\^", 500),
+            (b"{}~", 500),
+            (b"|", 1000),
+        ];
+        for (bytes, wanted) in groups {
+            for b in bytes {
+                assert_eq!(rt; width(&[*b]), wanted);
+            }
+        }
+        let small: [u128; 26] = [
+            500, 556, 444, 556, 444, 306, 500, 556, 278, 306, 528, 278, 833, 556, 500, 556, 528,
+            392, 394, 389, 556, 528, 722, 528, 528, 444,
+        ];
+        for (b, wanted) in b"abcdefghijklmnopqrstuvwxyz".iter().zip(small) {
+            assert_eq!(rt; width(&[*b]), wanted);
+        }
+    }
+
+    #[test]
+    fn special_characters_have_the_width_of_their_letters(rt: HostRuntime) {
+        let rows: [(&[u8], u128); 32] = [
+            (b"ab", 1056),
+            (br"{\ss}", 500),
+            (br"{\'E}", 681),
+            (b"{a}", 1500),
+            (b"", 0),
+            (b"\x1f\t\n\x7f\x80\xff", 0),
+            (br"{\ae}", 722),
+            (br"{\oe}", 778),
+            (br"{\AE}", 903),
+            (br"{\OE}", 1014),
+            (br"{\aa}", 500),
+            (br"{\AA}", 750),
+            (br"{\o}", 500),
+            (br"{\O}", 778),
+            (br"{\l}", 278),
+            (br"{\L}", 625),
+            (br"{\i}", 278),
+            (br"{\j}", 306),
+            (br"{\bf}", 0),
+            (br"{\ssx}", 0),
+            (br"{\bf x}", 528),
+            (br"{\bf  x y}", 1334),
+            (br"{\\ss}", 788),
+            (br"{\\\ss}", 500),
+            (br"{\' x}", 528),
+            (br"{\ x}", 528),
+            (br"{\'{e}}", 444),
+            (br#"{\"\i}"#, 278),
+            (br"{\}x", 528),
+            (br"{\ss", 500),
+            (br"{\ss}}", 1000),
+            (br"\ss", 1288),
+        ];
+        for (text, wanted) in rows {
+            assert_eq!(rt; width(text), wanted);
+        }
+    }
+}
