@@ -28,9 +28,11 @@ pub record FileMemory : Type 0 where
   pub rest : List ℕ
   pub faults : ℕ
 
+-- no file, no call, none that fails
 abbrev pub no_files : FileMemory
 no_files = record { listing = map.empty; calls = 0; failing = []; begun = None; rest = []; faults = 0 }
 
+-- how proofs tell these values apart: each is stored as the tuple of its fields
 abbrev pub begun_code : Coded Begun
 begun_code = code_by (List ℕ × Bool) (coded× (coded_list coded_ℕ) coded_bool) (λ b. (b.name, b.absent)) (λ p. record { name = p.0; absent = p.1 }) (λ _. refl)
 

@@ -7,14 +7,17 @@ use Rattle.bv_base.specs.declared.mem_files.MemFile.{MemFile}
 use Rattle.bv_base.specs.declared.mem_files.BegunFile.{BegunFile}
 use Rattle.bv_base.specs.declared.mem_files.MemFiles.TheInside.{Inside}
 
+-- the first file of a name answers for it
 abbrev pub listing_of : List MemFile → Listing
 listing_of [] = map.empty
 listing_of (file ∷ files) = map.insert (listing_of files) file.name file.bytes
 
+-- what was begun last
 abbrev pub begun_of : Option BegunFile → Option Begun
 begun_of None = None
 begun_of (Some file) = Some (record { name = file.name; absent = file.absent })
 
+-- what the fields stand for
 abbrev pub memory_of : Inside → FileMemory
 memory_of m = record {
   listing = listing_of m.files.items;

@@ -15,11 +15,19 @@ pub record Begun : Type 0 where
   pub name : List ℕ
   pub absent : Bool
 
+-- what was begun last: a file of this name, which was there
+abbrev pub opened : List ℕ → Option Begun
+opened name = Some (record { name = name; absent = false })
+
+-- what was begun last: this name, which no file has
+abbrev pub missing : List ℕ → Option Begun
+missing name = Some (record { name = name; absent = true })
+
 -- what was begun last after a `begin` of this name
 abbrev pub begun_by : Option Begun → List ℕ → Result (Unit {0}) BeginAnswer → Option Begun
-begun_by before name (Ok _) = Some (record { name = name; absent = false })
-begun_by before name (Err Absent) = Some (record { name = name; absent = true })
-begun_by before name (Err Failed) = Some (record { name = name; absent = false })
+begun_by before name (Ok _) = opened name
+begun_by before name (Err Absent) = missing name
+begun_by before name (Err Failed) = opened name
 begun_by before name (Err NoMemory) = before
 
 -- a count of faults rose in a call, or stands at the end of its type
@@ -30,13 +38,6 @@ Rose old new = (old < new) ⊎ (new ≡ 18446744073709551615)
 abbrev pub appended : Option (List ℕ) → List ℕ → Option (List ℕ)
 appended None bytes = None
 appended (Some written) bytes = Some (written ++ bytes)
-
--- what was begun last, where a file of this name was there, and where none was
-abbrev pub opened : List ℕ → Option Begun
-opened name = Some (record { name = name; absent = false })
-
-abbrev pub missing : List ℕ → Option Begun
-missing name = Some (record { name = name; absent = true })
 
 -- a file that is there has more bytes than the limit, and one byte more than the limit of them was read
 abbrev pub IsReadPast : ℕ → Option (List ℕ) → List ℕ → Type 0

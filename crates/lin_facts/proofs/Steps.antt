@@ -35,9 +35,6 @@ no_use = record { row = 0; times = 0 }
 pub list_all-pass : {X : Type 0} (f : X → Bool) (xs : List X) (i : ℕ) (d : X) → i < length xs → f (get_or xs i d) ≡ true → list_all f xs ≡ list_all f (drop i xs) → list_all f xs ≡ list_all f (drop (i + 1) xs)
 list_all-pass f xs i d h passes so_far = so_far ∙ list_all-next f xs i d h ∙ ap (λ b. b && list_all f (drop (i + 1) xs)) passes
 
-pub list_all-stop : {X : Type 0} (f : X → Bool) (xs : List X) (i : ℕ) (d : X) → i < length xs → f (get_or xs i d) ≡ false → list_all f xs ≡ list_all f (drop i xs) → list_all f xs ≡ false
-list_all-stop f xs i d h stops so_far = so_far ∙ list_all-next f xs i d h ∙ ap (λ b. b && list_all f (drop (i + 1) xs)) stops
-
 -- what a part adds to a coefficient
 abbrev pub added : Part → Term → ℤ
 added part t = cond (same_term part.term t) part.coefficient (pos 0)

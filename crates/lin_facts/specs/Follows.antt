@@ -11,9 +11,11 @@ use Rattle.lin_facts.specs.declared.row.Step.{Step}
 use Rattle.lin_facts.specs.declared.follows.Column.{Column}
 use Rattle.lin_facts.specs.declared.follows.Column.TheVariants.{Constant, At}
 
+-- what is read past the end of a list of rows
 abbrev pub no_row : Row
 no_row = record { constant = pos 0; parts = [] }
 
+-- the row of a number, from 0
 abbrev pub row_at : List Row → ℕ → Row
 row_at rows k = slice_index_or rows k no_row
 
@@ -39,13 +41,15 @@ pub record Follows (rows : List Row) (step : Step) (goal : Row) : Type 0 where
   pub constant : neg_ℤ (pos step.divisor) <ℤ left_over rows step goal Constant
   pub terms : (term : Term) → left_over rows step goal (At term) ≡ pos 0
 
+-- nothing of a term is left over
 abbrev pub cancels : List Row → Step → Row → Term → Bool
 cancels rows step goal term = int_eq (left_over rows step goal (At term)) (pos 0)
 
+-- nothing of the terms of these parts is left over
 abbrev pub cancel : List Row → Step → Row → List Part → Bool
 cancel rows step goal parts = list_all (λ part. cancels rows step goal part.term) parts
 
--- the same, decided at the terms of the goal and of the used rows
+-- Follows as a test, decided at the terms of the goal and of the used rows
 abbrev pub follows : List Row → Step → Row → Bool
 follows rows step goal =
     nat_lt 0 step.divisor

@@ -24,14 +24,16 @@ coefficient_of (part ∷ parts) term = (if same_term part.term term then part.co
 abbrev pub Assignment : Type 0
 Assignment = Term → ℤ
 
+-- the sum of the parts under an assignment
 abbrev pub sum_of : Assignment → List Part → ℤ
 sum_of a [] = pos 0
 sum_of a (part ∷ parts) = part.coefficient *ℤ a part.term +ℤ sum_of a parts
 
+-- the constant and the sum of the parts
 abbrev pub value_of : Assignment → Row → ℤ
 value_of a row = row.constant +ℤ sum_of a row.parts
 
--- the constant and the sum are together at least 0
+-- a row holds where its value is at least 0
 abbrev pub Holds : Assignment → Row → Type 0
 Holds a row = pos 0 ≤ℤ value_of a row
 
