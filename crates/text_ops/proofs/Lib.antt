@@ -1,4 +1,8 @@
 pub mod CaseSteps
+pub mod Induction
+pub mod LawsOfPrefix
+pub mod LawsOfPurify
+pub mod LawsOfSubstring
 pub mod LevelSteps
 pub mod PartSteps
 pub mod PieceSteps

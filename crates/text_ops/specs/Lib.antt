@@ -2,6 +2,7 @@ pub mod AddPeriod
 pub mod Blank
 pub mod ChangeCase
 pub mod IntToStr
+pub mod Laws
 pub mod Purify
 pub mod Substring
 pub mod TextLength

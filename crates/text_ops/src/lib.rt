@@ -5,6 +5,7 @@ pub mod add_period;
 pub mod change_case;
 pub mod int_to_str;
 pub mod is_blank;
+pub mod laws;
 mod levels;
 pub mod purify;
 pub mod substring;
