@@ -1,0 +1,54 @@
+-- The commands and their parts (docs/LANGUAGE.md, "Commands").
+use Rattle.std.specs.Prelude.{ℕ, List, [], ◌∷◌, Option, None, Some, if◌then◌else◌, map}
+use Rattle.name_table.specs.declared.names.Kind.TheVariants.{Field, IntEntry, StrEntry, IntGlobal, StrGlobal}
+use Rattle.name_table.specs.declared.names.NameId.{NameId}
+use Rattle.name_table.specs.declared.style.Command.{Command}
+use Rattle.name_table.specs.declared.style.Command.TheVariants as command
+use Rattle.name_table.specs.Names.{same_name}
+use Rattle.bst_parse.specs.declared.grammar.TheConstants.{WORDS}
+use Rattle.bst_parse.specs.declared.grammar.Word.{Word}
+use Rattle.bst_parse.specs.declared.grammar.Word.TheVariants.{Entry, Execute, Function, Integers, Iterate, Macro, Read, Reverse, Sort, Strings}
+use Rattle.bst_parse.specs.declared.grammar.Caller.{Caller}
+use Rattle.bst_parse.specs.declared.grammar.Caller.TheVariants as caller
+use Rattle.bst_parse.specs.declared.grammar.Part.{Part}
+use Rattle.bst_parse.specs.declared.grammar.Part.TheVariants.{Open, Close, Names, Target, FunctionName, Body, MacroName, MacroText}
+
+-- the command that a lowered name begins, among some words
+abbrev pub word_among : List ℕ → List (List ℕ × Word) → Option Word
+word_among name [] = None
+word_among name (first ∷ rest) = if same_name name first.0 then Some first.1 else word_among name rest
+
+abbrev pub word_of : List ℕ → Option Word
+word_of name = word_among name (map (λ word. (word.0.now, word.1)) WORDS)
+
+-- the parts that follow a command's word
+abbrev pub parts_of : Word → List Part
+parts_of Entry = Open ∷ Names Field ∷ Open ∷ Names IntEntry ∷ Open ∷ Names StrEntry ∷ []
+parts_of Execute = Open ∷ Target caller.Execute ∷ Close ∷ []
+parts_of Function = Open ∷ FunctionName ∷ Close ∷ Body ∷ []
+parts_of Integers = Open ∷ Names IntGlobal ∷ []
+parts_of Iterate = Open ∷ Target caller.Iterate ∷ Close ∷ []
+parts_of Macro = Open ∷ MacroName ∷ Close ∷ Open ∷ MacroText ∷ Close ∷ []
+parts_of Read = []
+parts_of Reverse = Open ∷ Target caller.Reverse ∷ Close ∷ []
+parts_of Sort = []
+parts_of Strings = Open ∷ Names StrGlobal ∷ []
+
+-- the command of a word that names no function
+abbrev pub declaration_of : Word → Option Command
+declaration_of Entry = Some command.Entry
+declaration_of Integers = Some command.Integers
+declaration_of Macro = Some command.Macro
+declaration_of Read = Some command.Read
+declaration_of Sort = Some command.Sort
+declaration_of Strings = Some command.Strings
+declaration_of Execute = None
+declaration_of Function = None
+declaration_of Iterate = None
+declaration_of Reverse = None
+
+-- the command that calls a function
+abbrev pub call_of : Caller → NameId → Command
+call_of caller.Execute id = command.Execute id
+call_of caller.Iterate id = command.Iterate id
+call_of caller.Reverse id = command.Reverse id

@@ -1,0 +1,9 @@
+pub mod Bodies
+pub mod Commands
+pub mod Names
+pub mod Parts
+pub mod Progress
+pub mod Progressing
+pub mod Reading
+pub mod Tokens
+pub mod Words

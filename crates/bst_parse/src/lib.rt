@@ -1,0 +1,15 @@
+//! The reader of styles: commands, bodies of tokens, and the rules of names and of order.
+#![tactic(auto)]
+
+mod bodies;
+pub mod fault;
+pub mod grammar;
+mod macros;
+mod opened;
+pub mod parse;
+mod parser;
+mod parts;
+#[cfg(test)]
+mod tests;
+mod tokens;
+mod words;

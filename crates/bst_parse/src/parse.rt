@@ -1,0 +1,30 @@
+//! The reader of styles.
+
+ghost use Rattle.std.specs.Prelude.{◌≡◌, ◌≢◌, ◌≤◌, length, Ok, Err, IfOk, IfErr};
+ghost use Rattle.bst_parse.specs.Reading.{style_of};
+ghost use Rattle.bst_parse.specs.declared.fault.StyleFault.TheVariants.{NoMemory as WantOfMemory};
+
+use crate::fault::StyleFault;
+use crate::parser::Parser;
+use bst_lex::lexer::Lexer;
+use name_table::style::Style;
+use std::alloc::Global;
+
+/// Reads a style of at most 4194304 bytes, or gives the first fault of the bytes.
+///
+/// Each byte is read a fixed number of times, and each name is looked up in a hash table.
+pub fn parse(alloc: Global, source: &[u8]) -> Result<Style, StyleFault>
+    requires { length source.now ≤ 4194304 }
+    ensures ok { IfOk result (λ style. style_of source.now ≡ Ok style) }
+    ensures fault { IfErr result (λ fault. fault ≢ WantOfMemory → style_of source.now ≡ Err fault) }
+{
+    let mut lexer = Lexer::new(source);
+    let mut parser = Parser::new(alloc)?;
+    loop {
+        match lexer.next() {
+            Ok(Some(lexeme)) => parser.take(source, &lexeme)?,
+            Ok(None) => return parser.finish(lexer.end()),
+            Err(fault) => return Err(StyleFault::Lex(fault)),
+        }
+    }
+}
