@@ -1,5 +1,6 @@
 pub mod CaseSteps
 pub mod Induction
+pub mod LawsOfCase
 pub mod LawsOfPrefix
 pub mod LawsOfPurify
 pub mod LawsOfSubstring

@@ -66,7 +66,7 @@ parts_drop (suc n) (b ∷ bs) = parts_drop n bs
 abbrev pub word_length : List ℕ → ℕ
 word_length bs = length (word_letters bs ++ word_space bs)
 
-drop_word : (bs xs : List ℕ) → drop (word_length bs) xs ≡ drop (length (word_space bs)) (drop (length (word_letters bs)) xs)
+pub drop_word : (bs xs : List ℕ) → drop (word_length bs) xs ≡ drop (length (word_space bs)) (drop (length (word_letters bs)) xs)
 drop_word bs xs = rw (length-append (word_letters bs) (word_space bs)) (sym (drop-drop (length (word_space bs)) (length (word_letters bs)) xs))
 
 pub letters_inside : (level : ℕ) (bs : List ℕ) → word_letters (inside level bs) ≡ word_letters bs

@@ -1,14 +1,18 @@
 //! What holds of every text that the definitions of this crate give.
 
-ghost use Rattle.std.specs.Prelude.{◌≡◌, ℕ, ◌*◌, ◌≤◌, List, [], length, ℤ, pos, negsuc, IsTrue};
+ghost use Rattle.std.specs.Prelude.{◌≡◌, ℕ, ◌*◌, ◌≤◌, List, [], length, map, filter, ℤ, pos, negsuc, IsTrue};
 ghost use Rattle.std.specs.List.{list_all};
+ghost use Rattle.bv_base.specs.Bytes.{lower};
 ghost use Rattle.bv_base.specs.Levels.{level_after};
 ghost use Rattle.text_ops.specs.AddPeriod.{with_period};
-ghost use Rattle.text_ops.specs.Laws.{IsPartOf, is_pure};
+ghost use Rattle.text_ops.specs.ChangeCase.{case_changed};
+ghost use Rattle.text_ops.specs.Laws.{IsPartOf, is_fixed, is_pure};
 ghost use Rattle.text_ops.specs.Purify.{purified};
 ghost use Rattle.text_ops.specs.Substring.{substring_of};
 ghost use Rattle.text_ops.specs.TextPrefix.{text_prefix_of};
 ghost use Rattle.text_ops.specs.Width.{width_of};
+ghost use Rattle.text_ops.specs.declared.change_case.Case.{Case};
+ghost use Rattle.text_ops.specs.declared.change_case.Case.TheVariants.{Title, Lower};
 
 /// A second full stop is never put.
 pub fn one_period_is_enough()
@@ -36,4 +40,12 @@ pub fn a_purified_text_is_pure()
 /// No text is wider than 1028 for each of its bytes.
 pub fn a_width_is_bounded()
     ensures { (text : List ℕ) → width_of text ≤ 1028 * length text }
+{}
+
+/// In another case a text has the same bytes in the same order, ASCII letters, `\` and white space aside. Where the
+/// letters become small ones, the case of letters is all that changes.
+pub fn another_case_keeps_the_rest()
+    ensures rest { (mode : Case) → (text : List ℕ) → filter is_fixed (case_changed mode text) ≡ filter is_fixed text }
+    ensures lower { (text : List ℕ) → map lower (case_changed Lower text) ≡ map lower text }
+    ensures title { (text : List ℕ) → map lower (case_changed Title text) ≡ map lower text }
 {}
