@@ -1,0 +1,5 @@
+pub mod CommandLemmas
+pub mod JudgeLemmas
+pub mod ReadingLemmas
+pub mod Sound
+pub mod StraightLemmas
