@@ -1,0 +1,48 @@
+//! Levels, and the white space at the ends of a slice.
+
+ghost use Rattle.std.specs.Prelude.{◌≡◌, ◌+◌, ◌<◌, ◌≤◌, length};
+ghost use Rattle.bv_base.specs.Bytes.{is_white as white};
+ghost use Rattle.bv_base.specs.Levels as levels;
+ghost use Rattle.name_split.specs.Spans.{front, kept};
+
+use bv_base::bytes::is_white;
+
+/// The level directly after a byte of this level.
+pub(crate) fn next_level(level: usize, b: u8) -> usize
+    requires { level < usize.MAX }
+    ensures next { result ≡ levels.next_level level b }
+    ensures bound { result ≤ level + 1 }
+{
+    match b {
+        b'{' => level + 1,
+        b'}' => level.saturating_sub(1),
+        _ => level,
+    }
+}
+
+/// How many bytes of white space stand at the front.
+pub(crate) fn white_front(bytes: &[u8]) -> usize
+    ensures front { result ≡ front white bytes.now }
+    ensures within { result ≤ length bytes.now }
+{
+    for (i, b) in bytes.iter().enumerate() {
+        if !is_white(*b) {
+            return i;
+        }
+    }
+    bytes.len()
+}
+
+/// How many bytes there are without the white space at the end.
+pub(crate) fn kept_length(bytes: &[u8]) -> usize
+    ensures kept { result ≡ kept white bytes.now }
+    ensures within { result ≤ length bytes.now }
+{
+    let mut kept = 0;
+    for (i, b) in bytes.iter().enumerate() {
+        if !is_white(*b) {
+            kept = i + 1;
+        }
+    }
+    kept
+}

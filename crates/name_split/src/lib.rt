@@ -1,0 +1,13 @@
+//! Names: those of a text, as slices of it, and the parts of one, as slices of it.
+#![tactic(auto)]
+
+mod bytes;
+mod commas;
+mod low;
+pub mod names;
+pub mod parts;
+pub mod spans;
+mod survey;
+#[cfg(test)]
+mod tests;
+mod tokens;

@@ -1,0 +1,119 @@
+//! Whether a token is low.
+
+ghost use Rattle.std.specs.Prelude.{◌≡◌, ◌≤◌, ◌&&◌, map, length, nat_eq};
+ghost use Rattle.bv_base.specs.Levels as levels;
+ghost use Rattle.name_split.specs.Tokens as tokens;
+
+use crate::bytes::next_level;
+
+/// The control words that stand for letters of other languages.
+const FOREIGN_WORDS: [&[u8]; 13] = [
+    b"oe", b"OE", b"ae", b"AE", b"ss", b"aa", b"AA", b"o", b"O", b"l", b"L", b"i", b"j",
+];
+
+/// Whether a token is low: an ASCII letter at level 0 or a special character decides, whichever comes first.
+pub(crate) fn is_low(token: &[u8]) -> bool
+    ensures { result ≡ tokens.is_low token.now }
+{
+    let mut level = 0;
+    for (at, b) in token.iter().enumerate() {
+        if is_plain_letter(level, *b) {
+            return b.is_ascii_lowercase();
+        }
+        let rest = token.split_at(at).1;
+        if begins_special(level, rest) {
+            return special_low(inside(rest.split_at(1).1));
+        }
+        level = next_level(level, *b);
+    }
+    false
+}
+
+/// Whether a byte of this level is an ASCII letter at level 0.
+fn is_plain_letter(level: usize, b: u8) -> bool
+    ensures { result ≡ (nat_eq level 0 && levels.is_ascii_letter b) }
+{
+    level == 0 && b.is_ascii_alphabetic()
+}
+
+/// Whether a special character begins with the first byte, which has a level.
+fn begins_special(level: usize, bytes: &[u8]) -> bool
+    ensures { result ≡ levels.begins_special level bytes.now }
+{
+    level == 0 && matches!(bytes, [b'{', b'\\', ..])
+}
+
+/// The bytes before the brace that closes a special character, or all where there is none.
+fn inside<'a>(bytes: &'a [u8]) -> &'a [u8]
+    ensures { result.now ≡ levels.inside 1 bytes.now }
+{
+    let mut level = 1;
+    for (at, b) in bytes.iter().enumerate() {
+        if level == 1 && *b == b'}' {
+            return bytes.split_at(at).0;
+        }
+        level = next_level(level, *b);
+    }
+    bytes
+}
+
+/// Whether a special character is low, by the bytes within its braces.
+fn special_low(inner: &[u8]) -> bool
+    ensures { result ≡ tokens.special_low inner.now }
+{
+    match inner {
+        [] => false,
+        [_, after @ ..] => {
+            let letters = word_letters(after);
+            if is_foreign(letters) {
+                first_small(letters)
+            } else {
+                first_small(after.split_at(letters.len()).1)
+            }
+        }
+    }
+}
+
+/// The ASCII letters that stand first.
+fn word_letters<'a>(bytes: &'a [u8]) -> &'a [u8]
+    ensures letters { result.now ≡ levels.word_letters bytes.now }
+    ensures within { length result.now ≤ length bytes.now }
+{
+    for (i, b) in bytes.iter().enumerate() {
+        if !b.is_ascii_alphabetic() {
+            return bytes.split_at(i).0;
+        }
+    }
+    bytes
+}
+
+/// Whether the first ASCII letter is a small one.
+fn first_small(bytes: &[u8]) -> bool
+    ensures { result ≡ tokens.first_small bytes.now }
+{
+    for b in bytes {
+        if b.is_ascii_alphabetic() {
+            return b.is_ascii_lowercase();
+        }
+    }
+    false
+}
+
+/// Whether a control word stands for a letter of another language.
+fn is_foreign(word: &[u8]) -> bool
+    ensures { result ≡ levels.is_foreign word.now }
+{
+    is_one_of(&FOREIGN_WORDS, word)
+}
+
+/// Whether a word is one of these.
+fn is_one_of(words: &[&[u8]], word: &[u8]) -> bool
+    ensures { result ≡ levels.is_one_of (map (λ w. w.now) words.now) word.now }
+{
+    for other in words {
+        if word == *other {
+            return true;
+        }
+    }
+    false
+}
