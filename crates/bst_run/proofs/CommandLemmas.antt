@@ -1,15 +1,15 @@
 -- From what was said to what is promised of a call.
-use Rattle.std.proofs.Common.{◌≡◌, ◌≢◌, ℕ, ◌≤◌, ◌⊎◌, true, false, List, [], ◌++◌, length, take, Option, None, Some, codes, refl, sym, ◌∙◌, ap, subst, arith, append-nil, inl, inr}
+use Rattle.std.proofs.Common.{◌≡◌, ℕ, ◌⊎◌, false, List, [], ◌++◌, length, Option, None, Some, codes, refl, sym, ◌∙◌, ap, subst, arith, append-nil, inl, inr}
 use Rattle.std.specs.Prelude.{IfSome}
 use Rattle.std.proofs.Math.Seq.{take_all}
 use Rattle.std.proofs.Common.{Bor}
 use Rattle.std.specs.Option.{option_map}
-use Rattle.bv_base.specs.Outside.{Listing, Begun, Rose, appended, opened}
+use Rattle.bv_base.specs.Outside.{Listing, Begun, Rose, appended}
 use Rattle.bv_base.specs.declared.status.Status.{Status}
 use Rattle.bv_base.specs.declared.status.Status.TheVariants as status
 use Rattle.bst_meaning.specs.declared.condition.Cond.{Cond}
 use Rattle.bst_run.specs.declared.judge.Stop.{Stop}
-use Rattle.bst_run.specs.declared.judge.Stop.TheVariants.{NoFile, ReadFailed, TooLong, BadStyle, NotBuilt, Refused, NoMemory}
+use Rattle.bst_run.specs.declared.judge.Stop.TheVariants.{ReadFailed, NoMemory}
 use Rattle.bst_run.specs.Report.{Answer, Accepts, output, error_line, status_of}
 use Rattle.bst_run.specs.Stops.{Stands, HasCause, stop_status, stop_line}
 use Rattle.bst_run.specs.Top.{Form, IsFront, IsSaid, IsAnswered, IsAccepted, IsSafelyAccepted, check_answer}

@@ -1,11 +1,10 @@
 -- From the two files to the answer.
-use Rattle.std.proofs.Common.{◌≡◌, ℕ, ◌≤◌, Bool, true, false, ◌||◌, not, nat_lt, cond, List, length, Option, None, Some, Result, Ok, Err, refl, sym, ◌∙◌, ap, arith}
+use Rattle.std.proofs.Common.{◌≡◌, ℕ, ◌≤◌, true, false, ◌||◌, not, nat_lt, cond, List, length, Option, None, Some, Result, Ok, Err, ◌∙◌, ap, arith}
 use Rattle.std.specs.Prelude.{IfSome, IfOk}
 use Rattle.std.specs.FinMap.{get}
 use Rattle.std.proofs.lemmas.Bool.Decides.{nat_tests}
 use Rattle.bv_base.specs.Outside.{Listing}
 use Rattle.name_table.specs.declared.style.Style.{Style}
-use Rattle.bst_parse.specs.declared.fault.StyleFault.{StyleFault}
 use Rattle.bst_parse.specs.Reading.{style_of}
 use Rattle.bst_meaning.specs.declared.condition.Cond.{Cond}
 use Rattle.bst_run.specs.declared.judge.Stop.{Stop}
@@ -13,7 +12,7 @@ use Rattle.bst_run.specs.Straight.{is_straight}
 use Rattle.bst_run.specs.Walk.{first_refusal}
 use Rattle.bst_run.specs.Report.{Answer, OutOfReach}
 use Rattle.bst_run.specs.Reading.{certificate_of}
-use Rattle.bst_run.specs.Top.{Form, with_file, judged, decided, after_style, check_answer, IsDecidedWell, IsAccepted}
+use Rattle.bst_run.specs.Top.{with_file, judged, decided, after_style, check_answer, IsDecidedWell, IsAccepted}
 
 -- a straight style that isn't too long and a short certificate are decided by the rules
 pub decides : (bytes : List ℕ) (style : Style) (found : Option Cond) (condition : Cond) → found ≡ Some condition

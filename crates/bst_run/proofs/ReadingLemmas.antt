@@ -1,20 +1,17 @@
 -- Each short certificate is read as what it spells.
-use Rattle.std.proofs.Common.{◌≡◌, ℕ, suc, ◌+◌, ◌-◌, ◌*◌, ◌^◌, ◌≤◌, ◌<◌, Bool, true, false, cond, ◌&&◌, List, [], ◌∷◌, ◌++◌, length, get_or, take, drop, Option, None, Some, nat_le, nat_eq, codes, refl, sym, ◌∙◌, ap, subst, arith, rules, append_assoc}
+use Rattle.std.proofs.Common.{◌≡◌, ℕ, ◌+◌, ◌-◌, ◌*◌, ◌^◌, ◌≤◌, ◌<◌, Bool, true, false, cond, List, [], ◌∷◌, ◌++◌, length, get_or, None, Some, nat_le, codes, refl, sym, ◌∙◌, ap, arith, rules, append_assoc}
 use Rattle.std.specs.Prelude.{is_some}
 use Rattle.std.proofs.lemmas.Bool.{and_parts}
 use Rattle.std.proofs.lemmas.Bool.Decides.{nat_tests}
 use Rattle.std.specs.Fmt.{decimal}
-use Rattle.std.specs.Option.{option_and_then}
-use Rattle.std.specs.Cmp.Lexicographic.{pointwise}
-use Rattle.std.specs.Int.{IsInRange}
 use Rattle.std.specs.Str.{all_ascii_digits}
-use Rattle.std.proofs.lemmas.Str.Parse.{IsNumeralModel, numerals_by_fold, tells_all_ascii_digits}
+use Rattle.std.proofs.lemmas.Str.Parse.{IsNumeralModel, numerals_by_fold}
 use Rattle.std.proofs.lemmas.Fmt.{digits_decimal, digits_value-decimal}
 use Rattle.name_table.specs.declared.names.NameId.{NameId}
 use Rattle.bst_meaning.specs.declared.condition.NamesLine.{NamesLine}
 use Rattle.bst_meaning.specs.declared.condition.Cond.{Cond}
-use Rattle.bst_run.specs.Certificate.{IsCertificate, IsShort, certificate_text, condition_text, yes_or_no}
-use Rattle.bst_run.specs.Reading.{after, number_from, number, numbered, within, is_digit, loosely_read}
+use Rattle.bst_run.specs.Certificate.{IsCertificate, yes_or_no}
+use Rattle.bst_run.specs.Reading.{after, number_from, within, is_digit, loosely_read}
 
 -- more digits make no smaller number
 number_from_ge : (n : ℕ) (bytes : List ℕ) → n ≤ (number_from n bytes).0

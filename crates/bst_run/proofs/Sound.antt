@@ -1,7 +1,7 @@
 -- What the checker accepts is safe: the machine is followed from each configuration to the next, and what waits below is
 -- handed on as a continuation.
-use Rattle.std.proofs.Common.{◌≡◌, ℕ, zero, suc, Bool, true, false, ◌&&◌, cond, List, [], ◌∷◌, ◌++◌, Option, None, Some, Result, Ok, Err, refl, sym, ◌∙◌, ap, subst}
-use Rattle.std.specs.Prelude.{filter, drop, slice_get}
+use Rattle.std.proofs.Common.{◌≡◌, ℕ, zero, suc, true, false, cond, List, [], ◌∷◌, ◌++◌, Option, None, Some, Result, Ok, Err, refl, sym, subst}
+use Rattle.std.specs.Prelude.{filter, slice_get}
 use Rattle.std.specs.Option.{option_map_or}
 use Rattle.std.proofs.lemmas.Bool.{and_parts}
 use Rattle.std.specs.List.{list_all}
@@ -11,7 +11,6 @@ use Rattle.name_table.specs.declared.builtin.Builtin.TheVariants.{Join, Newline,
 use Rattle.name_table.specs.declared.names.NameId.{NameId}
 use Rattle.name_table.specs.declared.names.Kind.{Kind}
 use Rattle.name_table.specs.declared.names.Kind.TheVariants.{Builtin as BuiltinKind, Wizard}
-use Rattle.name_table.specs.declared.style.BodyId.{BodyId}
 use Rattle.name_table.specs.declared.style.Body.{Body}
 use Rattle.name_table.specs.declared.style.Token.{Token}
 use Rattle.name_table.specs.declared.style.Token.TheVariants.{Str as StrToken, Call}
@@ -25,9 +24,8 @@ use Rattle.bst_meaning.specs.declared.value.Value.TheVariants.{Str}
 use Rattle.bst_meaning.specs.declared.condition.Cond.{Cond}
 use Rattle.bst_meaning.specs.StyleParts.{kind_of, tokens_of, text_of}
 use Rattle.bst_meaning.specs.Config.{Config, Frame, Event, Whole, opening, is_step}
-use Rattle.bst_meaning.specs.Builtins.{built_in}
-use Rattle.bst_meaning.specs.Machine.{step, steps, run, token_step, call_step}
-use Rattle.bst_meaning.specs.Safe.{EndsCall, IsFine, Safe}
+use Rattle.bst_meaning.specs.Machine.{step, steps, token_step, call_step}
+use Rattle.bst_meaning.specs.Safe.{IsFine, Safe}
 use Rattle.bst_run.specs.declared.refusal.Refusal.{Refusal}
 use Rattle.bst_run.specs.Straight.{is_straight, is_straight_token, is_straight_call, is_straight_body, is_straight_command, is_wizard}
 use Rattle.bst_run.specs.Walk.{Checks, walk_built_in, walk_call, walk_token, walk_tokens, walk_function, walk_command, walk_commands, then_walk, end_call, refusal_of}

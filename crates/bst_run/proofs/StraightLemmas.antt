@@ -1,5 +1,5 @@
 -- The kinds of names, one after another.
-use Rattle.std.proofs.Common.{◌≡◌, ℕ, zero, suc, ◌+◌, ◌<◌, Bool, true, false, ◌&&◌, sym, ◌∙◌, ap, add-one, List, [], ◌∷◌, length, drop, Option, Some, refl, arith}
+use Rattle.std.proofs.Common.{◌≡◌, ℕ, zero, suc, ◌+◌, ◌<◌, Bool, true, false, ◌&&◌, sym, ◌∙◌, ap, add-one, List, [], ◌∷◌, length, drop, Some, refl, arith}
 use Rattle.std.specs.Prelude.{slice_get}
 use Rattle.std.specs.Option.{option_map}
 use Rattle.std.specs.List.{list_all}

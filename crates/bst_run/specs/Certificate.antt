@@ -1,6 +1,6 @@
 -- Short certificates (docs/CERTIFICATES.md, "Short certificates"): a header, a condition without lines on names, fields or
 -- types, and nothing else. Each has one spelling.
-use Rattle.std.specs.Prelude.{◌≡◌, ℕ, ◌≤◌, Bool, true, false, if◌then◌else◌, List, [], ◌∷◌, ◌++◌, codes}
+use Rattle.std.specs.Prelude.{◌≡◌, ℕ, ◌≤◌, Bool, true, false, List, [], ◌++◌, codes}
 use Rattle.std.specs.Fmt.{decimal}
 use Rattle.bst_meaning.specs.declared.condition.Cond.{Cond}
 

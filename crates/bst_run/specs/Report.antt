@@ -1,6 +1,6 @@
 -- What the program writes (docs/COMMANDS.md, "Answers"): the exit status, the text on standard output and the last line on
 -- standard error of each answer.
-use Rattle.std.specs.Prelude.{ℕ, List, [], ◌∷◌, ◌++◌, codes}
+use Rattle.std.specs.Prelude.{ℕ, List, [], ◌++◌, codes}
 use Rattle.std.specs.Fmt.{decimal}
 use Rattle.bv_base.specs.declared.place.Place.{Place}
 use Rattle.bv_base.specs.declared.status.Status.{Status}

@@ -1,5 +1,5 @@
 -- Where a check stops before it accepts, and what each stop stands for.
-use Rattle.std.specs.Prelude.{◌≡◌, ◌<◌, ℕ, List, ◌++◌, length, codes, Option, None, Some, IfSome, IsSomeAnd, Result, Err}
+use Rattle.std.specs.Prelude.{◌≡◌, ◌<◌, ℕ, List, ◌++◌, length, codes, Option, None, IfSome, IsSomeAnd, Result, Err}
 use Rattle.std.specs.FinMap.{get}
 use Rattle.bv_base.specs.Outside.{Listing, Begun, Rose, opened, missing}
 use Rattle.bv_base.specs.declared.status.Status.{Status}

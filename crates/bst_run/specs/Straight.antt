@@ -1,5 +1,5 @@
 -- The styles that are checked so far (docs/CHECKER.md, "Straight styles").
-use Rattle.std.specs.Prelude.{ℕ, Bool, true, false, ◌&&◌, List, drop, Option, None, Some}
+use Rattle.std.specs.Prelude.{Bool, true, false, ◌&&◌, drop, Option, Some}
 use Rattle.std.specs.List.{list_all}
 use Rattle.name_table.specs.declared.builtin.Builtin.TheVariants.{Join, Newline, Write}
 use Rattle.name_table.specs.declared.names.Kind.{Kind}

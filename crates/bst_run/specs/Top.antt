@@ -1,10 +1,10 @@
 -- The whole command line (docs/COMMANDS.md): from the words and the files to the answer, and what an answer means.
-use Rattle.std.specs.Prelude.{◌≡◌, ◌≢◌, ◌≤◌, ℕ, ◌⊎◌, Bool, true, false, ◌&&◌, ◌||◌, not, nat_lt, if◌then◌else◌, List, [], ◌∷◌, ◌++◌, length, take, codes, Option, None, Some, Result, Ok, Err, String, IfSome, nat_eq}
+use Rattle.std.specs.Prelude.{◌≡◌, ◌≤◌, ℕ, ◌||◌, not, nat_lt, if◌then◌else◌, List, [], ◌∷◌, length, take, codes, Option, None, Some, Result, Ok, Err, String, nat_eq}
 use Rattle.std.specs.Global.{Global}
 use Rattle.std.specs.String.{string_bytes}
 use Rattle.std.specs.FinMap.{get}
 use Rattle.std.specs.Cmp.Lexicographic.{pointwise}
-use Rattle.bv_base.specs.Outside.{Listing, Begun, Rose, appended, opened, missing}
+use Rattle.bv_base.specs.Outside.{Listing, Rose, appended}
 use Rattle.bv_base.specs.declared.status.Status.{Status}
 use Rattle.bv_base.specs.declared.status.Status.TheVariants as status
 use Rattle.name_table.specs.declared.style.Style.{Style}

@@ -3,7 +3,7 @@
 use Rattle.std.specs.Prelude.{◌≡◌, ℕ, zero, suc, List, [], ◌∷◌, Option, None, Some, Result, Ok, Err}
 use Rattle.bv_base.specs.declared.place.Place.{Place}
 use Rattle.name_table.specs.declared.builtin.Builtin.{Builtin}
-use Rattle.name_table.specs.declared.builtin.Builtin.TheVariants.{Join, Newline, Write}
+use Rattle.name_table.specs.declared.builtin.Builtin.TheVariants.{Join, Write}
 use Rattle.name_table.specs.declared.names.Kind.{Kind}
 use Rattle.name_table.specs.declared.names.Kind.TheVariants.{Builtin as BuiltinKind, Wizard}
 use Rattle.name_table.specs.declared.style.Token.{Token}

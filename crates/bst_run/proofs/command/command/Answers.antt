@@ -1,4 +1,3 @@
-use Rattle.std.proofs.Common.{◌≡◌}
 use Rattle.bst_run.proofs.CommandLemmas.{all_answered_out, all_answered_err, all_safe, named, read_failed}
 use Rattle.bst_run.proofs.command.command.Goals as goal
 

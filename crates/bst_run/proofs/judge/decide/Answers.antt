@@ -1,4 +1,4 @@
-use Rattle.std.proofs.Common.{◌≡◌, ◌∙◌, sym, ap, subst, Some, None, true, arith, Option}
+use Rattle.std.proofs.Common.{◌∙◌, sym, ap, subst, arith, Option}
 use Rattle.std.specs.Prelude.{IfSome}
 use Rattle.bst_meaning.specs.declared.condition.Cond.{Cond}
 use Rattle.bst_run.specs.Certificate.{IsCertificate}

@@ -1,4 +1,4 @@
-use Rattle.std.proofs.Common.{◌≡◌, List, ℕ, Option, Ok, Some, sym, subst, arith}
+use Rattle.std.proofs.Common.{◌≡◌, List, ℕ, Option, Ok, Some, subst}
 use Rattle.std.specs.Prelude.{IfSome, IfOk}
 use Rattle.std.specs.FinMap.{get}
 use Rattle.bv_base.specs.Outside.{Listing}
