@@ -1,0 +1,109 @@
+//! `:=`
+
+ghost use Rattle.std.specs.Prelude.{◌≡◌, ℕ, Some, drop, slice_get, IfOk};
+ghost use Rattle.bst_meaning.specs.Operands.{as_string, as_integer};
+ghost use Rattle.bst_meaning.specs.StyleParts as parts;
+ghost use Rattle.bst_meaning.specs.Builtins as rule;
+ghost use Rattle.bst_step.specs.Outcome.{Gives};
+ghost use Rattle.bst_step.specs.Surroundings.{context_in};
+
+use crate::logs::name_text;
+use crate::operands::two;
+use crate::outcome::Outcome;
+use crate::stack::Stack;
+use crate::stop::Stop;
+use crate::surroundings::{Surroundings, kind_of};
+use crate::texts::joined;
+use bst_meaning::fault::Fault;
+use bst_meaning::value::{Target, Value};
+use bv_base::memory::NoMemory;
+use bv_base::text::Text;
+use name_table::names::{Kind, NameId};
+use name_table::style::Style;
+use std::alloc::Global;
+
+/// The most bytes of a string variable of an entry.
+const ENTRY_SIZE: u32 = 250;
+
+/// The most bytes of a string variable of the whole style.
+const GLOBAL_SIZE: u32 = 20000;
+
+/// `:=`
+pub fn assign(around: Surroundings, stack: &Stack<Value>) -> Result<Outcome, Stop>
+    ensures { Gives result stack.now (rule.assign (context_in around.entry) stack.now) }
+{
+    let (value, target) = two(stack)?;
+    match target {
+        Value::Func(Target::Named(name)) => assign_to(around, *name, value, stack),
+        Value::Func(Target::Block(_)) => Err(Stop::Fault(Fault::NotVariable)),
+        _ => Err(Stop::Fault(Fault::WrongKind)),
+    }
+}
+
+/// `:=` of a value, the second from the top, to what a name stands for.
+fn assign_to(
+    around: Surroundings,
+    name: NameId,
+    value: &Value,
+    stack: &Stack<Value>,
+) -> Result<Outcome, Stop>
+    requires { slice_get stack.now 1 ≡ Some value.now }
+    ensures { Gives result stack.now
+        (rule.assign_to (context_in around.entry) (parts.kind_of around.entry.style.now name) name value.now (drop 2 stack.now)) }
+{
+    let visits = around.entry.is_some();
+    match kind_of(around.style, name) {
+        Some(Kind::IntGlobal) => assign_integer(name, value, stack),
+        Some(Kind::StrGlobal) => assign_string(around, name, GLOBAL_SIZE, value, stack),
+        Some(Kind::IntEntry) if visits => assign_integer(name, value, stack),
+        Some(Kind::StrEntry) if visits => assign_string(around, name, ENTRY_SIZE, value, stack),
+        Some(Kind::IntEntry | Kind::StrEntry) => Err(Stop::Fault(Fault::NoEntry)),
+        _ => Err(Stop::Fault(Fault::NotVariable)),
+    }
+}
+
+/// `:=` of an integer to an integer variable.
+fn assign_integer(name: NameId, value: &Value, stack: &Stack<Value>) -> Result<Outcome, Stop>
+    requires { slice_get stack.now 1 ≡ Some value.now }
+    ensures { Gives result stack.now (as_integer value.now (λ n. rule.assigned_integer name n (drop 2 stack.now))) }
+{
+    match value {
+        Value::Int(_) => Ok(Outcome::Assign(name)),
+        _ => Err(Stop::Fault(Fault::WrongKind)),
+    }
+}
+
+/// `:=` of a string to a string variable of a size.
+fn assign_string(
+    around: Surroundings,
+    name: NameId,
+    size: u32,
+    value: &Value,
+    stack: &Stack<Value>,
+) -> Result<Outcome, Stop>
+    requires { slice_get stack.now 1 ≡ Some value.now }
+    ensures { Gives result stack.now
+        (as_string value.now (λ bytes. rule.assigned_string around.entry.style.now name size bytes (drop 2 stack.now))) }
+{
+    let Value::Str(text) = value else {
+        return Err(Stop::Fault(Fault::WrongKind));
+    };
+    let bytes = text.as_slice();
+    if bytes.len() <= size as usize {
+        return Ok(Outcome::Assign(name));
+    }
+    let cut = Text::from_slice(around.alloc, &bytes[..size as usize])?;
+    let line = cut_warning(around.alloc, around.style, name, size)?;
+    Ok(Outcome::AssignCut(name, cut, line))
+}
+
+/// The warning that a string was cut to a variable's size.
+fn cut_warning(alloc: Global, style: &Style, name: NameId, size: u32) -> Result<Text, NoMemory>
+    ensures { IfOk result (λ line. line ≡ rule.cut_warning style.now name size) }
+{
+    let mut line = joined(alloc, b"Warning--cut ", name_text(style, name))?;
+    line.extend_from_slice(b" to ")?;
+    let digits = format!(in alloc; "{size}")?.into_bytes();
+    line.extend_from_slice(digits.as_slice())?;
+    Ok(Text::from_vec(line))
+}

@@ -1,0 +1,67 @@
+//! The built-in functions that enter others.
+
+ghost use Rattle.std.specs.Prelude.{◌≡◌, option_map, IfOk};
+ghost use Rattle.bst_meaning.specs.declared.value.Target.TheVariants.{Named};
+ghost use Rattle.name_table.specs.TypeTarget.{target_of};
+ghost use Rattle.bst_meaning.specs.Config as config;
+ghost use Rattle.bst_meaning.specs.Effect.{with_entered};
+ghost use Rattle.bst_meaning.specs.Builtins as rule;
+ghost use Rattle.bst_step.specs.Outcome.{Gives};
+
+use crate::operands::{three, two};
+use crate::outcome::{Outcome, Part};
+use crate::stack::Stack;
+use crate::stop::Stop;
+use bst_meaning::entry::Entry;
+use bst_meaning::fault::Fault;
+use bst_meaning::value::{Target, Value};
+use name_table::names::NameId;
+use name_table::style::{Style, TypeTarget};
+
+/// The id of `skip$` in every style.
+const SKIP: NameId = NameId(25);
+
+/// `if$`
+pub fn if_else(stack: &Stack<Value>) -> Result<Outcome, Stop>
+    ensures { Gives result stack.now (rule.if_else stack.now) }
+{
+    match three(stack)? {
+        (Value::Int(n), Value::Func(first), Value::Func(other)) => {
+            let entered = if *n > 0 { *first } else { *other };
+            Ok(Outcome::Enter(3, entered, Part::Whole))
+        }
+        _ => Err(Stop::Fault(Fault::WrongKind)),
+    }
+}
+
+/// `while$`
+pub fn while_do(stack: &Stack<Value>) -> Result<Outcome, Stop>
+    ensures { Gives result stack.now (rule.while_do stack.now) }
+{
+    match two(stack)? {
+        (Value::Func(test), Value::Func(body)) => {
+            Ok(Outcome::Enter(2, *test, Part::Testing(*test, *body)))
+        }
+        _ => Err(Stop::Fault(Fault::WrongKind)),
+    }
+}
+
+/// `call.type$`, for the visited entry.
+pub fn call_type(
+    style: &Style,
+    entry: Option<&Entry>,
+    stack: &Stack<Value>,
+) -> Result<Outcome, Stop>
+    ensures { Gives result stack.now (rule.at_entry (option_map (λ e. e.now) entry.entry)
+        (λ e. with_entered (Named (rule.type_entered (target_of e.entry_type style.now))) config.Whole stack.now)) }
+{
+    let Some(entry) = entry else {
+        return Err(Stop::Fault(Fault::NoEntry));
+    };
+    let name = match style.type_target(entry.entry_type.as_slice()) {
+        TypeTarget::Function(name) => name,
+        TypeTarget::Default(name) => name,
+        TypeTarget::Skip => SKIP,
+    };
+    Ok(Outcome::Enter(0, Target::Named(name), Part::Whole))
+}

@@ -1,0 +1,16 @@
+//! The machine that runs a style step by step (docs/MACHINE.md).
+#![tactic(auto)]
+
+mod assign;
+mod built_in;
+mod entries;
+mod flow;
+mod logs;
+mod moves;
+mod numbers;
+mod operands;
+mod outcome;
+mod stack;
+mod stop;
+mod surroundings;
+mod texts;
