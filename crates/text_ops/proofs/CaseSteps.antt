@@ -18,7 +18,7 @@ pub plain_case : (mode : Case) (before : List ℕ) (level : ℕ) (text : List �
     → changed_pieces mode before (pieces_after 0 level text) ≡ (if leaves mode (begins_title before) then get_or text 0 0 else changed_plain mode level (get_or text 0 0)) ∷ changed_pieces mode (get_or text 0 0 ∷ before) (pieces_after 0 (next_level level (get_or text 0 0)) (tail text))
 plain_case mode before level text h k = rw (plain_piece level text k h) (first_plain mode before level (get_or text 0 0) _)
 
-closed_or_last : (level : ℕ) (bs : List ℕ) → (closing level bs ≡ 125 ∷ []) ⊎ ((closing level bs ≡ []) × (beyond level bs ≡ []))
+pub closed_or_last : (level : ℕ) (bs : List ℕ) → (closing level bs ≡ 125 ∷ []) ⊎ ((closing level bs ≡ []) × (beyond level bs ≡ []))
 closed_or_last level [] = inr (refl, refl)
 closed_or_last level (b ∷ bs) =
     let M : Bool → Type 0 = λ v. is_closing level b ≡ v → (closing level (b ∷ bs) ≡ 125 ∷ []) ⊎ ((closing level (b ∷ bs) ≡ []) × (beyond level (b ∷ bs) ≡ [])) in

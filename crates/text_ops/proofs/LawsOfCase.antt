@@ -14,7 +14,7 @@ use Rattle.text_ops.proofs.PieceSteps.{pieces_beyond, special_level}
 use Rattle.text_ops.proofs.PartSteps.{parts_drop, word_length, drop_word}
 use Rattle.text_ops.proofs.Induction.{by_pieces, by_parts, special_whole}
 
-run_whole : (test : ℕ → Bool) (bs : List ℕ) → run test bs ++ drop (length (run test bs)) bs ≡ bs
+pub run_whole : (test : ℕ → Bool) (bs : List ℕ) → run test bs ++ drop (length (run test bs)) bs ≡ bs
 run_whole test [] = refl
 run_whole test (b ∷ bs) =
     let M : Bool → Type 0 = λ v. (if v then b ∷ run test bs else []) ++ drop (length (if v then b ∷ run test bs else [])) (b ∷ bs) ≡ b ∷ bs in
@@ -26,7 +26,7 @@ word_whole bs =
     rw (drop_word bs bs)
     (append_assoc (word_letters bs) (word_space bs) _ ∙ (ap (λ xs. word_letters bs ++ xs) (run_whole is_white (drop (length (word_letters bs)) bs)) ∙ run_whole is_ascii_letter bs))
 
-special_brace : (level b : ℕ) (bs : List ℕ) → begins_special level (b ∷ bs) ≡ true → b ≡ 123
+pub special_brace : (level b : ℕ) (bs : List ℕ) → begins_special level (b ∷ bs) ≡ true → b ≡ 123
 special_brace level b [] h = absurd (cc)
 special_brace level b (c ∷ bs) h = grind (arith, nat_tests)
 
@@ -139,10 +139,10 @@ fixed_kept mode text = same_pieces mode (filter is_fixed) (filter_joins is_fixed
 
 -- ---- `l` and `t` change the case of letters alone
 
-lower_twice : (b : ℕ) → lower (lower b) ≡ lower b
+pub lower_twice : (b : ℕ) → lower (lower b) ≡ lower b
 lower_twice b = grind (arith, nat_tests)
 
-lowered_letters : (letters : List ℕ) → map lower (map lower letters) ≡ map lower letters
+pub lowered_letters : (letters : List ℕ) → map lower (map lower letters) ≡ map lower letters
 lowered_letters [] = refl
 lowered_letters (b ∷ bs) = rw (lower_twice b, lowered_letters bs) refl
 

@@ -11,7 +11,7 @@ use Rattle.text_ops.proofs.PieceSteps.{pieces_beyond, special_level}
 use Rattle.text_ops.proofs.PartSteps.{parts_drop, word_length}
 use Rattle.text_ops.proofs.Induction.{by_pieces, by_parts, special_lengths}
 
-all_append : (test : ℕ → Bool) (xs ys : List ℕ) → list_all test xs ≡ true → list_all test ys ≡ true → list_all test (xs ++ ys) ≡ true
+pub all_append : (test : ℕ → Bool) (xs ys : List ℕ) → list_all test xs ≡ true → list_all test ys ≡ true → list_all test (xs ++ ys) ≡ true
 all_append test [] ys h k = k
 all_append test (x ∷ xs) ys h k =
     let M : Bool → Type 0 = λ v. test x ≡ v → list_all test ((x ∷ xs) ++ ys) ≡ true in

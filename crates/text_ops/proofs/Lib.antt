@@ -5,6 +5,7 @@ pub mod LawsOfPrefix
 pub mod LawsOfPurify
 pub mod LawsOfSubstring
 pub mod LevelSteps
+pub mod LowerTwice
 pub mod PartSteps
 pub mod PieceSteps
 pub mod PrefixSteps

@@ -6,10 +6,10 @@ use Rattle.bv_base.specs.Bytes.{is_white}
 use Rattle.bv_base.specs.Levels.{next_level, is_brace, is_ascii_letter, is_closing, inside, closing, beyond, run, word_letters, word_space, ControlWord, Other, parts_after, special_parts}
 use Rattle.text_ops.proofs.PieceSteps.{tail, tail_is}
 
-no_brace_closing : (level b : ℕ) → is_brace b ≡ false → is_closing level b ≡ false
+pub no_brace_closing : (level b : ℕ) → is_brace b ≡ false → is_closing level b ≡ false
 no_brace_closing level b h = grind (arith, nat_tests)
 
-no_brace_level : (level b : ℕ) → is_brace b ≡ false → next_level level b ≡ level
+pub no_brace_level : (level b : ℕ) → is_brace b ≡ false → next_level level b ≡ level
 no_brace_level level b h = grind (arith, nat_tests)
 
 pub letter_no_brace : (b : ℕ) → is_ascii_letter b ≡ true → is_brace b ≡ false
@@ -85,7 +85,7 @@ pub word_after : (level : ℕ) (bs : List ℕ) → beyond level (drop (word_leng
 word_after level bs =
     rw (drop_word bs bs) (beyond_run is_white white_no_brace level (drop (length (word_letters bs)) bs) ∙ beyond_run is_ascii_letter letter_no_brace level bs)
 
-same_word : (letters letters' space space' xs : List ℕ) → letters ≡ letters' → space ≡ space'
+pub same_word : (letters letters' space space' xs : List ℕ) → letters ≡ letters' → space ≡ space'
     → ControlWord letters space ∷ parts_after (length (letters ++ space)) xs ≡ ControlWord letters' space' ∷ parts_after (length (letters' ++ space')) xs
 same_word letters letters' space space' xs e f = cc
 

@@ -49,3 +49,8 @@ pub fn another_case_keeps_the_rest()
     ensures lower { (text : List ℕ) → map lower (case_changed Lower text) ≡ map lower text }
     ensures title { (text : List ℕ) → map lower (case_changed Title text) ≡ map lower text }
 {}
+
+/// Small letters stay small.
+pub fn small_letters_stay()
+    ensures { (text : List ℕ) → case_changed Lower (case_changed Lower text) ≡ case_changed Lower text }
+{}
