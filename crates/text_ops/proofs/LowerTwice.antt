@@ -234,7 +234,7 @@ module _ (level : ℕ) (ys : List ℕ) where
         | false ↦ λ e. absurd (let rest : (is_flat x && list_all is_flat xs) ≡ true = h in cc (rw e at rest))
       ]) refl
 
-stays_open : (level b : ℕ) (bs : List ℕ) → closing level (b ∷ bs) ≡ [] → is_closing level b ≡ false
+pub stays_open : (level b : ℕ) (bs : List ℕ) → closing level (b ∷ bs) ≡ [] → is_closing level b ≡ false
 stays_open level b bs h =
     let M : Bool → Type 0 = λ v. is_closing level b ≡ v → (if v then b ∷ [] else closing (next_level level b) bs) ≡ [] → is_closing level b ≡ false in
     (elim (is_closing level b) as M [ true ↦ λ e k. absurd (cc) | false ↦ λ e k. e ]) refl h
@@ -283,14 +283,14 @@ keeps_end = by_parts word_length (λ inner. (level : ℕ) (ys : List ℕ) → cl
 
 -- ---- whole texts
 
-inside_open : (level : ℕ) (bs : List ℕ) → closing level (inside level bs) ≡ []
+pub inside_open : (level : ℕ) (bs : List ℕ) → closing level (inside level bs) ≡ []
 inside_open level [] = refl
 inside_open level (b ∷ bs) =
     let M : Bool → Type 0 = λ v. is_closing level b ≡ v → closing level (if v then [] else b ∷ inside (next_level level b) bs) ≡ [] in
     (elim (is_closing level b) as M [ true ↦ λ e. refl | false ↦ λ e. rw e (inside_open (next_level level b) bs) ]) refl
 
 -- at the closing brace one level is left
-level_before_end : (level : ℕ) (bs : List ℕ) → closing level bs ≡ 125 ∷ [] → level_after level (inside level bs) ≡ 1
+pub level_before_end : (level : ℕ) (bs : List ℕ) → closing level bs ≡ 125 ∷ [] → level_after level (inside level bs) ≡ 1
 level_before_end level [] h = absurd (cc)
 level_before_end level (b ∷ bs) h =
     let M : Bool → Type 0 = λ v. is_closing level b ≡ v → (if v then b ∷ [] else closing (next_level level b) bs) ≡ 125 ∷ [] → level_after level (if v then [] else b ∷ inside (next_level level b) bs) ≡ 1 in
@@ -335,7 +335,7 @@ again_at bs inner close later e f g =
     ap (λ xs. (123 ∷ lowered_special xs ++ closing 1 bs) ++ lowered_pieces 0 (beyond 1 bs)) e
     ∙ (ap (λ xs. (123 ∷ lowered_special inner ++ xs) ++ lowered_pieces 0 (beyond 1 bs)) f ∙ ap (λ xs. (123 ∷ lowered_special inner ++ close) ++ lowered_pieces 0 xs) behind)
 
-begins_with_mark : (level b : ℕ) (bs : List ℕ) → begins_special level (b ∷ bs) ≡ true → (cs : List ℕ) × (bs ≡ 92 ∷ cs)
+pub begins_with_mark : (level b : ℕ) (bs : List ℕ) → begins_special level (b ∷ bs) ≡ true → (cs : List ℕ) × (bs ≡ 92 ∷ cs)
 begins_with_mark level b [] h = absurd (cc)
 begins_with_mark level b (c ∷ bs) h = let mark : c ≡ 92 = grind (arith, nat_tests) in (bs, ap (λ x. x ∷ bs) mark)
 
@@ -354,7 +354,7 @@ first_level level b = elim (nat_eq level 0) as (λ v. next_level level (if v the
 first_twice : (level b : ℕ) → changed_plain Lower level (changed_plain Lower level b) ≡ changed_plain Lower level b
 first_twice level b = elim (nat_eq level 0) as (λ v. (if v then lower (if v then lower b else b) else (if v then lower b else b)) ≡ (if v then lower b else b)) [ true ↦ lower_twice b | false ↦ refl ]
 
-and_false : (v w : Bool) → (v && false && w) ≡ false
+pub and_false : (v w : Bool) → (v && false && w) ≡ false
 and_false true w = refl
 and_false false w = refl
 

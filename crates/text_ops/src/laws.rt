@@ -1,14 +1,15 @@
 //! What holds of every text that the definitions of this crate give.
 
-ghost use Rattle.std.specs.Prelude.{◌≡◌, ℕ, ◌*◌, ◌≤◌, List, [], length, map, filter, ℤ, pos, negsuc, IsTrue};
+ghost use Rattle.std.specs.Prelude.{◌≡◌, ℕ, ◌*◌, ◌≤◌, List, [], length, map, filter, flat_map, ℤ, pos, negsuc, IsTrue};
 ghost use Rattle.std.specs.List.{list_all};
 ghost use Rattle.bv_base.specs.Bytes.{lower};
-ghost use Rattle.bv_base.specs.Levels.{level_after};
+ghost use Rattle.bv_base.specs.Levels.{level_after, pieces, spelling};
 ghost use Rattle.text_ops.specs.AddPeriod.{with_period};
 ghost use Rattle.text_ops.specs.ChangeCase.{case_changed};
 ghost use Rattle.text_ops.specs.Laws.{IsPartOf, is_fixed, is_pure};
 ghost use Rattle.text_ops.specs.Purify.{purified};
 ghost use Rattle.text_ops.specs.Substring.{substring_of};
+ghost use Rattle.text_ops.specs.TextLength.{text_length_of};
 ghost use Rattle.text_ops.specs.TextPrefix.{text_prefix_of};
 ghost use Rattle.text_ops.specs.Width.{width_of};
 ghost use Rattle.text_ops.specs.declared.change_case.Case.{Case};
@@ -26,9 +27,15 @@ pub fn a_substring_is_a_part()
     ensures none { (text : List ℕ) → (start : ℤ) → (count : ℕ) → substring_of text start (negsuc count) ≡ [] }
 {}
 
-/// `text.prefix$` ends all levels that it begins.
+/// The pieces of a text spell it.
+pub fn pieces_spell_the_text()
+    ensures { (text : List ℕ) → flat_map spelling (pieces text) ≡ text }
+{}
+
+/// `text.prefix$` ends all levels that it begins, and has no more text characters than were asked for.
 pub fn a_prefix_is_closed()
-    ensures { (text : List ℕ) → (count : ℤ) → level_after 0 (text_prefix_of text count) ≡ 0 }
+    ensures closed { (text : List ℕ) → (count : ℤ) → level_after 0 (text_prefix_of text count) ≡ 0 }
+    ensures few { (text : List ℕ) → (count : ℕ) → text_length_of (text_prefix_of text (pos count)) ≤ count }
 {}
 
 /// `purify$` gives letters, digits and spaces alone, and no more bytes than the text has.
