@@ -1,7 +1,10 @@
 pub mod Counting
 pub mod Cutting
+pub mod Grouping
 pub mod Leaving
+pub mod Ordering
 pub mod Parting
 pub mod Separating
 pub mod Surveying
 pub mod Taking
+pub mod Within

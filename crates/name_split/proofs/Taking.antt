@@ -8,7 +8,7 @@ use Rattle.name_split.specs.Tokens.{added, ends_token, token_at, token_length, t
 when_false : {X : Type 0} (test : Bool) (a b : X) → test ≡ false → cond test a b ≡ b
 when_false test a b e = ap (λ v. cond v a b) e
 
-length_within : (level : ℕ) (bytes : List ℕ) → token_length level bytes ≤ length bytes
+pub length_within : (level : ℕ) (bytes : List ℕ) → token_length level bytes ≤ length bytes
 length_within level [] = omega arith
 length_within level (b ∷ bytes) =
     let h : token_length (next_level level b) bytes ≤ length bytes = length_within (next_level level b) bytes in

@@ -2,7 +2,9 @@ pub mod AllParts
 pub mod Commas
 pub mod Left
 pub mod Names
+pub mod Order
 pub mod Parts
+pub mod Patterns
 pub mod Spans
 pub mod Survey
 pub mod Tokens

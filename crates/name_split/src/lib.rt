@@ -3,9 +3,11 @@
 
 mod bytes;
 mod commas;
+pub mod laws;
 mod low;
 pub mod names;
 pub mod parts;
+pub mod pattern;
 pub mod spans;
 mod survey;
 #[cfg(test)]

@@ -44,7 +44,7 @@ fn begins_special(level: usize, bytes: &[u8]) -> bool
 }
 
 /// The bytes before the brace that closes a special character, or all where there is none.
-fn inside<'a>(bytes: &'a [u8]) -> &'a [u8]
+pub(crate) fn inside<'a>(bytes: &'a [u8]) -> &'a [u8]
     ensures { result.now ≡ levels.inside 1 bytes.now }
 {
     let mut level = 1;
@@ -75,7 +75,7 @@ fn special_low(inner: &[u8]) -> bool
 }
 
 /// The ASCII letters that stand first.
-fn word_letters<'a>(bytes: &'a [u8]) -> &'a [u8]
+pub(crate) fn word_letters<'a>(bytes: &'a [u8]) -> &'a [u8]
     ensures letters { result.now ≡ levels.word_letters bytes.now }
     ensures within { length result.now ≤ length bytes.now }
 {

@@ -2,6 +2,7 @@
 
 use crate::names::{NameList, count, names, names_ok};
 use crate::parts::{NameFault, parts};
+use crate::pattern::pattern_ok;
 use std::process::Abort;
 
 #[test]
@@ -120,5 +121,41 @@ fn fails(rt: &impl Abort, name: &[u8], want: NameFault) {
     match parts(name) {
         Ok(_) => panic!(rt; "the name has parts"),
         Err(fault) => assert_eq!(rt; fault, want),
+    }
+}
+
+#[test]
+fn patterns(rt: HostRuntime) {
+    let formed: [&[u8]; 10] = [
+        b"",
+        b"abc",
+        b"{ff~}{vv~}{ll}{, jj}",
+        b"{fF}",
+        b"{L.}",
+        b"{f{xyz}}",
+        b"{{xyz} }{ }",
+        b"{\\'f}",
+        b"{\xc3\xa9 v}",
+        b"x{{{}}j}y",
+    ];
+    for pattern in formed {
+        assert!(rt; pattern_ok(pattern));
+    }
+    let others: [&[u8]; 12] = [
+        b"{ff~}{xx}",
+        b"{a}",
+        b"{fv}",
+        b"{fff}",
+        b"{f{a}f}",
+        b"{f1f}",
+        b"{f",
+        b"f}",
+        b"}{",
+        b"{f}}",
+        b"{ff}{ll",
+        b"{ll}{l l}",
+    ];
+    for pattern in others {
+        assert!(rt; !pattern_ok(pattern));
     }
 }

@@ -1,0 +1,106 @@
+//! Patterns of names.
+
+ghost use Rattle.std.specs.Prelude.{◌≡◌, ◌≤◌, length, ◌&&◌, nat_eq};
+ghost use Rattle.std.specs.List.{list_all};
+ghost use Rattle.name_split.specs.Patterns as patterns;
+
+use crate::bytes::next_level;
+use crate::low::{inside, word_letters};
+use bv_base::bytes::lower;
+
+/// Whether a pattern is well formed: its braces match, and each group has at level 1 at most one run of ASCII letters,
+/// which is one letter of `f v l j` in any case or two equal ones.
+pub fn pattern_ok(pattern: &[u8]) -> bool
+    ensures { result ≡ patterns.pattern_ok pattern.now }
+{
+    is_balanced(pattern) && groups_ok(pattern)
+}
+
+/// Whether the braces match.
+fn is_balanced(pattern: &[u8]) -> bool
+    ensures { result ≡ patterns.balanced 0 pattern.now }
+{
+    let mut level = 0;
+    for (at, b) in pattern.iter().enumerate() {
+        let _ = at;
+        if level == 0 && *b == b'}' {
+            return false;
+        }
+        level = next_level(level, *b);
+    }
+    level == 0
+}
+
+/// Whether each group is well formed.
+fn groups_ok(pattern: &[u8]) -> bool
+    ensures { result ≡ list_all patterns.group_ok (patterns.groups 0 pattern.now) }
+{
+    let mut level = 0;
+    for (at, b) in pattern.iter().enumerate() {
+        if begins_bad_group(level, pattern.split_at(at).1) {
+            return false;
+        }
+        level = next_level(level, *b);
+    }
+    true
+}
+
+/// Whether a group that isn't well formed stands first, where the first byte has a level.
+fn begins_bad_group(level: usize, pattern: &[u8]) -> bool
+    ensures { result ≡ patterns.begins_bad_group level pattern.now }
+{
+    match pattern {
+        [b'{', after @ ..] => level == 0 && !group_ok(inside(after)),
+        _ => false,
+    }
+}
+
+/// Whether a group is well formed, by what stands within its braces.
+fn group_ok(group: &[u8]) -> bool
+    ensures { result ≡ patterns.group_ok group.now }
+{
+    let rest = group.split_at(before_run(group)).1;
+    let run = word_letters(rest);
+    let after = rest.split_at(run.len()).1;
+    run.is_empty() || (run_ok(run) && before_run(after) == after.len())
+}
+
+/// How many bytes stand before the first letter at level 1, where the first byte has that level.
+fn before_run(bytes: &[u8]) -> usize
+    ensures before { result ≡ patterns.before_run 1 bytes.now }
+    ensures within { result ≤ length bytes.now }
+{
+    let mut level = 1;
+    for (at, b) in bytes.iter().enumerate() {
+        if is_group_letter(level, *b) {
+            return at;
+        }
+        level = next_level(level, *b);
+    }
+    bytes.len()
+}
+
+/// Whether a byte of this level is an ASCII letter directly within a group.
+fn is_group_letter(level: usize, b: u8) -> bool
+    ensures { result ≡ patterns.is_group_letter level b }
+{
+    level == 1 && b.is_ascii_alphabetic()
+}
+
+/// Whether a run of letters names a part: one letter, or two equal ones.
+fn run_ok(run: &[u8]) -> bool
+    ensures { result ≡ patterns.run_ok run.now }
+{
+    match run {
+        [a] => is_part_letter(*a),
+        [a, b] => is_part_letter(*a) && lower(*a) == lower(*b),
+        _ => false,
+    }
+}
+
+/// Whether a byte is a letter of a part.
+fn is_part_letter(b: u8) -> bool
+    ensures { result ≡ patterns.is_part_letter b }
+{
+    matches!(lower(b), b'f' | b'v' | b'l' | b'j')
+}
