@@ -16,6 +16,9 @@ use Rattle.name_table.specs.declared.style.TypeTarget.{TypeTarget}
 use Rattle.name_table.specs.declared.style.TypeTarget.TheVariants.{Function, Default, Skip}
 use Rattle.name_table.specs.Names.{text_at}
 use Rattle.name_table.specs.TypeTarget.{target_of, type_function}
+use Rattle.name_split.specs.Names.{names_of}
+use Rattle.name_split.specs.Formatted.{Misfit, formatted}
+use Rattle.name_split.specs.Formatted as misfit
 use Rattle.text_ops.specs.declared.change_case.Case.{Case}
 use Rattle.text_ops.specs.declared.change_case.Case.TheVariants.{Title, Lower, Upper}
 use Rattle.text_ops.specs.AddPeriod.{with_period}
@@ -33,7 +36,7 @@ use Rattle.bst_meaning.specs.declared.value.Target.TheVariants.{Named, Block}
 use Rattle.bst_meaning.specs.declared.value.Value.{Value}
 use Rattle.bst_meaning.specs.declared.value.Value.TheVariants.{Int, Str, Missing, Func}
 use Rattle.bst_meaning.specs.declared.fault.Fault.{Fault}
-use Rattle.bst_meaning.specs.declared.fault.Fault.TheVariants.{EmptyPop, WrongKind, NotVariable, NoEntry, BadCase, NotOneByte, NotAscii, IntRange}
+use Rattle.bst_meaning.specs.declared.fault.Fault.TheVariants.{EmptyPop, WrongKind, NotVariable, NoEntry, BadCase, NotOneByte, NotAscii, BadNameIndex, BadName, BadPattern, IntRange}
 use Rattle.bst_meaning.specs.StyleParts.{kind_of}
 use Rattle.bst_meaning.specs.Config.{Event, Wrote, EndedLine, Part, Whole, Testing, Variable}
 use Rattle.bst_meaning.specs.Effect.{Effect, left, pushed, with_written, with_logged, with_entered}
@@ -105,6 +108,20 @@ substring stack = three_operands stack (λ a b c rest.
 abbrev pub text_prefix : List Value → Result Effect Fault
 text_prefix stack = two_operands stack (λ a b rest.
     as_integer b (λ count. as_string a (λ bytes. pushed (Str (text_prefix_of bytes count)) rest)))
+
+-- `format.name$`: the name of a text with this number, by a pattern
+abbrev pub misfit_fault : Misfit → Fault
+misfit_fault misfit.BadNameIndex = BadNameIndex
+misfit_fault misfit.BadName = BadName
+misfit_fault misfit.BadPattern = BadPattern
+
+abbrev pub pushed_name : Result (List ℕ) Misfit → List Value → Result Effect Fault
+pushed_name (Ok text) stack = pushed (Str text) stack
+pushed_name (Err reason) stack = Err (misfit_fault reason)
+
+abbrev pub format_name : List Value → Result Effect Fault
+format_name stack = three_operands stack (λ a b c rest.
+    as_string c (λ pattern. as_integer b (λ index. as_string a (λ text. pushed_name (formatted text index pattern) rest))))
 
 -- `if$`: the first function where the integer is above 0, else the second
 abbrev pub if_else : List Value → Result Effect Fault
@@ -179,7 +196,7 @@ type_entered Skip = record { 0 = 25 }
 abbrev pub type_name : Style → List ℕ → List ℕ
 type_name style entry_type = if is_none (type_function entry_type style) then [] else entry_type
 
--- what each built-in function does; `format.name$` and `num.names$` come with the reader of names
+-- what each built-in function does
 abbrev pub built_in : Builtin → Context → List Value → Result Effect Fault
 built_in op.Equal context stack = two_operands stack equal
 built_in op.Greater context stack = integers (λ a b rest. pushed (truth (is_positive (a -ℤ b))) rest) stack
@@ -196,13 +213,13 @@ built_in op.ChrToInt context stack = string byte_number stack
 built_in op.Cite context stack = at_entry context.entry (λ e. pushed (Str e.key) stack)
 built_in op.Duplicate context stack = one_operand stack (λ a rest. pushed a (a ∷ rest))
 built_in op.Empty context stack = one_operand stack (λ a rest. as_field a (λ bytes. pushed (truth (is_empty bytes)) rest))
-built_in op.FormatName context stack = Ok (left stack)
+built_in op.FormatName context stack = format_name stack
 built_in op.IfElse context stack = if_else stack
 built_in op.IntToChr context stack = one_operand stack (λ a rest. as_integer a (λ n. byte_string n rest))
 built_in op.IntToStr context stack = one_operand stack (λ a rest. as_integer a (λ n. pushed (Str (numeral n)) rest))
 built_in op.Missing context stack = one_operand stack (λ a rest. as_field a (λ bytes. pushed (truth (is_none bytes)) rest))
 built_in op.Newline context stack = with_written EndedLine stack
-built_in op.NumNames context stack = Ok (left stack)
+built_in op.NumNames context stack = string (λ a rest. ranged (pos (length (names_of a))) rest) stack
 built_in op.Pop context stack = one_operand stack (λ a rest. Ok (left rest))
 built_in op.Preamble context stack = pushed (Str context.preamble) stack
 built_in op.Purify context stack = string (λ a rest. pushed (Str (purified a)) rest) stack

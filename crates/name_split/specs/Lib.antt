@@ -1,3 +1,4 @@
+pub mod Formatted
 pub mod AllParts
 pub mod Commas
 pub mod Left
