@@ -48,8 +48,8 @@ pub struct Special<'a> {
     pub unclosed: usize,
 }
 
-#[tactic(auto, using(crate::proofs::LevelSteps::level_after_take, crate::proofs::LevelSteps::next_level_bound))]
 /// The special character whose first brace stands directly before the text.
+#[tactic(auto, using(crate::proofs::LevelSteps::level_after_take, crate::proofs::LevelSteps::next_level_bound))]
 pub fn split_special(text: &[u8]) -> Special<'_>
     ensures body { result.body.now ≡ levels.inside 1 text.now ++ levels.closing 1 text.now }
     ensures later { result.later.now ≡ levels.beyond 1 text.now }

@@ -24,7 +24,7 @@ const RING_WORDS: [&[u8]; 2] = [b"aa", b"AA"];
 pub fn purify(alloc: Global, s: &[u8]) -> Result<Vec<u8>, NoMemory>
     ensures { IfOk result (λ v. v.items ≡ specs.purified s.now) }
 {
-    let mut out = Vec::new(alloc);
+    let mut out = Vec::with_capacity(alloc, s.len())?;
     let mut level = 0;
     let mut rest = s;
     while let [first, after @ ..] = rest {
