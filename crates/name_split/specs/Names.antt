@@ -3,7 +3,7 @@ use Rattle.std.specs.Prelude.{ℕ, ◌+◌, Bool, false, ◌&&◌, nat_eq, if◌
 use Rattle.bv_base.specs.Bytes.{is_white, lower}
 use Rattle.bv_base.specs.Levels.{next_level}
 use Rattle.name_split.specs.declared.spans.Span.{Span}
-use Rattle.name_split.specs.Spans.{trimmed}
+use Rattle.name_split.specs.Spans.{slice, trimmed}
 
 -- `and` in any case, with white space directly after it
 abbrev pub begins_and : List ℕ → Bool
@@ -41,3 +41,12 @@ names_of (b ∷ bytes) =
 pub record Names : Type 0 where
   pub text : List ℕ
   pub left : List Span
+
+-- the slices of a text at these stretches
+abbrev pub slices : List ℕ → List Span → List (List ℕ)
+slices text [] = []
+slices text (span ∷ spans) = slice text span ∷ slices text spans
+
+-- the names that are left, as slices
+abbrev pub slices_left : Names → List (List ℕ)
+slices_left names = slices names.text names.left

@@ -1,6 +1,7 @@
 //! The names of a text.
 
 ghost use Rattle.std.specs.Prelude.{◌≡◌, ℕ, ◌+◌, ◌<◌, ◌≤◌, false, [], ◌∷◌, length, drop, take, MatchOption};
+ghost use Rattle.std.specs.Iterator.{YieldsFirstRef, item_count};
 ghost use Rattle.bv_base.specs.Bytes.{is_white as white};
 ghost use Rattle.name_split.specs.AllParts as parts;
 ghost use Rattle.name_split.specs.Names as names;
@@ -110,6 +111,18 @@ impl<'a> NameList<'a> {
                 Some(trimmed(rest))
             }
         }
+    }
+}
+
+impl<'a> Iterator for NameList<'a> {
+    type Item = &'a [u8];
+
+    ghost next_gives = { YieldsFirstRef names.slices_left };
+
+    ghost remaining = { item_count names.slices_left };
+
+    fn next(&mut self) -> Option<&'a [u8]> {
+        NameList::next(self)
     }
 }
 

@@ -15,6 +15,9 @@ fn names_between_separators(rt: HostRuntime) {
     assert_eq!(rt; count(b"and B and"), 1);
     assert_eq!(rt; count(b"A}and B {and C} and\tD"), 2);
 
+    assert_eq!(rt; names(b"A and B").count(), 2);
+    assert!(rt; names(b"A and B").all(|name| name.len() == 1));
+
     let mut list = names(b"");
     ended(&rt, &mut list);
     let mut list = names(b" A  and\n{B and C}\t AND and D ");
