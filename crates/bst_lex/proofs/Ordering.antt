@@ -12,13 +12,13 @@ use Rattle.bst_lex.proofs.Moving.{drop_more, place_more}
 use Rattle.bst_lex.proofs.Reading.{lexeme_some}
 
 -- what is left after a front of what is left
-left_after : (source : List ℕ) (from : ℕ) (front rest : List ℕ) → drop from source ≡ front ++ rest
+pub left_after : (source : List ℕ) (from : ℕ) (front rest : List ℕ) → drop from source ≡ front ++ rest
     → drop (from + length front) source ≡ rest
 left_after source from front rest e =
     sym (drop_more from (length front) source) ∙ ap (drop (length front)) e ∙ drop-append_seam front rest
 
 -- the place after a front of what is left
-place_after : (source : List ℕ) (from : ℕ) (front rest : List ℕ) → drop from source ≡ front ++ rest
+pub place_after : (source : List ℕ) (from : ℕ) (front rest : List ℕ) → drop from source ≡ front ++ rest
     → after_bytes front (place_at source from) ≡ place_at source (from + length front)
 place_after source from front rest e =
     ap (λ xs. after_bytes xs (place_at source from)) (sym (ap (take (length front)) e ∙ take-append_seam front rest))

@@ -3,4 +3,5 @@ pub mod Lexemes
 pub mod Lexer
 pub mod Order
 pub mod Pieces
+pub mod PlaceLaws
 pub mod Places
