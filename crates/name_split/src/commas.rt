@@ -63,8 +63,7 @@ pub(crate) fn ends_in_comma(name: &[u8]) -> bool
 {
     let mut ends = false;
     let mut level = 0;
-    for (at, b) in name.iter().enumerate() {
-        let _ = at;
+    for b in name {
         ends = ends_step(ends, level, *b);
         level = next_level(level, *b);
     }

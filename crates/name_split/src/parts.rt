@@ -147,7 +147,7 @@ fn tokens_between<'a>(name: &'a [u8], from: usize, to: usize) -> Tokens<'a>
     )
 }
 
-/// The bytes of a stretch.
+/// The bytes of a stretch, as far as the text has them.
 fn slice<'a>(text: &'a [u8], span: Span) -> &'a [u8]
     ensures slice { result.now ≡ slice_of text.now span }
     ensures within { span.start + length result.now ≤ 18446744073709551615 }

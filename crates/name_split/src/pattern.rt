@@ -21,8 +21,7 @@ fn is_balanced(pattern: &[u8]) -> bool
     ensures { result ≡ patterns.balanced 0 pattern.now }
 {
     let mut level = 0;
-    for (at, b) in pattern.iter().enumerate() {
-        let _ = at;
+    for b in pattern {
         if level == 0 && *b == b'}' {
             return false;
         }

@@ -5,5 +5,5 @@ use Rattle.name_split.specs.Tokens.{is_joint}
 use Rattle.name_split.proofs.Counting.{end_begun}
 use Rattle.name_split.proofs.commas.ends_in_comma.Goals as goal
 
-pub loop-at-init : goal.loop-at-init
-loop-at-init c = record { low = omega arith; same = end_begun (list_all is_joint c.args.name.now) c.args.name.now refl }
+pub loop-b-init : goal.loop-b-init
+loop-b-init c = record { low = omega arith; same = end_begun (list_all is_joint c.args.name.now) c.args.name.now refl }

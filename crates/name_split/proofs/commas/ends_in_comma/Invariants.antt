@@ -4,8 +4,8 @@ use Rattle.name_split.specs.Parts.{ends_in_comma}
 use Rattle.name_split.specs.Tokens.{is_joint}
 use Rattle.name_split.proofs.commas.ends_in_comma.Given as goal
 
-abbrev pub invariant-loop-at : goal.invariant-loop-at
-invariant-loop-at l = record {
-  low : l.level ≤ l.at;
-  same : cond (list_all is_joint (drop l.at l.name)) l.ends (ends_in_comma l.level (drop l.at l.name)) ≡ ends_in_comma 0 l.name;
+abbrev pub invariant-loop-b : goal.invariant-loop-b
+invariant-loop-b l = record {
+  low : l.level ≤ l.b-index;
+  same : cond (list_all is_joint (drop l.b-index l.name)) l.ends (ends_in_comma l.level (drop l.b-index l.name)) ≡ ends_in_comma 0 l.name;
 }
