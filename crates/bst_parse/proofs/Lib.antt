@@ -1,3 +1,10 @@
+mod Columns
 mod Counted
 mod Keys
-mod Columns
+mod Lexed
+mod Lists
+mod Lowered
+mod Rules
+mod SoFar
+mod SoundSteps
+mod SoundStyle

@@ -1,4 +1,4 @@
--- The bodies of a style in the order of their opening braces (docs/LANGUAGE.md, "Bodies").
+-- The bodies of a style in the order of their opening braces (docs/LANGUAGE.md, "What is read").
 use Rattle.std.specs.Prelude.{ℕ, zero, suc, ◌+◌, List, [], ◌∷◌, ◌++◌, length, Option, None, Some}
 use Rattle.bv_base.specs.declared.place.Place.{Place}
 use Rattle.name_table.specs.declared.style.Body.{Body}

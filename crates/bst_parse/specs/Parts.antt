@@ -2,10 +2,11 @@
 use Rattle.std.specs.Prelude.{ℕ, ◌-◌, Bool, true, false, nat_le, if◌then◌else◌, List, [], ◌∷◌, ◌++◌, length, take, drop, Option, None, Some, is_some, Result, Ok, Err}
 use Rattle.bv_base.specs.declared.place.Place.{Place}
 use Rattle.name_table.specs.declared.names.Kind.{Kind}
-use Rattle.name_table.specs.declared.names.Kind.TheVariants.{Builtin, Wizard}
+use Rattle.name_table.specs.declared.names.Kind.TheVariants.{Wizard}
 use Rattle.name_table.specs.declared.names.NameId.{NameId}
 use Rattle.name_table.specs.declared.style.Command.TheVariants.{Function}
 use Rattle.name_table.specs.Names.{id_of, kind_at}
+use Rattle.name_table.specs.Sound.{is_callable}
 use Rattle.bst_lex.specs.declared.lexeme.Shape.{Shape}
 use Rattle.bst_lex.specs.declared.lexeme.Shape.TheVariants.{OpenBrace, CloseBrace, Text, Name}
 use Rattle.bst_parse.specs.declared.grammar.Caller.{Caller}
@@ -64,12 +65,6 @@ take_function_name shape place text p =
       function = Some (next_name p.names);
       commands = p.commands ++ record { command = Function (next_name p.names); place = p.place } ∷ [];
     }))
-
--- a built-in function or one that the style defines
-abbrev pub is_callable : Option Kind → Bool
-is_callable (Some (Builtin _)) = true
-is_callable (Some (Wizard _)) = true
-is_callable _ = false
 
 -- the name that a command calls, where it is there
 abbrev pub called : Caller → Option NameId → Place → Progress → Result Progress StyleFault

@@ -1,4 +1,4 @@
--- The style that some bytes are, or their first fault (docs/LANGUAGE.md, "Faults").
+-- The style that some bytes are, or their first fault (docs/LANGUAGE.md, "Faults of styles").
 use Rattle.std.specs.Prelude.{ℕ, Bool, false, ◌&&◌, nat_eq, if◌then◌else◌, List, [], ◌∷◌, length, map, Option, None, Some, Result, Ok, Err}
 use Rattle.bv_base.specs.declared.place.Place.{Place}
 use Rattle.name_table.specs.declared.opening.TheConstants.{OPENING}

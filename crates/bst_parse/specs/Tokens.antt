@@ -1,4 +1,4 @@
--- The tokens of a body (docs/LANGUAGE.md, "Bodies").
+-- The tokens of a body (docs/LANGUAGE.md, "Commands").
 use Rattle.std.specs.Prelude.{ℕ, ◌+◌, Bool, false, nat_eq, nat_le, if◌then◌else◌, List, [], ◌∷◌, ◌++◌, length, drop, Option, None, Some, Result, Ok, Err}
 use Rattle.bv_base.specs.declared.place.Place.{Place}
 use Rattle.name_table.specs.declared.names.NameId.{NameId}

@@ -1,4 +1,4 @@
--- Where a command may begin (docs/LANGUAGE.md, "Commands" and "Order").
+-- Where a command may begin (docs/LANGUAGE.md, "Commands").
 use Rattle.std.specs.Prelude.{ℕ, Bool, true, false, ◌||◌, if◌then◌else◌, List, [], ◌∷◌, ◌++◌, Option, None, Some, Result, Ok, Err}
 use Rattle.std.specs.Option.{option_map_or}
 use Rattle.bv_base.specs.declared.place.Place.{Place}

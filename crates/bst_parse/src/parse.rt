@@ -1,6 +1,7 @@
 //! The reader of styles.
 
 ghost use Rattle.std.specs.Prelude.{◌≡◌, ◌≢◌, ◌≤◌, length, Ok, Err, IfOk, IfErr};
+ghost use Rattle.name_table.specs.Sound.{IsSound};
 ghost use Rattle.bst_parse.specs.Reading.{style_of};
 ghost use Rattle.bst_parse.specs.declared.fault.StyleFault.TheVariants.{NoMemory as WantOfMemory};
 
@@ -14,6 +15,16 @@ use std::alloc::Global;
 ///
 /// Each byte is read a fixed number of times, and each name is looked up in a hash table.
 pub fn parse(alloc: Global, source: &[u8]) -> Result<Style, StyleFault>
+    requires { length source.now ≤ 4194304 }
+    ensures ok { IfOk result (λ style. style_of source.now ≡ Ok style) }
+    ensures fault { IfErr result (λ fault. fault ≢ WantOfMemory → style_of source.now ≡ Err fault) }
+    ensures sound { IfOk result IsSound }
+{
+    read(alloc, source)
+}
+
+/// Takes the lexemes of a source one after the other.
+fn read(alloc: Global, source: &[u8]) -> Result<Style, StyleFault>
     requires { length source.now ≤ 4194304 }
     ensures ok { IfOk result (λ style. style_of source.now ≡ Ok style) }
     ensures fault { IfErr result (λ fault. fault ≢ WantOfMemory → style_of source.now ≡ Err fault) }

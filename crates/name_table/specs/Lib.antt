@@ -1,3 +1,4 @@
 pub mod Defining
 pub mod Names
+pub mod Sound
 pub mod TypeTarget

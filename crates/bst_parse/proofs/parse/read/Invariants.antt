@@ -1,7 +1,7 @@
 use Rattle.std.proofs.Common.{◌≡◌, length}
 use Rattle.bst_parse.specs.Progressing.{progress_of}
 use Rattle.bst_parse.specs.Reading.{reading_on, style_of}
-use Rattle.bst_parse.proofs.parse.parse.Given as goal
+use Rattle.bst_parse.proofs.parse.read.Given as goal
 
 abbrev pub invariant-loop-lexeme : goal.invariant-loop-lexeme
 invariant-loop-lexeme l =
