@@ -1,0 +1,10 @@
+//! The reader of `.aux` files: what is cited, and which style, databases and further files are asked for.
+#![tactic(auto)]
+
+pub mod aux;
+pub mod fault;
+mod items;
+mod lines;
+pub mod read;
+#[cfg(test)]
+mod tests;
