@@ -1,9 +1,9 @@
 -- How many lexemes a text has, and how long they are.
-use Rattle.std.proofs.Common.{◌≡◌, ℕ, zero, suc, ◌+◌, ◌-◌, ◌≤◌, List, [], ◌∷◌, Result, Ok, Err, length, take, arith}
+use Rattle.std.proofs.Common.{ℕ, zero, suc, ◌+◌, ◌-◌, ◌≤◌, List, [], ◌∷◌, Ok, Err, length, arith}
 use Rattle.std.proofs.lemmas.List.{length-take}
 use Rattle.bv_base.specs.declared.place.Place.{Place}
 use Rattle.name_table.specs.Sound.{Each}
-use Rattle.bst_lex.specs.Lexemes.{Seen, Lexed, begun, lexed_after}
+use Rattle.bst_lex.specs.Lexemes.{Lexed, begun, lexed_after}
 use Rattle.bst_lex.specs.Pieces.{gap_at, piece_at}
 use Rattle.bst_lex.specs.Places.{after_byte}
 

@@ -1,5 +1,9 @@
+mod BothWays
 mod Columns
+mod Completed
 mod Counted
+mod Held
+mod Kept
 mod Keys
 mod Lexed
 mod Lists

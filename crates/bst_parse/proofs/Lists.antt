@@ -1,5 +1,5 @@
 -- Lists of which each item has a property, with one more item or one item changed.
-use Rattle.std.proofs.Common.{◌≡◌, ℕ, zero, suc, ◌<◌, List, [], ◌∷◌, ◌++◌, Option, None, Some, length, map, slice_get, refl, ap, arith}
+use Rattle.std.proofs.Common.{◌≡◌, ℕ, zero, suc, ◌<◌, List, [], ◌∷◌, ◌++◌, Some, length, map, slice_get, refl, ap, arith}
 use Rattle.std.specs.Option.{option_map}
 use Rattle.name_table.specs.Sound.{Each}
 use Rattle.bst_parse.specs.Bodies.{changed_at}

@@ -17,8 +17,8 @@ use Rattle.name_table.specs.declared.style.TokenAt.{TokenAt}
 use Rattle.name_table.specs.Names.{id_of, same_name, kind_at, later}
 use Rattle.name_table.specs.Sound.{Each, opening_names, IsDeclared, AreApart, block_of, IsTokenSound, IsCommandSound, is_callable, AreNumbered}
 use Rattle.bst_parse.specs.declared.grammar.Part.{Part}
-use Rattle.bst_parse.specs.declared.grammar.Part.TheVariants.{Open, Close, Names, Target, FunctionName, Body as BodyPart, MacroName, MacroText}
-use Rattle.bst_parse.specs.Bodies.{next_body, token_added, block_count, counted, function_begun, block_begun, changed_at}
+use Rattle.bst_parse.specs.declared.grammar.Part.TheVariants.{Names, FunctionName, Body as BodyPart}
+use Rattle.bst_parse.specs.Bodies.{next_body, token_added, block_count, counted, function_begun, block_begun}
 use Rattle.bst_parse.proofs.Counted.{length-changed_at, block_count-token_added}
 use Rattle.bst_parse.proofs.Lists.{each_push, each_more, each_changed, get-front, get-last, mapped_within, get-changed, map-changed}
 

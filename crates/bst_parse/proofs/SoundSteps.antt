@@ -1,17 +1,13 @@
 -- Each lexeme keeps what holds of what has been read.
-use Rattle.std.proofs.Common.{◌≡◌, ℕ, suc, ◌+◌, ◌-◌, ◌<◌, ◌≤◌, Bool, true, false, cond, nat_le, List, [], ◌∷◌, ◌++◌, Option, None, Some, Result, Ok, Err, length, length-append, take, drop, refl, sym, ap, subst, ◌∙◌, arith}
+use Rattle.std.proofs.Common.{◌≡◌, ℕ, suc, ◌+◌, ◌-◌, ◌<◌, ◌≤◌, Bool, true, false, cond, nat_le, List, [], ◌∷◌, ◌++◌, Option, None, Some, Result, Ok, Err, length, length-append, drop, refl, sym, ap, subst, ◌∙◌, arith}
 use Rattle.std.proofs.lemmas.List.{length-take, length-drop}
 use Rattle.std.specs.Option.{option_map, option_map_or}
 use Rattle.bv_base.specs.declared.place.Place.{Place}
 use Rattle.name_table.specs.declared.names.Kind.{Kind}
-use Rattle.name_table.specs.declared.names.Kind.TheVariants.{Wizard, Field, IntEntry, StrEntry, IntGlobal, StrGlobal}
+use Rattle.name_table.specs.declared.names.Kind.TheVariants.{Wizard}
 use Rattle.name_table.specs.declared.names.NameId.{NameId}
-use Rattle.name_table.specs.declared.style.Body.{Body}
 use Rattle.name_table.specs.declared.style.BodyId.{BodyId}
-use Rattle.name_table.specs.declared.style.Command.{Command}
 use Rattle.name_table.specs.declared.style.Command.TheVariants as command
-use Rattle.name_table.specs.declared.style.CommandAt.{CommandAt}
-use Rattle.name_table.specs.declared.style.Token.{Token}
 use Rattle.name_table.specs.declared.style.Token.TheVariants.{Int, Str, Quote, Call}
 use Rattle.name_table.specs.Names.{id_of, same_name, kind_at, later, lowered}
 use Rattle.name_table.specs.Sound.{IsCommandSound, is_callable}
@@ -28,10 +24,10 @@ use Rattle.bst_parse.specs.declared.grammar.Word.TheVariants.{Entry, Execute, Fu
 use Rattle.bst_parse.specs.Bodies.{next_body, innermost}
 use Rattle.bst_parse.specs.Commands.{word_of, parts_of, call_of}
 use Rattle.bst_parse.specs.Names.{has_macro}
-use Rattle.bst_parse.specs.Parts.{take_open, take_close, definable, define, take_names, next_name, take_function_name, called, take_target, take_macro_name, unmarked, take_macro_text, take_body, take_step, pass, take_part}
+use Rattle.bst_parse.specs.Parts.{take_open, take_close, definable, define, take_names, next_name, take_function_name, called, take_target, take_macro_name, unmarked, take_macro_text, take_body, pass, take_part}
 use Rattle.bst_parse.specs.Progress.{Progress, then_do}
 use Rattle.bst_parse.specs.Reading.{take_outside, take_within, take_lexeme}
-use Rattle.bst_parse.specs.Tokens.{begins_block, is_own, not_own, used, with_token, with_text, begin_block, take_token}
+use Rattle.bst_parse.specs.Tokens.{begins_block, is_own, not_own, used, with_token, with_text, take_token}
 use Rattle.bst_parse.specs.Words.{order_fault, begun, begin, begin_named, take_word}
 use Rattle.bst_parse.proofs.Lists.{get-last}
 use Rattle.bst_parse.proofs.Lowered.{declared-lowered}

@@ -1,5 +1,5 @@
 -- A style that is read is sound.
-use Rattle.std.proofs.Common.{◌≡◌, ℕ, suc, ◌+◌, ◌<◌, ◌≤◌, Bool, true, false, cond, ◌&&◌, not, nat_eq, List, [], ◌∷◌, ◌++◌, Option, None, Some, Result, Ok, Err, length, refl, sym, ap, subst, ◌∙◌, arith}
+use Rattle.std.proofs.Common.{◌≡◌, ℕ, suc, ◌+◌, ◌≤◌, Bool, true, false, ◌&&◌, not, nat_eq, List, [], ◌∷◌, Option, None, Some, Result, Ok, Err, length, refl, sym, subst, arith}
 use Rattle.std.proofs.lemmas.Bool.{eqb-true}
 use Rattle.std.specs.Result.{IfOk}
 use Rattle.name_table.specs.declared.names.Kind.{Kind}
@@ -9,16 +9,16 @@ use Rattle.name_table.specs.declared.style.Style.{Style}
 use Rattle.name_table.specs.Names.{same_name}
 use Rattle.name_table.specs.Sound.{Each, opening_names, AreApart, IsKindSound, IsSound}
 use Rattle.bst_lex.specs.declared.lexeme.LexFault.{LexFault}
-use Rattle.bst_lex.specs.Lexemes.{Seen, lexed, lexed_after}
-use Rattle.bst_lex.specs.Places.{first_place, place_at}
+use Rattle.bst_lex.specs.Lexemes.{Seen, lexed}
+use Rattle.bst_lex.specs.Places.{first_place}
 use Rattle.bst_parse.specs.declared.fault.StyleFault.{StyleFault}
 use Rattle.bst_parse.specs.declared.grammar.Part.{Part}
-use Rattle.bst_parse.specs.Progress.{Progress, then_do}
-use Rattle.bst_parse.specs.Reading.{opening_progress, take_lexeme, is_idle, complete, ended, reading, style_of}
-use Rattle.bst_parse.proofs.Lexed.{AreShort, lexed_short}
+use Rattle.bst_parse.specs.Progress.{Progress}
+use Rattle.bst_parse.specs.Reading.{opening_progress, take_lexeme, is_idle, ended, reading, style_of}
+use Rattle.bst_parse.proofs.Lexed.{lexed_short}
 use Rattle.bst_parse.proofs.Lists.{each_more}
 use Rattle.bst_parse.proofs.Rules.{ok, ok_is, then_ok, where_ok}
-use Rattle.bst_parse.proofs.SoFar.{coming, IsKindSoFar, SoFar}
+use Rattle.bst_parse.proofs.SoFar.{coming, IsKindSoFar}
 use Rattle.bst_parse.proofs.SoundSteps.{Now, lexeme_keeps}
 
 -- a list all of whose items pass a test
@@ -26,11 +26,11 @@ abbrev all_pass : {X : Type 0} → (X → Bool) → List X → Bool
 all_pass test [] = true
 all_pass test (x ∷ xs) = test x && all_pass test xs
 
-and_left : (a b : Bool) → (a && b) ≡ true → a ≡ true
+pub and_left : (a b : Bool) → (a && b) ≡ true → a ≡ true
 and_left true b e = refl
 and_left false b e = e
 
-and_right : (a b : Bool) → (a && b) ≡ true → b ≡ true
+pub and_right : (a b : Bool) → (a && b) ≡ true → b ≡ true
 and_right true b e = e
 and_right false b e = absurd (cc)
 
@@ -94,7 +94,7 @@ kind_sound bodies StrEntry h = tt
 kind_sound bodies IntGlobal h = tt
 kind_sound bodies StrGlobal h = tt
 
-none_left : {X : Type 0} (xs : List X) → nat_eq (length xs) 0 ≡ true → xs ≡ []
+pub none_left : {X : Type 0} (xs : List X) → nat_eq (length xs) 0 ≡ true → xs ≡ []
 none_left [] e = refl
 none_left (x ∷ xs) e = let z : suc (length xs) ≡ 0 = eqb-true (suc (length xs)) 0 e in absurd (omega (arith, z))
 

@@ -4,6 +4,7 @@
 mod bodies;
 pub mod fault;
 pub mod grammar;
+pub mod laws;
 mod macros;
 mod opened;
 pub mod parse;

@@ -1,0 +1,23 @@
+//! What holds of the definition of reading: it is the grammar.
+
+ghost use Rattle.std.specs.Prelude.{◌≡◌, ◌↔◌, Ok};
+ghost use Rattle.name_table.specs.declared.style.Style.{Style};
+ghost use Rattle.bst_parse.specs.Grammar.{Reads};
+ghost use Rattle.bst_parse.specs.Reading.{style_of};
+
+use bst_lex::laws::lexemes_as_spelled;
+
+/// A text is read as a style exactly where the grammar says so: its lexemes are the spelling of commands, with
+/// nothing but white space and comments between them, and the commands keep the rules of names and of order.
+pub fn read_as_the_grammar(source: &[u8])
+    ensures { (style : Style) → (style_of source.now ≡ Ok style) ↔ Reads source.now style }
+{
+    lexemes_as_spelled(source);
+}
+
+/// A text is at most one style.
+pub fn one_style_at_most(source: &[u8])
+    ensures { (first second : Style) → Reads source.now first → Reads source.now second → first ≡ second }
+{
+    read_as_the_grammar(source);
+}
