@@ -1,1 +1,3 @@
 pub mod StackSteps
+pub mod VariableSteps
+pub mod EntrySteps

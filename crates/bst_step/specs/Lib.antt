@@ -1,3 +1,6 @@
 pub mod Outcome
 pub mod Operands
 pub mod Surroundings
+pub mod Variables
+pub mod State
+pub mod Moves

@@ -1,0 +1,52 @@
+-- The parts of an effect, each as a change of the configuration.
+use Rattle.std.specs.Prelude.{ℕ, List, [], ◌∷◌, ◌++◌, drop, slice_get, Option, None, Some, option_map}
+use Rattle.std.specs.Option.{option_and_then}
+use Rattle.bv_base.specs.declared.place.Place.{Place}
+use Rattle.name_table.specs.declared.names.NameId.{NameId}
+use Rattle.name_table.specs.declared.style.Style.{Style}
+use Rattle.bst_meaning.specs.declared.value.Value.{Value}
+use Rattle.bst_meaning.specs.declared.value.Value.TheVariants.{Str}
+use Rattle.bst_meaning.specs.Config.{Config, Event, Wrote, Variable, EntryState}
+use Rattle.bst_meaning.specs.Machine.{with_assigned, with_variable, with_entry_variable, with_found, visited_index, visited_entry, value_at, field_in}
+
+abbrev pub with_stack : List Value → Config → Config
+with_stack stack c = record c { stack = stack }
+
+-- these lines are logged
+abbrev pub with_log : List (List ℕ) → Config → Config
+with_log lines c = record c { log = c.log ++ lines }
+
+abbrev pub with_event : Event → Config → Config
+with_event event c = record c { events = c.events ++ event ∷ [] }
+
+-- the string on top of the stack is written
+abbrev pub with_top_written : List Value → Config → Config
+with_top_written (Str bytes ∷ stack) c = with_event (Wrote bytes) (with_stack stack c)
+with_top_written stack c = c
+
+-- a value is assigned to a variable
+abbrev pub with_second : Style → NameId → Option Value → Config → Config
+with_second style name None c = c
+with_second style name (Some value) c = with_assigned style (Some (record { name = name; value = value })) c
+
+-- the second value of a stack is assigned, and both are taken away
+abbrev pub with_second_assigned : Style → NameId → List Value → Config → Config
+with_second_assigned style name stack c = with_second style name (slice_get stack 1) (with_stack (drop 2 stack) c)
+
+-- an entry with a variable's new value
+abbrev pub with_new : Variable → EntryState → EntryState
+with_new new e = record e { variables = with_variable new e.variables }
+
+-- a variable of the visited entry has its value
+abbrev pub assigned_in_entry : Variable → Config → Config
+assigned_in_entry new c = record c { entries = with_entry_variable new (visited_index c) c.entries }
+
+-- a field of the visited entry is pushed, or a variable of it, or one of the whole style
+abbrev pub with_field : NameId → Place → Config → Config
+with_field name place c = with_found (option_map (λ e. field_in name e.entry.fields) (visited_entry c)) place c
+
+abbrev pub with_entry_value : NameId → Place → Config → Config
+with_entry_value name place c = with_found (option_and_then (λ e. value_at name.0 e.variables) (visited_entry c)) place c
+
+abbrev pub with_global : NameId → Place → Config → Config
+with_global name place c = with_found (value_at name.0 c.globals) place c

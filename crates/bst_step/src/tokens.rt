@@ -1,0 +1,155 @@
+//! The execution of a token.
+
+ghost use Rattle.std.specs.Prelude.{◌≡◌, option_map, OnOk, IfOk};
+ghost use Rattle.std.specs.Option.{option_and_then};
+ghost use Rattle.bst_meaning.specs.StyleParts as parts;
+ghost use Rattle.bst_meaning.specs.Builtins.{built_in};
+ghost use Rattle.bst_meaning.specs.Machine as rule;
+ghost use Rattle.bst_step.specs.Outcome.{Gives};
+ghost use Rattle.bst_step.specs.State.{config_of};
+ghost use Rattle.bst_step.specs.Moves.{with_field, with_entry_value, with_global};
+
+use crate::built_in::outcome_of;
+use crate::effects::tokens_of;
+use crate::operands::copied;
+use crate::outcome::{Outcome, Part};
+use crate::state::{Rest, State};
+use crate::stop::Stop;
+use crate::surroundings::kind_of;
+use crate::variables::{field_in, value_at};
+use bst_meaning::fault::Fault;
+use bst_meaning::value::{Target, Value};
+use bv_base::memory::NoMemory;
+use bv_base::place::Place;
+use bv_base::text::Text;
+use name_table::builtin::Builtin;
+use name_table::names::{Kind, NameId};
+use name_table::style::{Style, TextId, Token};
+use std::alloc::Global;
+
+/// A copy of a text of the style, and of no bytes where the style has no such text.
+fn text_of(alloc: Global, style: &Style, text: TextId) -> Result<Text, NoMemory>
+    ensures { IfOk result (λ bytes. bytes ≡ parts.text_of style.now text) }
+{
+    match style.texts.as_slice().get(text.0 as usize) {
+        Some(bytes) => Text::from_slice(alloc, bytes.as_slice()),
+        None => Text::from_slice(alloc, &[]),
+    }
+}
+
+impl<'a> State<'a> {
+    /// Executes a token, which its frame no longer has.
+    pub fn token_step(&mut self, style: &'a Style, token: Token, place: Place) -> Result<(), NoMemory>
+        ensures { OnOk result (config_of self.new ≡ rule.token_step style.now token place (config_of self.old)) }
+    {
+        match token {
+            Token::Int(n) => self.push(Value::Int(n)),
+            Token::Str(text) => {
+                let bytes = text_of(self.alloc, style, text)?;
+                self.push(Value::Str(bytes))
+            }
+            Token::Quote(name) => self.push(Value::Func(Target::Named(name))),
+            Token::Block(body) => self.push(Value::Func(Target::Block(body))),
+            Token::Call(name) => self.call_step(style, name, place),
+        }
+    }
+
+    /// Calls a name.
+    fn call_step(&mut self, style: &'a Style, name: NameId, place: Place) -> Result<(), NoMemory>
+        ensures { OnOk result (config_of self.new ≡ rule.call_step style.now (parts.kind_of style.now name) name place (config_of self.old)) }
+    {
+        match kind_of(style, name) {
+            Some(Kind::Builtin(op)) => self.built_in_step(style, op, place),
+            Some(Kind::Wizard(body)) => {
+                self.enter(Rest::Tokens(tokens_of(style, body)), place, Part::Whole)
+            }
+            Some(Kind::Field) => self.push_field(name, place),
+            Some(Kind::IntEntry | Kind::StrEntry) => self.push_entry_variable(name, place),
+            Some(Kind::IntGlobal | Kind::StrGlobal) => self.push_global(name, place),
+            None => Ok(()),
+        }
+    }
+
+    /// Calls a built-in function.
+    fn built_in_step(&mut self, style: &'a Style, op: Builtin, place: Place) -> Result<(), NoMemory>
+        ensures { OnOk result (config_of self.new ≡
+            rule.with_effect style.now (built_in op (rule.context_of style.now (config_of self.old)) self.old.stack) place (config_of self.old)) }
+    {
+        let outcome = self.outcome(style, op);
+        match outcome {
+            Ok(outcome) => self.apply(style, outcome, place),
+            Err(Stop::Fault(fault)) => {
+                self.stop(fault, place);
+                Ok(())
+            }
+            Err(Stop::NoMemory) => Err(NoMemory),
+        }
+    }
+
+    /// What a built-in function comes to.
+    fn outcome(&self, style: &Style, op: Builtin) -> Result<Outcome, Stop>
+        ensures { Gives result self.now.stack (built_in op (rule.context_of style.now (config_of self.now)) self.now.stack) }
+    {
+        outcome_of(op, self.surroundings(style), &self.stack)
+    }
+
+    /// Pushes a field of the visited entry.
+    fn push_field(&mut self, name: NameId, place: Place) -> Result<(), NoMemory>
+        ensures { OnOk result (config_of self.new ≡ with_field name place (config_of self.old)) }
+    {
+        let alloc = self.alloc;
+        match self.visited_entry() {
+            Some(e) => {
+                let value = field_in(alloc, name, e.entry.fields.as_slice())?;
+                self.push(value)
+            }
+            None => {
+                self.stop(Fault::NoEntry, place);
+                Ok(())
+            }
+        }
+    }
+
+    /// Pushes a variable of the visited entry.
+    fn push_entry_variable(&mut self, name: NameId, place: Place) -> Result<(), NoMemory>
+        ensures { OnOk result (config_of self.new ≡ with_entry_value name place (config_of self.old)) }
+    {
+        let alloc = self.alloc;
+        match self.entry_value(name) {
+            Some(value) => {
+                let value = copied(alloc, value)?;
+                self.push(value)
+            }
+            None => {
+                self.stop(Fault::NoEntry, place);
+                Ok(())
+            }
+        }
+    }
+
+    /// The value of a variable of the visited entry.
+    fn entry_value(&self, name: NameId) -> Option<&Value>
+        ensures { option_map (λ value. value.now) result ≡ option_and_then (λ e. rule.value_at name.0 e.variables) (rule.visited_entry (config_of self.now)) }
+    {
+        match self.visited_entry() {
+            Some(e) => value_at(name, e.variables.as_slice()),
+            None => None,
+        }
+    }
+
+    /// Pushes a variable of the whole style.
+    fn push_global(&mut self, name: NameId, place: Place) -> Result<(), NoMemory>
+        ensures { OnOk result (config_of self.new ≡ with_global name place (config_of self.old)) }
+    {
+        match value_at(name, self.globals.as_slice()) {
+            Some(value) => {
+                let value = copied(self.alloc, value)?;
+                self.push(value)
+            }
+            None => {
+                self.stop(Fault::NoEntry, place);
+                Ok(())
+            }
+        }
+    }
+}
