@@ -1,5 +1,5 @@
 -- The items of a stack below its topmost ones.
-use Rattle.std.proofs.Common.{◌≡◌, ℕ, ◌-◌, ◌≤◌, ◌∙◌, sym, ap, subst, List, ◌++◌, length, take, drop, reverse, arith, inl, inr}
+use Rattle.std.proofs.Common.{◌≡◌, ℕ, ◌-◌, ◌≤◌, ◌∙◌, sym, ap, subst, refl, List, [], ◌∷◌, ◌++◌, length, take, drop, reverse, slice_get, None, arith, inl, inr}
 use Rattle.std.proofs.lemmas.Bool.{cases_lt}
 use Rattle.std.proofs.lemmas.List.{reverse-append, take-append-drop, length-reverse, length-drop, drop_at, drop_all}
 
@@ -20,3 +20,7 @@ past {A} xs n h =
 
 pub reverse-take : {A : Type 0} (xs : List A) (n : ℕ) → reverse (take (length xs - n) xs) ≡ drop n (reverse xs)
 reverse-take xs n = elim (cases_lt n (length xs)) [ inl h ↦ within xs n (omega arith) | inr h ↦ past xs n h ]
+
+pub no_first : {A : Type 0} (xs : List A) → slice_get xs 0 ≡ None → xs ≡ []
+no_first [] e = refl
+no_first (x ∷ xs) e = absurd (cc)

@@ -4,3 +4,5 @@ pub mod Surroundings
 pub mod Variables
 pub mod State
 pub mod Moves
+pub mod Lines
+pub mod Machine

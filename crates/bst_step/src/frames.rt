@@ -4,6 +4,7 @@ ghost use Rattle.std.specs.Prelude.{◌≡◌, ◌∷◌, map, OnOk};
 ghost use Rattle.bst_meaning.specs.Machine as rule;
 ghost use Rattle.bst_step.specs.Outcome.{part_of};
 ghost use Rattle.bst_step.specs.State.{config_of, frame_of, tokens_left};
+ghost use Rattle.bst_step.specs.Moves.{with_frame_back};
 
 use crate::effects::entered_at;
 use crate::outcome::Part;
@@ -18,7 +19,8 @@ impl<'a> State<'a> {
     /// Executes the first token of a frame, which was taken off, or returns from it where it has none.
     pub fn frame_step(&mut self, style: &'a Style, frame: Frame<'a>) -> Result<(), NoMemory>
         ensures { OnOk result (config_of self.new ≡
-            rule.frame_step style.now (frame_of frame.entry) (map frame_of self.old.frames) (tokens_left frame.entry.rest) (config_of self.old)) }
+            rule.frame_step style.now (frame_of frame.entry) (map frame_of self.old.frames) (tokens_left frame.entry.rest)
+            (with_frame_back (frame_of frame.entry) (config_of self.old))) }
     {
         match frame.rest {
             Rest::Call(name, place) => {

@@ -3,14 +3,19 @@
 
 mod assign;
 mod built_in;
+mod commands;
 mod effects;
 mod entries;
 mod flow;
 mod frames;
+mod lines;
 mod logs;
 mod moves;
+pub mod machine;
 mod numbers;
 mod operands;
+mod opening;
+mod order;
 mod outcome;
 mod stack;
 mod state;

@@ -57,6 +57,16 @@ impl<T> Stack<T> {
         self.items.truncate(left);
     }
 
+    /// The top. `None` comes exactly where the stack is empty.
+    pub fn top(&self) -> Option<&T>
+        ensures { MatchOption result (self.now ≡ []) (λ item. self.now ≡ item.now ∷ drop 1 self.now) }
+    {
+        match self.below(0) {
+            Some(item) => Some(item),
+            None => None,
+        }
+    }
+
     /// How many items there are.
     pub fn len(&self) -> usize
         ensures { result ≡ length self.now }

@@ -1,0 +1,13 @@
+-- The variables of a list of names, name by name.
+use Rattle.std.proofs.Common.{◌≡◌, ℕ, zero, suc, ◌+◌, ap, refl, List, [], ◌∷◌, drop, Some}
+use Rattle.name_table.specs.declared.names.Kind.{Kind}
+use Rattle.name_table.specs.Names.{kind_at}
+use Rattle.bst_meaning.specs.Config.{Variable, opening_variables}
+
+pub next_variable : (variable : ℕ → Kind → List Variable → List Variable) (i at : ℕ) (names : List (List ℕ × Kind)) (k : Kind)
+    → kind_at (record { 0 = i }) names ≡ Some k
+    → opening_variables variable at (drop i names) ≡ variable at k (opening_variables variable (at + 1) (drop (suc i) names))
+next_variable variable i at [] k e = absurd (cc)
+next_variable variable zero at (name ∷ names) k e =
+    let same : name.1 ≡ k = cc in ap (λ kind. variable at kind (opening_variables variable (at + 1) names)) same
+next_variable variable (suc i) at (name ∷ names) k e = next_variable variable i at names k e

@@ -1,0 +1,10 @@
+use Rattle.std.proofs.Common.{◌≡◌, length}
+use Rattle.bst_meaning.specs.Lines as rule
+use Rattle.bst_step.proofs.lines.trimmed_end.Given as goal
+
+-- what is left comes to what the whole comes to
+abbrev pub invariant-loop-rest : goal.invariant-loop-rest
+invariant-loop-rest l = rule.trimmed_end l.rest ≡ rule.trimmed_end l.bytes
+
+abbrev pub decreases-loop-rest : goal.decreases-loop-rest
+decreases-loop-rest l = length l.rest

@@ -1,0 +1,47 @@
+-- What is seen of a machine (docs/MACHINE.md): the configuration of its run, and whether memory was wanting.
+use Rattle.std.specs.Prelude.{ℕ, Bool, true, false, nat_eq, if◌then◌else◌, List, [], ◌∷◌, ◌++◌, Option, None, Some}
+use Rattle.std.specs.List.{flat_map}
+use Rattle.name_table.specs.declared.style.CommandAt.{CommandAt}
+use Rattle.name_table.specs.declared.style.Style.{Style}
+use Rattle.bst_meaning.specs.Config.{Config, Frame, EntryState, Stopped}
+use Rattle.bst_step.specs.declared.machine.Machine.{Machine}
+use Rattle.bst_step.specs.declared.machine.Turn.{Turn}
+use Rattle.bst_step.specs.declared.machine.Turn.TheVariants.{Went, Ended, Faulted}
+use Rattle.bst_step.specs.State.{config_of}
+
+abbrev pub configuration : Machine → Config
+configuration m = config_of m.state
+
+abbrev pub style_of : Machine → Style
+style_of m = m.style.now
+
+-- memory was wanting in a step
+abbrev pub is_broken : Machine → Bool
+is_broken m = m.broken
+
+-- what a configuration comes to: an execution error, the end where no command is left, or more steps
+abbrev pub turn_by : Option Stopped → List CommandAt → Turn
+turn_by (Some stopped) commands = Faulted stopped.fault (record { place = stopped.site.place; entry = stopped.site.entry })
+turn_by None [] = Ended
+turn_by None (first ∷ commands) = Went
+
+abbrev pub turn_of : Config → Turn
+turn_of c = turn_by c.stopped c.commands
+
+-- no step changes anything any more
+abbrev pub rests : Option Stopped → List Frame → List CommandAt → Bool
+rests (Some stopped) frames commands = true
+rests None [] [] = true
+rests _ _ _ = false
+
+abbrev pub at_rest : Config → Bool
+at_rest c = rests c.stopped c.frames c.commands
+
+-- the lines of the log, each with its line end
+abbrev pub log_of : Config → List ℕ
+log_of c = flat_map (λ line. line ++ 10 ∷ []) c.log
+
+-- the key of the entry with a position in the list with which the run opened, and no bytes where there is none
+abbrev pub key_at : ℕ → List EntryState → List ℕ
+key_at position [] = []
+key_at position (first ∷ entries) = if nat_eq first.position position then first.entry.key else key_at position entries

@@ -1,0 +1,172 @@
+//! The state in which a run opens.
+
+ghost use Rattle.std.specs.Prelude.{◌≡◌, List, ◌++◌, map, OnOk, IfOk};
+ghost use Rattle.std.specs.List.{filter};
+ghost use Rattle.bst_meaning.specs.Config as config;
+ghost use Rattle.bst_step.specs.State.{config_of, state_of};
+ghost use Rattle.bst_step.specs.Variables.{variable_of};
+
+use crate::operands::copied;
+use crate::stack::Stack;
+use crate::state::{EntryState, State};
+use crate::variables::Variable;
+use bst_meaning::entry::{Entry, EntryList};
+use bst_meaning::value::Value;
+use bv_base::memory::NoMemory;
+use bv_base::text::Text;
+use name_table::names::{Kind, NameId, Names};
+use name_table::style::{Command, CommandAt, Style};
+use std::alloc::Global;
+
+/// The state in which a run of the style over the list opens.
+pub fn opening<'a>(alloc: Global, style: &'a Style, list: EntryList) -> Result<State<'a>, NoMemory>
+    ensures { IfOk result (λ state. config_of state ≡ config.opening style.now list) }
+{
+    let EntryList { entries, preamble } = list;
+    let variables = entry_variables(alloc, &style.names)?;
+    Ok(State {
+        alloc,
+        preamble,
+        commands: step_commands(alloc, style.commands.as_slice())?,
+        running: false,
+        frames: Stack::new(alloc),
+        stack: Stack::new(alloc),
+        globals: globals(alloc, &style.names)?,
+        entries: entry_states(alloc, variables.as_slice(), entries.into_vec())?,
+        visit: None,
+        events: Vec::new(alloc),
+        log: Vec::new(alloc),
+        stopped: None,
+    })
+}
+
+/// Whether a command takes steps.
+fn is_step(command: Command) -> bool
+    ensures { result ≡ config.is_step command }
+{
+    match command {
+        Command::Execute(_)
+        | Command::Iterate(_)
+        | Command::Read
+        | Command::Reverse(_)
+        | Command::Sort => true,
+        _ => false,
+    }
+}
+
+/// The commands that take steps, the first on top.
+fn step_commands(alloc: Global, commands: &[CommandAt]) -> Result<Stack<CommandAt>, NoMemory>
+    ensures { IfOk result (λ left. left ≡ filter (λ c. config.is_step c.command) commands.now) }
+{
+    let mut left = Stack::new(alloc);
+    let mut first = commands.len();
+    while first > 0 {
+        first -= 1;
+        let at = commands[first];
+        if is_step(at.command) {
+            left.push(at)?;
+        }
+    }
+    Ok(left)
+}
+
+/// The value with which an integer variable of the whole style opens.
+fn opening_integer(id: u32) -> i32
+    ensures { result ≡ config.opening_integer id }
+{
+    match id {
+        39 => 250,
+        40 => 20000,
+        _ => 0,
+    }
+}
+
+/// The variables of the whole style, as a run opens.
+fn globals(alloc: Global, names: &Names) -> Result<Vec<Variable>, NoMemory>
+    ensures { IfOk result (λ variables. map variable_of variables.items ≡ config.opening_variables config.opening_global 0 names.now) }
+{
+    let mut variables = Vec::new(alloc);
+    for id in 0..names.len() {
+        push_global(alloc, &mut variables, NameId(id), names.kind(NameId(id)))?;
+    }
+    Ok(variables)
+}
+
+/// Appends the variable of the whole style that a name of a kind is, if it is one.
+fn push_global(alloc: Global, variables: &mut Vec<Variable>, name: NameId, kind: Kind) -> Result<(), NoMemory>
+    ensures { OnOk result ((later : List config.Variable) →
+        map variable_of variables.new.items ++ later ≡ map variable_of variables.old.items ++ config.opening_global name.0 kind later) }
+{
+    let value = match kind {
+        Kind::IntGlobal => Value::Int(opening_integer(name.0)),
+        Kind::StrGlobal => Value::Str(Text::from_slice(alloc, &[])?),
+        _ => return Ok(()),
+    };
+    variables.push(Variable { name, value })?;
+    Ok(())
+}
+
+/// The variables of an entry, as a run opens.
+fn entry_variables(alloc: Global, names: &Names) -> Result<Vec<Variable>, NoMemory>
+    ensures { IfOk result (λ variables. map variable_of variables.items ≡ config.opening_variables config.opening_entry_variable 0 names.now) }
+{
+    let mut variables = Vec::new(alloc);
+    for id in 0..names.len() {
+        push_entry_variable(alloc, &mut variables, NameId(id), names.kind(NameId(id)))?;
+    }
+    Ok(variables)
+}
+
+/// Appends the variable of an entry that a name of a kind is, if it is one.
+fn push_entry_variable(alloc: Global, variables: &mut Vec<Variable>, name: NameId, kind: Kind) -> Result<(), NoMemory>
+    ensures { OnOk result ((later : List config.Variable) →
+        map variable_of variables.new.items ++ later ≡ map variable_of variables.old.items ++ config.opening_entry_variable name.0 kind later) }
+{
+    let value = match kind {
+        Kind::IntEntry => Value::Int(0),
+        Kind::StrEntry => Value::Str(Text::from_slice(alloc, &[])?),
+        _ => return Ok(()),
+    };
+    variables.push(Variable { name, value })?;
+    Ok(())
+}
+
+/// A copy of variables with their values.
+fn copies(alloc: Global, variables: &[Variable]) -> Result<Vec<Variable>, NoMemory>
+    ensures { IfOk result (λ copies. copies.items ≡ variables.now) }
+{
+    let mut copies = Vec::new(alloc);
+    for variable in variables {
+        copies.push(copy_of(alloc, variable)?)?;
+    }
+    Ok(copies)
+}
+
+/// A copy of a variable with its value.
+fn copy_of(alloc: Global, variable: &Variable) -> Result<Variable, NoMemory>
+    ensures { IfOk result (λ copy. copy ≡ variable.now) }
+{
+    let value = copied(alloc, &variable.value)?;
+    Ok(Variable {
+        name: variable.name,
+        value,
+    })
+}
+
+/// The entries, each with its variables and its position.
+fn entry_states(alloc: Global, variables: &[Variable], entries: Vec<Entry>) -> Result<Vec<EntryState>, NoMemory>
+    ensures { IfOk result (λ states. map state_of states.items ≡ config.opening_entries (map variable_of variables.now) 0 entries.items) }
+{
+    let mut states = Vec::new(alloc);
+    let mut rest = entries.into_iter();
+    while let Some(entry) = rest.next() {
+        let position = states.as_slice().len() as u64;
+        let variables = copies(alloc, variables)?;
+        states.push(EntryState {
+            entry,
+            variables,
+            position,
+        })?;
+    }
+    Ok(states)
+}
