@@ -1,5 +1,5 @@
 -- The variables of a list of names, name by name.
-use Rattle.std.proofs.Common.{◌≡◌, ℕ, zero, suc, ◌+◌, ap, refl, List, [], ◌∷◌, drop, Some}
+use Rattle.std.proofs.Common.{◌≡◌, ℕ, zero, suc, ◌+◌, ap, List, [], ◌∷◌, drop, Some}
 use Rattle.name_table.specs.declared.names.Kind.{Kind}
 use Rattle.name_table.specs.Names.{kind_at}
 use Rattle.bst_meaning.specs.Config.{Variable, opening_variables}

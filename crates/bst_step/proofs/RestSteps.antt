@@ -1,5 +1,5 @@
 -- Where the machine rests, no number of steps changes anything.
-use Rattle.std.proofs.Common.{◌≡◌, ℕ, zero, suc, ◌+◌, refl, ap, ◌∙◌, Bool, true, false, List, [], ◌∷◌, Option, Some, None}
+use Rattle.std.proofs.Common.{◌≡◌, ℕ, zero, suc, refl, ap, ◌∙◌, Bool, true, false, List, [], ◌∷◌, Option, Some, None}
 use Rattle.name_table.specs.declared.style.CommandAt.{CommandAt}
 use Rattle.name_table.specs.declared.style.Style.{Style}
 use Rattle.bst_meaning.specs.Config.{Config, Frame, Stopped}

@@ -1,7 +1,7 @@
 -- The order of SORT is the stable order by the sort keys' bytes.
 use Rattle.std.proofs.Common.{◌≡◌, refl, sym, ap, ◌∙◌, Bool, true, false, cond, not, List, [], ◌∷◌, map, Ordering, Less, Equal, Greater}
 use Rattle.std.specs.Ordering.{nat_cmp, is_lt, is_le, ordering_reverse}
-use Rattle.std.specs.Cmp.{IsStrictWeakOrder, IsTotalOrder}
+use Rattle.std.specs.Cmp.{IsStrictWeakOrder}
 use Rattle.std.specs.Cmp.Lexicographic.{slice_cmp}
 use Rattle.std.proofs.lemmas.Cmp.{nat_list_cmp_total}
 use Rattle.std.proofs.lemmas.List.Sorted.{ranks_by}

@@ -1,5 +1,5 @@
 -- A list in order in which elements that tie keep their order is one list alone: the one that insertion gives.
-use Rattle.std.proofs.Common.{◌≡◌, ℕ, zero, suc, ◌+◌, ◌<◌, ◌≤◌, refl, sym, ap, ◌∙◌, subst, Bool, true, false, cond, not, ◌&&◌, List, [], ◌∷◌, length, get_or, arith, ◌⊎◌, inl, inr}
+use Rattle.std.proofs.Common.{◌≡◌, ℕ, suc, ◌<◌, ◌≤◌, refl, sym, ap, ◌∙◌, subst, Bool, true, false, cond, not, ◌&&◌, List, [], ◌∷◌, length, get_or, arith, inl, inr}
 use Rattle.std.proofs.lemmas.Bool.{cases_Bool}
 use Rattle.std.specs.List.{filter}
 use Rattle.std.specs.List.Sorted.{ties, IsStableBy, IsSortedBy}
@@ -50,15 +50,17 @@ module _ {X : Type 0} (lt : X → X → Bool) (o : IsStrictWeakOrder lt) where
   none_less_insert y x [] h n = (h, tt)
   none_less_insert y x (z ∷ zs) h n =
       elim (lt z x) as (λ b. NoneLess y (cond b (z ∷ insert_by x zs) (x ∷ z ∷ zs))) [
-        true ↦ (n.0, none_less_insert y x zs h n.1)
-      | false ↦ (h, n) ]
+        | true ↦ (n.0, none_less_insert y x zs h n.1)
+        | false ↦ (h, n)
+      ]
 
   rising_insert : (x : X) (xs : List X) → Rising xs → Rising (insert_by x xs)
   rising_insert x [] r = (tt, tt)
   rising_insert x (y ∷ ys) r =
       elim (cases_Bool (lt y x)) as (λ _. Rising (cond (lt y x) (y ∷ insert_by x ys) (x ∷ y ∷ ys))) [
-        inl h ↦ subst (λ b. Rising (cond b (y ∷ insert_by x ys) (x ∷ y ∷ ys))) (sym h) (none_less_insert y x ys (o.one_way y x h) r.0, rising_insert x ys r.1)
-      | inr h ↦ subst (λ b. Rising (cond b (y ∷ insert_by x ys) (x ∷ y ∷ ys))) (sym h) ((h, none_less_through x y ys h r.0), r) ]
+        | inl h ↦ subst (λ b. Rising (cond b (y ∷ insert_by x ys) (x ∷ y ∷ ys))) (sym h) (none_less_insert y x ys (o.one_way y x h) r.0, rising_insert x ys r.1)
+        | inr h ↦ subst (λ b. Rising (cond b (y ∷ insert_by x ys) (x ∷ y ∷ ys))) (sym h) ((h, none_less_through x y ys h r.0), r)
+      ]
 
   pub rising_sort : (xs : List X) → Rising (sort_of xs)
   rising_sort [] = tt
@@ -89,10 +91,11 @@ module _ {X : Type 0} (lt : X → X → Bool) (o : IsStrictWeakOrder lt) where
   stable_insert w x [] = refl
   stable_insert w x (y ∷ ys) =
       elim (cases_Bool (lt y x)) as (λ _. filter (ties lt w) (cond (lt y x) (y ∷ insert_by x ys) (x ∷ y ∷ ys)) ≡ filter (ties lt w) (x ∷ y ∷ ys)) [
-        inl h ↦ ap (λ b. filter (ties lt w) (cond b (y ∷ insert_by x ys) (x ∷ y ∷ ys))) h
-          ∙ ap (λ l. cond (ties lt w y) (y ∷ l) l) (stable_insert w x ys)
-          ∙ exchanged (ties lt w) x y (filter (ties lt w) ys) (ties lt w x) (ties lt w y) (not_both w x y h)
-      | inr h ↦ ap (λ b. filter (ties lt w) (cond b (y ∷ insert_by x ys) (x ∷ y ∷ ys))) h ]
+        | inl h ↦ ap (λ b. filter (ties lt w) (cond b (y ∷ insert_by x ys) (x ∷ y ∷ ys))) h
+            ∙ ap (λ l. cond (ties lt w y) (y ∷ l) l) (stable_insert w x ys)
+            ∙ exchanged (ties lt w) x y (filter (ties lt w) ys) (ties lt w x) (ties lt w y) (not_both w x y h)
+        | inr h ↦ ap (λ b. filter (ties lt w) (cond b (y ∷ insert_by x ys) (x ∷ y ∷ ys))) h
+      ]
 
   pub stable_sort : (w : X) (xs : List X) → filter (ties lt w) (sort_of xs) ≡ filter (ties lt w) xs
   stable_sort w [] = refl
@@ -103,9 +106,10 @@ module _ {X : Type 0} (lt : X → X → Bool) (o : IsStrictWeakOrder lt) where
   first_passes p z y rest [] e n = absurd (cc)
   first_passes p z y rest (w ∷ ws) e n =
       elim (cases_Bool (p w)) as (λ _. lt y z ≡ false) [
-        inl h ↦ let first : w ∷ filter p ws ≡ y ∷ rest = sym (ap (λ b. cond b (w ∷ filter p ws) (filter p ws)) h) ∙ e in
-          let same : w ≡ y = cc in ap (λ v. lt v z) (sym same) ∙ n.0
-      | inr h ↦ first_passes p z y rest ws (sym (ap (λ b. cond b (w ∷ filter p ws) (filter p ws)) h) ∙ e) n.1 ]
+        | inl h ↦ let first : w ∷ filter p ws ≡ y ∷ rest = sym (ap (λ b. cond b (w ∷ filter p ws) (filter p ws)) h) ∙ e in
+            let same : w ≡ y = cc in ap (λ v. lt v z) (sym same) ∙ n.0
+        | inr h ↦ first_passes p z y rest ws (sym (ap (λ b. cond b (w ∷ filter p ws) (filter p ws)) h) ∙ e) n.1
+      ]
 
   -- the same list but for its first element, where a test gives the same
   tails : (p : X → Bool) (y z : X) (ys zs : List X) (b : Bool) → y ≡ z → cond b (y ∷ filter p ys) (filter p ys) ≡ cond b (z ∷ filter p zs) (filter p zs)
@@ -143,7 +147,7 @@ module _ {X : Type 0} (lt : X → X → Bool) (o : IsStrictWeakOrder lt) where
       let both : y ∷ filter (ties lt y) ys ≡ z ∷ filter (ties lt y) zs = sym own ∙ same y ∙ other in
       let first : y ≡ z = cc in
       let rest : ys ≡ zs = unique ys zs a.1 b.1 (λ w. tails (ties lt w) y z ys zs (ties lt w y) first
-          (same w ∙ ap (λ v. cond (ties lt w v) (z ∷ filter (ties lt w) zs) (filter (ties lt w) zs)) (sym first))) in
+      (same w ∙ ap (λ v. cond (ties lt w v) (z ∷ filter (ties lt w) zs) (filter (ties lt w) zs)) (sym first))) in
       cc
 
   -- what a stable sort gives

@@ -1,5 +1,5 @@
 -- A variable that is found gets its new value in its place.
-use Rattle.std.proofs.Common.{◌≡◌, ℕ, zero, suc, ◌<◌, ap, refl, List, [], ◌∷◌, ◌++◌, length, map, take, drop, get_or, arith, true, cond, nat_eq, eq-eqb}
+use Rattle.std.proofs.Common.{◌≡◌, ℕ, zero, suc, ◌<◌, ap, List, [], ◌∷◌, ◌++◌, length, map, take, drop, get_or, arith}
 use Rattle.std.proofs.Math.ListN.{set}
 use Rattle.std.proofs.lemmas.Bool.Decides.{nat_tests}
 use Rattle.bst_meaning.specs.Config as config

@@ -1,5 +1,5 @@
 -- The machine's state as a configuration of the machine's definition (docs/MACHINE.md, "Configurations").
-use Rattle.std.specs.Prelude.{ℕ, List, [], ◌∷◌, map, option_map}
+use Rattle.std.specs.Prelude.{List, [], ◌∷◌, map, option_map}
 use Rattle.name_table.specs.declared.style.Token.TheVariants.{Call as CallToken}
 use Rattle.name_table.specs.declared.style.TokenAt.{TokenAt}
 use Rattle.bst_meaning.specs.Config as config

@@ -10,7 +10,7 @@ use crate::outcome::Outcome;
 use crate::stack::Stack;
 use crate::stop::Stop;
 use crate::surroundings::Surroundings;
-use crate::{entries, flow, logs, moves, numbers, texts};
+use crate::{entries, flow, logs, moves, names, numbers, texts};
 use bst_meaning::value::Value;
 use name_table::builtin::Builtin;
 
@@ -35,13 +35,13 @@ pub fn outcome_of(op: Builtin, around: Surroundings, stack: &Stack<Value>) -> Re
         Builtin::Cite => entries::cite(alloc, around.entry, stack),
         Builtin::Duplicate => moves::duplicate(alloc, stack),
         Builtin::Empty => texts::empty(stack),
-        Builtin::FormatName => Ok(Outcome::Leave(0)),
+        Builtin::FormatName => names::format_name(stack),
         Builtin::IfElse => flow::if_else(stack),
         Builtin::IntToChr => numbers::int_to_chr(alloc, stack),
         Builtin::IntToStr => numbers::int_to_str_of(alloc, stack),
         Builtin::Missing => texts::missing(stack),
         Builtin::Newline => Ok(Outcome::EndLine),
-        Builtin::NumNames => Ok(Outcome::Leave(0)),
+        Builtin::NumNames => names::num_names(stack),
         Builtin::Pop => moves::pop(stack),
         Builtin::Preamble => texts::constant(alloc, around.preamble, stack),
         Builtin::Purify => texts::purify(alloc, stack),

@@ -42,7 +42,12 @@ pub fn entered_at<'a>(style: &'a Style, target: Target, place: Place) -> Rest<'a
 
 impl<'a> State<'a> {
     /// Makes the effect of a built-in function that stands at a place.
-    pub fn apply(&mut self, style: &'a Style, outcome: Outcome, place: Place) -> Result<(), NoMemory>
+    pub fn apply(
+        &mut self,
+        style: &'a Style,
+        outcome: Outcome,
+        place: Place,
+    ) -> Result<(), NoMemory>
         ensures { OnOk result (config_of self.new ≡ rule.with_effect style.now (effect_of outcome self.old.stack) place (config_of self.old)) }
     {
         match outcome {

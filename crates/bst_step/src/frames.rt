@@ -43,19 +43,33 @@ impl<'a> State<'a> {
             Part::Whole => Ok(()),
             Part::Testing(test, body) => self.test_ended(style, test, body, place),
             Part::Turning(test, body) => {
-                self.enter(entered_at(style, test, place), place, Part::Testing(test, body))
+                self.enter(
+                    entered_at(style, test, place),
+                    place,
+                    Part::Testing(test, body),
+                )
             }
         }
     }
 
     /// Ends the test of a `while$`: pops an integer, and above 0 enters the body.
-    fn test_ended(&mut self, style: &'a Style, test: Target, body: Target, place: Place) -> Result<(), NoMemory>
+    fn test_ended(
+        &mut self,
+        style: &'a Style,
+        test: Target,
+        body: Target,
+        place: Place,
+    ) -> Result<(), NoMemory>
         ensures { OnOk result (config_of self.new ≡ rule.test_ended style.now test body place self.old.stack (config_of self.old)) }
     {
         match self.stack.pop() {
             Some(Value::Int(n)) => {
                 if n > 0 {
-                    self.enter(entered_at(style, body, place), place, Part::Turning(test, body))
+                    self.enter(
+                        entered_at(style, body, place),
+                        place,
+                        Part::Turning(test, body),
+                    )
                 } else {
                     Ok(())
                 }

@@ -9,14 +9,13 @@ ghost use Rattle.bst_step.specs.Machine.{configuration, style_of, is_broken, tur
 
 use crate::lines::{lines_of, with_ends};
 use crate::opening::opening;
+pub use crate::state::Site;
 use crate::state::{EntryState, State};
 use bst_meaning::entry::EntryList;
 use bst_meaning::fault::Fault;
 use bv_base::memory::NoMemory;
 use name_table::style::Style;
 use std::alloc::Global;
-
-pub use crate::state::Site;
 
 /// What the machine comes to.
 #[derive(Clone, Copy, Debug, PartialEq, Eq)]

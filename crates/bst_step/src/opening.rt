@@ -93,7 +93,12 @@ fn globals(alloc: Global, names: &Names) -> Result<Vec<Variable>, NoMemory>
 }
 
 /// Appends the variable of the whole style that a name of a kind is, if it is one.
-fn push_global(alloc: Global, variables: &mut Vec<Variable>, name: NameId, kind: Kind) -> Result<(), NoMemory>
+fn push_global(
+    alloc: Global,
+    variables: &mut Vec<Variable>,
+    name: NameId,
+    kind: Kind,
+) -> Result<(), NoMemory>
     ensures { OnOk result ((later : List config.Variable) →
         map variable_of variables.new.items ++ later ≡ map variable_of variables.old.items ++ config.opening_global name.0 kind later) }
 {
@@ -118,7 +123,12 @@ fn entry_variables(alloc: Global, names: &Names) -> Result<Vec<Variable>, NoMemo
 }
 
 /// Appends the variable of an entry that a name of a kind is, if it is one.
-fn push_entry_variable(alloc: Global, variables: &mut Vec<Variable>, name: NameId, kind: Kind) -> Result<(), NoMemory>
+fn push_entry_variable(
+    alloc: Global,
+    variables: &mut Vec<Variable>,
+    name: NameId,
+    kind: Kind,
+) -> Result<(), NoMemory>
     ensures { OnOk result ((later : List config.Variable) →
         map variable_of variables.new.items ++ later ≡ map variable_of variables.old.items ++ config.opening_entry_variable name.0 kind later) }
 {
@@ -154,7 +164,11 @@ fn copy_of(alloc: Global, variable: &Variable) -> Result<Variable, NoMemory>
 }
 
 /// The entries, each with its variables and its position.
-fn entry_states(alloc: Global, variables: &[Variable], entries: Vec<Entry>) -> Result<Vec<EntryState>, NoMemory>
+fn entry_states(
+    alloc: Global,
+    variables: &[Variable],
+    entries: Vec<Entry>,
+) -> Result<Vec<EntryState>, NoMemory>
     ensures { IfOk result (λ states. map state_of states.items ≡ config.opening_entries (map variable_of variables.now) 0 entries.items) }
 {
     let mut states = Vec::new(alloc);

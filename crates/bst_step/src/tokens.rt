@@ -39,7 +39,12 @@ fn text_of(alloc: Global, style: &Style, text: TextId) -> Result<Text, NoMemory>
 
 impl<'a> State<'a> {
     /// Executes a token, which its frame no longer has.
-    pub fn token_step(&mut self, style: &'a Style, token: Token, place: Place) -> Result<(), NoMemory>
+    pub fn token_step(
+        &mut self,
+        style: &'a Style,
+        token: Token,
+        place: Place,
+    ) -> Result<(), NoMemory>
         ensures { OnOk result (config_of self.new ≡ rule.token_step style.now token place (config_of self.old)) }
     {
         match token {

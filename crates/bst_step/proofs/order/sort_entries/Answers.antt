@@ -7,5 +7,5 @@ use Rattle.bst_step.proofs.order.sort_entries.Goals as goal
 pub returns : goal.returns
 returns c =
     sorted_entries c.args.entries.now.items c.sort_by.new.self.items
-        (c.in_ok-sort_by.ensures.sorted key_lt key_order (answers_always _ _ _ (λ f a r g h. search rules)))
-        (c.in_ok-sort_by.ensures.stable key_lt key_order (answers_always _ _ _ (λ f a r g h. search rules)))
+    (c.in_ok-sort_by.ensures.sorted key_lt key_order (answers_always _ _ _ (λ f a r g h. search rules)))
+    (c.in_ok-sort_by.ensures.stable key_lt key_order (answers_always _ _ _ (λ f a r g h. search rules)))
