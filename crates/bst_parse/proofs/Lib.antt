@@ -2,6 +2,7 @@ mod BothWays
 mod Columns
 mod Completed
 mod Counted
+mod FaultsStand
 mod Held
 mod Kept
 mod Keys
