@@ -1,3 +1,4 @@
+pub mod GoodNames
 pub mod Counting
 pub mod Cutting
 pub mod Grouping

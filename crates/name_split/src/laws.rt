@@ -1,6 +1,8 @@
 //! What holds of the names and parts of every text.
 
-ghost use Rattle.std.specs.Prelude.{length, IfOk};
+ghost use Rattle.std.specs.Prelude.{◌≡◌, ℕ, ℤ, true, List, length, Err, IfOk};
+ghost use Rattle.name_split.specs.AllParts.{names_ok};
+ghost use Rattle.name_split.specs.Formatted.{formatted, BadName};
 ghost use Rattle.name_split.specs.Names.{names_of};
 ghost use Rattle.name_split.specs.Order.{AreWithin, InOrder};
 ghost use Rattle.name_split.specs.Parts.{parts_of};
@@ -13,4 +15,9 @@ pub fn names_in_order(text: &[u8])
 /// The parts of a name that has parts stand in it.
 pub fn parts_within(name: &[u8])
     ensures { IfOk (parts_of name.now) (AreWithin (length name.now)) }
+{}
+
+/// A name of a text whose names all have parts is never refused for its parts.
+pub fn good_names_are_written()
+    ensures { (text pattern : List ℕ) → (index : ℤ) → names_ok text ≡ true → formatted text index pattern ≡ Err BadName → ⊥ }
 {}
