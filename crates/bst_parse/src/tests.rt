@@ -77,6 +77,7 @@ fn faults_of_commands_and_names(rt: HostRuntime) -> Result<(), Fail> {
         (b"ENTRY{}{}{} {", StyleFault::Expected(at(13), Shape::Name)),
     ];
     for (source, want) in rows {
+        assert!(rt; source.len() <= 4194304);
         assert_eq!(rt; parse(rt.alloc(), source).err(), Some(want));
     }
     Ok(())
@@ -147,6 +148,7 @@ fn faults_of_bodies_and_lexemes(rt: HostRuntime) -> Result<(), Fail> {
         (b"FUNCTION{f}", StyleFault::EndOfFile(at(12))),
     ];
     for (source, want) in rows {
+        assert!(rt; source.len() <= 4194304);
         assert_eq!(rt; parse(rt.alloc(), source).err(), Some(want));
     }
     Ok(())
@@ -154,7 +156,7 @@ fn faults_of_bodies_and_lexemes(rt: HostRuntime) -> Result<(), Fail> {
 
 #[test]
 fn styles_at_their_limits(rt: HostRuntime) -> Result<(), Fail> {
-    let rows: [(&[u8], &[u8], usize, &[u8], Option<StyleFault>); 8] = [
+    let rows: [(&[u8], &[u8], usize, &[u8], Option<StyleFault>); 9] = [
         (b"FUNCTION{f}", b"{", 257, b"}", None),
         (
             b"FUNCTION{f}",
@@ -162,6 +164,13 @@ fn styles_at_their_limits(rt: HostRuntime) -> Result<(), Fail> {
             258,
             b"}",
             Some(StyleFault::TooDeep(at(269))),
+        ),
+        (
+            b"FUNCTION{f}{}FUNCTION{g}",
+            b"{",
+            258,
+            b"}",
+            Some(StyleFault::TooDeep(at(282))),
         ),
         (b"FUNCTION{f}{", b"{}", 65535, b"}", None),
         (
@@ -183,6 +192,38 @@ fn styles_at_their_limits(rt: HostRuntime) -> Result<(), Fail> {
         assert_eq!(rt; parse(rt.alloc(), source.as_slice()).err(), want);
     }
     Ok(())
+}
+
+#[test]
+fn as_many_names_as_there_may_be(rt: HostRuntime) -> Result<(), Fail> {
+    let rows = [
+        (65495, None),
+        (65496, Some(StyleFault::TooMany(at(327485)))),
+    ];
+    for (count, want) in rows {
+        let source = numbered(rt.alloc(), count)?;
+        assert!(rt; source.len() <= 4194304);
+        assert_eq!(rt; parse(rt.alloc(), source.as_slice()).err(), want);
+    }
+    Ok(())
+}
+
+/// INTEGERS with so many names of four letters.
+fn numbered(alloc: Global, count: u32) -> Result<Vec<u8>, AllocError> {
+    let mut source = b"INTEGERS{".to_vec(alloc)?;
+    for k in 0..count {
+        source.push(letter(k / 17576))?;
+        source.push(letter(k / 676))?;
+        source.push(letter(k / 26))?;
+        source.push(letter(k))?;
+        source.push(b' ')?;
+    }
+    source.push(b'}')?;
+    Ok(source)
+}
+
+fn letter(k: u32) -> u8 {
+    b'a' + (k % 26) as u8
 }
 
 /// Some bytes, a part several times, and an end several times.
