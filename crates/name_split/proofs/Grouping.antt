@@ -116,21 +116,30 @@ none_case bytes (b ∷ left) e =
 pub none_more : (bytes : List ℕ) → nat_eq (before_run 1 bytes) (length bytes) ≡ are_none (letter_runs 1 bytes)
 none_more bytes = none_case bytes (drop (before_run 1 bytes) bytes) refl
 
--- the first run of a group, and what follows it
-pub group_some : (group rest run after : List ℕ) → rest ≡ drop (before_run 1 group) group → run ≡ word_letters rest
-    → after ≡ drop (length run) rest → (length run ≡ 0 → ⊥)
-    → group_ok group ≡ (run_ok run && nat_eq (before_run 1 after) (length after))
-group_some group [] run after r w a some = absurd (some (ap length w))
-group_some group (b ∷ rest) run after r w a some =
-    ap runs_ok (runs_from_first 1 group ∙ ap (letter_runs 1) (sym r) ∙ first_run b rest (first_letter 1 group b rest (sym r))
-    ∙ ap (λ xs. xs ∷ letter_runs 1 (drop (length xs) (b ∷ rest))) (sym w))
-    ∙ ap (λ xs. run_ok run && are_none (letter_runs 1 xs)) (sym a)
-    ∙ ap (λ v. run_ok run && v) (sym (none_more after))
+-- the first run of a group, and the others
+pub runs_some : (group rest run after : List ℕ) → rest ≡ drop (before_run 1 group) group → run ≡ word_letters rest
+    → after ≡ drop (length run) rest → (length run ≡ 0 → ⊥) → letter_runs 1 group ≡ run ∷ letter_runs 1 after
+runs_some group [] run after r w a some = absurd (some (ap length w))
+runs_some group (b ∷ rest) run after r w a some =
+    runs_from_first 1 group ∙ ap (letter_runs 1) (sym r) ∙ first_run b rest (first_letter 1 group b rest (sym r))
+    ∙ ap (λ xs. xs ∷ letter_runs 1 (drop (length xs) (b ∷ rest))) (sym w)
+    ∙ ap (λ xs. run ∷ letter_runs 1 xs) (sym a)
 
-pub group_none : (group rest run : List ℕ) → rest ≡ drop (before_run 1 group) group → run ≡ word_letters rest
-    → length run ≡ 0 → group_ok group ≡ true
-group_none group [] run r w none = ap runs_ok (runs_from_first 1 group ∙ ap (letter_runs 1) (sym r))
-group_none group (b ∷ rest) run r w none =
+pub runs_none : (group rest run : List ℕ) → rest ≡ drop (before_run 1 group) group → run ≡ word_letters rest
+    → length run ≡ 0 → letter_runs 1 group ≡ []
+runs_none group [] run r w none = runs_from_first 1 group ∙ ap (letter_runs 1) (sym r)
+runs_none group (b ∷ rest) run r w none =
     let long : length run ≡ suc (length (word_letters rest)) =
     ap length (w ∙ letter_word b rest (first_letter 1 group b rest (sym r))) in
     absurd (omega arith)
+
+-- whether a group with a first run is well formed
+pub group_some : (group rest run after : List ℕ) → rest ≡ drop (before_run 1 group) group → run ≡ word_letters rest
+    → after ≡ drop (length run) rest → (length run ≡ 0 → ⊥)
+    → group_ok group ≡ (run_ok run && nat_eq (before_run 1 after) (length after))
+group_some group rest run after r w a some =
+    ap runs_ok (runs_some group rest run after r w a some) ∙ ap (λ v. run_ok run && v) (sym (none_more after))
+
+pub group_none : (group rest run : List ℕ) → rest ≡ drop (before_run 1 group) group → run ≡ word_letters rest
+    → length run ≡ 0 → group_ok group ≡ true
+group_none group rest run r w none = ap runs_ok (runs_none group rest run r w none)

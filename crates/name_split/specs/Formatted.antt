@@ -1,6 +1,6 @@
 -- Names written by a pattern (docs/NAMES.md, "Formatting").
-use Rattle.std.specs.Prelude.{◌≡◌, ℕ, zero, suc, ◌+◌, ◌-◌, ℤ, pos, negsuc, Bool, true, false, ◌&&◌, ◌||◌, not, nat_eq, nat_lt, if◌then◌else◌, List, [], ◌∷◌, ◌++◌, length, take, drop, filter, slice_get, slice_index, Option, None, Some, Result, Ok, Err}
-use Rattle.bv_base.specs.Bytes.{is_white, lower}
+use Rattle.std.specs.Prelude.{ℕ, zero, suc, ◌+◌, ◌-◌, ℤ, pos, negsuc, Bool, true, false, ◌&&◌, ◌||◌, not, nat_eq, nat_lt, if◌then◌else◌, List, [], ◌∷◌, ◌++◌, length, take, drop, filter, slice_get, slice_index, Option, None, Some, Result, Ok, Err}
+use Rattle.bv_base.specs.Bytes.{lower}
 use Rattle.bv_base.specs.Levels.{is_letter, inside, closing, pieces, is_text_character}
 use Rattle.name_split.specs.declared.spans.Span.{Span}
 use Rattle.name_split.specs.declared.parts.NameFault.{NameFault}

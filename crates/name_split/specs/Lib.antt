@@ -1,6 +1,7 @@
-pub mod Formatted
 pub mod AllParts
 pub mod Commas
+pub mod FirstRun
+pub mod Formatted
 pub mod Left
 pub mod Names
 pub mod Order

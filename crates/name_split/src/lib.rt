@@ -3,6 +3,7 @@
 
 mod bytes;
 mod commas;
+pub mod front;
 pub mod laws;
 mod low;
 pub mod names;
@@ -12,4 +13,4 @@ pub mod spans;
 mod survey;
 #[cfg(test)]
 mod tests;
-mod tokens;
+pub mod tokens;

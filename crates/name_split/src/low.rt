@@ -1,10 +1,11 @@
 //! Whether a token is low.
 
-ghost use Rattle.std.specs.Prelude.{◌≡◌, ◌≤◌, ◌&&◌, map, length, nat_eq};
+ghost use Rattle.std.specs.Prelude.{◌≡◌, ◌&&◌, map, nat_eq};
 ghost use Rattle.bv_base.specs.Levels as levels;
 ghost use Rattle.name_split.specs.Tokens as tokens;
 
 use crate::bytes::next_level;
+use crate::front::{inside, word_letters};
 
 /// The control words that stand for letters of other languages.
 const FOREIGN_WORDS: [&[u8]; 13] = [
@@ -43,20 +44,6 @@ fn begins_special(level: usize, bytes: &[u8]) -> bool
     level == 0 && matches!(bytes, [b'{', b'\\', ..])
 }
 
-/// The bytes before the brace that closes a special character, or all where there is none.
-pub(crate) fn inside<'a>(bytes: &'a [u8]) -> &'a [u8]
-    ensures { result.now ≡ levels.inside 1 bytes.now }
-{
-    let mut level = 1;
-    for (at, b) in bytes.iter().enumerate() {
-        if level == 1 && *b == b'}' {
-            return bytes.split_at(at).0;
-        }
-        level = next_level(level, *b);
-    }
-    bytes
-}
-
 /// Whether a special character is low, by the bytes within its braces.
 fn special_low(inner: &[u8]) -> bool
     ensures { result ≡ tokens.special_low inner.now }
@@ -72,19 +59,6 @@ fn special_low(inner: &[u8]) -> bool
             }
         }
     }
-}
-
-/// The ASCII letters that stand first.
-pub(crate) fn word_letters<'a>(bytes: &'a [u8]) -> &'a [u8]
-    ensures letters { result.now ≡ levels.word_letters bytes.now }
-    ensures within { length result.now ≤ length bytes.now }
-{
-    for (i, b) in bytes.iter().enumerate() {
-        if !b.is_ascii_alphabetic() {
-            return bytes.split_at(i).0;
-        }
-    }
-    bytes
 }
 
 /// Whether the first ASCII letter is a small one.

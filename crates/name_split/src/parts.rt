@@ -1,12 +1,11 @@
 //! The parts of a name.
 
-ghost use Rattle.std.specs.Prelude.{◌≡◌, ◌+◌, ◌≤◌, List, length, take, drop, Ok, Err, MatchResult, is_ok};
+ghost use Rattle.std.specs.Prelude.{◌≡◌, Ok, Err, MatchResult, is_ok};
 ghost use Rattle.name_split.specs.Parts as parts;
-ghost use Rattle.name_split.specs.Spans.{slice as slice_of};
 ghost use Rattle.name_split.specs.declared.spans.Parts.{Parts as PartSpans};
 
 use crate::commas::{Commas, commas_of, ends_in_comma};
-use crate::spans::{Parts, Span};
+use crate::spans::{Parts, Span, slice};
 use crate::survey::{EMPTY, surveyed};
 use crate::tokens::{Tokens, tokens_of};
 
@@ -145,16 +144,6 @@ fn tokens_between<'a>(name: &'a [u8], from: usize, to: usize) -> Tokens<'a>
             },
         ),
     )
-}
-
-/// The bytes of a stretch, as far as the text has them.
-fn slice<'a>(text: &'a [u8], span: Span) -> &'a [u8]
-    ensures slice { result.now ≡ slice_of text.now span }
-    ensures within { span.start + length result.now ≤ 18446744073709551615 }
-{
-    let rest = text.split_at(span.start.min(text.len())).1;
-    rest.split_at(span.end.saturating_sub(span.start).min(rest.len()))
-        .0
 }
 
 /// Whether a name has parts.

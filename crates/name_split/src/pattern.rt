@@ -1,11 +1,12 @@
 //! Patterns of names.
 
-ghost use Rattle.std.specs.Prelude.{◌≡◌, ◌≤◌, length, ◌&&◌, nat_eq};
+ghost use Rattle.std.specs.Prelude.{◌≡◌, ◌≤◌, [], length, ◌&&◌, nat_eq, MatchOption};
 ghost use Rattle.std.specs.List.{list_all};
+ghost use Rattle.name_split.specs.FirstRun.{IsFirstRun};
 ghost use Rattle.name_split.specs.Patterns as patterns;
 
 use crate::bytes::next_level;
-use crate::low::{inside, word_letters};
+use crate::front::{inside, word_letters};
 use bv_base::bytes::lower;
 
 /// Whether a pattern is well formed: its braces match, and each group has at level 1 at most one run of ASCII letters,
@@ -62,6 +63,35 @@ fn group_ok(group: &[u8]) -> bool
     let run = word_letters(rest);
     let after = rest.split_at(run.len()).1;
     run.is_empty() || (run_ok(run) && before_run(after) == after.len())
+}
+
+/// A group around its first run of letters at level 1.
+#[derive(Clone, Copy, Debug)]
+pub struct FirstRun<'a> {
+    /// What stands before the run.
+    pub before: &'a [u8],
+    /// The run, which has a letter at least.
+    pub letters: &'a [u8],
+    /// What follows the run.
+    pub behind: &'a [u8],
+}
+
+/// A group around its first run of letters at level 1, by what stands within its braces, or `None` exactly where it has
+/// no run.
+pub fn first_run<'a>(group: &'a [u8]) -> Option<FirstRun<'a>>
+    ensures { MatchOption result (patterns.letter_runs 1 group.now ≡ []) (λ found. IsFirstRun group.now found) }
+{
+    let (before, rest) = group.split_at(before_run(group));
+    let letters = word_letters(rest);
+    let behind = rest.split_at(letters.len()).1;
+    if letters.is_empty() {
+        return None;
+    }
+    Some(FirstRun {
+        before,
+        letters,
+        behind,
+    })
 }
 
 /// How many bytes stand before the first letter at level 1, where the first byte has that level.

@@ -9,13 +9,13 @@ use crate::low::is_low;
 use bv_base::bytes::is_white;
 use std::marker::Model;
 
-/// A token of a name: where it starts and ends, whether it is low, and whether a `-` follows it.
+/// A token of a name: where it starts and ends, both counted from 0, whether it is low, and whether a `-` follows it.
 #[derive(Clone, Copy)]
-pub(crate) struct Token {
-    pub(crate) start: usize,
-    pub(crate) end: usize,
-    pub(crate) low: bool,
-    pub(crate) dash: bool,
+pub struct Token {
+    pub start: usize,
+    pub end: usize,
+    pub low: bool,
+    pub dash: bool,
 }
 
 /// How many bytes of a token stand first.
@@ -49,7 +49,7 @@ pub(crate) fn is_joint(b: u8) -> bool
 
 /// The tokens of a part of a name, in order. Contracts see the list of the tokens that are left.
 #[derive(Drop)]
-pub(crate) struct Tokens<'a> {
+pub struct Tokens<'a> {
     rest: &'a [u8],
     at: usize,
 }
@@ -68,7 +68,7 @@ impl<'a> Model for Tokens<'a> {
 }
 
 /// The tokens of some bytes of a name, of which the first is the byte `at` of the name.
-pub(crate) fn tokens_of<'a>(at: usize, bytes: &'a [u8]) -> Tokens<'a>
+pub fn tokens_of<'a>(at: usize, bytes: &'a [u8]) -> Tokens<'a>
     requires { at + length bytes.now ≤ 18446744073709551615 }
     ensures { result ≡ tokens.tokens_of at bytes.now }
 {
@@ -76,8 +76,8 @@ pub(crate) fn tokens_of<'a>(at: usize, bytes: &'a [u8]) -> Tokens<'a>
 }
 
 impl<'a> Tokens<'a> {
-    /// The next token.
-    pub(crate) fn next(&mut self) -> Option<Token>
+    /// The next token, or `None` exactly after the last.
+    pub fn next(&mut self) -> Option<Token>
         ensures { MatchOption result ((self.old ≡ []) × (self.new ≡ [])) (λ token. self.old ≡ token ∷ self.new) }
     {
         let gap = gap_length(self.rest);

@@ -1,6 +1,6 @@
 use Rattle.std.proofs.Common.{◌≡◌, ◌≤◌, ◌+◌, ◌++◌, take, drop}
 use Rattle.bv_base.specs.Levels.{inside}
-use Rattle.name_split.proofs.low.inside.Given as goal
+use Rattle.name_split.proofs.front.inside.Given as goal
 
 abbrev pub invariant-loop-at : goal.invariant-loop-at
 invariant-loop-at l = record {
