@@ -1,0 +1,4 @@
+pub mod Faults
+pub mod Manners
+pub mod Numbered
+pub mod Steps

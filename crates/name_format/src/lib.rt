@@ -1,0 +1,11 @@
+//! Names written by a pattern (docs/NAMES.md, "Formatting").
+#![tactic(auto)]
+
+pub mod format;
+mod group;
+mod initial;
+mod pattern;
+#[cfg(test)]
+mod tests;
+mod tie;
+mod tokens;
