@@ -1,0 +1,9 @@
+use Rattle.std.proofs.Common.{◌≡◌, ◌-◌, length}
+use Rattle.bib_read.specs.Progressing.{progress_of}
+use Rattle.bib_read.specs.Reading.{take_items}
+use Rattle.bib_read.proofs.reader.Reader.take_items.Given as goal
+
+abbrev pub invariant-loop-round : goal.invariant-loop-round
+invariant-loop-round l =
+    take_items (l._round-end - l._round) (progress_of l.self)
+    ≡ take_items (length l.fn.self.rest.now) (progress_of l.fn.self)

@@ -1,0 +1,12 @@
+pub mod Entering
+pub mod Names
+pub mod Parts
+pub mod Progress
+pub mod Progressing
+pub mod Reading
+pub mod Runs
+pub mod Squeeze
+pub mod Stops
+pub mod Tables
+pub mod Values
+pub mod Warnings

@@ -1,0 +1,37 @@
+//! What has been read of databases.
+
+use bv_base::seq::Seq;
+use bv_base::text::Text;
+use name_table::style::Macro;
+
+/// A field of an entry: its lowered name and its value.
+#[derive(Debug, Drop)]
+pub struct RawField {
+    pub name: Text,
+    /// The value, with one space for each run of white space, and none at its ends.
+    pub value: Text,
+}
+
+/// An entry as it stands in its database.
+#[derive(Debug, Drop)]
+pub struct RawEntry {
+    /// The key, spelled as in the database.
+    pub key: Text,
+    /// The lowered type.
+    pub entry_type: Text,
+    /// The fields in order, none twice.
+    pub fields: Seq<RawField>,
+}
+
+/// What has been read of databases.
+#[derive(Debug, Drop)]
+pub struct Database {
+    /// The macros in order, those of the style first.
+    pub macros: Seq<Macro>,
+    /// The entries in order. No two lowered keys are equal.
+    pub entries: Seq<RawEntry>,
+    /// The values of the preambles, one directly after the other.
+    pub preamble: Text,
+    /// The warnings, as lines of the log.
+    pub warnings: Seq<Text>,
+}

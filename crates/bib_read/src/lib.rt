@@ -1,0 +1,19 @@
+//! The reader of `.bib` files: macros, entries and the preamble, with the warnings that reading them gives.
+#![tactic(auto)]
+
+pub mod database;
+mod entries;
+pub mod fault;
+mod fields;
+mod macros;
+mod names;
+mod opening;
+pub mod read;
+mod reader;
+mod runs;
+mod squeeze;
+mod stop;
+#[cfg(test)]
+mod tests;
+mod values;
+mod warnings;

@@ -1,0 +1,132 @@
+//! How far white space, identifiers, keys, numbers and the insides of braces and quotes reach.
+
+ghost use Rattle.std.specs.Prelude.{◌≡◌, ◌≤◌, ◌+◌, ◌<◌, length};
+ghost use Rattle.std.specs.Option.{option_map};
+ghost use Rattle.bib_read.specs.Runs as runs;
+
+use bv_base::bytes::{is_name_byte, is_white};
+
+/// What is left after the white space that stands first.
+pub(crate) fn after_white(bytes: &[u8]) -> &[u8]
+    ensures { result.now ≡ runs.after_white bytes.now }
+{
+    bytes.split_at(white_length(bytes)).1
+}
+
+/// What is left after the first `@`, or `None` where there is none.
+pub(crate) fn after_at(bytes: &[u8]) -> Option<&[u8]>
+    ensures { option_map (λ rest. rest.now) result ≡ runs.after_at bytes.now }
+{
+    match bytes.split_at(plain_length(bytes)).1 {
+        [] => None,
+        [_, rest @ ..] => Some(rest),
+    }
+}
+
+/// Whether an identifier stands first.
+pub(crate) fn begins_name(bytes: &[u8]) -> bool
+    ensures { result ≡ runs.begins_name bytes.now }
+{
+    match bytes {
+        [] => false,
+        [b, ..] => is_name_byte(*b) && !is_digit(*b),
+    }
+}
+
+/// Whether a byte is a digit.
+pub(crate) fn is_digit(b: u8) -> bool
+    ensures { result ≡ runs.is_digit b }
+{
+    matches!(b, b'0'..=b'9')
+}
+
+/// How many bytes of white space stand first.
+fn white_length(bytes: &[u8]) -> usize
+    ensures length { result ≡ runs.length_before runs.is_black bytes.now }
+    ensures within { result ≤ length bytes.now }
+{
+    for (i, b) in bytes.iter().enumerate() {
+        if !is_white(*b) {
+            return i;
+        }
+    }
+    bytes.len()
+}
+
+/// How many bytes stand before the first `@`.
+fn plain_length(bytes: &[u8]) -> usize
+    ensures length { result ≡ runs.length_before runs.is_at bytes.now }
+    ensures within { result ≤ length bytes.now }
+{
+    for (i, b) in bytes.iter().enumerate() {
+        if *b == b'@' {
+            return i;
+        }
+    }
+    bytes.len()
+}
+
+/// How many name bytes stand first.
+pub(crate) fn name_length(bytes: &[u8]) -> usize
+    ensures length { result ≡ runs.length_before runs.ends_name bytes.now }
+    ensures within { result ≤ length bytes.now }
+{
+    for (i, b) in bytes.iter().enumerate() {
+        if !is_name_byte(*b) {
+            return i;
+        }
+    }
+    bytes.len()
+}
+
+/// How many digits stand first.
+pub(crate) fn digits_length(bytes: &[u8]) -> usize
+    ensures length { result ≡ runs.length_before runs.ends_digits bytes.now }
+    ensures within { result ≤ length bytes.now }
+{
+    for (i, b) in bytes.iter().enumerate() {
+        if !is_digit(*b) {
+            return i;
+        }
+    }
+    bytes.len()
+}
+
+/// How many bytes of a key stand first, in an entry that this byte closes.
+pub(crate) fn key_length(close: u8, bytes: &[u8]) -> usize
+    ensures length { result ≡ runs.length_before (runs.ends_key close) bytes.now }
+    ensures within { result ≤ length bytes.now }
+{
+    for (i, b) in bytes.iter().enumerate() {
+        if ends_key(close, *b) {
+            return i;
+        }
+    }
+    bytes.len()
+}
+
+/// Whether a byte ends a key, in an entry that another byte closes.
+fn ends_key(close: u8, b: u8) -> bool
+    ensures { result ≡ runs.ends_key close b }
+{
+    is_white(b) || b == b',' || (b == b'}' && close == b'}')
+}
+
+/// How many bytes stand before the end of a piece in braces or quotes, of which the mark at its end is given.
+pub(crate) fn inside_length(mark: u8, bytes: &[u8]) -> usize
+    ensures length { result ≡ runs.inside_length mark 0 bytes.now }
+    ensures within { result ≤ length bytes.now }
+{
+    let mut level: usize = 0;
+    for (i, b) in bytes.iter().enumerate() {
+        if level == 0 && (*b == mark || *b == b'}') {
+            return i;
+        }
+        level = match *b {
+            b'{' => level + 1,
+            b'}' => level - 1,
+            _ => level,
+        };
+    }
+    bytes.len()
+}
