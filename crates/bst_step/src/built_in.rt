@@ -35,7 +35,7 @@ pub fn outcome_of(op: Builtin, around: Surroundings, stack: &Stack<Value>) -> Re
         Builtin::Cite => entries::cite(alloc, around.entry, stack),
         Builtin::Duplicate => moves::duplicate(alloc, stack),
         Builtin::Empty => texts::empty(stack),
-        Builtin::FormatName => names::format_name(stack),
+        Builtin::FormatName => names::format_name(alloc, stack),
         Builtin::IfElse => flow::if_else(stack),
         Builtin::IntToChr => numbers::int_to_chr(alloc, stack),
         Builtin::IntToStr => numbers::int_to_str_of(alloc, stack),

@@ -14,6 +14,9 @@ use crate::stack::Stack;
 use crate::stop::Stop;
 use bst_meaning::fault::Fault;
 use bst_meaning::value::Value;
+use bv_base::text::Text;
+use name_format::format::{FormatFault, format};
+use std::alloc::Global;
 
 /// `num.names$`
 pub fn num_names(stack: &Stack<Value>) -> Result<Outcome, Stop>
@@ -23,12 +26,20 @@ pub fn num_names(stack: &Stack<Value>) -> Result<Outcome, Stop>
     count(name_split::names::count(text) as u128, stack)
 }
 
-/// `format.name$`. Names aren't formatted yet: a call with operands of the right kinds ends as where memory is wanting.
-pub fn format_name(stack: &Stack<Value>) -> Result<Outcome, Stop>
+/// `format.name$`
+pub fn format_name(alloc: Global, stack: &Stack<Value>) -> Result<Outcome, Stop>
     ensures { Gives result stack.now (rule.format_name stack.now) }
 {
     match three(stack)? {
-        (Value::Str(_), Value::Int(_), Value::Str(_)) => Err(Stop::NoMemory),
+        (Value::Str(text), Value::Int(index), Value::Str(pattern)) => {
+            match format(alloc, text.as_slice(), *index, pattern.as_slice()) {
+                Ok(name) => Ok(Outcome::Push(3, Value::Str(Text::from_vec(name)))),
+                Err(FormatFault::BadNameIndex) => Err(Stop::Fault(Fault::BadNameIndex)),
+                Err(FormatFault::BadName) => Err(Stop::Fault(Fault::BadName)),
+                Err(FormatFault::BadPattern) => Err(Stop::Fault(Fault::BadPattern)),
+                Err(FormatFault::NoMemory) => Err(Stop::NoMemory),
+            }
+        }
         _ => Err(Stop::Fault(Fault::WrongKind)),
     }
 }
