@@ -1,5 +1,5 @@
 -- A name of a text whose names all have parts is never refused for its parts.
-use Rattle.std.proofs.Common.{◌≡◌, ℕ, zero, suc, Bool, true, false, cond, ◌&&◌, List, [], ◌∷◌, Option, None, Some, Result, Ok, Err}
+use Rattle.std.proofs.Common.{◌≡◌, ℕ, zero, suc, Bool, true, false, cond, List, [], ◌∷◌, Result, Ok, Err}
 use Rattle.std.specs.Prelude.{ℤ, pos, negsuc, slice_get, is_ok}
 use Rattle.std.proofs.lemmas.Bool.{and_parts}
 use Rattle.name_split.specs.declared.parts.NameFault.{NameFault}
