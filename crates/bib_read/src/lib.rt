@@ -5,6 +5,7 @@ pub mod database;
 mod entries;
 pub mod fault;
 mod fields;
+pub mod laws;
 mod macros;
 mod names;
 mod opening;
