@@ -3,80 +3,85 @@
 use crate::format::{FormatFault, format};
 use std::test::Fail;
 
+/// A name of many parts, and a pattern that gives every part whole.
+const POUSSIN: &[u8] = br"Charles Louis Xavier Joseph de la Vall{\'e}e Poussin";
+
+const WHOLE: &[u8] = b"{ff~}{vv~}{ll}{, jj}";
+
+/// Names, each with a pattern and the text that it gives.
+const WRITTEN: [(&[u8], &[u8], &[u8]); 53] = [
+    (
+        POUSSIN,
+        b"{vv~}{ll}{, jj}{, f}?",
+        br"de~la Vall{\'e}e~Poussin, C.~L. X.~J?",
+    ),
+    (b"Ann Lee", WHOLE, b"Ann Lee"),
+    (b"Bo Ray", WHOLE, b"Bo~Ray"),
+    // one letter, and two
+    (b"Ann B. Lee", b"{f. }{ll}", b"A.~B. Lee"),
+    (b"Ann B. Lee", b"{F}{L}", b"A.~BL"),
+    (b"Ann B. Lee", b"{fF}", b"Ann~B."),
+    (b"Ann Lee", b"{f}", b"A"),
+    (b"Ludwig van Beethoven", b"{v.}", b"v."),
+    (b"Ludwig van Beethoven", b"{vv~}{ll}", b"van Beethoven"),
+    (b"Ludwig van Beethoven", b"{v}{l}", b"vB"),
+    (
+        b"King, Jr, Martin Luther",
+        b"{ll}{, jj}{, f.}",
+        b"King, Jr, M.~L.",
+    ),
+    (b"King, Jr, Martin Luther", b"{j}", b"J"),
+    // a text between tokens
+    (b"Ann B. Lee", b"{f{}}", b"AB"),
+    (b"Ann B. Lee", b"{ff{, }}", b"Ann, B."),
+    (b"Ann B. Lee", b"{f{, }}", b"A, B"),
+    (b"Ann B. Lee", b"{f{-}.}", b"A-B."),
+    (b"Ann B. Lee", b"{f{{.}}}", b"A{.}B"),
+    (b"Jean-Paul Sartre", b"{f{}}", b"JP"),
+    // joints
+    (b"Jean-Paul Sartre", b"{f.}", b"J.-P."),
+    (b"Jean-Paul Sartre", b"{ff}", b"Jean-Paul"),
+    (b"Jean~Paul Sartre", b"{f.~}{ll}", b"J.~P. Sartre"),
+    (b"Jean~Paul Sartre", b"{ff}", b"Jean~Paul"),
+    (b"Per Brinch-Hansen", b"{l.}", b"B.-H."),
+    (b"A - B Lee", b"{f}", b"A.~B"),
+    (b"A- B Lee", b"{f}", b"A.-B"),
+    (b"A Bob Carl Lee", b"{ff}", b"A~Bob~Carl"),
+    (b"Al Bob Carl Dan Lee", b"{ff}", b"Al~Bob Carl~Dan"),
+    (b"Abe\tBob Carl Lee", b"{ff}", b"Abe Bob~Carl"),
+    (br"{\'E}a B C D Lee", b"{f}", br"{\'E}.~B. C.~D"),
+    // the end of a group
+    (b"Ann Lee", b"{ff~~}{ll}", b"Ann~Lee"),
+    (b"Ann Lee", b"{f~~}{ll}", b"A~Lee"),
+    (b"Ann Lee", b"{f~}{ll}", b"A~Lee"),
+    (b"Ann Lee", b"{f.~}{ll}", b"A.~Lee"),
+    (b"Ann Lee", b"{f..~}{ll}", b"A.. Lee"),
+    (b"Ann Lee", b"{ll~}", b"Lee "),
+    (b"Bo Li", b"{1234ll~}", b"1234Li~"),
+    (br"{\'E}l Roi", b"{ff~}{ll}", br"{\'E}l~Roi"),
+    // initials
+    (br"{\'E}l Roi", b"{f.}", br"{\'E}."),
+    (br"'{\'E}a Lee", b"{f.}", br"{\'E}."),
+    (br"D'{\'E}tienne Lee", b"{f.}", b"D."),
+    (br"{\v{S}}i Lee", b"{f.}", br"{\v{S}}."),
+    (b"{Ann} Lee", b"{f.}", b"A."),
+    (b"{Ann} Lee", b"{ff}", b"{Ann}"),
+    (b"\xc3\x89VA Lee", b"{f.}", b"\xc3."),
+    (b"1234 Lee", b"{f.}x{ll}", b".xLee"),
+    (b"1234 Lee", b"{~f}{ll}", b"~Lee"),
+    // groups without letters, and parts without tokens
+    (b"Ann Lee", b"{1 }x{}", b"1 x"),
+    (b"Ann Lee", b"{{vv}~}{ll}", b"{vv}~Lee"),
+    (b"Ann Lee", b"By {~~}{ll}", b"By ~~Lee"),
+    (b"Ann Lee", b"{{[}ff {]}}", b"{[}Ann {]}"),
+    (b"Ann Lee", b"{1vv2}{1jj2}{1ff2}", b"1Ann2"),
+    (b" ", b"{ff~}{vv~}{ll}x", b"x"),
+    (b"Ann Lee", b"", b""),
+];
+
 #[test]
 fn names_by_patterns(rt: HostRuntime) -> Result<(), Fail> {
-    let poussin: &[u8] = br"Charles Louis Xavier Joseph de la Vall{\'e}e Poussin";
-    let whole: &[u8] = b"{ff~}{vv~}{ll}{, jj}";
-    let rows: [(&[u8], &[u8], &[u8]); 53] = [
-        (
-            poussin,
-            b"{vv~}{ll}{, jj}{, f}?",
-            br"de~la Vall{\'e}e~Poussin, C.~L. X.~J?",
-        ),
-        (b"Ann Lee", whole, b"Ann Lee"),
-        (b"Bo Ray", whole, b"Bo~Ray"),
-        // one letter, and two
-        (b"Ann B. Lee", b"{f. }{ll}", b"A.~B. Lee"),
-        (b"Ann B. Lee", b"{F}{L}", b"A.~BL"),
-        (b"Ann B. Lee", b"{fF}", b"Ann~B."),
-        (b"Ann Lee", b"{f}", b"A"),
-        (b"Ludwig van Beethoven", b"{v.}", b"v."),
-        (b"Ludwig van Beethoven", b"{vv~}{ll}", b"van Beethoven"),
-        (b"Ludwig van Beethoven", b"{v}{l}", b"vB"),
-        (
-            b"King, Jr, Martin Luther",
-            b"{ll}{, jj}{, f.}",
-            b"King, Jr, M.~L.",
-        ),
-        (b"King, Jr, Martin Luther", b"{j}", b"J"),
-        // a text between tokens
-        (b"Ann B. Lee", b"{f{}}", b"AB"),
-        (b"Ann B. Lee", b"{ff{, }}", b"Ann, B."),
-        (b"Ann B. Lee", b"{f{, }}", b"A, B"),
-        (b"Ann B. Lee", b"{f{-}.}", b"A-B."),
-        (b"Ann B. Lee", b"{f{{.}}}", b"A{.}B"),
-        (b"Jean-Paul Sartre", b"{f{}}", b"JP"),
-        // joints
-        (b"Jean-Paul Sartre", b"{f.}", b"J.-P."),
-        (b"Jean-Paul Sartre", b"{ff}", b"Jean-Paul"),
-        (b"Jean~Paul Sartre", b"{f.~}{ll}", b"J.~P. Sartre"),
-        (b"Jean~Paul Sartre", b"{ff}", b"Jean~Paul"),
-        (b"Per Brinch-Hansen", b"{l.}", b"B.-H."),
-        (b"A - B Lee", b"{f}", b"A.~B"),
-        (b"A- B Lee", b"{f}", b"A.-B"),
-        (b"A Bob Carl Lee", b"{ff}", b"A~Bob~Carl"),
-        (b"Al Bob Carl Dan Lee", b"{ff}", b"Al~Bob Carl~Dan"),
-        (b"Abe\tBob Carl Lee", b"{ff}", b"Abe Bob~Carl"),
-        (br"{\'E}a B C D Lee", b"{f}", br"{\'E}.~B. C.~D"),
-        // the end of a group
-        (b"Ann Lee", b"{ff~~}{ll}", b"Ann~Lee"),
-        (b"Ann Lee", b"{f~~}{ll}", b"A~Lee"),
-        (b"Ann Lee", b"{f~}{ll}", b"A~Lee"),
-        (b"Ann Lee", b"{f.~}{ll}", b"A.~Lee"),
-        (b"Ann Lee", b"{f..~}{ll}", b"A.. Lee"),
-        (b"Ann Lee", b"{ll~}", b"Lee "),
-        (b"Bo Li", b"{1234ll~}", b"1234Li~"),
-        (br"{\'E}l Roi", b"{ff~}{ll}", br"{\'E}l~Roi"),
-        // initials
-        (br"{\'E}l Roi", b"{f.}", br"{\'E}."),
-        (br"'{\'E}a Lee", b"{f.}", br"{\'E}."),
-        (br"D'{\'E}tienne Lee", b"{f.}", b"D."),
-        (br"{\v{S}}i Lee", b"{f.}", br"{\v{S}}."),
-        (b"{Ann} Lee", b"{f.}", b"A."),
-        (b"{Ann} Lee", b"{ff}", b"{Ann}"),
-        (b"\xc3\x89VA Lee", b"{f.}", b"\xc3."),
-        (b"1234 Lee", b"{f.}x{ll}", b".xLee"),
-        (b"1234 Lee", b"{~f}{ll}", b"~Lee"),
-        // groups without letters, and parts without tokens
-        (b"Ann Lee", b"{1 }x{}", b"1 x"),
-        (b"Ann Lee", b"{{vv}~}{ll}", b"{vv}~Lee"),
-        (b"Ann Lee", b"By {~~}{ll}", b"By ~~Lee"),
-        (b"Ann Lee", b"{{[}ff {]}}", b"{[}Ann {]}"),
-        (b"Ann Lee", b"{1vv2}{1jj2}{1ff2}", b"1Ann2"),
-        (b" ", b"{ff~}{vv~}{ll}x", b"x"),
-        (b"Ann Lee", b"", b""),
-    ];
-    for (text, pattern, wanted) in rows {
+    for (text, pattern, wanted) in WRITTEN {
         assert_eq!(rt; format(rt.alloc(), text, 1, pattern)?.as_slice(), wanted);
     }
     let second = format(rt.alloc(), b"Ann Lee and Bo Ray", 2, b"{ll}, {ff}")?;
