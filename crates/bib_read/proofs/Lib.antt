@@ -1,5 +1,10 @@
 pub mod Enough
+pub mod FieldsSpelled
+pub mod Gaps
+pub mod ItemsSpelled
 pub mod Keys
+pub mod Pieces
 pub mod Rounds
 pub mod Shorter
+pub mod Standing
 pub mod Tables

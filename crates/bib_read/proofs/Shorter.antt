@@ -192,12 +192,12 @@ cond_left : (t : Bool) (x y : Progress) (left : List ℕ) → x.left ≡ left �
 cond_left true x y left e f = e
 cond_left false x y left e f = f
 
-noted_left : (key name : List ℕ) (p : Progress) → (noted key name p).left ≡ p.left
+pub noted_left : (key name : List ℕ) (p : Progress) → (noted key name p).left ≡ p.left
 noted_left key name p =
     cond_left (has_field name p.fields) (record p { warnings = p.warnings ++ second_field name key ∷ [] }) p p.left
     refl refl
 
-with_field_left : (name : List ℕ) (p : Progress) → (with_field name p).left ≡ p.left
+pub with_field_left : (name : List ℕ) (p : Progress) → (with_field name p).left ≡ p.left
 with_field_left name p =
     cond_left (has_field name p.fields) p
     (record p { fields = p.fields ++ record { name = name; value = trimmed p.text } ∷ [] }) p.left refl refl

@@ -1,4 +1,7 @@
 pub mod Entering
+pub mod FaultPlaces
+pub mod Grammar
+pub mod Meaning
 pub mod Names
 pub mod Parts
 pub mod Progress

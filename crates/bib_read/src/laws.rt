@@ -1,9 +1,13 @@
 //! What holds of every text.
 
-ghost use Rattle.std.specs.Prelude.{◌≡◌, ℕ, ◌≤◌, List, length};
+ghost use Rattle.std.specs.Prelude.{◌≡◌, ◌↔◌, ℕ, ◌≤◌, List, length, Ok, Err};
 ghost use Rattle.bib_read.specs.Entering.{take_fields};
+ghost use Rattle.bib_read.specs.FaultPlaces.{StandsIn};
+ghost use Rattle.bib_read.specs.Meaning.{BibReads};
 ghost use Rattle.bib_read.specs.Progress.{Progress};
-ghost use Rattle.bib_read.specs.Reading.{take_items};
+ghost use Rattle.bib_read.specs.Reading.{database_of, take_items};
+ghost use Rattle.bib_read.specs.declared.database.Database.{Database};
+ghost use Rattle.bib_read.specs.declared.fault.BibFault.{BibFault};
 ghost use Rattle.bib_read.specs.Values.{take_pieces};
 
 /// Each piece, field and item takes at least one byte, so as many rounds as bytes are left are enough: with more of
@@ -13,4 +17,15 @@ pub fn rounds_are_enough()
     ensures fields { (n close : ℕ) (key : List ℕ) (p : Progress) → length p.left ≤ n
         → take_fields n close key p ≡ take_fields (length p.left) close key p }
     ensures items { (n : ℕ) (p : Progress) → length p.left ≤ n → take_items n p ≡ take_items (length p.left) p }
+{}
+
+/// A text is read as a database exactly where the grammar says so: it spells items, with other text between them, no
+/// key is that of an entry before, and the items give the database.
+pub fn read_as_the_grammar(source: &[u8])
+    ensures { (before database : Database) → (database_of source.now before ≡ Ok database) ↔ BibReads source.now before database }
+{}
+
+/// Every fault of a text stands at a byte of it or at its end.
+pub fn faults_in_the_text(source: &[u8])
+    ensures { (before : Database) → (fault : BibFault) → database_of source.now before ≡ Err fault → StandsIn source.now fault }
 {}
