@@ -1,5 +1,5 @@
 -- The fields of a listed entry (docs/DATA.md, "The list of entries").
-use Rattle.std.specs.Prelude.{ℕ, ◌+◌, if◌then◌else◌, List, [], ◌∷◌, Option, None, Some, codes, map, is_some}
+use Rattle.std.specs.Prelude.{ℕ, ◌+◌, Bool, false, if◌then◌else◌, List, [], ◌∷◌, Option, None, Some, codes, map, is_some}
 use Rattle.std.specs.Option.{option_and_then, option_map_or}
 use Rattle.name_table.specs.declared.names.NameId.{NameId}
 use Rattle.name_table.specs.declared.names.Kind.{Kind}
@@ -7,6 +7,7 @@ use Rattle.name_table.specs.declared.names.Kind.TheVariants.{Field}
 use Rattle.name_table.specs.declared.style.Style.{Style}
 use Rattle.name_table.specs.Names.{same_name}
 use Rattle.bst_meaning.specs.declared.entry.Entry.{Entry}
+use Rattle.bst_meaning.specs.declared.entry.FieldValue.{FieldValue}
 use Rattle.bib_read.specs.declared.database.RawEntry.{RawEntry}
 use Rattle.entry_list.specs.Keys.{Listed, entry_of, is_listed}
 use Rattle.entry_list.specs.Parents.{text_of, crossref_of, parent_of}
@@ -36,30 +37,29 @@ abbrev pub or_else : Option (List ℕ) → Option (List ℕ) → Option (List �
 or_else (Some text) other = Some text
 or_else None other = other
 
--- the text of an entry, or else that of its parent
-abbrev pub own_or_parents : List RawEntry → RawEntry → List ℕ → Option (List ℕ)
-own_or_parents entries entry name =
-    or_else (text_of name entry.fields) (option_and_then (λ parent. text_of name parent.fields) (parent_of entries entry))
+-- the value of the field of this name of an entry: its own text or else its parent's; `crossref` is kept or missing
+abbrev pub value_of : RawEntry → Option RawEntry → Bool → List ℕ → Option (List ℕ)
+value_of entry parent keeps name =
+    if same_name name (codes "crossref") then (if keeps then crossref_of entry else None)
+    else or_else (text_of name entry.fields) (option_and_then (λ found. text_of name found.fields) parent)
 
--- the `crossref` of an entry, where its parent is in the list
-abbrev pub kept_crossref : List RawEntry → List Listed → RawEntry → Option (List ℕ)
-kept_crossref entries list entry =
-    option_and_then (λ parent. if is_listed parent.key list then crossref_of entry else None) (parent_of entries entry)
+-- the parent is there, and is in the list
+abbrev pub is_parent_listed : List Listed → Option RawEntry → Bool
+is_parent_listed list parent = option_map_or (λ found. is_listed found.key list) parent false
 
--- the value of the field of this name
-abbrev pub value_of : List RawEntry → List Listed → RawEntry → List ℕ → Option (List ℕ)
-value_of entries list entry name =
-    if same_name name (codes "crossref") then kept_crossref entries list entry
-    else own_or_parents entries entry name
+-- the values of fields
+abbrev pub values_of : List Declared → RawEntry → Option RawEntry → Bool → List FieldValue
+values_of fields entry parent keeps =
+    map (λ field. record { name = field.id; value = value_of entry parent keeps field.name }) fields
 
--- an entry of the list with each field of the style and no other
-abbrev pub joined_entry : Style → List RawEntry → List Listed → Listed → Entry
-joined_entry style entries list listed =
+-- an entry of the list with each of these fields and no other
+abbrev pub joined_entry : List Declared → List RawEntry → List Listed → Listed → Entry
+joined_entry fields entries list listed =
+    let parent = parent_of entries listed.entry in
     record {
       key = listed.key;
       entry_type = listed.entry.entry_type;
-      fields = map (λ field. record { name = field.id; value = value_of entries list listed.entry field.name })
-          (declared_fields style);
+      fields = values_of fields listed.entry parent (is_parent_listed list parent);
     }
 
 -- the warning of a `crossref` that names no entry

@@ -5,7 +5,7 @@ use Rattle.aux_read.specs.declared.aux.AuxItem.{AuxItem}
 use Rattle.bib_read.specs.declared.database.Database.{Database}
 use Rattle.entry_list.specs.declared.joined.Joined.{Joined}
 use Rattle.entry_list.specs.Citing.{no_entries}
-use Rattle.entry_list.specs.Fields.{joined_entry, without_parent}
+use Rattle.entry_list.specs.Fields.{declared_fields, joined_entry, without_parent}
 use Rattle.entry_list.specs.Parents.{whole_list}
 
 -- what a style, the citations and the databases are joined to
@@ -15,7 +15,7 @@ joined style items database =
     record {
       list =
           record {
-            entries = map (joined_entry style database.entries list) list;
+            entries = map (joined_entry (declared_fields style) database.entries list) list;
             preamble = database.preamble;
           };
       warnings = no_entries items database.entries ++ flat_map (without_parent database.entries) list;

@@ -32,7 +32,7 @@ is_listed key list = list_any (λ listed. same_key key listed.key) list
 -- the first of each kind: what is left out is the same as one that stands before it
 abbrev pub firsts : {X : Type 0} → (X → X → Bool) → List X → List X
 firsts same [] = []
-firsts same (x ∷ xs) = x ∷ filter (λ later. not (same x later)) (firsts same xs)
+firsts same (x ∷ xs) = x ∷ filter (λ later. not (same later x)) (firsts same xs)
 
 -- a request for all entries, or for the entry with a key
 abbrev pub IsCitation : AuxItem → Type 0

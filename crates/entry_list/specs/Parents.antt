@@ -1,7 +1,6 @@
 -- The entries that others name by `crossref`, and which of them are appended (docs/DATA.md, "The list of entries").
-use Rattle.std.specs.Prelude.{ℕ, Bool, false, ◌&&◌, not, if◌then◌else◌, List, [], ◌∷◌, ◌++◌, Option, None, Some, codes, map, filter, flat_map}
-use Rattle.std.specs.List.{list_any}
-use Rattle.std.specs.Option.{option_and_then, option_to_list}
+use Rattle.std.specs.Prelude.{ℕ, Bool, false, ◌&&◌, not, if◌then◌else◌, List, [], ◌∷◌, ◌++◌, Option, None, Some, codes, filter, flat_map}
+use Rattle.std.specs.Option.{option_and_then, option_map, option_to_list}
 use Rattle.name_table.specs.Names.{same_name}
 use Rattle.aux_read.specs.declared.aux.AuxItem.{AuxItem}
 use Rattle.bib_read.specs.declared.database.RawEntry.{RawEntry}
@@ -22,32 +21,32 @@ crossref_of entry = text_of (codes "crossref") entry.fields
 abbrev pub parent_of : List RawEntry → RawEntry → Option RawEntry
 parent_of entries entry = option_and_then (λ name. entry_of name entries) (crossref_of entry)
 
--- the entries that a list names by `crossref`, one for each naming, in order
-abbrev pub parents_of : List RawEntry → List Listed → List RawEntry
-parents_of entries list = flat_map (λ listed. option_to_list (parent_of entries listed.entry)) list
+-- the entries that a list names by `crossref`, one for each naming, in order and with their own keys
+abbrev pub parents_of : List RawEntry → List Listed → List Listed
+parents_of entries list =
+    flat_map (λ listed. option_to_list (option_map own (parent_of entries listed.entry))) list
 
--- two entries have one key
-abbrev pub same_entry : RawEntry → RawEntry → Bool
-same_entry a b = same_key a.key b.key
-
--- one of these has this key
-abbrev pub is_named : List ℕ → List RawEntry → Bool
-is_named key parents = list_any (λ parent. same_key key parent.key) parents
+-- two entries of lists have one key
+abbrev pub same_listed : Listed → Listed → Bool
+same_listed a b = same_key a.key b.key
 
 -- at least two of these have this key
-abbrev pub is_named_twice : List ℕ → List RawEntry → Bool
+abbrev pub is_named_twice : List ℕ → List Listed → Bool
 is_named_twice key [] = false
 is_named_twice key (first ∷ rest) =
-    if same_key key first.key then is_named key rest else is_named_twice key rest
+    if same_key key first.key then is_listed key rest else is_named_twice key rest
 
 -- a parent that at least two entries name and that isn't in the list
-abbrev pub is_wanted : List RawEntry → List Listed → RawEntry → Bool
+abbrev pub is_wanted : List Listed → List Listed → Listed → Bool
 is_wanted parents list parent = is_named_twice parent.key parents && not (is_listed parent.key list)
 
--- the parents that are appended to a list, in the order in which they are first named
+-- the wanted ones of these parents, in the order in which they are first named
+abbrev pub wanted : List Listed → List Listed → List Listed
+wanted parents list = filter (is_wanted parents list) (firsts same_listed parents)
+
+-- the parents that are appended to a list
 abbrev pub appended : List RawEntry → List Listed → List Listed
-appended entries list =
-    map own (filter (is_wanted (parents_of entries list) list) (firsts same_entry (parents_of entries list)))
+appended entries list = wanted (parents_of entries list) list
 
 -- the cited entries, and then the parents that are appended
 abbrev pub whole_list : List AuxItem → List RawEntry → List Listed

@@ -5,14 +5,28 @@ ghost use Rattle.bst_meaning.specs.Entries.{Fits};
 ghost use Rattle.entry_list.specs.Joining as joining;
 ghost use Rattle.entry_list.specs.Keys.{AreCitations, AreKeyed};
 
+use crate::citing::cited_list;
+use crate::entry_table::EntryTable;
+use crate::fields::{copied, declared_fields, join_entries, warn_of_parents};
 use crate::joined::Joined;
+use crate::parents::append_parents;
 use aux_read::aux::AuxItem;
 use bib_read::database::Database;
+use bst_meaning::entry::EntryList;
 use bv_base::memory::NoMemory;
 use name_table::style::Style;
 use std::alloc::Global;
 
-/// The list of entries that a style's functions see, and the warnings of joining it.
+/// The list of entries that a style's functions see, and the warnings of joining it. Keys are compared lowered.
+///
+/// The list takes each cited entry at its first citation, with the key as the citation spells it. The first `*`
+/// takes in its place all entries that no citation names, before it or after it. Then each entry that `crossref`
+/// names in at least two entries of the list is appended, once. A field that is missing takes its value from the
+/// entry that `crossref` names, and `crossref` stays where that entry is in the list. Fields that the style doesn't
+/// declare are dropped.
+///
+/// Keys are looked up in hash tables, so the time is linear in the citations, the entries of the databases and the
+/// fields of the list.
 pub fn join(
     alloc: Global,
     style: &Style,
@@ -24,5 +38,17 @@ pub fn join(
     ensures joined { IfOk result (λ found. found ≡ joining.joined style.now items.now database.now) }
     ensures fits { IfOk result (λ found. Fits style.now found.list) }
 {
-    Err(NoMemory)
+    let table = EntryTable::new(alloc, database.entries.as_slice())?;
+    let cited = cited_list(alloc, items, &table)?;
+    let mut list = cited.list;
+    let mut warnings = cited.warnings;
+    append_parents(alloc, &mut list, &table)?;
+    warn_of_parents(alloc, &mut warnings, &table, list.as_slice())?;
+    let declared = declared_fields(alloc, style)?;
+    let entries = join_entries(alloc, declared.as_slice(), &table, list.as_slice())?;
+    let preamble = copied(alloc, database.preamble.as_slice())?;
+    Ok(Joined {
+        list: EntryList { entries, preamble },
+        warnings,
+    })
 }

@@ -1,5 +1,12 @@
 //! The list of entries of a run: what is cited, joined with what the databases hold.
 #![tactic(auto)]
 
+mod chosen;
+mod citing;
+mod entry_table;
+mod fields;
 pub mod join;
 pub mod joined;
+mod keys;
+mod parents;
+mod warnings;

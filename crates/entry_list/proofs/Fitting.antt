@@ -1,0 +1,97 @@
+-- What joining gives is the joined list, and fits the style.
+use Rattle.std.proofs.Common.{◌≡◌, ℕ, List, [], ◌∷◌, ◌++◌, Option, Some, None, Bool, map, refl, sym, ap, ◌∙◌, subst}
+use Rattle.std.specs.Prelude.{flat_map}
+use Rattle.std.specs.List.{AllByRecursion}
+use Rattle.name_table.specs.declared.style.Style.{Style}
+use Rattle.aux_read.specs.declared.aux.AuxItem.{AuxItem}
+use Rattle.bib_read.specs.declared.database.Database.{Database}
+use Rattle.bib_read.specs.declared.database.RawEntry.{RawEntry}
+use Rattle.bst_meaning.specs.Entries.{EntryFits, Fits, IsByteList, IsKey, field_ids}
+use Rattle.bst_meaning.specs.declared.entry.Entry.{Entry}
+use Rattle.entry_list.specs.declared.joined.Joined.{Joined}
+use Rattle.entry_list.specs.Bytes.{HasBytes}
+use Rattle.entry_list.specs.Citing.{cited_list, no_entries}
+use Rattle.entry_list.specs.Fields.{Declared, declared_fields, is_parent_listed, joined_entry, value_of, values_of, without_parent}
+use Rattle.entry_list.specs.Joining.{joined}
+use Rattle.entry_list.specs.Keys.{AreCitations, AreKeyed, Listed, is_listed}
+use Rattle.entry_list.specs.Parents.{appended, parent_of, whole_list}
+use Rattle.entry_list.specs.Tables.{entry_by, has_key, has_parent}
+use Rattle.entry_list.proofs.Declaring.{declared_ids}
+use Rattle.entry_list.proofs.Keyed.{IsKeyed, whole_keyed}
+
+abbrev one : List Entry → List ℕ → List (List ℕ) → Joined
+one entries preamble warnings = record { list = record { entries = entries; preamble = preamble }; warnings = warnings }
+
+pub whole_is : (items : List AuxItem) (entries : List RawEntry) (cited list : List Listed) → cited ≡ cited_list items entries
+    → list ≡ cited ++ appended entries cited → list ≡ whole_list items entries
+whole_is items entries cited list is all = all ∙ ap (λ c. c ++ appended entries c) is
+
+pub entries_are : (style : Style) (items : List AuxItem) (raw : List RawEntry) (list : List Listed) (declared : List Declared)
+    (entries : List Entry) → list ≡ whole_list items raw → declared ≡ declared_fields style
+    → entries ≡ map (joined_entry declared raw list) list
+    → entries ≡ map (joined_entry (declared_fields style) raw (whole_list items raw)) (whole_list items raw)
+entries_are style items raw list declared entries whole fields are =
+    are
+    ∙ ap (λ d. map (joined_entry d raw list) list) fields
+    ∙ ap (λ l. map (joined_entry (declared_fields style) raw l) l) whole
+
+pub joined_is : (style : Style) (items : List AuxItem) (database : Database) (list : List Listed) (first warnings : List (List ℕ))
+    (entries : List Entry) (preamble : List ℕ) → list ≡ whole_list items database.entries
+    → entries ≡ map (joined_entry (declared_fields style) database.entries (whole_list items database.entries)) (whole_list items database.entries)
+    → first ≡ no_entries items database.entries
+    → warnings ≡ first ++ flat_map (without_parent database.entries) list → preamble ≡ database.preamble
+    → one entries preamble warnings ≡ joined style items database
+joined_is style items database list first warnings entries preamble whole are none warned pre =
+    ap (λ e. one e preamble warnings) are
+    ∙ ap (λ p. one (map (joined_entry (declared_fields style) database.entries (whole_list items database.entries)) (whole_list items database.entries)) p warnings) pre
+    ∙ ap (λ w. one (map (joined_entry (declared_fields style) database.entries (whole_list items database.entries)) (whole_list items database.entries)) database.preamble w)
+    (warned ∙ ap (λ f. f ++ flat_map (without_parent database.entries) list) none
+    ∙ ap (λ l. no_entries items database.entries ++ flat_map (without_parent database.entries) l) whole)
+
+keeps_same : (keys : List (List ℕ)) (list : List Listed) → ((key : List ℕ) → has_key key keys ≡ is_listed key list)
+    → (parent : Option RawEntry) → has_parent keys parent ≡ is_parent_listed list parent
+keeps_same keys list same None = refl
+keeps_same keys list same (Some parent) = same parent.key
+
+pub entry_same : (keys : List (List ℕ)) (list : List Listed) → ((key : List ℕ) → has_key key keys ≡ is_listed key list)
+    → (fields : List Declared) (raw : List RawEntry) (listed : Listed)
+    → entry_by keys fields raw listed ≡ joined_entry fields raw list listed
+entry_same keys list same fields raw listed =
+    ap (made fields listed (parent_of raw listed.entry)) (keeps_same keys list same (parent_of raw listed.entry))
+  where
+    made : List Declared → Listed → Option RawEntry → Bool → Entry
+    made fields listed parent keeps = record { key = listed.key; entry_type = listed.entry.entry_type; fields = values_of fields listed.entry parent keeps }
+
+names_are : (fields : List Declared) (entry : RawEntry) (parent : Option RawEntry) (keeps : Bool)
+    → map (λ f. f.name) (values_of fields entry parent keeps) ≡ map (λ d. d.id) fields
+names_are [] entry parent keeps = refl
+names_are (field ∷ fields) entry parent keeps = ap (λ l. field.id ∷ l) (names_are fields entry parent keeps)
+
+entries_fit : (style : Style) (raw : List RawEntry) (whole list : List Listed) → AllByRecursion IsKeyed list
+    → AllByRecursion HasBytes (map (joined_entry (declared_fields style) raw whole) list)
+    → AllByRecursion (EntryFits style) (map (joined_entry (declared_fields style) raw whole) list)
+entries_fit style raw whole [] keyed bytes = tt
+entries_fit style raw whole (listed ∷ list) keyed bytes =
+    let parent = parent_of raw listed.entry in (
+      record {
+        key = keyed.0;
+        key_bytes = bytes.0.key;
+        type_bytes = bytes.0.entry_type;
+        fields = names_are (declared_fields style) listed.entry parent (is_parent_listed whole parent) ∙ declared_ids 0 style.names;
+        field_bytes = bytes.0.fields;
+      },
+      entries_fit style raw whole list keyed.1 bytes.1,
+    )
+
+pub list_fits : (style : Style) (items : List AuxItem) (raw : List RawEntry) (entries : List Entry) (preamble : List ℕ)
+    → AreCitations items → AreKeyed raw
+    → entries ≡ map (joined_entry (declared_fields style) raw (whole_list items raw)) (whole_list items raw)
+    → AllByRecursion HasBytes entries → IsByteList preamble
+    → Fits style (record { entries = entries; preamble = preamble })
+list_fits style items raw entries preamble cited keyed are bytes pre =
+    record {
+      entries = subst (AllByRecursion (EntryFits style)) (sym are)
+          (entries_fit style raw (whole_list items raw) (whole_list items raw) (whole_keyed items raw cited keyed)
+          (subst (AllByRecursion HasBytes) are bytes));
+      preamble_bytes = pre;
+    }

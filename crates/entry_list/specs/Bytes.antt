@@ -1,0 +1,10 @@
+-- The bytes of a joined entry are numbers below 256 (docs/DATA.md, "The list of entries").
+use Rattle.std.specs.List.{AllByRecursion}
+use Rattle.std.specs.Option.{ForSome}
+use Rattle.bst_meaning.specs.Entries.{IsByteList}
+use Rattle.bst_meaning.specs.declared.entry.Entry.{Entry}
+
+pub record HasBytes (entry : Entry) : Type 0 where
+  pub key : IsByteList entry.key
+  pub entry_type : IsByteList entry.entry_type
+  pub fields : AllByRecursion (λ f. ForSome f.value IsByteList) entry.fields

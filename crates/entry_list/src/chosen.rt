@@ -1,0 +1,59 @@
+//! Entries of the list before their fields are joined.
+
+ghost use Rattle.std.specs.Prelude.{◌≡◌, ℕ, List, IfOk};
+ghost use Rattle.entry_list.specs.Keys as keys;
+ghost use Rattle.entry_list.specs.Tables.{has_key};
+
+use crate::keys::KeySet;
+use bib_read::database::RawEntry;
+use bv_base::memory::NoMemory;
+use std::alloc::Global;
+use std::marker::Model;
+
+/// An entry of the list: its key there, and the entry of the databases.
+#[derive(Drop)]
+pub(crate) struct Chosen<'a> {
+    pub(crate) key: &'a [u8],
+    pub(crate) entry: &'a RawEntry,
+}
+
+impl<'a> Model for Chosen<'a> {
+    ghost use Rattle.entry_list.specs.Keys.{Listed};
+
+    ghost Value = { Listed };
+
+    ghost view = { λ c. record { key = c.key.now; entry = c.entry.now } };
+}
+
+impl<'a> Chosen<'a> {
+    /// An entry under its own key.
+    pub(crate) fn own(entry: &'a RawEntry) -> Chosen<'a>
+        ensures { result ≡ keys.own entry.now }
+    {
+        Chosen {
+            key: entry.key.as_slice(),
+            entry,
+        }
+    }
+
+    /// The same again.
+    pub(crate) fn copied(&self) -> Chosen<'a>
+        ensures { result ≡ self.now }
+    {
+        Chosen {
+            key: self.key,
+            entry: self.entry,
+        }
+    }
+}
+
+/// The keys of a list.
+pub(crate) fn listed_keys(alloc: Global, list: &[Chosen<'_>]) -> Result<KeySet, NoMemory>
+    ensures { IfOk result (λ set. (key : List ℕ) → has_key key set ≡ keys.is_listed key list.now) }
+{
+    let mut set = KeySet::new(alloc);
+    for chosen in list {
+        set.add(chosen.key)?;
+    }
+    Ok(set)
+}

@@ -1,0 +1,221 @@
+//! The fields of the entries of the list.
+
+ghost use Rattle.std.specs.Prelude.{◌≡◌, ◌++◌, List, [], flat_map, map, IfOk, OnOk};
+ghost use Rattle.std.specs.Option.{ForSome, option_map};
+ghost use Rattle.std.specs.List.{AllByRecursion};
+ghost use Rattle.bst_meaning.specs.Entries.{IsByteList};
+ghost use Rattle.entry_list.specs.Fields as fields;
+ghost use Rattle.entry_list.specs.Tables.{entry_by, has_parent};
+ghost use Rattle.entry_list.specs.Bytes.{HasBytes};
+
+use crate::chosen::{Chosen, listed_keys};
+use crate::entry_table::EntryTable;
+use crate::keys::KeySet;
+use crate::parents::{crossref_of, parent_of, text_of};
+use crate::warnings::no_parent;
+use bib_read::database::RawEntry;
+use bst_meaning::entry::{Entry, FieldValue};
+use bv_base::memory::NoMemory;
+use bv_base::seq::Seq;
+use bv_base::text::Text;
+use name_table::names::{Kind, NameId};
+use name_table::style::Style;
+use std::alloc::Global;
+use std::marker::Model;
+
+/// A field of a style: its id and its name.
+#[derive(Drop)]
+pub(crate) struct DeclaredField<'a> {
+    id: NameId,
+    name: &'a [u8],
+}
+
+impl<'a> Model for DeclaredField<'a> {
+    ghost use Rattle.entry_list.specs.Fields.{Declared};
+
+    ghost Value = { Declared };
+
+    ghost view = { λ f. record { id = f.id; name = f.name.now } };
+}
+
+/// The fields of a style, `crossref` among them, in the order of their ids.
+pub(crate) fn declared_fields(
+    alloc: Global,
+    style: &Style,
+) -> Result<Vec<DeclaredField<'_>>, NoMemory>
+    ensures { IfOk result (λ found. found.items ≡ fields.declared_fields style.now) }
+{
+    let mut found = Vec::new(alloc);
+    for i in 0..style.names.len() {
+        let id = NameId(i);
+        push_declared(&mut found, id, style.names.text(id), style.names.kind(id))?;
+    }
+    Ok(found)
+}
+
+/// Adds a name, where it is a field.
+fn push_declared<'a>(
+    found: &mut Vec<DeclaredField<'a>>,
+    id: NameId,
+    name: &'a [u8],
+    kind: Kind,
+) -> Result<(), NoMemory>
+    ensures { OnOk result (found.new.items ≡ found.old.items ++ fields.declared_at id.0 name.now kind []) }
+{
+    match kind {
+        Kind::Field => {
+            found.push(DeclaredField { id, name })?;
+            Ok(())
+        }
+        _ => Ok(()),
+    }
+}
+
+/// The entries of a list with these fields and no other.
+pub(crate) fn join_entries(
+    alloc: Global,
+    declared: &[DeclaredField<'_>],
+    table: &EntryTable<'_>,
+    list: &[Chosen<'_>],
+) -> Result<Seq<Entry>, NoMemory>
+    ensures joined { IfOk result (λ found. found ≡ map (fields.joined_entry declared.now table.now list.now) list.now) }
+    ensures bytes { IfOk result (AllByRecursion HasBytes) }
+{
+    let listed = listed_keys(alloc, list)?;
+    let mut found = Seq::new(alloc);
+    for chosen in list {
+        found.push(join_entry(alloc, declared, table, &listed, chosen)?)?;
+    }
+    Ok(found)
+}
+
+/// Whether a parent is there, and is in the list.
+fn is_parent_listed(listed: &KeySet, parent: Option<&RawEntry>) -> Result<bool, NoMemory>
+    ensures { IfOk result (λ keeps. keeps
+        ≡ has_parent listed.now (option_map (λ e. e.now) parent.entry)) }
+{
+    match parent {
+        Some(found) => listed.has(found.key.as_slice()),
+        None => Ok(false),
+    }
+}
+
+/// An entry of the list with these fields and no other.
+fn join_entry(
+    alloc: Global,
+    declared: &[DeclaredField<'_>],
+    table: &EntryTable<'_>,
+    listed: &KeySet,
+    chosen: &Chosen<'_>,
+) -> Result<Entry, NoMemory>
+    ensures joined { IfOk result (λ entry. entry ≡ entry_by listed.now declared.now table.now chosen.now) }
+    ensures bytes { IfOk result HasBytes }
+{
+    let parent = parent_of(table, chosen.entry)?;
+    let keeps = is_parent_listed(listed, parent)?;
+    Ok(Entry {
+        key: copied(alloc, chosen.key)?,
+        entry_type: copied(alloc, chosen.entry.entry_type.as_slice())?,
+        fields: values_of(alloc, declared, chosen.entry, parent, keeps)?,
+    })
+}
+
+/// The values of fields.
+fn values_of(
+    alloc: Global,
+    declared: &[DeclaredField<'_>],
+    entry: &RawEntry,
+    parent: Option<&RawEntry>,
+    keeps: bool,
+) -> Result<Seq<FieldValue>, NoMemory>
+    ensures values { IfOk result (λ found. found
+        ≡ fields.values_of declared.now entry.now (option_map (λ e. e.now) parent.entry) keeps) }
+    ensures bytes { IfOk result (AllByRecursion (λ f. ForSome f.value IsByteList)) }
+{
+    let mut found = Seq::new(alloc);
+    for field in declared {
+        found.push(FieldValue {
+            name: field.id,
+            value: copied_value(alloc, value_of(field.name, entry, parent, keeps))?,
+        })?;
+    }
+    Ok(found)
+}
+
+/// The value of the field of this name: the entry's own text or else its parent's; `crossref` is kept or missing.
+fn value_of<'a>(
+    name: &[u8],
+    entry: &'a RawEntry,
+    parent: Option<&'a RawEntry>,
+    keeps: bool,
+) -> Option<&'a [u8]>
+    ensures { option_map (λ text. text.now) result
+        ≡ fields.value_of entry.now (option_map (λ e. e.now) parent.entry) keeps name.now }
+{
+    if name == b"crossref".as_slice() {
+        return if keeps { crossref_of(entry) } else { None };
+    }
+    match text_of(entry.fields.as_slice(), name) {
+        Some(text) => Some(text),
+        None => text_of(parent?.fields.as_slice(), name),
+    }
+}
+
+/// A copy of a value.
+fn copied_value(alloc: Global, value: Option<&[u8]>) -> Result<Option<Text>, NoMemory>
+    ensures copied { IfOk result (λ found. found ≡ option_map (λ text. text.now) value.entry) }
+    ensures bytes { IfOk result (λ found. ForSome found IsByteList) }
+{
+    match value {
+        Some(text) => Ok(Some(copied(alloc, text)?)),
+        None => Ok(None),
+    }
+}
+
+/// A copy of bytes.
+pub(crate) fn copied(alloc: Global, bytes: &[u8]) -> Result<Text, NoMemory>
+    ensures copied { IfOk result (λ text. text ≡ bytes.now) }
+    ensures bytes { IfOk result IsByteList }
+{
+    are_bytes(bytes);
+    Text::from_slice(alloc, bytes)
+}
+
+/// Each byte is below 256.
+fn are_bytes(bytes: &[u8])
+    ensures { IsByteList bytes.now }
+{}
+
+/// Warns of each `crossref` of a list that names no entry.
+pub(crate) fn warn_of_parents(
+    alloc: Global,
+    warnings: &mut Seq<Text>,
+    table: &EntryTable<'_>,
+    list: &[Chosen<'_>],
+) -> Result<(), NoMemory>
+    ensures { OnOk result (warnings.new ≡ warnings.old ++ flat_map (fields.without_parent table.now) list.now) }
+{
+    for chosen in list {
+        warn_of_parent(alloc, warnings, table, chosen)?;
+    }
+    Ok(())
+}
+
+/// Warns of a `crossref` that names no entry.
+fn warn_of_parent(
+    alloc: Global,
+    warnings: &mut Seq<Text>,
+    table: &EntryTable<'_>,
+    chosen: &Chosen<'_>,
+) -> Result<(), NoMemory>
+    ensures { OnOk result (warnings.new ≡ warnings.old ++ fields.without_parent table.now chosen.now) }
+{
+    let Some(name) = crossref_of(chosen.entry) else {
+        return Ok(());
+    };
+    if let Some(_) = table.find(name)? {
+        return Ok(());
+    }
+    warnings.push(no_parent(alloc, name, chosen.key)?)?;
+    Ok(())
+}

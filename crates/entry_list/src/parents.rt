@@ -1,0 +1,186 @@
+//! The entries that others name by `crossref`, and those of them that are appended.
+
+ghost use Rattle.std.specs.Prelude.{◌≡◌, ℕ, ◌&&◌, ◌||◌, ◌++◌, if◌then◌else◌, not, List, [], ◌∷◌, IfOk, OnOk};
+ghost use Rattle.std.specs.Option.{option_map, option_to_list};
+ghost use Rattle.entry_list.specs.Keys as keys;
+ghost use Rattle.entry_list.specs.Parents as naming;
+ghost use Rattle.entry_list.specs.Tables.{has_key};
+
+use crate::chosen::{Chosen, listed_keys};
+use crate::entry_table::EntryTable;
+use crate::keys::KeySet;
+use bib_read::database::{RawEntry, RawField};
+use bv_base::memory::NoMemory;
+use std::alloc::Global;
+
+/// Appends the parents that at least two entries of a list name and that aren't in it.
+pub(crate) fn append_parents<'a>(
+    alloc: Global,
+    list: &mut Vec<Chosen<'a>>,
+    table: &EntryTable<'a>,
+) -> Result<(), NoMemory>
+    ensures { OnOk result (list.new.items ≡ list.old.items ++ naming.appended table.now list.old.items) }
+{
+    let parents = parents_of(alloc, list.as_slice(), table)?;
+    let wanted = wanted(alloc, parents.as_slice(), list.as_slice())?;
+    append(list, wanted.as_slice())
+}
+
+/// The entries that a list names by `crossref`, one for each naming.
+fn parents_of<'a>(
+    alloc: Global,
+    list: &[Chosen<'a>],
+    table: &EntryTable<'a>,
+) -> Result<Vec<Chosen<'a>>, NoMemory>
+    ensures { IfOk result (λ found. found.items ≡ naming.parents_of table.now list.now) }
+{
+    let mut found = Vec::new(alloc);
+    for chosen in list {
+        push_parent(&mut found, table, chosen.entry)?;
+    }
+    Ok(found)
+}
+
+/// Adds the parent of an entry, where it has one.
+fn push_parent<'a>(
+    found: &mut Vec<Chosen<'a>>,
+    table: &EntryTable<'a>,
+    entry: &RawEntry,
+) -> Result<(), NoMemory>
+    ensures { OnOk result (found.new.items
+        ≡ found.old.items ++ option_to_list (option_map keys.own (naming.parent_of table.now entry.now))) }
+{
+    let Some(parent) = parent_of(table, entry)? else {
+        return Ok(());
+    };
+    found.push(Chosen::own(parent))?;
+    Ok(())
+}
+
+/// The entry that an entry's `crossref` names.
+pub(crate) fn parent_of<'a>(
+    table: &EntryTable<'a>,
+    entry: &RawEntry,
+) -> Result<Option<&'a RawEntry>, NoMemory>
+    ensures { IfOk result (λ found. option_map (λ e. e.now) found ≡ naming.parent_of table.now entry.now) }
+{
+    match crossref_of(entry) {
+        Some(name) => table.find(name),
+        None => Ok(None),
+    }
+}
+
+/// What an entry has as `crossref`.
+pub(crate) fn crossref_of(entry: &RawEntry) -> Option<&[u8]>
+    ensures { option_map (λ text. text.now) result ≡ naming.crossref_of entry.now }
+{
+    text_of(entry.fields.as_slice(), b"crossref")
+}
+
+/// The text of the field of this name.
+pub(crate) fn text_of<'a>(fields: &'a [RawField], name: &[u8]) -> Option<&'a [u8]>
+    ensures { option_map (λ text. text.now) result ≡ naming.text_of name.now fields.now }
+{
+    for field in fields {
+        if name == field.name.as_slice() {
+            return Some(field.value.as_slice());
+        }
+    }
+    None
+}
+
+/// The wanted ones of these parents, in the order in which they are first named.
+fn wanted<'a>(
+    alloc: Global,
+    parents: &[Chosen<'a>],
+    list: &[Chosen<'a>],
+) -> Result<Vec<Chosen<'a>>, NoMemory>
+    ensures { IfOk result (λ found. found.items ≡ naming.wanted parents.now list.now) }
+{
+    let twice = named_twice(alloc, parents)?;
+    let listed = listed_keys(alloc, list)?;
+    let mut done = KeySet::new(alloc);
+    let mut found = Vec::new(alloc);
+    for parent in parents {
+        take_parent(&mut found, &mut done, &twice, &listed, parent)?;
+    }
+    Ok(found)
+}
+
+/// Takes a parent, where none with its key was taken before.
+fn take_parent<'a>(
+    found: &mut Vec<Chosen<'a>>,
+    done: &mut KeySet,
+    twice: &KeySet,
+    listed: &KeySet,
+    parent: &Chosen<'a>,
+) -> Result<(), NoMemory>
+    ensures found { OnOk result (found.new.items ≡ found.old.items
+        ++ (if has_key parent.now.key done.old then []
+        else if has_key parent.now.key twice.now && not (has_key parent.now.key listed.now)
+        then parent.now ∷ [] else [])) }
+    ensures done { OnOk result ((key : List ℕ)
+        → has_key key done.new ≡ (keys.same_key key parent.now.key || has_key key done.old)) }
+{
+    if !done.add(parent.key)? {
+        return Ok(());
+    }
+    push_wanted(found, twice, listed, parent)
+}
+
+/// Adds a parent that is named twice and isn't in the list.
+fn push_wanted<'a>(
+    found: &mut Vec<Chosen<'a>>,
+    twice: &KeySet,
+    listed: &KeySet,
+    parent: &Chosen<'a>,
+) -> Result<(), NoMemory>
+    ensures { OnOk result (found.new.items ≡ found.old.items
+        ++ (if has_key parent.now.key twice.now && not (has_key parent.now.key listed.now)
+        then parent.now ∷ [] else [])) }
+{
+    if !twice.has(parent.key)? {
+        return Ok(());
+    }
+    if listed.has(parent.key)? {
+        return Ok(());
+    }
+    found.push(parent.copied())?;
+    Ok(())
+}
+
+/// The keys that at least two of these parents have.
+fn named_twice(alloc: Global, parents: &[Chosen<'_>]) -> Result<KeySet, NoMemory>
+    ensures { IfOk result (λ twice. (key : List ℕ) → has_key key twice ≡ naming.is_named_twice key parents.now) }
+{
+    let mut once = KeySet::new(alloc);
+    let mut twice = KeySet::new(alloc);
+    for parent in parents {
+        name(&mut once, &mut twice, parent.key)?;
+    }
+    Ok(twice)
+}
+
+/// Adds a key to those that are named, or to those that are named twice too.
+fn name(once: &mut KeySet, twice: &mut KeySet, key: &[u8]) -> Result<(), NoMemory>
+    ensures once { OnOk result ((other : List ℕ)
+        → has_key other once.new ≡ (keys.same_key other key.now || has_key other once.old)) }
+    ensures twice { OnOk result ((other : List ℕ) → has_key other twice.new
+        ≡ ((has_key key.now once.old && keys.same_key other key.now) || has_key other twice.old)) }
+{
+    if once.add(key)? {
+        return Ok(());
+    }
+    twice.add(key)?;
+    Ok(())
+}
+
+/// Appends entries to a list.
+fn append<'a>(list: &mut Vec<Chosen<'a>>, more: &[Chosen<'a>]) -> Result<(), NoMemory>
+    ensures { OnOk result (list.new.items ≡ list.old.items ++ more.now) }
+{
+    for chosen in more {
+        list.push(chosen.copied())?;
+    }
+    Ok(())
+}
