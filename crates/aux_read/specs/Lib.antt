@@ -1,3 +1,4 @@
 pub mod Items
+pub mod Keys
 pub mod Lines
 pub mod Reading

@@ -1,6 +1,7 @@
 //! The reader of `.aux` files.
 
 ghost use Rattle.std.specs.Prelude.{◌≡◌, ◌≢◌, ◌≤◌, length, Ok, Err, IfOk, IfErr};
+ghost use Rattle.aux_read.specs.Keys.{HaveKeys};
 ghost use Rattle.aux_read.specs.Reading.{aux_of};
 ghost use Rattle.aux_read.specs.declared.fault.AuxFault.TheVariants.{NoMemory as WantOfMemory};
 
@@ -13,8 +14,19 @@ use std::alloc::Global;
 
 /// Reads an `.aux` file of at most 16777216 bytes, or gives the fault of the first line that is at fault.
 ///
-/// Each byte is read a fixed number of times.
+/// Each key that is cited has a byte and no white space. Each byte is read a fixed number of times.
 pub fn read(alloc: Global, source: &[u8]) -> Result<Aux, AuxFault>
+    requires { length source.now ≤ 16777216 }
+    ensures ok { IfOk result (λ aux. aux_of source.now ≡ Ok aux) }
+    ensures keys { IfOk result (λ aux. HaveKeys aux.items) }
+    ensures fault { IfErr result (λ fault. fault ≢ WantOfMemory → aux_of source.now ≡ Err fault) }
+{
+    let aux = read_lines(alloc, source)?;
+    Ok(aux)
+}
+
+/// Reads the lines of an `.aux` file.
+fn read_lines(alloc: Global, source: &[u8]) -> Result<Aux, AuxFault>
     requires { length source.now ≤ 16777216 }
     ensures ok { IfOk result (λ aux. aux_of source.now ≡ Ok aux) }
     ensures fault { IfErr result (λ fault. fault ≢ WantOfMemory → aux_of source.now ≡ Err fault) }

@@ -1,7 +1,9 @@
 pub mod Enough
 pub mod FieldsSpelled
 pub mod Gaps
+pub mod Growing
 pub mod ItemsSpelled
+pub mod Kept
 pub mod Keys
 pub mod Pieces
 pub mod Rounds

@@ -1,3 +1,4 @@
+pub mod Additions
 pub mod Entering
 pub mod FaultPlaces
 pub mod Grammar

@@ -1,6 +1,7 @@
 //! What holds of every text.
 
 ghost use Rattle.std.specs.Prelude.{◌≡◌, ◌↔◌, ℕ, ◌≤◌, List, length, Ok, Err};
+ghost use Rattle.bib_read.specs.Additions.{HasGrown};
 ghost use Rattle.bib_read.specs.Entering.{take_fields};
 ghost use Rattle.bib_read.specs.FaultPlaces.{StandsIn};
 ghost use Rattle.bib_read.specs.Meaning.{BibReads};
@@ -28,4 +29,12 @@ pub fn read_as_the_grammar(source: &[u8])
 /// Every fault of a text stands at a byte of it or at its end.
 pub fn faults_in_the_text(source: &[u8])
     ensures { (before : Database) → (fault : BibFault) → database_of source.now before ≡ Err fault → StandsIn source.now fault }
+{}
+
+/// What was read before a text stays: its macros are defined before those of the text, and its entries, its preamble
+/// and its warnings come before what the text adds. Each entry that is added has a key, which no entry before it has
+/// once both are lowered.
+pub fn what_was_read_stays()
+    ensures { (source : List ℕ) (before after : Database) → database_of source before ≡ Ok after
+        → HasGrown before after }
 {}

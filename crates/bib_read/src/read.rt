@@ -1,6 +1,7 @@
 //! The reader of databases.
 
 ghost use Rattle.std.specs.Prelude.{◌≡◌, ◌≢◌, ◌≤◌, length, Ok, Err, IfOk, IfErr};
+ghost use Rattle.bib_read.specs.Additions.{AreKeyed};
 ghost use Rattle.bib_read.specs.Reading as reading;
 ghost use Rattle.bib_read.specs.Progressing.{progress_of};
 ghost use Rattle.bib_read.specs.declared.fault.BibFault.TheVariants.{NoMemory as WantOfMemory};
@@ -26,9 +27,23 @@ pub fn opening(alloc: Global, style: &Style) -> Result<Database, NoMemory>
 /// Reads a text of at most 16777216 bytes: gives what was read before with what the text adds, or the fault of the
 /// text with the least place.
 ///
+/// Where each key before is a key, one byte or more without white space, each key of what is read is one.
+///
 /// Each byte of the text is read a fixed number of times, and each macro, field and key is looked up in a hash
 /// table. A macro's value is copied wherever its name stands.
 pub fn read(alloc: Global, source: &[u8], before: &Database) -> Result<Database, BibFault>
+    requires { length source.now ≤ 16777216 }
+    ensures ok { IfOk result (λ database. reading.database_of source.now before.now ≡ Ok database) }
+    ensures keys { IfOk result (λ database. AreKeyed before.now.entries → AreKeyed database.entries) }
+    ensures fault { IfErr result (λ fault. fault ≢ WantOfMemory
+        → reading.database_of source.now before.now ≡ Err fault) }
+{
+    let database = read_after(alloc, source, before)?;
+    Ok(database)
+}
+
+/// Reads a text after what was read before.
+fn read_after(alloc: Global, source: &[u8], before: &Database) -> Result<Database, BibFault>
     requires { length source.now ≤ 16777216 }
     ensures ok { IfOk result (λ database. reading.database_of source.now before.now ≡ Ok database) }
     ensures fault { IfErr result (λ fault. fault ≢ WantOfMemory

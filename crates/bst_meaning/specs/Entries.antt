@@ -1,8 +1,8 @@
 -- Entry lists that fit a style (docs/MACHINE.md, "Entries").
-use Rattle.std.specs.Prelude.{◌≡◌, ℕ, ◌+◌, ◌<◌, true, not, List, [], ◌∷◌, map}
-use Rattle.std.specs.List.{list_all, AllByRecursion}
+use Rattle.std.specs.Prelude.{◌≡◌, ℕ, ◌+◌, ◌<◌, List, [], ◌∷◌, map}
+use Rattle.std.specs.List.{AllByRecursion}
 use Rattle.std.specs.Option.{ForSome}
-use Rattle.bv_base.specs.Bytes.{is_white}
+use Rattle.bv_base.specs.Keys.{IsKey}
 use Rattle.name_table.specs.declared.names.NameId.{NameId}
 use Rattle.name_table.specs.declared.names.Kind.{Kind}
 use Rattle.name_table.specs.declared.names.Kind.TheVariants.{Field}
@@ -26,11 +26,6 @@ field_ids style = field_ids_from 0 style.names
 
 abbrev pub IsByteList : List ℕ → Type 0
 IsByteList bytes = AllByRecursion (λ b. b < 256) bytes
-
--- a key has a byte, and no white space
-abbrev pub IsKey : List ℕ → Type 0
-IsKey [] = ⊥
-IsKey (b ∷ bytes) = list_all (λ c. not (is_white c)) (b ∷ bytes) ≡ true
 
 -- one entry has a key, and each field of the style and no other
 pub record EntryFits (style : Style) (entry : Entry) : Type 0 where

@@ -5,15 +5,16 @@ use Rattle.std.specs.List.{AllByRecursion}
 use Rattle.name_table.specs.declared.style.Style.{Style}
 use Rattle.aux_read.specs.declared.aux.AuxItem.{AuxItem}
 use Rattle.bib_read.specs.declared.database.Database.{Database}
+use Rattle.bib_read.specs.Additions.{AreKeyed}
 use Rattle.bib_read.specs.declared.database.RawEntry.{RawEntry}
-use Rattle.bst_meaning.specs.Entries.{EntryFits, Fits, IsByteList, IsKey, field_ids}
+use Rattle.bst_meaning.specs.Entries.{EntryFits, Fits, IsByteList}
 use Rattle.bst_meaning.specs.declared.entry.Entry.{Entry}
 use Rattle.entry_list.specs.declared.joined.Joined.{Joined}
 use Rattle.entry_list.specs.Bytes.{HasBytes}
 use Rattle.entry_list.specs.Citing.{cited_list, no_entries}
 use Rattle.entry_list.specs.Fields.{Declared, declared_fields, is_parent_listed, joined_entry, value_of, values_of, without_parent}
 use Rattle.entry_list.specs.Joining.{joined}
-use Rattle.entry_list.specs.Keys.{AreCitations, AreKeyed, Listed, is_listed}
+use Rattle.entry_list.specs.Keys.{AreCitations, Listed, is_listed}
 use Rattle.entry_list.specs.Parents.{appended, parent_of, whole_list}
 use Rattle.entry_list.specs.Tables.{entry_by, has_key, has_parent}
 use Rattle.entry_list.proofs.Declaring.{declared_ids}

@@ -5,10 +5,11 @@ use Rattle.std.specs.List.{AllByRecursion}
 use Rattle.std.specs.Option.{option_and_then, option_map, option_to_list}
 use Rattle.aux_read.specs.declared.aux.AuxItem.{AuxItem}
 use Rattle.aux_read.specs.declared.aux.AuxItem.TheVariants.{Cite, All, Input}
+use Rattle.bib_read.specs.Additions.{AreKeyed}
 use Rattle.bib_read.specs.declared.database.RawEntry.{RawEntry}
-use Rattle.bst_meaning.specs.Entries.{IsKey}
+use Rattle.bv_base.specs.Keys.{IsKey}
 use Rattle.entry_list.specs.Citing.{asks_same, asked_for, cited_as, cited_list, is_cited}
-use Rattle.entry_list.specs.Keys.{AreCitations, AreKeyed, IsCitation, Listed, entry_of, firsts, own, same_key}
+use Rattle.entry_list.specs.Keys.{AreCitations, IsCitation, Listed, entry_of, firsts, own, same_key}
 use Rattle.entry_list.specs.Parents.{appended, crossref_of, is_wanted, parent_of, parents_of, same_listed, whole_list}
 
 pub all_append : {X : Type 0} (P : X → Type 0) (xs ys : List X) → AllByRecursion P xs → AllByRecursion P ys

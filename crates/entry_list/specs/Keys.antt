@@ -1,8 +1,8 @@
 -- Keys as they are compared, and entries by their keys (docs/DATA.md, "The list of entries").
 use Rattle.std.specs.Prelude.{ℕ, Bool, not, if◌then◌else◌, List, [], ◌∷◌, Option, None, Some, map, filter}
 use Rattle.std.specs.List.{list_any, AllByRecursion}
+use Rattle.bv_base.specs.Keys.{IsKey}
 use Rattle.name_table.specs.Names.{same_name, lowered}
-use Rattle.bst_meaning.specs.Entries.{IsKey}
 use Rattle.aux_read.specs.declared.aux.AuxItem.{AuxItem}
 use Rattle.aux_read.specs.declared.aux.AuxItem.TheVariants.{Cite, All, Input}
 use Rattle.bib_read.specs.declared.database.RawEntry.{RawEntry}
@@ -43,7 +43,3 @@ IsCitation (Input _ _) = ⊥
 -- no request is for a further file, and each key has a byte and no white space
 abbrev pub AreCitations : List AuxItem → Type 0
 AreCitations items = AllByRecursion IsCitation items
-
--- each key of the databases has a byte and no white space
-abbrev pub AreKeyed : List RawEntry → Type 0
-AreKeyed entries = AllByRecursion (λ entry. IsKey entry.key) entries

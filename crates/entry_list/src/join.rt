@@ -1,9 +1,10 @@
 //! Joining citations and databases.
 
 ghost use Rattle.std.specs.Prelude.{◌≡◌, IfOk};
+ghost use Rattle.bib_read.specs.Additions.{AreKeyed};
 ghost use Rattle.bst_meaning.specs.Entries.{Fits};
 ghost use Rattle.entry_list.specs.Joining as joining;
-ghost use Rattle.entry_list.specs.Keys.{AreCitations, AreKeyed};
+ghost use Rattle.entry_list.specs.Keys.{AreCitations};
 
 use crate::citing::cited_list;
 use crate::entry_table::EntryTable;

@@ -1,6 +1,6 @@
 use Rattle.std.proofs.Common.{◌≡◌, ◌+◌, ◌≤◌, length}
 use Rattle.aux_read.specs.Reading.{aux_of, reading}
-use Rattle.aux_read.proofs.read.read.Given as goal
+use Rattle.aux_read.proofs.read.read_lines.Given as goal
 
 abbrev pub invariant-loop-line : goal.invariant-loop-line
 invariant-loop-line l =

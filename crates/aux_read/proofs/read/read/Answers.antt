@@ -1,0 +1,5 @@
+use Rattle.aux_read.proofs.Cited.{aux_keys}
+use Rattle.aux_read.proofs.read.read.Goals as goal
+
+pub returns-clause-keys : goal.returns-clause-keys
+returns-clause-keys c = aux_keys c.args.source.now _ c.in_ok-aux.ensures.ok
