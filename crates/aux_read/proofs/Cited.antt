@@ -1,6 +1,6 @@
 -- Each key that is cited has a byte and no white space.
-use Rattle.std.proofs.Common.{◌≡◌, ℕ, zero, suc, Bool, true, false, cond, not, ◌&&◌, nat_eq, List, [], ◌∷◌, ◌++◌, Option, None, Some, Result, Ok, Err, length, take, drop, codes, refl, sym, ap, ◌∙◌, subst}
-use Rattle.std.specs.List.{AllByRecursion, list_all}
+use Rattle.std.proofs.Common.{◌≡◌, ℕ, suc, Bool, true, false, cond, not, ◌&&◌, nat_eq, List, [], ◌∷◌, ◌++◌, Option, None, Some, Result, Ok, Err, take, drop, codes, refl, ap, ◌∙◌, subst}
+use Rattle.std.specs.List.{list_all}
 use Rattle.std.specs.Option.{option_map_or}
 use Rattle.std.specs.Cmp.Lexicographic.{pointwise}
 use Rattle.bstr.specs.Text.{lines_of}
@@ -13,7 +13,7 @@ use Rattle.aux_read.specs.declared.aux.AuxItem.TheVariants.{All, Cite, Input}
 use Rattle.aux_read.specs.declared.fault.AuxFault.{AuxFault}
 use Rattle.aux_read.specs.Items.{after_front, begun_item, inside_of, is_black, is_blank, is_white, item_of, length_before, stretches}
 use Rattle.aux_read.specs.Keys.{HasKey, HaveKeys}
-use Rattle.aux_read.specs.Lines.{add_citations, citation, file_name, file_names, nothing, take_citations, take_databases, take_input, take_line, take_style, then_do, with_databases, with_item, with_part, with_style}
+use Rattle.aux_read.specs.Lines.{add_citations, citation, file_name, file_names, nothing, take_line, then_do, with_databases, with_item, with_part, with_style}
 use Rattle.aux_read.specs.Reading.{aux_of, next_line, reading}
 
 -- what is wanted has keys, where it is no fault

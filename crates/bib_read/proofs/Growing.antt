@@ -1,6 +1,6 @@
 -- What was read stays, and what a text adds comes after it.
 use Rattle.std.proofs.Common.{◌≡◌, ℕ, zero, suc, Bool, true, false, cond, not, ◌||◌, ◌&&◌, nat_eq, List, [], ◌∷◌, ◌++◌, length, drop, take, Option, None, Some, Result, Ok, Err, codes, refl, sym, ap, ◌∙◌, append_assoc, append-nil, subst}
-use Rattle.std.specs.List.{AllByRecursion, list_all}
+use Rattle.std.specs.List.{list_all}
 use Rattle.bv_base.specs.Bytes.{is_white as white}
 use Rattle.bv_base.specs.Keys.{IsKey}
 use Rattle.name_table.specs.declared.style.Macro.{Macro}
@@ -47,12 +47,16 @@ new_on before (e ∷ a) b x y =
     (x.0, x.1, new_on (before ++ e ∷ []) a b x.2 (subst (λ l. AreNew l b) (sym (append_assoc before (e ∷ []) a)) y))
 
 grown_on : (s p q : Progress) → Grown s p → Grown p q → Grown s q
-grown_on s p q x y =
-    ((x.0.0 ++ y.0.0, y.0.1 ∙ ap (all_defined y.0.0) x.0.1 ∙ sym (all_defined_on x.0.0 y.0.0 s.macros)),
-    (x.1.0 ++ y.1.0, y.1.1 ∙ ap (λ l. l ++ y.1.0) x.1.1 ∙ append_assoc s.entries x.1.0 y.1.0,
-    new_on s.entries x.1.0 y.1.0 x.1.2 (subst (λ l. AreNew l y.1.0) x.1.1 y.1.2)),
-    longer_on s.preamble p.preamble q.preamble x.2 y.2,
-    longer_on s.warnings p.warnings q.warnings x.3 y.3)
+grown_on s p q x y = (
+  (x.0.0 ++ y.0.0, y.0.1 ∙ ap (all_defined y.0.0) x.0.1 ∙ sym (all_defined_on x.0.0 y.0.0 s.macros)),
+  (
+    x.1.0 ++ y.1.0,
+    y.1.1 ∙ ap (λ l. l ++ y.1.0) x.1.1 ∙ append_assoc s.entries x.1.0 y.1.0,
+    new_on s.entries x.1.0 y.1.0 x.1.2 (subst (λ l. AreNew l y.1.0) x.1.1 y.1.2),
+  ),
+  longer_on s.preamble p.preamble q.preamble x.2 y.2,
+  longer_on s.warnings p.warnings q.warnings x.3 y.3,
+)
 
 then_grew : (s : Progress) (r : Result Progress Stop) (next : Progress → Result Progress Stop) → Kept s r
     → ((q : Progress) → Same s q → Grew s (next q)) → Grew s (then_do r next)
@@ -105,9 +109,12 @@ front_key close (b ∷ bytes) some = by (ends_key close b) refl some
 one_added : (s q : Progress) (key entry_type : List ℕ) → Same s q → IsKey key → has_entry (lowered key) s.entries ≡ false
     → Grown s (with_entry key entry_type q)
 one_added s q key entry_type same is absent =
-    let entry : RawEntry = record { key = key; entry_type = entry_type; fields = q.fields } in
-    (([], same.0), (entry ∷ [], ap (λ l. l ++ entry ∷ []) same.1, (is, absent, tt)),
-    ([], same.2 ∙ sym (append-nil s.preamble)), same.3)
+    let entry : RawEntry = record { key = key; entry_type = entry_type; fields = q.fields } in (
+      ([], same.0),
+      (entry ∷ [], ap (λ l. l ++ entry ∷ []) same.1, (is, absent, tt)),
+      ([], same.2 ∙ sym (append-nil s.preamble)),
+      same.3,
+    )
 
 entry_at_grew : (s : Progress) (close : ℕ) (entry_type bytes : List ℕ) (p : Progress) → Same s p
     → Grew s (entry_at close entry_type bytes p)
@@ -126,17 +133,23 @@ definition_grew : (s : Progress) (close : ℕ) (name : List ℕ) (p : Progress) 
 definition_grew s close name p same =
     then_grew s (take_equals p) _ (equals_kept s p same)
     (λ q kept. then_grew s (take_mark close q) (λ r. Ok (with_definition name r)) (mark_kept s close q kept)
-    (λ r more.
-    ((record { name = name; value = squeezed false r.text } ∷ [], ap (defined name (squeezed false r.text)) more.0),
-    ([], more.1 ∙ sym (append-nil s.entries), tt), ([], more.2 ∙ sym (append-nil s.preamble)), more.3)))
+    (λ r more. (
+      (record { name = name; value = squeezed false r.text } ∷ [], ap (defined name (squeezed false r.text)) more.0),
+      ([], more.1 ∙ sym (append-nil s.entries), tt),
+      ([], more.2 ∙ sym (append-nil s.preamble)),
+      more.3,
+    )))
 
 preamble_grew : (s : Progress) (close : ℕ) (p : Progress) → Same s p → Grew s (take_preamble close p)
 preamble_grew s close p same =
     then_grew s (take_value p) _ (value_kept s p same)
     (λ q kept. then_grew s (take_mark close q) (λ r. Ok (with_preamble r)) (mark_kept s close q kept)
-    (λ r more.
-    (([], more.0), ([], more.1 ∙ sym (append-nil s.entries), tt),
-    (squeezed false r.text, ap (λ l. l ++ squeezed false r.text) more.2), more.3)))
+    (λ r more. (
+      ([], more.0),
+      ([], more.1 ∙ sym (append-nil s.entries), tt),
+      (squeezed false r.text, ap (λ l. l ++ squeezed false r.text) more.2),
+      more.3,
+    )))
 
 opened_grew : (s : Progress) (word : List ℕ) (close : ℕ) (p : Progress) → Same s p → Grew s (take_opened word close p)
 opened_grew s word close p same =
@@ -208,3 +221,10 @@ pub keyed_database : (source : List ℕ) (before after : Database) → database_
 keyed_database source before after is keyed =
     let grown = grown_database source before after is in
     subst AreKeyed (sym grown.entries.1) (keyed_on before.entries grown.entries.0 grown.entries.2 before.entries keyed)
+
+-- where no two entries that were read before have one key, no two entries have one
+pub apart_database : (source : List ℕ) (before after : Database) → database_of source before ≡ Ok after
+    → AreNew [] before.entries → AreNew [] after.entries
+apart_database source before after is new =
+    let grown = grown_database source before after is in
+    subst (AreNew []) (sym grown.entries.1) (new_on [] before.entries grown.entries.0 new grown.entries.2)

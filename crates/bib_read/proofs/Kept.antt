@@ -1,5 +1,5 @@
 -- Values and fields keep the macros, the entries and the preamble that are there, and add warnings alone.
-use Rattle.std.proofs.Common.{◌≡◌, ℕ, zero, suc, Bool, true, false, cond, nat_eq, List, [], ◌∷◌, ◌++◌, length, drop, take, Option, None, Some, Result, Ok, Err, refl, ap, ◌∙◌, append_assoc}
+use Rattle.std.proofs.Common.{◌≡◌, ℕ, zero, suc, Bool, true, false, cond, nat_eq, List, [], ◌∷◌, ◌++◌, length, drop, take, Option, None, Some, Result, Ok, Err, ap, ◌∙◌, append_assoc}
 use Rattle.bib_read.specs.declared.stop.Stop.{Stop}
 use Rattle.bib_read.specs.Additions.{IsLonger}
 use Rattle.bib_read.specs.Entering.{noted, take_field, take_fields, take_named, with_field}
@@ -44,9 +44,12 @@ cond_same false s x y a b = b
 
 -- one more warning
 warned : (s p : Progress) (warning : List ℕ) → Same s p → Same s (record p { warnings = p.warnings ++ warning ∷ [] })
-warned s p warning same =
-    (same.0, same.1, same.2,
-    (same.3.0 ++ warning ∷ [], ap (λ w. w ++ warning ∷ []) same.3.1 ∙ append_assoc s.warnings same.3.0 (warning ∷ [])))
+warned s p warning same = (
+  same.0,
+  same.1,
+  same.2,
+  (same.3.0 ++ warning ∷ [], ap (λ w. w ++ warning ∷ []) same.3.1 ∙ append_assoc s.warnings same.3.0 (warning ∷ [])),
+)
 
 pub mark_kept : (s : Progress) (mark : ℕ) (p : Progress) → Same s p → Kept s (take_mark mark p)
 mark_kept s mark p same = cond_kept (stands mark p) s (Ok (passed mark p)) (Err (unexpected (passed mark p).left)) same tt

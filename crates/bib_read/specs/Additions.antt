@@ -1,5 +1,5 @@
 -- What a text adds to the databases that were read before (docs/DATA.md, "The .bib file").
-use Rattle.std.specs.Prelude.{◌≡◌, ℕ, false, List, [], ◌∷◌, ◌++◌}
+use Rattle.std.specs.Prelude.{◌≡◌, false, List, [], ◌∷◌, ◌++◌}
 use Rattle.std.specs.List.{AllByRecursion}
 use Rattle.bv_base.specs.Keys.{IsKey}
 use Rattle.name_table.specs.declared.style.Macro.{Macro}

@@ -1,7 +1,7 @@
 //! What holds of every text.
 
-ghost use Rattle.std.specs.Prelude.{◌≡◌, ◌↔◌, ℕ, ◌≤◌, List, length, Ok, Err};
-ghost use Rattle.bib_read.specs.Additions.{HasGrown};
+ghost use Rattle.std.specs.Prelude.{◌≡◌, ◌↔◌, ℕ, ◌≤◌, List, [], length, Ok, Err};
+ghost use Rattle.bib_read.specs.Additions.{AreNew, HasGrown};
 ghost use Rattle.bib_read.specs.Entering.{take_fields};
 ghost use Rattle.bib_read.specs.FaultPlaces.{StandsIn};
 ghost use Rattle.bib_read.specs.Meaning.{BibReads};
@@ -33,8 +33,10 @@ pub fn faults_in_the_text(source: &[u8])
 
 /// What was read before a text stays: its macros are defined before those of the text, and its entries, its preamble
 /// and its warnings come before what the text adds. Each entry that is added has a key, which no entry before it has
-/// once both are lowered.
+/// once both are lowered; so where each entry before has a key of its own, each entry has one.
 pub fn what_was_read_stays()
-    ensures { (source : List ℕ) (before after : Database) → database_of source before ≡ Ok after
+    ensures grown { (source : List ℕ) (before after : Database) → database_of source before ≡ Ok after
         → HasGrown before after }
+    ensures apart { (source : List ℕ) (before after : Database) → database_of source before ≡ Ok after
+        → AreNew [] before.entries → AreNew [] after.entries }
 {}

@@ -1,10 +1,9 @@
 -- What a built-in function does (docs/MACHINE.md, "The built-in functions"): from the literal stack, its top first, and what
 -- surrounds the call, to its effect or its fault. One definition a function or a family.
-use Rattle.std.specs.Prelude.{◌≡◌, ℕ, ℤ, pos, negsuc, ◌+ℤ◌, ◌-ℤ◌, ◌*◌, ◌<◌, Bool, true, false, ◌||◌, ◌&&◌, not, nat_le, nat_lt, nat_eq, if◌then◌else◌, List, [], ◌∷◌, ◌++◌, length, map, take, codes, Option, None, Some, is_none, Result, Ok, Err, option_map, slice_get}
-use Rattle.std.specs.Option.{option_map_or, option_and_then}
+use Rattle.std.specs.Prelude.{ℕ, ℤ, pos, negsuc, ◌+ℤ◌, ◌-ℤ◌, Bool, true, ◌||◌, nat_le, nat_lt, nat_eq, if◌then◌else◌, List, [], ◌∷◌, ◌++◌, length, map, take, codes, Option, None, Some, is_none, Result, Ok, Err, slice_get}
+use Rattle.std.specs.Option.{option_map_or}
 use Rattle.std.specs.Cmp.Lexicographic.{pointwise}
 use Rattle.std.specs.Fmt.{decimal}
-use Rattle.bv_base.specs.declared.place.Place.{Place}
 use Rattle.name_table.specs.declared.builtin.Builtin.{Builtin}
 use Rattle.name_table.specs.declared.builtin.Builtin.TheVariants as op
 use Rattle.name_table.specs.declared.names.NameId.{NameId}
@@ -36,9 +35,9 @@ use Rattle.bst_meaning.specs.declared.value.Target.TheVariants.{Named, Block}
 use Rattle.bst_meaning.specs.declared.value.Value.{Value}
 use Rattle.bst_meaning.specs.declared.value.Value.TheVariants.{Int, Str, Missing, Func}
 use Rattle.bst_meaning.specs.declared.fault.Fault.{Fault}
-use Rattle.bst_meaning.specs.declared.fault.Fault.TheVariants.{EmptyPop, WrongKind, NotVariable, NoEntry, BadCase, NotOneByte, NotAscii, BadNameIndex, BadName, BadPattern, IntRange}
+use Rattle.bst_meaning.specs.declared.fault.Fault.TheVariants.{WrongKind, NotVariable, NoEntry, BadCase, NotOneByte, NotAscii, BadNameIndex, BadName, BadPattern}
 use Rattle.bst_meaning.specs.StyleParts.{kind_of}
-use Rattle.bst_meaning.specs.Config.{Event, Wrote, EndedLine, Part, Whole, Testing, Variable}
+use Rattle.bst_meaning.specs.Config.{Wrote, EndedLine, Whole, Testing}
 use Rattle.bst_meaning.specs.Effect.{Effect, left, pushed, with_written, with_logged, with_entered}
 use Rattle.bst_meaning.specs.Operands.{one_operand, two_operands, three_operands, as_string, as_integer, as_function, as_field, ranged, truth, is_positive, is_zero}
 

@@ -1,10 +1,9 @@
 -- What a built-in function gives where it gives no fault.
 use Rattle.std.specs.Prelude.{ℕ, List, [], ◌∷◌, Option, None, Some, Result, Ok}
-use Rattle.name_table.specs.declared.names.NameId.{NameId}
 use Rattle.bst_meaning.specs.declared.value.Target.{Target}
 use Rattle.bst_meaning.specs.declared.value.Value.{Value}
 use Rattle.bst_meaning.specs.declared.fault.Fault.{Fault}
-use Rattle.bst_meaning.specs.Config.{Event, Part, Whole, Variable}
+use Rattle.bst_meaning.specs.Config.{Event, Part, Variable}
 
 -- a function that is entered, as a part of a `while$` or whole
 pub record Entered : Type 0 where

@@ -21,7 +21,7 @@ use Rattle.bst_meaning.specs.declared.value.Value.TheVariants.{Int, Str, Missing
 use Rattle.bst_meaning.specs.declared.fault.Fault.{Fault}
 use Rattle.bst_meaning.specs.declared.fault.Fault.TheVariants.{EmptyPop, WrongKind, NoEntry, StackLeft}
 use Rattle.bst_meaning.specs.StyleParts.{kind_of, tokens_of, text_of, entered_tokens}
-use Rattle.bst_meaning.specs.Config.{Config, Frame, Part, Whole, Testing, Turning, Variable, EntryState, Visit, Stopped, Site, opening}
+use Rattle.bst_meaning.specs.Config.{Config, Frame, Part, Whole, Testing, Turning, Variable, EntryState, Visit, Stopped, opening}
 use Rattle.bst_meaning.specs.Effect.{Effect, Entered}
 use Rattle.bst_meaning.specs.Operands.{is_positive}
 use Rattle.bst_meaning.specs.Builtins.{Context, built_in}

@@ -1,6 +1,6 @@
 -- How a built-in function takes its operands (docs/MACHINE.md, "The built-in functions"): an operand that isn't there comes before
 -- one of the wrong kind, and the top operand's kind before the others'.
-use Rattle.std.specs.Prelude.{ℕ, ℤ, pos, negsuc, ◌-ℤ◌, Bool, true, false, nat_le, if◌then◌else◌, List, [], ◌∷◌, Option, None, Some, Result, Ok, Err}
+use Rattle.std.specs.Prelude.{ℕ, ℤ, pos, negsuc, Bool, true, false, nat_le, if◌then◌else◌, List, [], ◌∷◌, Option, None, Some, Result, Err}
 use Rattle.bst_meaning.specs.declared.value.Target.{Target}
 use Rattle.bst_meaning.specs.declared.value.Value.{Value}
 use Rattle.bst_meaning.specs.declared.value.Value.TheVariants.{Int, Str, Missing, Func}

@@ -1,15 +1,16 @@
 -- Each key of the joined list is a key.
 use Rattle.std.proofs.Common.{◌≡◌, ℕ, Bool, true, false, cond, not, List, [], ◌∷◌, ◌++◌, Option, Some, None, map, refl, sym, ap, ◌∙◌, subst}
 use Rattle.std.specs.Prelude.{filter, flat_map}
-use Rattle.std.specs.List.{AllByRecursion}
+use Rattle.std.specs.List.{AllByRecursion, list_all}
 use Rattle.std.specs.Option.{option_and_then, option_map, option_to_list}
 use Rattle.aux_read.specs.declared.aux.AuxItem.{AuxItem}
 use Rattle.aux_read.specs.declared.aux.AuxItem.TheVariants.{Cite, All, Input}
+use Rattle.aux_read.specs.Keys.{HaveKeys}
 use Rattle.bib_read.specs.Additions.{AreKeyed}
 use Rattle.bib_read.specs.declared.database.RawEntry.{RawEntry}
 use Rattle.bv_base.specs.Keys.{IsKey}
 use Rattle.entry_list.specs.Citing.{asks_same, asked_for, cited_as, cited_list, is_cited}
-use Rattle.entry_list.specs.Keys.{AreCitations, IsCitation, Listed, entry_of, firsts, own, same_key}
+use Rattle.entry_list.specs.Keys.{AreCitations, IsCitation, Listed, entry_of, firsts, is_no_input, own, same_key}
 use Rattle.entry_list.specs.Parents.{appended, crossref_of, is_wanted, parent_of, parents_of, same_listed, whole_list}
 
 pub all_append : {X : Type 0} (P : X → Type 0) (xs ys : List X) → AllByRecursion P xs → AllByRecursion P ys
@@ -17,7 +18,7 @@ pub all_append : {X : Type 0} (P : X → Type 0) (xs ys : List X) → AllByRecur
 all_append P [] ys a b = b
 all_append P (x ∷ xs) ys a b = (a.0, all_append P xs ys a.1 b)
 
-all_filter : {X : Type 0} (P : X → Type 0) (p : X → Bool) (xs : List X) → AllByRecursion P xs → AllByRecursion P (filter p xs)
+pub all_filter : {X : Type 0} (P : X → Type 0) (p : X → Bool) (xs : List X) → AllByRecursion P xs → AllByRecursion P (filter p xs)
 all_filter P p [] a = tt
 all_filter {X} P p (x ∷ xs) a = by (p x) (all_filter P p xs a.1)
   where
@@ -25,12 +26,12 @@ all_filter {X} P p (x ∷ xs) a = by (p x) (all_filter P p xs a.1)
     by true rest = (a.0, rest)
     by false rest = rest
 
-all_firsts : {X : Type 0} (P : X → Type 0) (same : X → X → Bool) (xs : List X) → AllByRecursion P xs
+pub all_firsts : {X : Type 0} (P : X → Type 0) (same : X → X → Bool) (xs : List X) → AllByRecursion P xs
     → AllByRecursion P (firsts same xs)
 all_firsts P same [] a = tt
 all_firsts P same (x ∷ xs) a = (a.0, all_filter P _ (firsts same xs) (all_firsts P same xs a.1))
 
-all_flat_map : {X Y : Type 0} (Q : X → Type 0) (P : Y → Type 0) (f : X → List Y) → ((x : X) → Q x → AllByRecursion P (f x))
+pub all_flat_map : {X Y : Type 0} (Q : X → Type 0) (P : Y → Type 0) (f : X → List Y) → ((x : X) → Q x → AllByRecursion P (f x))
     → (xs : List X) → AllByRecursion Q xs → AllByRecursion P (flat_map f xs)
 all_flat_map Q P f each [] a = tt
 all_flat_map Q P f each (x ∷ xs) a = all_append P (f x) (flat_map f xs) (each x a.0) (all_flat_map Q P f each xs a.1)
@@ -86,3 +87,10 @@ whole_keyed items entries cited keyed =
     (all_firsts IsCitation asks_same items cited))
     (all_filter IsKeyed (is_wanted (parents_of entries list) list) (firsts same_listed (parents_of entries list))
     (all_firsts IsKeyed same_listed (parents_of entries list) (parents_keyed entries keyed list)))
+
+-- requests that have keys, and none of which is for a further file, are citations
+pub citations_of : (items : List AuxItem) → HaveKeys items → list_all is_no_input items ≡ true → AreCitations items
+citations_of [] keys none = tt
+citations_of (Cite key ∷ items) keys none = (keys.0, citations_of items keys.1 none)
+citations_of (All ∷ items) keys none = (tt, citations_of items keys.1 none)
+citations_of (Input _ _ ∷ items) keys none = absurd cc

@@ -1,5 +1,7 @@
+pub mod Apart
 pub mod Declaring
 pub mod Fitting
+pub mod Found
 pub mod Keyed
 pub mod Lists
 pub mod Naming

@@ -1,5 +1,5 @@
 -- Keys as they are compared, and entries by their keys (docs/DATA.md, "The list of entries").
-use Rattle.std.specs.Prelude.{ℕ, Bool, not, if◌then◌else◌, List, [], ◌∷◌, Option, None, Some, map, filter}
+use Rattle.std.specs.Prelude.{ℕ, Bool, true, false, not, if◌then◌else◌, List, [], ◌∷◌, Option, None, Some, map, filter}
 use Rattle.std.specs.List.{list_any, AllByRecursion}
 use Rattle.bv_base.specs.Keys.{IsKey}
 use Rattle.name_table.specs.Names.{same_name, lowered}
@@ -39,6 +39,11 @@ abbrev pub IsCitation : AuxItem → Type 0
 IsCitation (Cite key) = IsKey key
 IsCitation All = Unit {0}
 IsCitation (Input _ _) = ⊥
+
+-- a request for no further file
+abbrev pub is_no_input : AuxItem → Bool
+is_no_input (Input _ _) = false
+is_no_input _ = true
 
 -- no request is for a further file, and each key has a byte and no white space
 abbrev pub AreCitations : List AuxItem → Type 0

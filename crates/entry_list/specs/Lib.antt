@@ -1,3 +1,4 @@
+pub mod Apart
 pub mod Bytes
 pub mod Citing
 pub mod Fields

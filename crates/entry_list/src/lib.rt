@@ -8,5 +8,8 @@ mod fields;
 pub mod join;
 pub mod joined;
 mod keys;
+pub mod laws;
 mod parents;
+#[cfg(test)]
+mod tests;
 mod warnings;

@@ -1,0 +1,226 @@
+//! Citations and databases, joined by hand.
+
+ghost use Rattle.std.specs.Prelude.{◌≡◌, ◌≤◌, length};
+ghost use Rattle.std.specs.List.{list_all};
+ghost use Rattle.entry_list.specs.Keys.{is_no_input};
+
+use crate::join::join;
+use crate::joined::Joined;
+use aux_read::aux::AuxItem;
+use bib_read::read::opening;
+use bst_meaning::entry::Entry;
+use bv_base::memory::NoMemory;
+use bv_base::seq::Seq;
+use name_table::names::{Kind, Names};
+use name_table::style::Style;
+use std::alloc::Global;
+use std::process::Abort;
+use std::test::Fail;
+
+/// A style with the fields `title` and `note` beside `crossref`.
+fn style(alloc: Global) -> Result<Style, Fail> {
+    let mut names = Names::opening(alloc)?;
+    names.define(b"title", Kind::Field)?;
+    names.define(b"note", Kind::Field)?;
+    Ok(Style {
+        names,
+        commands: Seq::new(alloc),
+        bodies: Seq::new(alloc),
+        texts: Seq::new(alloc),
+        macros: Seq::new(alloc),
+    })
+}
+
+/// Appends an entry as `KEY:TYPE`, and for each field a `|` and its value, or `-` where it is missing.
+fn show(shown: &mut Vec<u8>, entry: &Entry) -> Result<(), NoMemory> {
+    shown.extend_from_slice(entry.key.as_slice())?;
+    shown.push(b':')?;
+    shown.extend_from_slice(entry.entry_type.as_slice())?;
+    for field in entry.fields.as_slice() {
+        shown.push(b'|')?;
+        match &field.value {
+            Some(text) => shown.extend_from_slice(text.as_slice())?,
+            None => shown.push(b'-')?,
+        }
+    }
+    shown.push(b'\n')?;
+    Ok(())
+}
+
+/// What was joined, as lines.
+fn shown(alloc: Global, joined: &Joined) -> Result<Vec<u8>, NoMemory> {
+    let mut shown = Vec::new(alloc);
+    for entry in joined.list.entries.as_slice() {
+        show(&mut shown, entry)?;
+    }
+    for warning in joined.warnings.as_slice() {
+        shown.extend_from_slice(warning.as_slice())?;
+        shown.push(b'\n')?;
+    }
+    Ok(shown)
+}
+
+/// What an `.aux` file and a database are joined to, as lines.
+fn joined(alloc: Global, aux: &[u8], bib: &[u8]) -> Result<Vec<u8>, Fail>
+    requires aux { length aux.now ≤ 16777216 }
+    requires bib { length bib.now ≤ 16777216 }
+{
+    let style = style(alloc)?;
+    let aux = aux_read::read::read(alloc, aux)?;
+    let database = bib_read::read::read(alloc, bib, &opening(alloc, &style)?)?;
+    if !are_citations(aux.items.as_slice()) {
+        return Err(Fail::new("a further file"));
+    }
+    let joined = join(alloc, &style, aux.items.as_slice(), &database)?;
+    Ok(shown(alloc, &joined)?)
+}
+
+/// Whether no request is for a further file.
+fn are_citations(items: &[AuxItem]) -> bool
+    ensures { result ≡ list_all is_no_input items.now }
+{
+    items.iter().all(|item| is_no_input(item))
+}
+
+/// Whether a request is for no further file.
+fn is_no_input(item: &AuxItem) -> bool
+    ensures { result ≡ is_no_input item.now }
+{
+    match item {
+        AuxItem::Input(_, _) => false,
+        _ => true,
+    }
+}
+
+#[test]
+fn worked_rows_are_joined(rt: HostRuntime) -> Result<(), Fail> {
+    let rows: [(&[u8], &[u8], &[u8]); 6] = [
+        (
+            b"\\citation{c}",
+            b"@inproceedings{c, crossref = {p}} @proceedings{p, title = {T}}",
+            b"c:inproceedings|-|T|-\n",
+        ),
+        (
+            b"\\citation{c,d}",
+            b"@inproceedings{c, crossref = {p}} @proceedings{p, title = {T}} @misc{d, crossref = {p}, title = {U}}",
+            b"c:inproceedings|p|T|-\nd:misc|p|U|-\np:proceedings|-|T|-\n",
+        ),
+        (
+            b"\\citation{C}",
+            b"@misc{c, title = \"a\" # zz # { b }}",
+            b"C:misc|-|a b|-\n",
+        ),
+        (
+            b"\\citation{c}",
+            b"@misc{c, crossref = {q}}",
+            b"c:misc|-|-|-\nWarning--no parent q for c\n",
+        ),
+        (
+            b"\\citation{c}",
+            b"@string{s = \" and \"} @misc{c, title = \"a\" # s # \"b\"}",
+            b"c:misc|-|a and b|-\n",
+        ),
+        (b"", b"@misc{c,}", b""),
+    ];
+    for (aux, bib, want) in rows {
+        assert_eq!(rt; joined(rt.alloc(), aux, bib)?.as_slice(), want);
+    }
+    Ok(())
+}
+
+#[test]
+fn citations_choose_entries_in_order(rt: HostRuntime) -> Result<(), Fail> {
+    let bib = b"@a{x, year = 3}@b{Y, title = 1}@c{z, note = 2}";
+    let rows: [(&[u8], &[u8]); 9] = [
+        (b"\\citation{*}", b"x:a|-|-|-\nY:b|-|1|-\nz:c|-|-|2\n"),
+        (
+            b"\\citation{z}\n\\citation{*}",
+            b"z:c|-|-|2\nx:a|-|-|-\nY:b|-|1|-\n",
+        ),
+        (b"\\citation{*,X}", b"Y:b|-|1|-\nz:c|-|-|2\nX:a|-|-|-\n"),
+        (b"\\citation{*,*}", b"x:a|-|-|-\nY:b|-|1|-\nz:c|-|-|2\n"),
+        (b"\\citation{y,*,Y}", b"y:b|-|1|-\nx:a|-|-|-\nz:c|-|-|2\n"),
+        (b"\\citation{z,y,Z,Y}", b"z:c|-|-|2\ny:b|-|1|-\n"),
+        (b"\\citation{n,x,N}", b"x:a|-|-|-\nWarning--no entry n\n"),
+        (
+            b"\\citation{M,*,n,m}",
+            b"x:a|-|-|-\nY:b|-|1|-\nz:c|-|-|2\nWarning--no entry M\nWarning--no entry n\n",
+        ),
+        (b"", b""),
+    ];
+    for (aux, want) in rows {
+        assert_eq!(rt; joined(rt.alloc(), aux, bib)?.as_slice(), want);
+    }
+    Ok(())
+}
+
+#[test]
+fn parents_are_appended_and_lend_fields(rt: HostRuntime) -> Result<(), Fail> {
+    let rows: [(&[u8], &[u8], &[u8]); 11] = [
+        // A parent's parent lends nothing.
+        (
+            b"\\citation{a}",
+            b"@m{a,crossref={b}}@m{b,crossref={c}}@m{c,title=1}",
+            b"a:m|-|-|-\n",
+        ),
+        // A parent that is cited stays named, as the child spells it.
+        (
+            b"\\citation{a,p}",
+            b"@m{a,crossref={P}}@m{p,title=1}",
+            b"a:m|P|1|-\np:m|-|1|-\n",
+        ),
+        (
+            b"\\citation{P,a}",
+            b"@m{a,crossref={p}}@m{p,title=1}",
+            b"P:m|-|1|-\na:m|p|1|-\n",
+        ),
+        // Two spellings name one parent, which isn't appended where it is cited.
+        (
+            b"\\citation{a,b}",
+            b"@m{a,crossref={P}}@m{b,crossref={p}}@m{p,note=1}",
+            b"a:m|P|-|1\nb:m|p|-|1\np:m|-|-|1\n",
+        ),
+        (
+            b"\\citation{a,P,b}",
+            b"@m{a,crossref={p}}@m{b,crossref={p}}@m{p,note=1}",
+            b"a:m|p|-|1\nP:m|-|-|1\nb:m|p|-|1\n",
+        ),
+        (
+            b"\\citation{a}",
+            b"@m{a,crossref={a},note=1}",
+            b"a:m|a|-|1\n",
+        ),
+        // A blank name is no entry's.
+        (
+            b"\\citation{a}",
+            b"@m{a,crossref={ }}",
+            b"a:m|-|-|-\nWarning--no parent  for a\n",
+        ),
+        // A field that is there stays, also where it is empty; what the style doesn't declare isn't lent.
+        (
+            b"\\citation{a}",
+            b"@m{a,crossref={p},title={}}@m{p,title=1,note=2,year=3}",
+            b"a:m|-||2\n",
+        ),
+        // The crossref of an appended entry doesn't count, but lends.
+        (
+            b"\\citation{c,d,e}",
+            b"@m{c,crossref={p}}@m{d,crossref={p}}@m{e,crossref={g}}@m{p,crossref={g}}@m{g,title=1}",
+            b"c:m|p|-|-\nd:m|p|-|-\ne:m|-|1|-\np:m|-|1|-\n",
+        ),
+        (
+            b"\\citation{c,d,e,f}",
+            b"@m{c,crossref={q}}@m{d,crossref={p}}@m{e,crossref={p}}@m{f,crossref={q}}@m{p,}@m{q,}",
+            b"c:m|q|-|-\nd:m|p|-|-\ne:m|p|-|-\nf:m|q|-|-\nq:m|-|-|-\np:m|-|-|-\n",
+        ),
+        (
+            b"\\citation{n,A,o,*}",
+            b"@m{a,crossref={q}}@m{b,crossref={Q}}",
+            b"A:m|-|-|-\nb:m|-|-|-\nWarning--no entry n\nWarning--no entry o\nWarning--no parent q for A\nWarning--no parent Q for b\n",
+        ),
+    ];
+    for (aux, bib, want) in rows {
+        assert_eq!(rt; joined(rt.alloc(), aux, bib)?.as_slice(), want);
+    }
+    Ok(())
+}
