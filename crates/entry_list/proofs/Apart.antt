@@ -1,7 +1,7 @@
 -- No two entries of a joined list have one key.
-use Rattle.std.proofs.Common.{◌≡◌, ℕ, Bool, true, false, cond, not, ◌||◌, ◌&&◌, List, [], ◌∷◌, ◌++◌, Option, Some, None, map, refl, sym, ap, ◌∙◌, append_assoc, subst}
+use Rattle.std.proofs.Common.{◌≡◌, ℕ, Bool, true, false, cond, not, ◌||◌, ◌&&◌, List, [], ◌∷◌, ◌++◌, Option, Some, None, map, refl, sym, ap, ◌∙◌, subst}
 use Rattle.std.specs.Prelude.{filter, flat_map}
-use Rattle.std.specs.List.{AllByRecursion, list_any}
+use Rattle.std.specs.List.{AllByRecursion}
 use Rattle.std.specs.Option.{option_map, option_to_list}
 use Rattle.name_table.specs.Names.{same_name, lowered}
 use Rattle.aux_read.specs.declared.aux.AuxItem.{AuxItem}
@@ -13,7 +13,7 @@ use Rattle.entry_list.specs.Apart.{AreApart}
 use Rattle.entry_list.specs.Citing.{asked_for, asks_same, cited_as, cited_list, cites, is_cited, uncited}
 use Rattle.entry_list.specs.Keys.{Listed, entry_of, firsts, is_listed, own, same_key}
 use Rattle.entry_list.specs.Parents.{appended, is_wanted, parents_of, same_listed, whole_list}
-use Rattle.entry_list.proofs.Keyed.{all_append, all_filter, all_firsts, all_flat_map}
+use Rattle.entry_list.proofs.Keyed.{all_filter, all_firsts}
 use Rattle.entry_list.proofs.Found.{key_apart, key_equal, key_refl}
 
 both_false : (a b : Bool) → (a || b) ≡ false → (a ≡ false) × (b ≡ false)
@@ -54,6 +54,7 @@ swapped (x ∷ xs) ys others = (head ys others, swapped xs ys (tail ys others))
     head (y ∷ ys) others =
         none_of (same_key x.key y.key) (is_listed x.key ys)
         (key_apart y.key x.key (both_false (same_key y.key x.key) (is_listed y.key xs) others.0).0) (head ys others.1)
+
     tail : (ys : List Listed) → AreOthers (x ∷ xs) ys → AreOthers xs ys
     tail [] others = tt
     tail (y ∷ ys) others = ((both_false (same_key y.key x.key) (is_listed y.key xs) others.0).1, tail ys others.1)
@@ -86,10 +87,11 @@ distinct_filter {X} same p (x ∷ xs) d = by (p x) (distinct_filter same p xs d.
 
 firsts_distinct : {X : Type 0} (same : X → X → Bool) (xs : List X) → AreDistinct same (firsts same xs)
 firsts_distinct same [] = tt
-firsts_distinct same (x ∷ xs) =
-    ( all_weaker (λ y. not (same y x) ≡ true) (λ y. same y x ≡ false) (λ y e. not_false (same y x) e)
-    (filter (λ y. not (same y x)) (firsts same xs)) (passing (λ y. not (same y x)) (firsts same xs)),
-    distinct_filter same (λ y. not (same y x)) (firsts same xs) (firsts_distinct same xs))
+firsts_distinct same (x ∷ xs) = (
+  all_weaker (λ y. not (same y x) ≡ true) (λ y. same y x ≡ false) (λ y e. not_false (same y x) e)
+      (filter (λ y. not (same y x)) (firsts same xs)) (passing (λ y. not (same y x)) (firsts same xs)),
+  distinct_filter same (λ y. not (same y x)) (firsts same xs) (firsts_distinct same xs),
+)
 
 -- distinct parents are apart
 distinct_apart : (xs : List Listed) → AreDistinct same_listed xs → AreApart xs
@@ -110,12 +112,14 @@ new_distinct before (e ∷ es) new =
     has_last [] key none = (both_false (same_key key e.key) false none).0
     has_last (b ∷ before) key none =
         has_last before key (both_false (same_key key b.key) (has_entry (lowered key) (before ++ e ∷ [])) none).1
+
     longer : (key : List ℕ) (before more : List RawEntry) → has_entry (lowered key) (before ++ more) ≡ false
         → has_entry (lowered key) before ≡ false
     longer key [] more none = refl
     longer key (b ∷ before) more none =
         let apart = both_false (same_key key b.key) (has_entry (lowered key) (before ++ more)) none in
         none_of (same_key key b.key) (has_entry (lowered key) before) apart.0 (longer key before more apart.1)
+
     later : (before es : List RawEntry) → ((key : List ℕ) → has_entry (lowered key) before ≡ false → same_key key e.key ≡ false)
         → AreNew before es → AllByRecursion (λ y. same_listed y (own e) ≡ false) (map own es)
     later before [] apart new = tt
@@ -236,6 +240,7 @@ all_cited (x ∷ items) = (first x, all_weaker (IsCited items) (IsCited (x ∷ i
     first (Cite key) = ap (λ v. v || is_cited key items) (key_refl key)
     first All = tt
     first (Input _ _) = tt
+
     more : (y : AuxItem) → IsCited items y → IsCited (x ∷ items) y
     more (Cite key) is = ap (λ v. cites key x || v) is ∙ or_true (cites key x)
     more All is = tt

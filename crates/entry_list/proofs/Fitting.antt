@@ -12,7 +12,7 @@ use Rattle.bst_meaning.specs.declared.entry.Entry.{Entry}
 use Rattle.entry_list.specs.declared.joined.Joined.{Joined}
 use Rattle.entry_list.specs.Bytes.{HasBytes}
 use Rattle.entry_list.specs.Citing.{cited_list, no_entries}
-use Rattle.entry_list.specs.Fields.{Declared, declared_fields, is_parent_listed, joined_entry, value_of, values_of, without_parent}
+use Rattle.entry_list.specs.Fields.{Declared, declared_fields, is_parent_listed, joined_entry, values_of, without_parent}
 use Rattle.entry_list.specs.Joining.{joined}
 use Rattle.entry_list.specs.Keys.{AreCitations, Listed, is_listed}
 use Rattle.entry_list.specs.Parents.{appended, parent_of, whole_list}

@@ -1,5 +1,5 @@
 -- Each entry of a joined list is the one that the databases have under its key.
-use Rattle.std.proofs.Common.{◌≡◌, ℕ, Bool, true, false, cond, not, ◌||◌, ◌&&◌, nat_eq, eq-eqb, List, [], ◌∷◌, ◌++◌, Option, Some, None, map, refl, sym, ap, ◌∙◌, append_assoc, subst}
+use Rattle.std.proofs.Common.{◌≡◌, ℕ, Bool, true, false, cond, not, ◌||◌, ◌&&◌, eq-eqb, List, [], ◌∷◌, ◌++◌, Option, Some, None, map, refl, sym, ap, ◌∙◌, append_assoc, subst}
 use Rattle.std.specs.Prelude.{filter}
 use Rattle.std.specs.Cmp.Lexicographic.{same_text}
 use Rattle.std.specs.List.{AllByRecursion}
@@ -46,13 +46,13 @@ entry_past key (e ∷ before) rest none =
     let apart = both_false (same_key key e.key) (has_entry (lowered key) before) none in
     ap (λ v. cond v (Some e) (entry_of key (before ++ rest))) apart.0 ∙ entry_past key before rest apart.1
 
-
 all_found : (before rest : List RawEntry) → AreNew before rest → AllByRecursion (λ e. entry_of e.key (before ++ rest) ≡ Some e) rest
 all_found before [] new = tt
-all_found before (e ∷ rest) new =
-    ( entry_past e.key before (e ∷ rest) new.1 ∙ ap (λ v. cond v (Some e) (entry_of e.key rest)) (key_refl e.key),
-    subst (λ l. AllByRecursion (λ x. entry_of x.key l ≡ Some x) rest) (append_assoc before (e ∷ []) rest)
-    (all_found (before ++ e ∷ []) rest new.2))
+all_found before (e ∷ rest) new = (
+  entry_past e.key before (e ∷ rest) new.1 ∙ ap (λ v. cond v (Some e) (entry_of e.key rest)) (key_refl e.key),
+  subst (λ l. AllByRecursion (λ x. entry_of x.key l ≡ Some x) rest) (append_assoc before (e ∷ []) rest)
+      (all_found (before ++ e ∷ []) rest new.2),
+)
 
 own_from : (entries es : List RawEntry) → AllByRecursion (λ e. entry_of e.key entries ≡ Some e) es
     → AllByRecursion (IsFrom entries) (map own es)

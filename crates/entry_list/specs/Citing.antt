@@ -1,5 +1,5 @@
 -- The entries that are cited, and citations without an entry (docs/DATA.md, "The list of entries").
-use Rattle.std.specs.Prelude.{ℕ, Bool, true, false, not, if◌then◌else◌, List, [], ◌∷◌, Option, map, filter, flat_map, is_some}
+use Rattle.std.specs.Prelude.{ℕ, Bool, true, false, not, if◌then◌else◌, List, [], ◌∷◌, map, filter, flat_map, is_some}
 use Rattle.std.specs.List.{list_any}
 use Rattle.std.specs.Option.{option_map, option_to_list}
 use Rattle.aux_read.specs.declared.aux.AuxItem.{AuxItem}

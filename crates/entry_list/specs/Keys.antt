@@ -1,5 +1,5 @@
 -- Keys as they are compared, and entries by their keys (docs/DATA.md, "The list of entries").
-use Rattle.std.specs.Prelude.{ℕ, Bool, true, false, not, if◌then◌else◌, List, [], ◌∷◌, Option, None, Some, map, filter}
+use Rattle.std.specs.Prelude.{ℕ, Bool, true, false, not, if◌then◌else◌, List, [], ◌∷◌, Option, None, Some, filter}
 use Rattle.std.specs.List.{list_any, AllByRecursion}
 use Rattle.bv_base.specs.Keys.{IsKey}
 use Rattle.name_table.specs.Names.{same_name, lowered}

@@ -1,5 +1,4 @@
-use Rattle.std.proofs.Common.{◌≡◌, ℕ, ◌||◌, cond, List, drop}
-use Rattle.entry_list.specs.Keys.{is_listed}
+use Rattle.std.proofs.Common.{◌≡◌, ℕ, List, drop}
 use Rattle.entry_list.specs.Parents.{is_named_twice}
 use Rattle.entry_list.specs.Tables.{has_key}
 use Rattle.entry_list.proofs.Naming.{twice_with}

@@ -1,6 +1,5 @@
 use Rattle.std.proofs.Common.{◌∙◌, ap, ◌++◌, ◌&&◌, not}
 use Rattle.std.specs.Prelude.{filter}
-use Rattle.entry_list.specs.Keys.{is_listed}
 use Rattle.entry_list.specs.Parents.{is_named_twice, is_wanted, same_listed}
 use Rattle.entry_list.specs.Tables.{has_key}
 use Rattle.entry_list.proofs.Lists.{drop_item, fresh_all, stepped_filter}
