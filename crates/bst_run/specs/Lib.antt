@@ -2,6 +2,13 @@ pub mod Certificate
 pub mod Reading
 pub mod Straight
 pub mod Walk
+pub mod DataFaults
 pub mod Report
 pub mod Stops
+pub mod Files
+pub mod Forms
+pub mod Requests
+pub mod AuxChain
+pub mod Sources
+pub mod Ran
 pub mod Top

@@ -102,7 +102,7 @@ fn after<'a>(source: &'a [u8], prefix: &[u8]) -> Option<&'a [u8]>
 }
 
 /// A number of at most `MOST`, and what follows it.
-fn number(source: &[u8]) -> Option<(u32, &[u8])>
+pub fn number(source: &[u8]) -> Option<(u32, &[u8])>
     ensures { option_map (λ found. (found.0, found.1.now)) result ≡ reading.number source.now }
 {
     let mut value: u32 = 0;

@@ -1,15 +1,23 @@
-//! The program: it reads the words, decides the certificate, and ends with the answer's number.
+//! The program: it reads the words, decides or runs, and ends with the answer's number.
 #![tactic(auto)]
 
+mod aux_files;
 mod certificate;
 mod command;
+mod data_fault;
 mod judge;
 mod refusal;
 mod report;
+mod requests;
+mod runner;
+mod source_file;
+mod sources;
+mod stop;
 mod straight;
 #[cfg(test)]
 mod tests;
 mod walk;
+mod words;
 
 use crate::command::command;
 use bv_base::host_files::HostFiles;

@@ -6,10 +6,12 @@ ghost use Rattle.bst_run.specs.Report as report;
 ghost use Rattle.bst_run.specs.Stops as stops;
 
 use crate::certificate::condition_text;
-use crate::judge::Stop;
+use crate::data_fault::DataFault;
 use crate::refusal::{Reason, Refusal};
+use crate::stop::Stop;
 use bst_lex::lexeme::LexFault;
 use bst_meaning::condition::Cond;
+use bst_meaning::fault::Fault;
 use bst_parse::fault::StyleFault;
 use bv_base::memory::NoMemory;
 use bv_base::place::Place;
@@ -28,8 +30,33 @@ pub fn accepted_text(alloc: Global, cond: &Cond) -> Result<String, NoMemory>
     Ok(format!(in alloc; "accepted\nlist 1\n{condition}")?)
 }
 
+/// The last line of a run that has come to an execution error.
+pub fn fault_line(
+    alloc: Global,
+    fault: Fault,
+    place: Place,
+    key: &[u8],
+) -> Result<Vec<u8>, NoMemory>
+    ensures { IfOk result (λ text. text.items ≡ report.fault_line fault place key.now) }
+{
+    let line = place.line;
+    let column = place.column;
+    let name = run_fault_name(fault);
+    let mut text = format!(in alloc; "fault {line}:{column} {name} ")?.into_bytes();
+    text.extend_from_slice(key)?;
+    text.push(b'\n')?;
+    Ok(text)
+}
+
+/// The last line of a run that has taken its steps.
+pub fn budget_line(alloc: Global, steps: u32) -> Result<String, NoMemory>
+    ensures { IfOk result (λ text. string_bytes text ≡ report.budget_line steps) }
+{
+    Ok(format!(in alloc; "budget {steps}\n")?)
+}
+
 /// The status of a stop.
-pub fn stop_status(stop: &Stop<'_>) -> Status
+pub fn stop_status(stop: &Stop) -> Status
     ensures { result ≡ stops.stop_status stop.now }
 {
     match stop {
@@ -37,6 +64,7 @@ pub fn stop_status(stop: &Stop<'_>) -> Status
         Stop::ReadFailed(_) => Status::ReadFailed,
         Stop::TooLong(_) => Status::TooLong,
         Stop::BadStyle(_) => Status::BadStyle,
+        Stop::BadData(_, _) => Status::BadData,
         Stop::NotBuilt => Status::NotBuilt,
         Stop::Refused(_) => Status::Refused,
         Stop::NoMemory => Status::NoMemory,
@@ -44,7 +72,7 @@ pub fn stop_status(stop: &Stop<'_>) -> Status
 }
 
 /// The last line of a stop.
-pub fn stop_line(alloc: Global, stop: &Stop<'_>) -> Result<String, NoMemory>
+pub fn stop_line(alloc: Global, stop: &Stop) -> Result<String, NoMemory>
     ensures { IfOk result (λ text. string_bytes text ≡ stops.stop_line stop.now) }
 {
     match stop {
@@ -52,6 +80,7 @@ pub fn stop_line(alloc: Global, stop: &Stop<'_>) -> Result<String, NoMemory>
         Stop::ReadFailed(name) => Ok(format!(in alloc; "read failed {name}\n")?),
         Stop::TooLong(name) => Ok(format!(in alloc; "too long {name}\n")?),
         Stop::BadStyle(fault) => bad_style_line(alloc, *fault),
+        Stop::BadData(name, fault) => bad_data_line(alloc, name, *fault),
         Stop::NotBuilt => Ok(format!(in alloc; "not built\n")?),
         Stop::Refused(refusal) => refused_line(alloc, *refusal),
         Stop::NoMemory => Ok(String::new(alloc)),
@@ -59,7 +88,7 @@ pub fn stop_line(alloc: Global, stop: &Stop<'_>) -> Result<String, NoMemory>
 }
 
 fn bad_style_line(alloc: Global, fault: StyleFault) -> Result<String, NoMemory>
-    ensures { IfOk result (λ text. string_bytes text ≡ report.error_line (report.FaultyStyle fault)) }
+    ensures { IfOk result (λ text. string_bytes text ≡ report.error_text (report.FaultyStyle fault)) }
 {
     let place = fault_place(fault);
     let line = place.line;
@@ -68,8 +97,18 @@ fn bad_style_line(alloc: Global, fault: StyleFault) -> Result<String, NoMemory>
     Ok(format!(in alloc; "bad style {line}:{column} {name}\n")?)
 }
 
+fn bad_data_line(alloc: Global, name: &str, fault: DataFault) -> Result<String, NoMemory>
+    ensures { IfOk result (λ text. string_bytes text ≡ report.error_text (report.FaultyData name.now fault)) }
+{
+    let place = fault.place();
+    let line = place.line;
+    let column = place.column;
+    let fault = fault.name();
+    Ok(format!(in alloc; "bad data {name} {line}:{column} {fault}\n")?)
+}
+
 fn refused_line(alloc: Global, refusal: Refusal) -> Result<String, NoMemory>
-    ensures { IfOk result (λ text. string_bytes text ≡ report.error_line (report.Refuses refusal)) }
+    ensures { IfOk result (λ text. string_bytes text ≡ report.error_text (report.Refuses refusal)) }
 {
     let line = refusal.place.line;
     let column = refusal.place.column;
@@ -81,6 +120,25 @@ fn refused_line(alloc: Global, refusal: Refusal) -> Result<String, NoMemory>
             let name = "StackLeft";
             Ok(format!(in alloc; "refused {line}:{column} {name}\n")?)
         }
+    }
+}
+
+fn run_fault_name(fault: Fault) -> &'static str
+    ensures { result.now ≡ report.run_fault_name fault }
+{
+    match fault {
+        Fault::EmptyPop => "EmptyPop",
+        Fault::WrongKind => "WrongKind",
+        Fault::NotVariable => "NotVariable",
+        Fault::NoEntry => "NoEntry",
+        Fault::BadCase => "BadCase",
+        Fault::NotOneByte => "NotOneByte",
+        Fault::NotAscii => "NotAscii",
+        Fault::BadNameIndex => "BadNameIndex",
+        Fault::BadName => "BadName",
+        Fault::BadPattern => "BadPattern",
+        Fault::IntRange => "IntRange",
+        Fault::StackLeft => "StackLeft",
     }
 }
 

@@ -1,0 +1,115 @@
+//! A run of a style over the entries that an `.aux` file asks for.
+
+ghost use Rattle.std.specs.Prelude.{◌≡◌, ◌++◌, IfOk, IfErr, IfSome, OnOk};
+ghost use Rattle.bst_step.specs.Machine.{configuration};
+ghost use Rattle.bst_run.specs.Ran as rule;
+ghost use Rattle.bst_run.specs.Stops as stops;
+
+use crate::report::{budget_line, fault_line};
+use crate::sources::{Sources, sources_of};
+use crate::stop::Stop;
+use bst_step::machine::{Machine, Turn};
+use bv_base::files::Files;
+use bv_base::memory::NoMemory;
+use bv_base::text::Text;
+use entry_list::join::join;
+use entry_list::joined::Joined;
+use std::alloc::Global;
+
+/// How the first steps of a run end.
+#[derive(Clone, Copy)]
+pub enum Ending {
+    /// No command is left.
+    Done,
+    /// An execution error has come.
+    Fault,
+    /// The steps are taken, and the run goes on.
+    Budget,
+}
+
+/// What a run answers: how it ends, its text for standard output, and its text for standard error.
+#[derive(Drop)]
+pub struct Outcome {
+    pub ending: Ending,
+    pub lines: Vec<u8>,
+    pub log: Vec<u8>,
+}
+
+/// Reads what the `.aux` file of this name asks for, and takes the first steps of the style over it.
+pub fn run<F: Files>(alloc: Global, files: &mut F, aux: &str, steps: u32) -> Result<Outcome, Stop>
+    ensures ran { IfOk result (λ outcome. IfSome (F.told files.old) (λ told.
+        rule.IsOutcome outcome (rule.run_answer told aux.now steps))) }
+    ensures stopped { IfErr result (λ stop. IfSome (F.told files.old) (λ told.
+        stops.Stands stop (rule.run_answer told aux.now steps))) }
+    ensures cause { IfErr result (λ stop. stops.HasCause stop (F.begun files.new) (F.faults files.old) (F.faults files.new)) }
+{
+    let sources = sources_of(alloc, files, aux)?;
+    Ok(run_over(alloc, &sources, steps)?)
+}
+
+/// The first steps of a style over the joined entries.
+fn run_over(alloc: Global, sources: &Sources, steps: u32) -> Result<Outcome, NoMemory>
+    ensures { IfOk result (λ outcome. rule.IsOutcome outcome (rule.run_over steps sources.now)) }
+{
+    let Joined { list, warnings } = join(
+        alloc,
+        &sources.style,
+        sources.items.as_slice(),
+        &sources.database,
+    )?;
+    let mut machine = Machine::new(alloc, &sources.style, list)?;
+    let turn = machine.run(u64::from(steps))?;
+    let mut log = Vec::new(alloc);
+    add_lines(&mut log, sources.database.warnings.as_slice())?;
+    add_lines(&mut log, warnings.as_slice())?;
+    log.extend_from_slice(machine.log()?.as_slice())?;
+    outcome_of(alloc, &machine, turn, steps, log)
+}
+
+/// What a machine answers that has come to this, with this log.
+fn outcome_of(
+    alloc: Global,
+    machine: &Machine<'_>,
+    turn: Turn,
+    steps: u32,
+    log: Vec<u8>,
+) -> Result<Outcome, NoMemory>
+    ensures { IfOk result (λ outcome. rule.IsOutcome outcome (rule.answered steps log.items turn (configuration machine.now))) }
+{
+    let lines = machine.lines()?;
+    let mut log = log;
+    let ending = match turn {
+        Turn::Ended => Ending::Done,
+        Turn::Went => {
+            log.extend_from_slice(budget_line(alloc, steps)?.as_bytes())?;
+            Ending::Budget
+        }
+        Turn::Faulted(fault, site) => {
+            let key = key_text(machine, site.entry);
+            log.extend_from_slice(fault_line(alloc, fault, site.place, key)?.as_slice())?;
+            Ending::Fault
+        }
+    };
+    Ok(Outcome { ending, lines, log })
+}
+
+/// The key of the visited entry, and `-` where none is visited.
+fn key_text<'a>(machine: &'a Machine<'_>, entry: Option<u64>) -> &'a [u8]
+    ensures { result.now ≡ rule.key_text entry (configuration machine.now) }
+{
+    match entry {
+        Some(position) => machine.key(position),
+        None => b"-",
+    }
+}
+
+/// Adds lines, each with its line end.
+fn add_lines(text: &mut Vec<u8>, lines: &[Text]) -> Result<(), NoMemory>
+    ensures { OnOk result (text.new.items ≡ text.old.items ++ rule.ended_lines lines.now) }
+{
+    for line in lines {
+        text.extend_from_slice(line.as_slice())?;
+        text.push(b'\n')?;
+    }
+    Ok(())
+}

@@ -1,0 +1,124 @@
+//! All that a run reads.
+
+ghost use Rattle.std.specs.Prelude.{◌≡◌, ◌≤◌, length, IfErr, map};
+ghost use Rattle.bst_run.specs.Sources as rule;
+ghost use Rattle.bst_run.specs.Stops as stops;
+ghost use Rattle.bib_read.specs.Reading.{database_of};
+
+use crate::aux_files::{MOST_DATA_BYTES, needs_of, text_of};
+use crate::data_fault::DataFault;
+use crate::judge::{MOST_BYTES, style_from};
+use crate::requests::Needs;
+use crate::source_file::{file_of, with_ending};
+use crate::stop::{Stop, bad_data};
+use aux_read::aux::AuxItem;
+use bib_read::database::Database;
+use bib_read::fault::BibFault;
+use bib_read::read::{opening, read};
+use bv_base::files::Files;
+use bv_base::seq::Seq;
+use bv_base::text::Text;
+use name_table::style::Style;
+use std::alloc::Global;
+
+/// All that a run reads.
+#[derive(Drop)]
+pub struct Sources {
+    pub style: Style,
+    /// The citations in order, and no inputs.
+    pub items: Seq<AuxItem>,
+    pub database: Database,
+}
+
+/// Reads the `.aux` file of this name with its inputs, the style and the databases, in this order.
+pub fn sources_of<F: Files>(alloc: Global, files: &mut F, name: &str) -> Result<Sources, Stop>
+    ensures gives { stops.Gives (F.told files.old) (λ told. rule.sources_of told name.now) result }
+    ensures cause { IfErr result (λ stop. stops.HasCause stop (F.begun files.new) (F.faults files.old) (F.faults files.new)) }
+{
+    let needs = needs_of(alloc, files, name)?;
+    sources_for(alloc, files, needs)
+}
+
+/// Reads the style, and then the databases.
+fn sources_for<F: Files>(alloc: Global, files: &mut F, needs: Needs) -> Result<Sources, Stop>
+    ensures gives { stops.Gives (F.told files.old) (λ told. rule.sources_for told needs) result }
+    ensures cause { IfErr result (λ stop. stops.HasCause stop (F.begun files.new) (F.faults files.old) (F.faults files.new)) }
+{
+    let Needs {
+        items,
+        style,
+        databases,
+    } = needs;
+    let style = style_named(alloc, files, &style)?;
+    let before = opening(alloc, &style)?;
+    let database = databases_in(alloc, files, databases.as_slice(), before)?;
+    Ok(Sources {
+        style,
+        items,
+        database,
+    })
+}
+
+/// The style of this name.
+fn style_named<F: Files>(alloc: Global, files: &mut F, name: &Text) -> Result<Style, Stop>
+    ensures gives { stops.Gives (F.told files.old) (λ told. rule.style_named told name.now) result }
+    ensures cause { IfErr result (λ stop. stops.HasCause stop (F.begun files.new) (F.faults files.old) (F.faults files.new)) }
+    ensures told { F.told files.new ≡ F.told files.old }
+    ensures count { F.faults files.old ≤ F.faults files.new }
+{
+    let name = with_ending(alloc, text_of(name)?, ".bst")?;
+    let text = file_of(alloc, files, name.as_str(), MOST_BYTES)?;
+    style_from(alloc, text.as_slice())
+}
+
+/// The databases of these names in order, after what was read before.
+fn databases_in<F: Files>(
+    alloc: Global,
+    files: &mut F,
+    names: &[Text],
+    before: Database,
+) -> Result<Database, Stop>
+    ensures gives { stops.Gives (F.told files.old) (λ told. rule.databases_in told names.now before) result }
+    ensures cause { IfErr result (λ stop. stops.HasCause stop (F.begun files.new) (F.faults files.old) (F.faults files.new)) }
+{
+    let mut database = before;
+    for name in names {
+        database = database_named(alloc, files, name, &database)?;
+    }
+    Ok(database)
+}
+
+/// What the database of this name adds to those before it.
+fn database_named<F: Files>(
+    alloc: Global,
+    files: &mut F,
+    name: &Text,
+    before: &Database,
+) -> Result<Database, Stop>
+    ensures gives { stops.Gives (F.told files.old) (λ told. rule.database_named told name.now before.now) result }
+    ensures cause { IfErr result (λ stop. stops.HasCause stop (F.begun files.new) (F.faults files.old) (F.faults files.new)) }
+    ensures told { F.told files.new ≡ F.told files.old }
+    ensures count { F.faults files.old ≤ F.faults files.new }
+{
+    let name = with_ending(alloc, text_of(name)?, ".bib")?;
+    let text = file_of(alloc, files, name.as_str(), MOST_DATA_BYTES)?;
+    database_from(alloc, name.as_str(), text.as_slice(), before)
+}
+
+/// What the bytes of a database add to those before it.
+fn database_from(
+    alloc: Global,
+    name: &str,
+    text: &[u8],
+    before: &Database,
+) -> Result<Database, Stop>
+    requires { length text.now ≤ 16777216 }
+    ensures decides { stops.Decides (rule.read_database name.now (database_of text.now before.now)) result }
+    ensures inside { IfErr result stops.IsInside }
+{
+    match read(alloc, text, before) {
+        Ok(database) => Ok(database),
+        Err(BibFault::NoMemory) => Err(Stop::NoMemory),
+        Err(fault) => Err(bad_data(alloc, name, DataFault::Bib(fault))),
+    }
+}
