@@ -47,12 +47,15 @@ abbrev pub take_aux : ℕ → (List ℕ → Requests → Result Requests Answer)
 take_aux levels input name before aux =
     unless_faulty name (fault_after levels before aux) (take_items input aux.items (with_names aux before))
 
+-- what the file of this name asks for by itself
+abbrev pub aux_file : Listing → List ℕ → Result Aux Answer
+aux_file told name = then_do (file_in told 16777216 name) (aux_in name)
+
 -- an input, which is one of so many levels that may lie below the file that names it; where there is none, that file is at fault
 abbrev pub take_input : ℕ → Listing → List ℕ → Requests → Result Requests Answer
 take_input zero told name before = Ok before
 take_input (suc levels) told name before =
-    then_do (file_in told 16777216 name) (λ text.
-    then_do (aux_in name text) (take_aux levels (take_input levels told) name before))
+    then_do (aux_file told name) (take_aux levels (take_input levels told) name before)
 
 -- a style and databases are named, or the first file is at fault at its end
 abbrev pub complete_by : List ℕ → List ℕ → List AuxItem → Option (List ℕ) → List (List ℕ) → Result Needs Answer
@@ -63,11 +66,15 @@ complete_by name text items (Some style) (first ∷ rest) = Ok (record { items =
 abbrev pub complete : List ℕ → List ℕ → Requests → Result Needs Answer
 complete name text requests = complete_by name text requests.items requests.style requests.databases
 
+-- a first file, below which so many levels of inputs may lie
+abbrev pub needs_within : ℕ → Listing → List ℕ → List ℕ → Result Needs Answer
+needs_within levels told name text =
+    then_do (aux_in name text) (λ aux.
+    then_do (take_aux levels (take_input levels told) name nothing aux) (complete name text))
+
 -- inputs nest at most 16 deep below the first file
 unfoldable pub needs_after : Listing → List ℕ → List ℕ → Result Needs Answer
-needs_after told name text =
-    then_do (aux_in name text) (λ aux.
-    then_do (take_aux 16 (take_input 16 told) name nothing aux) (complete name text))
+needs_after told name text = needs_within 16 told name text
 
 -- what the .aux file of this name and its inputs ask for
 abbrev pub needs_of : Listing → List ℕ → Result Needs Answer

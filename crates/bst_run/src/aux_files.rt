@@ -107,9 +107,19 @@ fn take_input<F: Files>(
         return Ok(before);
     }
     let name = text_of(name)?;
-    let text = file_of(alloc, files, name, MOST_DATA_BYTES)?;
-    let aux = aux_from(alloc, name, text.as_slice())?;
+    let aux = aux_file(alloc, files, name)?;
     take_aux(alloc, files, levels - 1, name, before, aux)
+}
+
+/// What the file of this name asks for by itself.
+fn aux_file<F: Files>(alloc: Global, files: &mut F, name: &str) -> Result<Aux, Stop>
+    ensures gives { stops.Gives (F.told files.old) (λ told. chain.aux_file told name.now) result }
+    ensures cause { IfErr result (λ stop. stops.HasCause stop (F.begun files.new) (F.faults files.old) (F.faults files.new)) }
+    ensures told { F.told files.new ≡ F.told files.old }
+    ensures count { F.faults files.old ≤ F.faults files.new }
+{
+    let text = file_of(alloc, files, name, MOST_DATA_BYTES)?;
+    aux_from(alloc, name, text.as_slice())
 }
 
 /// The name of a file as text. The readers take no name that isn't UTF-8.

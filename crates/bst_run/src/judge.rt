@@ -62,7 +62,8 @@ fn decide(alloc: Global, source: &[u8], style: &Style, text: &[u8]) -> Result<Co
     ensures decides { stops.Decides (top.judged source.now style.now (certificate_of text.now)) result }
     ensures inside { IfErr result stops.IsInside }
 {
-    let Some(cond) = read_short(alloc, text)? else {
+    let found = read_short(alloc, text)?;
+    let Some(cond) = found else {
         return Err(Stop::NotBuilt);
     };
     if source.len() > MOST_STRAIGHT_BYTES || !is_straight(style) {

@@ -118,8 +118,16 @@ fn too_deep(levels: u32, items: &[AuxItem]) -> Option<DataFault>
     ensures { result ≡ requests.too_deep levels items.now }
 {
     if levels > 0 {
-        return None;
+        None
+    } else {
+        first_input(items)
     }
+}
+
+/// The first input.
+fn first_input(items: &[AuxItem]) -> Option<DataFault>
+    ensures { result ≡ requests.first_input items.now }
+{
     for item in items {
         if let AuxItem::Input(_, place) = item {
             return Some(DataFault::TooDeep(*place));

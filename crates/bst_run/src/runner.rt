@@ -47,23 +47,55 @@ pub fn run<F: Files>(alloc: Global, files: &mut F, aux: &str, steps: u32) -> Res
     Ok(run_over(alloc, &sources, steps)?)
 }
 
-/// The first steps of a style over the joined entries.
+/// Joins the citations and the databases, and takes the first steps of the style over them.
 fn run_over(alloc: Global, sources: &Sources, steps: u32) -> Result<Outcome, NoMemory>
     ensures { IfOk result (λ outcome. rule.IsOutcome outcome (rule.run_over steps sources.now)) }
 {
-    let Joined { list, warnings } = join(
+    let found = join(
         alloc,
         &sources.style,
         sources.items.as_slice(),
         &sources.database,
     )?;
+    run_joined(alloc, sources, steps, found)
+}
+
+/// Takes the first steps of the style over the joined entries.
+fn run_joined(
+    alloc: Global,
+    sources: &Sources,
+    steps: u32,
+    found: Joined,
+) -> Result<Outcome, NoMemory>
+    ensures { IfOk result (λ outcome. rule.IsOutcome outcome (rule.run_joined steps sources.now found)) }
+{
+    let Joined { list, warnings } = found;
     let mut machine = Machine::new(alloc, &sources.style, list)?;
     let turn = machine.run(u64::from(steps))?;
-    let mut log = Vec::new(alloc);
-    add_lines(&mut log, sources.database.warnings.as_slice())?;
-    add_lines(&mut log, warnings.as_slice())?;
-    log.extend_from_slice(machine.log()?.as_slice())?;
+    let log = whole_log(
+        alloc,
+        sources.database.warnings.as_slice(),
+        warnings.as_slice(),
+        &machine,
+    )?;
     outcome_of(alloc, &machine, turn, steps, log)
+}
+
+/// The log: the warnings of the databases, those of the joining, and the lines that the run logged.
+fn whole_log(
+    alloc: Global,
+    reading: &[Text],
+    joining: &[Text],
+    machine: &Machine<'_>,
+) -> Result<Vec<u8>, NoMemory>
+    ensures { IfOk result (λ log. log.items ≡
+        rule.ended_lines reading.now ++ (rule.ended_lines joining.now ++ rule.ended_lines (configuration machine.now).log)) }
+{
+    let mut log = Vec::new(alloc);
+    add_lines(&mut log, reading)?;
+    add_lines(&mut log, joining)?;
+    log.extend_from_slice(machine.log()?.as_slice())?;
+    Ok(log)
 }
 
 /// What a machine answers that has come to this, with this log.

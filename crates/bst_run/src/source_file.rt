@@ -2,7 +2,7 @@
 
 ghost use Rattle.std.specs.Prelude.{◌≡◌, ◌≤◌, length, IfOk, IfErr};
 ghost use Rattle.std.specs.String.{string_bytes};
-ghost use Rattle.bst_run.specs.Files as files;
+ghost use Rattle.bst_run.specs.Files as source;
 ghost use Rattle.bst_run.specs.Stops as stops;
 
 use crate::stop::Stop;
@@ -19,7 +19,7 @@ pub fn file_of<F: Files>(
     name: &str,
     limit: u32,
 ) -> Result<Text, Stop>
-    ensures gives { stops.Gives (F.told files.old) (λ told. files.file_in told limit name.now) result }
+    ensures gives { stops.Gives (F.told files.old) (λ told. source.file_in told limit name.now) result }
     ensures short { IfOk result (λ text. length text ≤ limit) }
     ensures cause { IfErr result (λ stop. stops.HasCause stop (F.begun files.new) (F.faults files.old) (F.faults files.new)) }
     ensures told { F.told files.new ≡ F.told files.old }
@@ -36,7 +36,7 @@ pub fn file_of<F: Files>(
 
 /// The name that ends so: with the ending behind it, where it doesn't end so already.
 pub fn with_ending(alloc: Global, name: &str, ending: &str) -> Result<String, NoMemory>
-    ensures { IfOk result (λ found. string_bytes found ≡ files.with_ending name.now ending.now) }
+    ensures { IfOk result (λ found. string_bytes found ≡ source.with_ending name.now ending.now) }
 {
     if name.as_bytes().ends_with(ending.as_bytes()) {
         return Ok(String::from_str(alloc, name)?);

@@ -8,18 +8,6 @@ use Rattle.bst_run.proofs.Sound.{sound}
 use Rattle.bst_run.proofs.JudgeLemmas.{decides}
 use Rattle.bst_run.proofs.judge.decide.Goals as goal
 
--- the text is no short certificate
-pub returns-in_default-found-clause-stopped : goal.returns-in_default-found-clause-stopped
-returns-in_default-found-clause-stopped c =
-    ap (top.judged c.args.source.now c.args.style.now) (sym c.in-Ok.ensures.exact ∙ c.in_default-found.is)
-
--- a rule fails
-pub returns-in-Some-first_refusal-clause-stopped : goal.returns-in-Some-first_refusal-clause-stopped
-returns-in-Some-first_refusal-clause-stopped c =
-    decides c.args.source.now c.args.style.now (certificate_of c.args.text.now) c.in-Some.cond
-    (sym c.in-Ok.ensures.exact ∙ c.in-Some.is) (omega arith) (sym c.is_straight.ensures ∙ c.if-not-is_straight.false)
-    ∙ ap (top.decided c.in-Some.cond) (sym c.first_refusal.ensures ∙ c.in-Some-first_refusal.is)
-
 -- the rules hold
 pub returns-in-None-clause-accepted : goal.returns-in-None-clause-accepted
 returns-in-None-clause-accepted c =
@@ -27,8 +15,8 @@ returns-in-None-clause-accepted c =
     let holds = sym c.first_refusal.ensures ∙ c.in-None.is in
     record {
       answered = decides c.args.source.now c.args.style.now (certificate_of c.args.text.now) c.in-Some.cond
-          (sym c.in-Ok.ensures.exact ∙ c.in-Some.is) (omega arith) straight ∙ ap (top.decided c.in-Some.cond) holds;
-      cert_read = let found : IfSome c.in-Ok.found (IsCertificate c.args.text.now) = c.in-Ok.ensures.found in
+          (sym c.in_ok-found.ensures.exact ∙ c.in-Some.is) (omega arith) straight ∙ ap (top.decided c.in-Some.cond) holds;
+      cert_read = let found : IfSome c.in_ok-found.found (IsCertificate c.args.text.now) = c.in_ok-found.ensures.found in
           subst (λ (o : Option Cond). IfSome o (IsCertificate c.args.text.now)) c.in-Some.is found;
       safe = sound c.args.style.now c.in-Some.cond straight holds;
     }
