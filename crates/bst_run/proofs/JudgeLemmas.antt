@@ -56,7 +56,9 @@ there name bytes (Some b) is = by_length (nat_lt 4194304 (length b)) is
 
 -- a style that was read
 is_style : (r : Result Style StyleFault) (style : Style) → read_style r ≡ Ok style → r ≡ Ok style
-is_style (Ok s) style is = is
+is_style (Ok s) style is =
+    let same : s ≡ style = cc in
+    ap Ok same
 is_style (Err fault) style is = absurd (cc)
 
 pub accepts : (told told' : Option Listing) (style_name cert_name bytes bytes' bytes'' text text' : List ℕ) (style : Style) (result : Result Cond Stop)
