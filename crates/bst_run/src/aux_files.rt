@@ -1,7 +1,9 @@
 //! The `.aux` file of a run and its inputs.
 
 ghost use Rattle.std.specs.Prelude.{◌≡◌, ◌≤◌, length, IfOk, IfErr};
+ghost use Rattle.aux_read.specs.Keys.{HaveKeys};
 ghost use Rattle.bib_read.specs.Stops.{after_bytes, first_place};
+ghost use Rattle.entry_list.specs.Keys.{AreCitations};
 ghost use Rattle.bst_run.specs.AuxChain as chain;
 ghost use Rattle.bst_run.specs.Stops as stops;
 
@@ -27,6 +29,7 @@ const MOST_LEVELS: u32 = 16;
 /// What the `.aux` file of this name and its inputs ask for.
 pub fn needs_of<F: Files>(alloc: Global, files: &mut F, name: &str) -> Result<Needs, Stop>
     ensures gives { stops.Gives (F.told files.old) (λ told. chain.needs_of told name.now) result }
+    ensures cited { IfOk result (λ needs. AreCitations needs.items) }
     ensures cause { IfErr result (λ stop. stops.HasCause stop (F.begun files.new) (F.faults files.old) (F.faults files.new)) }
     ensures told { F.told files.new ≡ F.told files.old }
     ensures count { F.faults files.old ≤ F.faults files.new }
@@ -44,6 +47,7 @@ fn needs_after<F: Files>(
 ) -> Result<Needs, Stop>
     requires { length text.now ≤ 16777216 }
     ensures gives { stops.Gives (F.told files.old) (λ told. chain.needs_after told name.now text.now) result }
+    ensures cited { IfOk result (λ needs. AreCitations needs.items) }
     ensures cause { IfErr result (λ stop. stops.HasCause stop (F.begun files.new) (F.faults files.old) (F.faults files.new)) }
     ensures told { F.told files.new ≡ F.told files.old }
     ensures count { F.faults files.old ≤ F.faults files.new }
@@ -63,8 +67,11 @@ fn take_aux<F: Files>(
     before: Requests,
     aux: Aux,
 ) -> Result<Requests, Stop>
+    requires before { AreCitations before.items }
+    requires keys { HaveKeys aux.items }
     ensures gives { stops.Gives (F.told files.old) (λ told.
         chain.take_aux levels (chain.take_input levels told) name.now before aux) result }
+    ensures cited { IfOk result (λ requests. AreCitations requests.items) }
     ensures cause { IfErr result (λ stop. stops.HasCause stop (F.begun files.new) (F.faults files.old) (F.faults files.new)) }
     ensures told { F.told files.new ≡ F.told files.old }
     ensures count { F.faults files.old ≤ F.faults files.new }
@@ -98,7 +105,9 @@ fn take_input<F: Files>(
     name: &Text,
     before: Requests,
 ) -> Result<Requests, Stop>
+    requires { AreCitations before.items }
     ensures gives { stops.Gives (F.told files.old) (λ told. chain.take_input levels told name.now before) result }
+    ensures cited { IfOk result (λ requests. AreCitations requests.items) }
     ensures cause { IfErr result (λ stop. stops.HasCause stop (F.begun files.new) (F.faults files.old) (F.faults files.new)) }
     ensures told { F.told files.new ≡ F.told files.old }
     ensures count { F.faults files.old ≤ F.faults files.new }
@@ -114,6 +123,7 @@ fn take_input<F: Files>(
 /// What the file of this name asks for by itself.
 fn aux_file<F: Files>(alloc: Global, files: &mut F, name: &str) -> Result<Aux, Stop>
     ensures gives { stops.Gives (F.told files.old) (λ told. chain.aux_file told name.now) result }
+    ensures keys { IfOk result (λ aux. HaveKeys aux.items) }
     ensures cause { IfErr result (λ stop. stops.HasCause stop (F.begun files.new) (F.faults files.old) (F.faults files.new)) }
     ensures told { F.told files.new ≡ F.told files.old }
     ensures count { F.faults files.old ≤ F.faults files.new }
@@ -136,6 +146,7 @@ pub fn text_of(name: &Text) -> Result<&str, NoMemory>
 fn aux_from(alloc: Global, name: &str, text: &[u8]) -> Result<Aux, Stop>
     requires { length text.now ≤ 16777216 }
     ensures decides { stops.Decides (chain.aux_in name.now text.now) result }
+    ensures keys { IfOk result (λ aux. HaveKeys aux.items) }
     ensures inside { IfErr result stops.IsInside }
 {
     match read(alloc, text) {
@@ -149,6 +160,7 @@ fn aux_from(alloc: Global, name: &str, text: &[u8]) -> Result<Aux, Stop>
 fn complete(alloc: Global, name: &str, text: &[u8], requests: Requests) -> Result<Needs, Stop>
     requires { length text.now ≤ 16777216 }
     ensures decides { stops.Decides (chain.complete name.now text.now requests) result }
+    ensures same { IfOk result (λ needs. needs.items ≡ requests.items) }
     ensures inside { IfErr result stops.IsInside }
 {
     let Requests {

@@ -9,6 +9,8 @@ mod judge;
 mod refusal;
 mod report;
 mod requests;
+#[cfg(test)]
+mod run_tests;
 mod runner;
 mod source_file;
 mod sources;

@@ -1,7 +1,9 @@
 //! A run of a style over the entries that an `.aux` file asks for.
 
 ghost use Rattle.std.specs.Prelude.{◌≡◌, ◌++◌, IfOk, IfErr, IfSome, OnOk};
+ghost use Rattle.bib_read.specs.Additions.{AreKeyed};
 ghost use Rattle.bst_step.specs.Machine.{configuration};
+ghost use Rattle.entry_list.specs.Keys.{AreCitations};
 ghost use Rattle.bst_run.specs.Ran as rule;
 ghost use Rattle.bst_run.specs.Stops as stops;
 
@@ -49,6 +51,8 @@ pub fn run<F: Files>(alloc: Global, files: &mut F, aux: &str, steps: u32) -> Res
 
 /// Joins the citations and the databases, and takes the first steps of the style over them.
 fn run_over(alloc: Global, sources: &Sources, steps: u32) -> Result<Outcome, NoMemory>
+    requires cited { AreCitations sources.now.items }
+    requires keyed { AreKeyed sources.now.database.entries }
     ensures { IfOk result (λ outcome. rule.IsOutcome outcome (rule.run_over steps sources.now)) }
 {
     let found = join(

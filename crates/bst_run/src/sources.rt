@@ -1,9 +1,11 @@
 //! All that a run reads.
 
-ghost use Rattle.std.specs.Prelude.{◌≡◌, ◌≤◌, length, IfErr, map};
+ghost use Rattle.std.specs.Prelude.{◌≡◌, ◌≤◌, length, IfOk, IfErr};
+ghost use Rattle.bib_read.specs.Additions.{AreKeyed};
+ghost use Rattle.bib_read.specs.Reading.{database_of};
+ghost use Rattle.entry_list.specs.Keys.{AreCitations};
 ghost use Rattle.bst_run.specs.Sources as rule;
 ghost use Rattle.bst_run.specs.Stops as stops;
-ghost use Rattle.bib_read.specs.Reading.{database_of};
 
 use crate::aux_files::{MOST_DATA_BYTES, needs_of, text_of};
 use crate::data_fault::DataFault;
@@ -33,6 +35,8 @@ pub struct Sources {
 /// Reads the `.aux` file of this name with its inputs, the style and the databases, in this order.
 pub fn sources_of<F: Files>(alloc: Global, files: &mut F, name: &str) -> Result<Sources, Stop>
     ensures gives { stops.Gives (F.told files.old) (λ told. rule.sources_of told name.now) result }
+    ensures cited { IfOk result (λ sources. AreCitations sources.items) }
+    ensures keyed { IfOk result (λ sources. AreKeyed sources.database.entries) }
     ensures cause { IfErr result (λ stop. stops.HasCause stop (F.begun files.new) (F.faults files.old) (F.faults files.new)) }
 {
     let needs = needs_of(alloc, files, name)?;
@@ -42,6 +46,8 @@ pub fn sources_of<F: Files>(alloc: Global, files: &mut F, name: &str) -> Result<
 /// Reads the style, and then the databases.
 fn sources_for<F: Files>(alloc: Global, files: &mut F, needs: Needs) -> Result<Sources, Stop>
     ensures gives { stops.Gives (F.told files.old) (λ told. rule.sources_for told needs) result }
+    ensures same { IfOk result (λ sources. sources.items ≡ needs.items) }
+    ensures keyed { IfOk result (λ sources. AreKeyed sources.database.entries) }
     ensures cause { IfErr result (λ stop. stops.HasCause stop (F.begun files.new) (F.faults files.old) (F.faults files.new)) }
 {
     let Needs {
@@ -78,7 +84,9 @@ fn databases_in<F: Files>(
     names: &[Text],
     before: Database,
 ) -> Result<Database, Stop>
+    requires { AreKeyed before.entries }
     ensures gives { stops.Gives (F.told files.old) (λ told. rule.databases_in told names.now before) result }
+    ensures keyed { IfOk result (λ database. AreKeyed database.entries) }
     ensures cause { IfErr result (λ stop. stops.HasCause stop (F.begun files.new) (F.faults files.old) (F.faults files.new)) }
 {
     let mut database = before;
@@ -95,7 +103,9 @@ fn database_named<F: Files>(
     name: &Text,
     before: &Database,
 ) -> Result<Database, Stop>
+    requires { AreKeyed before.now.entries }
     ensures gives { stops.Gives (F.told files.old) (λ told. rule.database_named told name.now before.now) result }
+    ensures keyed { IfOk result (λ database. AreKeyed database.entries) }
     ensures cause { IfErr result (λ stop. stops.HasCause stop (F.begun files.new) (F.faults files.old) (F.faults files.new)) }
     ensures told { F.told files.new ≡ F.told files.old }
     ensures count { F.faults files.old ≤ F.faults files.new }
@@ -112,8 +122,10 @@ fn database_from(
     text: &[u8],
     before: &Database,
 ) -> Result<Database, Stop>
-    requires { length text.now ≤ 16777216 }
+    requires short { length text.now ≤ 16777216 }
+    requires keyed { AreKeyed before.now.entries }
     ensures decides { stops.Decides (rule.read_database name.now (database_of text.now before.now)) result }
+    ensures keyed { IfOk result (λ database. AreKeyed database.entries) }
     ensures inside { IfErr result stops.IsInside }
 {
     match read(alloc, text, before) {

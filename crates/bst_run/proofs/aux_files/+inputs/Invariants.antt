@@ -1,5 +1,7 @@
 use Rattle.std.proofs.Common.{◌≡◌, ℕ, ◌+◌, ◌*◌, ◌≤◌}
 use Rattle.std.specs.Vec.Iter.{into_iter_items}
+use Rattle.aux_read.specs.Keys.{HaveKeys}
+use Rattle.entry_list.specs.Keys.{AreCitations}
 use Rattle.bst_run.proofs.ChainLemmas.{AreLeft}
 use Rattle.bst_run.proofs.aux_files.+inputs.Given as goal
 
@@ -15,4 +17,6 @@ invariant-take_aux-loop-item g l = record {
   told : g.F.Files.told l.files ≡ g.F.Files.told l.initial.files;
   count : g.F.Files.faults l.initial.files ≤ g.F.Files.faults l.files;
   left : AreLeft (g.F.Files.told l.initial.files) l.levels l.fn.before l.fn.aux (into_iter_items l.item-iterator) l.requests;
+  cited : AreCitations l.requests.items;
+  keys : HaveKeys (into_iter_items l.item-iterator);
 }

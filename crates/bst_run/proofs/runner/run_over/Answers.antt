@@ -5,9 +5,3 @@ pub returns : goal.returns
 returns c =
     joined_outcome c.args.steps c.args.sources.now c.as_slice.result.now c.in_ok-found.found c.run_joined.result
     c.in_ok-found.ensures.joined c.as_slice.ensures c.run_joined.ensures
-
-pub join-requires-clause-items : goal.join-requires-clause-items
-join-requires-clause-items c = ?
-
-pub join-requires-clause-keys : goal.join-requires-clause-keys
-join-requires-clause-keys c = ?

@@ -1,5 +1,6 @@
 use Rattle.std.proofs.Common.{◌≡◌, ◌≤◌, drop}
 use Rattle.std.specs.Prelude.{IfSome}
+use Rattle.bib_read.specs.Additions.{AreKeyed}
 use Rattle.bst_run.specs.Sources as rule
 use Rattle.bst_run.proofs.sources.databases_in.Given as goal
 
@@ -10,4 +11,5 @@ invariant-loop-name g l = record {
   count : g.F.Files.faults l.initial.files ≤ g.F.Files.faults l.files;
   rest : IfSome (g.F.Files.told l.initial.files) (λ told.
       rule.databases_in told (drop l.name-index l.names) l.database ≡ rule.databases_in told l.names l.fn.before);
+  keyed : AreKeyed l.database.entries;
 }
