@@ -1,9 +1,9 @@
 -- What calls give in turn, and why they stop.
-use Rattle.std.proofs.Common.{◌≡◌, ℕ, ◌≤◌, ◌<◌, ◌⊎◌, inl, inr, List, Option, None, Some, Result, Ok, Err, refl, subst, arith}
+use Rattle.std.proofs.Common.{◌≡◌, ℕ, ◌≤◌, inl, inr, Option, None, Some, Result, Ok, Err, refl, arith}
 use Rattle.std.specs.Prelude.{IfSome}
 use Rattle.bv_base.specs.Outside.{Listing, Begun, Rose}
 use Rattle.bst_run.specs.declared.stop.Stop.{Stop}
-use Rattle.bst_run.specs.declared.stop.Stop.TheVariants.{NoFile, ReadFailed, TooLong, BadStyle, BadData, NotBuilt, Refused, NoMemory}
+use Rattle.bst_run.specs.declared.stop.Stop.TheVariants.{NoFile, ReadFailed, TooLong}
 use Rattle.bst_run.specs.Report.{Answer}
 use Rattle.bst_run.specs.Files.{then_do}
 use Rattle.bst_run.specs.Stops.{answer_of, Gives, Decides, HasCause, IsInside}

@@ -11,7 +11,7 @@ use Rattle.bst_meaning.specs.declared.condition.Cond.{Cond}
 use Rattle.bst_run.specs.declared.stop.Stop.{Stop}
 use Rattle.bst_run.specs.Straight.{is_straight}
 use Rattle.bst_run.specs.Walk.{first_refusal}
-use Rattle.bst_run.specs.Report.{Answer, OutOfReach, FileTooLong}
+use Rattle.bst_run.specs.Report.{OutOfReach, FileTooLong}
 use Rattle.bst_run.specs.Reading.{certificate_of}
 use Rattle.bst_run.specs.Files.{then_do, whole_file, file_in}
 use Rattle.bst_run.specs.Sources.{read_style}

@@ -1,6 +1,5 @@
 -- Where a call stops before it has decided or run, and what each stop stands for.
-use Rattle.std.specs.Prelude.{◌≡◌, ℕ, List, ◌++◌, codes, Option, None, Some, IfSome, Result, Ok, Err, String}
-use Rattle.std.specs.Global.{Global}
+use Rattle.std.specs.Prelude.{◌≡◌, ℕ, List, ◌++◌, codes, Option, None, Some, IfSome, Result, Ok, Err}
 use Rattle.std.specs.String.{string_bytes}
 use Rattle.bv_base.specs.Outside.{Listing, Begun, Rose, opened, missing}
 use Rattle.bv_base.specs.declared.status.Status.{Status}
