@@ -1,7 +1,6 @@
 -- An .aux file and its inputs, one after the other.
 use Rattle.std.proofs.Common.{◌≡◌, ℕ, suc, zero, ◌-◌, ◌<◌, List, Option, Result, Ok, Err, subst, arith}
 use Rattle.std.specs.Prelude.{IfSome}
-
 use Rattle.bv_base.specs.Outside.{Listing}
 use Rattle.aux_read.specs.declared.aux.Aux.{Aux}
 use Rattle.aux_read.specs.declared.aux.AuxItem.{AuxItem}

@@ -53,7 +53,14 @@ fn needs_after<F: Files>(
     ensures count { F.faults files.old ≤ F.faults files.new }
 {
     let aux = aux_from(alloc, name, text)?;
-    let requests = take_aux(alloc, files, MOST_LEVELS, name, Requests::nothing(alloc), aux)?;
+    let requests = take_aux(
+        alloc,
+        files,
+        MOST_LEVELS,
+        name,
+        Requests::nothing(alloc),
+        aux,
+    )?;
     complete(alloc, name, text, requests)
 }
 

@@ -60,9 +60,8 @@ fn aux_place(fault: AuxFault) -> Place
     ensures { result ≡ faults.aux_place fault }
 {
     match fault {
-        AuxFault::BadCommand(place)
-        | AuxFault::SecondStyle(place)
-        | AuxFault::SecondData(place) => place,
+        AuxFault::BadCommand(place) | AuxFault::SecondStyle(place) | AuxFault::SecondData(place) =>
+            place,
         AuxFault::NoMemory => Place::START,
     }
 }

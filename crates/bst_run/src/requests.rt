@@ -117,11 +117,7 @@ fn second_databases(before: &Requests, aux: &Aux) -> Option<DataFault>
 fn too_deep(levels: u32, items: &[AuxItem]) -> Option<DataFault>
     ensures { result ≡ requests.too_deep levels items.now }
 {
-    if levels > 0 {
-        None
-    } else {
-        first_input(items)
-    }
+    if levels > 0 { None } else { first_input(items) }
 }
 
 /// The first input.

@@ -9,6 +9,7 @@ use std::process::Abort;
 use std::test::Fail;
 
 /// A run of the files `p.aux`, `i.aux`, `s.bst` and `d.bib`, and what it answers.
+#[derive(Clone, Copy)]
 struct Row<'a> {
     aux: &'a [u8],
     input: &'a [u8],
@@ -72,10 +73,12 @@ const JOINS: &[u8] = b"ENTRY{}{}{} FUNCTION{f}{\"a\" \"b\" * write$ newline$} RE
 const KEYS: &[u8] = b"ENTRY{}{}{} FUNCTION{f}{cite$ write$ newline$} READ ITERATE{f}";
 
 /// Writes the first author by a pattern.
-const FORMAT: &[u8] = b"ENTRY{author}{}{} FUNCTION{f}{author #1 \"{vv~}{ll}{, jj}{, f}?\" format.name$ write$ newline$} READ ITERATE{f}";
+const FORMAT: &[u8] =
+    b"ENTRY{author}{}{} FUNCTION{f}{author #1 \"{vv~}{ll}{, jj}{, f}?\" format.name$ write$ newline$} READ ITERATE{f}";
 
 /// Enters the function of each entry's type.
-const TYPES: &[u8] = b"ENTRY{}{}{} FUNCTION{output}{write$ newline$} FUNCTION{misc}{\"x\" output} READ ITERATE{call.type$}";
+const TYPES: &[u8] =
+    b"ENTRY{}{}{} FUNCTION{output}{write$ newline$} FUNCTION{misc}{\"x\" output} READ ITERATE{call.type$}";
 
 /// Writes the names of each entry as a list.
 const NAMES: &[u8] = b"ENTRY{author}{}{}
@@ -291,9 +294,24 @@ fn expect_bad(rt: &impl Abort, alloc: Global, rows: &[Bad<'_>]) -> Result<(), Fa
 
 const BAD_DATABASES: [Bad<'static>; 5] = [
     (ONE, b"", b"@misc k", b"bad data d.bib 1:7 Expected\n"),
-    (ONE, b"", b"@misc{k, a = {x}", b"bad data d.bib 1:17 EndOfFile\n"),
-    (ONE, b"", b"@misc{k, a = \"}\"}", b"bad data d.bib 1:15 Unbalanced\n"),
-    (ONE, b"", b"@misc{k}\n@misc{K}\n", b"bad data d.bib 2:7 RepeatedKey\n"),
+    (
+        ONE,
+        b"",
+        b"@misc{k, a = {x}",
+        b"bad data d.bib 1:17 EndOfFile\n",
+    ),
+    (
+        ONE,
+        b"",
+        b"@misc{k, a = \"}\"}",
+        b"bad data d.bib 1:15 Unbalanced\n",
+    ),
+    (
+        ONE,
+        b"",
+        b"@misc{k}\n@misc{K}\n",
+        b"bad data d.bib 2:7 RepeatedKey\n",
+    ),
     // A database that is named twice is read twice.
     (
         b"\\bibstyle{s}\n\\bibdata{d,d.bib}",
@@ -304,25 +322,65 @@ const BAD_DATABASES: [Bad<'static>; 5] = [
 ];
 
 const BAD_AUX: [Bad<'static>; 11] = [
-    (b"\n\\citation{a", b"", b"", b"bad data p.aux 2:1 BadCommand\n"),
-    (b"\\bibstyle{s}\n\\bibstyle{s}\n", b"", b"", b"bad data p.aux 2:1 SecondStyle\n"),
-    (b"\\bibdata{d}\n\\bibdata{d}\n", b"", b"", b"bad data p.aux 2:1 SecondData\n"),
+    (
+        b"\n\\citation{a",
+        b"",
+        b"",
+        b"bad data p.aux 2:1 BadCommand\n",
+    ),
+    (
+        b"\\bibstyle{s}\n\\bibstyle{s}\n",
+        b"",
+        b"",
+        b"bad data p.aux 2:1 SecondStyle\n",
+    ),
+    (
+        b"\\bibdata{d}\n\\bibdata{d}\n",
+        b"",
+        b"",
+        b"bad data p.aux 2:1 SecondData\n",
+    ),
     // A style and databases are wanted, the style first, at the end of the first file and after its inputs.
     (b"", b"", b"", b"bad data p.aux 1:1 NoStyle\n"),
     (b"\\bibdata{d}\n", b"", b"", b"bad data p.aux 2:1 NoStyle\n"),
-    (b"\\@input{i.aux}\n\\bibstyle{s}", b"\n\n", b"", b"bad data p.aux 2:13 NoData\n"),
+    (
+        b"\\@input{i.aux}\n\\bibstyle{s}",
+        b"\n\n",
+        b"",
+        b"bad data p.aux 2:13 NoData\n",
+    ),
     // An input is read later, so it is at fault, at the first of its lines that is.
-    (b"\\bibstyle{s}\n\\@input{i.aux}\n", b"\n\\bibstyle{s}\n", b"", b"bad data i.aux 2:1 SecondStyle\n"),
-    (b"\\@input{i.aux}\n\\bibdata{d}\n", b"\\bibdata{d}\n", b"", b"bad data i.aux 1:1 SecondData\n"),
+    (
+        b"\\bibstyle{s}\n\\@input{i.aux}\n",
+        b"\n\\bibstyle{s}\n",
+        b"",
+        b"bad data i.aux 2:1 SecondStyle\n",
+    ),
+    (
+        b"\\@input{i.aux}\n\\bibdata{d}\n",
+        b"\\bibdata{d}\n",
+        b"",
+        b"bad data i.aux 1:1 SecondData\n",
+    ),
     (
         b"\\bibstyle{s}\n\\bibdata{d}\n\\@input{i.aux}\n",
         b"\\bibdata{d}\n\\bibstyle{s}\n",
         b"",
         b"bad data i.aux 1:1 SecondData\n",
     ),
-    (b"\\bibstyle{s}\n\\@input{i.aux}\n", b"\\bibstyle{s}\n\\citation{}\n", b"", b"bad data i.aux 2:1 BadCommand\n"),
+    (
+        b"\\bibstyle{s}\n\\@input{i.aux}\n",
+        b"\\bibstyle{s}\n\\citation{}\n",
+        b"",
+        b"bad data i.aux 2:1 BadCommand\n",
+    ),
     // A file that inputs itself nests too deep.
-    (b"\\citation{a}\n\\@input{p.aux}\n", b"", b"", b"bad data p.aux 2:1 TooDeep\n"),
+    (
+        b"\\citation{a}\n\\@input{p.aux}\n",
+        b"",
+        b"",
+        b"bad data p.aux 2:1 TooDeep\n",
+    ),
 ];
 
 #[test]
@@ -362,10 +420,25 @@ fn nested(alloc: Global, last: &[u8]) -> Result<MemFiles, Fail> {
 const NESTED: [(&[u8], Status, &[u8], &[u8]); 4] = [
     // What an input cites takes its place among the citations.
     (b"\\citation{c}\n", Status::Done, b"a\nc\nb\n", b""),
-    (b"\\@input{x}\n", Status::BadData, b"", b"bad data q16.aux 1:1 TooDeep\n"),
+    (
+        b"\\@input{x}\n",
+        Status::BadData,
+        b"",
+        b"bad data q16.aux 1:1 TooDeep\n",
+    ),
     // The earlier line is at fault.
-    (b"\n\\@input{x}\n\\bibstyle{s}\n", Status::BadData, b"", b"bad data q16.aux 2:1 TooDeep\n"),
-    (b"\n\\bibdata{s}\n\\@input{x}\n", Status::BadData, b"", b"bad data q16.aux 2:1 SecondData\n"),
+    (
+        b"\n\\@input{x}\n\\bibstyle{s}\n",
+        Status::BadData,
+        b"",
+        b"bad data q16.aux 2:1 TooDeep\n",
+    ),
+    (
+        b"\n\\bibdata{s}\n\\@input{x}\n",
+        Status::BadData,
+        b"",
+        b"bad data q16.aux 2:1 SecondData\n",
+    ),
 ];
 
 /// Asserts what each run over nested files answers.

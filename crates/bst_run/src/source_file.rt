@@ -13,12 +13,7 @@ use bv_base::text::Text;
 use std::alloc::Global;
 
 /// A whole file of at most `limit` bytes.
-pub fn file_of<F: Files>(
-    alloc: Global,
-    files: &mut F,
-    name: &str,
-    limit: u32,
-) -> Result<Text, Stop>
+pub fn file_of<F: Files>(alloc: Global, files: &mut F, name: &str, limit: u32) -> Result<Text, Stop>
     ensures gives { stops.Gives (F.told files.old) (λ told. source.file_in told limit name.now) result }
     ensures short { IfOk result (λ text. length text ≤ limit) }
     ensures cause { IfErr result (λ stop. stops.HasCause stop (F.begun files.new) (F.faults files.old) (F.faults files.new)) }
