@@ -22,6 +22,8 @@ mod stack;
 mod state;
 mod stop;
 mod surroundings;
+#[cfg(test)]
+mod tests;
 mod texts;
 mod tokens;
 mod variables;

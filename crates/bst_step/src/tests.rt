@@ -1,0 +1,7 @@
+//! What no clause says: that runs on small styles, with ample memory, come to what was worked out by hand.
+
+mod flow;
+mod operands;
+mod program;
+mod runs;
+mod writing;
