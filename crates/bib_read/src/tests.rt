@@ -10,6 +10,7 @@ use bv_base::text::Text;
 use name_table::names::Names;
 use name_table::style::{Macro, Style};
 use std::alloc::Global;
+use std::process::Abort;
 use std::test::Fail;
 
 /// A place.
@@ -33,33 +34,186 @@ fn style(alloc: Global) -> Result<Style, NoMemory> {
     })
 }
 
+/// Texts with a byte where another has to stand, and the place of that byte.
+const EXPECTED: [(&[u8], u32, u32); 61] = [
+    (b"@1", 1, 2),
+    (b"@{k}", 1, 2),
+    (b"@ \"misc\"{k}", 1, 3),
+    (b"@%", 1, 2),
+    (b"@misc k", 1, 7),
+    (b"@misc}", 1, 6),
+    (b"@misc ,", 1, 7),
+    (b"@misc)k)", 1, 6),
+    (b"@misc{}", 1, 7),
+    (b"@misc{,}", 1, 7),
+    (b"@misc(,)", 1, 7),
+    (b"@misc(  ,)", 1, 9),
+    (b"@misc{k a = 1}", 1, 9),
+    (b"@misc{k )", 1, 9),
+    (b"@misc(k }", 1, 9),
+    (b"@misc{k \"a\"}", 1, 9),
+    (b"@misc{k {", 1, 9),
+    (b"@misc{k,,}", 1, 9),
+    (b"@misc{k,=1}", 1, 9),
+    (b"@misc{k,)", 1, 9),
+    (b"@misc(k,}", 1, 9),
+    (b"@misc{k, 1a = 2}", 1, 10),
+    (b"@misc{k, \"a\" = 2}", 1, 10),
+    (b"@misc{k, a}", 1, 11),
+    (b"@misc{k, a b = 1}", 1, 12),
+    (b"@misc{k, a, b = 1}", 1, 11),
+    (b"@misc{k, a # 1}", 1, 12),
+    (b"@misc{k, a =}", 1, 13),
+    (b"@misc{k, a = , b = 1}", 1, 14),
+    (b"@misc{k, a = # 1}", 1, 14),
+    (b"@misc{k, a == 1}", 1, 13),
+    (b"@misc(k, a = )", 1, 14),
+    (b"@misc{k, a = 'x'}", 1, 14),
+    (b"@misc{k, a = 1 % x\n}", 1, 16),
+    (b"@misc{k, a = 1a}", 1, 15),
+    (b"@misc{k, a = 1 2}", 1, 16),
+    (b"@misc{k, a = \"x\"\"y\"}", 1, 17),
+    (b"@misc{k, a = {x}{y}}", 1, 17),
+    (b"@misc{k, a = jan feb}", 1, 18),
+    (b"@misc{k, a = 1)", 1, 15),
+    (b"@misc(k, a = 1}", 1, 15),
+    (b"@misc{k, a = 1 # }", 1, 18),
+    (b"@misc{k, a = 1 # # 2}", 1, 18),
+    (b"@misc{k, a = 1 #, b = 2}", 1, 17),
+    (b"@misc{k, a = 1, b = 2,\n , c = 3}", 2, 2),
+    (b"@string a", 1, 9),
+    (b"@string{}", 1, 9),
+    (b"@string{1 = 2}", 1, 9),
+    (b"@string{a}", 1, 10),
+    (b"@string{a \"b\"}", 1, 11),
+    (b"@string{a = }", 1, 13),
+    (b"@string{a = 1, }", 1, 14),
+    (b"@string{a = 1)", 1, 14),
+    (b"@string(a = 1}", 1, 14),
+    (b"@string{a = 1 b = 2}", 1, 15),
+    (b"@preamble \"a\"", 1, 11),
+    (b"@preamble{}", 1, 11),
+    (b"@preamble{\"a\" # }", 1, 17),
+    (b"@preamble{\"a\",}", 1, 14),
+    (b"@preamble(\"a\"}", 1, 14),
+    (b"@comment{\"}\n@misc{k}\n@1", 3, 2),
+];
+
+/// Texts that end within what an `@` began, and the place of their end.
+const ENDS: [(&[u8], u32, u32); 34] = [
+    (b"@", 1, 2),
+    (b"a @ \n", 2, 1),
+    (b"@misc", 1, 6),
+    (b"@misc[k] ", 1, 10),
+    (b"@misc{", 1, 7),
+    (b"@misc{ \n  ", 2, 3),
+    (b"@misc{k", 1, 8),
+    (b"@misc(k)", 1, 9),
+    (b"@misc()", 1, 8),
+    (b"@misc{k)", 1, 9),
+    (b"@misc{k{ ", 1, 10),
+    (b"@misc{k,", 1, 9),
+    (b"@misc{k, a", 1, 11),
+    (b"@misc{k, a =", 1, 13),
+    (b"@misc{k, a = {x", 1, 16),
+    (b"@misc{k, a = {x}", 1, 17),
+    (b"@misc{k, a = {x{y}}", 1, 20),
+    (b"@misc{k, a = \"x", 1, 16),
+    (b"@misc{k, a = \"{x\"}", 1, 19),
+    (b"@misc{k, a = 12", 1, 16),
+    (b"@misc{k, a = jan", 1, 17),
+    (b"@misc{k, a = 1 #", 1, 17),
+    (b"@misc{k, a = 1,\n\n", 3, 1),
+    (b"@misc(k, a = {)})\n@misc(l, a = {)}", 2, 17),
+    (b"@string", 1, 8),
+    (b"@string{", 1, 9),
+    (b"@string{a", 1, 10),
+    (b"@string{a =", 1, 12),
+    (b"@string{a = 1", 1, 14),
+    (b"@preamble", 1, 10),
+    (b"@preamble(", 1, 11),
+    (b"@preamble{\"a\"", 1, 14),
+    (b"@comment{@", 1, 11),
+    (b"@comment{@misc{k", 1, 17),
+];
+
+/// Texts with a `}` within quotes that has no `{`, and its place.
+const UNBALANCED: [(&[u8], u32, u32); 6] = [
+    (b"@misc{k, a = \"x}\"}", 1, 16),
+    (b"@misc{k, a = \"}{\"}", 1, 15),
+    (b"@misc{k, a = \"{x}\n}\"}", 2, 1),
+    (b"@misc{k, a = \"{\"}}\"}", 1, 18),
+    (b"@string{a = 1 # \"}\"}", 1, 18),
+    (b"@preamble(\"}\")", 1, 12),
+];
+
+/// Texts with a key that is there, and the place where it stands again.
+const REPEATED: [(&[u8], u32, u32); 5] = [
+    (b"@misc{k}\n@misc{K}", 2, 7),
+    (b"@misc{k, a = 1}\n@x{K", 2, 4),
+    (b"@misc{Key}@misc( kEY , a = }", 1, 18),
+    (b"@misc{k}\n@misc{l}\n@misc{k, a = \"}\"}", 3, 7),
+    (b"@misc{a}b}@misc{a", 1, 17),
+];
+
 #[test]
 fn the_fault_with_the_least_place_is_answered(rt: HostRuntime) -> Result<(), Fail> {
-    let rows: [(&[u8], BibFault); 17] = [
-        (b"@misc{k, a = {x}", BibFault::EndOfFile(at(1, 17))),
-        (b"@misc{k}\n@misc{K}", BibFault::RepeatedKey(at(2, 7))),
-        (b"@misc{k, a = 1}\n@x{K", BibFault::RepeatedKey(at(2, 4))),
-        (b"@misc{k, a = \"x}\"}", BibFault::Unbalanced(at(1, 16))),
-        (b"@misc{k a = 1}", BibFault::Expected(at(1, 9))),
-        (b"@misc(k)", BibFault::EndOfFile(at(1, 9))),
-        (b"@misc{}", BibFault::Expected(at(1, 7))),
-        (b"@misc{k)", BibFault::EndOfFile(at(1, 9))),
-        (b"a\n@1", BibFault::Expected(at(2, 2))),
-        (b"@", BibFault::EndOfFile(at(1, 2))),
-        (b"@misc k", BibFault::Expected(at(1, 7))),
-        (b"@string{a = }", BibFault::Expected(at(1, 13))),
-        (b"@misc{k, a = 1 2}", BibFault::Expected(at(1, 16))),
-        (b"@preamble{\"a\" # }", BibFault::Expected(at(1, 17))),
-        (b"@misc{k,,}", BibFault::Expected(at(1, 9))),
-        (b"@misc{k, 1a = 2}", BibFault::Expected(at(1, 10))),
-        (b"@string{a \"b\"}", BibFault::Expected(at(1, 11))),
-    ];
     let style = style(rt.alloc())?;
     let before = opening(rt.alloc(), &style)?;
-    for (source, want) in rows {
-        assert_eq!(rt; read(rt.alloc(), source, &before).err(), Some(want));
-    }
+    expect_faults(
+        &rt,
+        rt.alloc(),
+        &before,
+        &EXPECTED,
+        BibFault::Expected(at(1, 1)),
+    );
+    expect_faults(
+        &rt,
+        rt.alloc(),
+        &before,
+        &ENDS,
+        BibFault::EndOfFile(at(1, 1)),
+    );
+    expect_faults(
+        &rt,
+        rt.alloc(),
+        &before,
+        &UNBALANCED,
+        BibFault::Unbalanced(at(1, 1)),
+    );
+    expect_faults(
+        &rt,
+        rt.alloc(),
+        &before,
+        &REPEATED,
+        BibFault::RepeatedKey(at(1, 1)),
+    );
     Ok(())
+}
+
+/// Expects faults of one kind at their places.
+fn expect_faults(
+    rt: &impl Abort,
+    alloc: Global,
+    before: &Database,
+    rows: &[(&[u8], u32, u32)],
+    kind: BibFault,
+) {
+    for (source, line, column) in rows {
+        let want = moved(kind, at(*line, *column));
+        assert!(rt; read(alloc, source, before).err() == Some(want));
+    }
+}
+
+/// A fault of the same kind at a place.
+fn moved(fault: BibFault, place: Place) -> BibFault {
+    match fault {
+        BibFault::Expected(_) => BibFault::Expected(place),
+        BibFault::EndOfFile(_) => BibFault::EndOfFile(place),
+        BibFault::Unbalanced(_) => BibFault::Unbalanced(place),
+        BibFault::RepeatedKey(_) => BibFault::RepeatedKey(place),
+        BibFault::NoMemory => BibFault::NoMemory,
+    }
 }
 
 /// Appends a line of a mark, a text, a second mark and a second text.
@@ -95,6 +249,160 @@ fn shown(alloc: Global, database: &Database) -> Result<Vec<u8>, NoMemory> {
         push_line(&mut shown, b'!', one, b'!', b"")?;
     }
     Ok(shown)
+}
+
+/// Texts, and what a database has after them: `#` begins a macro, `@` an entry, `.` a field, `<` the preamble and `!` a
+/// warning.
+const READ: [(&[u8], &[u8]); 35] = [
+    (b"", b"#jan=January\n<>\n"),
+    (b"text } \" { % # , without a mark", b"#jan=January\n<>\n"),
+    (b"% @misc{k}", b"#jan=January\n@misc k\n<>\n"),
+    (b"@MISC{K, A = 1}", b"#jan=January\n@misc K\n.a=1\n<>\n"),
+    (
+        b"@misc(k )@misc{l}x@ \n misc \n { \n m \n }",
+        b"#jan=January\n@misc k\n@misc l\n@misc m\n<>\n",
+    ),
+    // Odd bytes in types, keys and fields.
+    (b"@@misc{k}", b"#jan=January\n@@misc k\n<>\n"),
+    (b"@comment@misc{k}", b"#jan=January\n@comment@misc k\n<>\n"),
+    (
+        b"@a-b*c[d\xc3\xbc{k}",
+        b"#jan=January\n@a-b*c[d\xc3\xbc k\n<>\n",
+    ),
+    (
+        b"@misc{a:b/c\"d#e%f'g=h{i~\\\xc3\xa9(j)}",
+        b"#jan=January\n@misc a:b/c\"d#e%f'g=h{i~\\\xc3\xa9(j)\n<>\n",
+    ),
+    (
+        b"@misc(a}b)c{ , x = 1)",
+        b"#jan=January\n@misc a}b)c{\n.x=1\n<>\n",
+    ),
+    (
+        b"@misc{k, x-y.z:1+\xff = 1}",
+        b"#jan=January\n@misc k\n.x-y.z:1+\xff=1\n<>\n",
+    ),
+    // A comma before the closing byte.
+    (
+        b"@misc{k,}@misc{l , }@misc(m,)@misc(n\n,\n)",
+        b"#jan=January\n@misc k\n@misc l\n@misc m\n@misc n\n<>\n",
+    ),
+    (
+        b"@misc{k, a = 1,}@misc(l, a = 1 , )",
+        b"#jan=January\n@misc k\n.a=1\n@misc l\n.a=1\n<>\n",
+    ),
+    // Braces and quotes.
+    (
+        b"@misc{k, a = {x {y} z}, b = {\"}, c = {)}}",
+        b"#jan=January\n@misc k\n.a=x {y} z\n.b=\"\n.c=)\n<>\n",
+    ),
+    (
+        b"@misc{k, a = \"x {\"} y\", b = \"{{\"}}\", c = \")\"}",
+        b"#jan=January\n@misc k\n.a=x {\"} y\n.b={{\"}}\n.c=)\n<>\n",
+    ),
+    (
+        b"@misc(k, a = {)}, b = \")\", c = {}, d = \"\")",
+        b"#jan=January\n@misc k\n.a=)\n.b=)\n.c=\n.d=\n<>\n",
+    ),
+    // Digits, macros and joined pieces.
+    (
+        b"@misc{k, a = 007, b = 1#2 # 3, c = {1}#\"2\"#3}",
+        b"#jan=January\n@misc k\n.a=007\n.b=123\n.c=123\n<>\n",
+    ),
+    (
+        b"@misc{k, a = jan, b = JAN # 1 # jan}",
+        b"#jan=January\n@misc k\n.a=January\n.b=January1January\n<>\n",
+    ),
+    (
+        b"@misc{k, a = -1}",
+        b"#jan=January\n@misc k\n.a=\n<>\n!Warning--undefined macro -1!\n",
+    ),
+    (
+        b"@misc{k, a = 1 # no # 2 # No}",
+        b"#jan=January\n@misc k\n.a=12\n<>\n!Warning--undefined macro no!\n!Warning--undefined macro no!\n",
+    ),
+    (
+        b"@string{jan = \"J\"}@misc{k, a = jan}",
+        b"#jan=J\n@misc k\n.a=J\n<>\n",
+    ),
+    (
+        b"@string{x = x}",
+        b"#jan=January\n#x=\n<>\n!Warning--undefined macro x!\n",
+    ),
+    (
+        b"@string(x = {p)q})@String{Y = x # x}",
+        b"#jan=January\n#x=p)q\n#y=p)qp)q\n<>\n",
+    ),
+    // White space.
+    (
+        b"@misc{k, a = {  x \n\t y\r\n }}",
+        b"#jan=January\n@misc k\n.a=x y\n<>\n",
+    ),
+    (
+        b"@misc{k, a = \" \" # \"x\" # \" \" # { y } # \" \"}",
+        b"#jan=January\n@misc k\n.a=x y\n<>\n",
+    ),
+    (
+        b"@misc{k, a = \" \n \"}@string{b = \"  x  \"}",
+        b"#jan=January\n#b= x \n@misc k\n.a=\n<>\n",
+    ),
+    (
+        b"@preamble{\"a  \"}@preamble(\"  b\" # jan)@preamble{{}}",
+        b"#jan=January\n<a  bJanuary>\n",
+    ),
+    // Fields that come again.
+    (
+        b"@misc{k, a = 1, A = 2}",
+        b"#jan=January\n@misc k\n.a=1\n<>\n!Warning--second field a in k!\n",
+    ),
+    (
+        b"@misc{K, a = {}, b = 2, A = 3, a = 4}",
+        b"#jan=January\n@misc K\n.a=\n.b=2\n<>\n!Warning--second field a in K!\n!Warning--second field a in K!\n",
+    ),
+    (
+        b"@misc{k, a = x, a = y}",
+        b"#jan=January\n@misc k\n.a=\n<>\n!Warning--undefined macro x!\n!Warning--second field a in k!\n!Warning--undefined macro y!\n",
+    ),
+    // Comments.
+    (b"@comment{x @misc{k}} }", b"#jan=January\n@misc k\n<>\n"),
+    (
+        b"@Comment @misc{k}@COMMENT{\"@comment(@misc(l )",
+        b"#jan=January\n@misc k\n@misc l\n<>\n",
+    ),
+    // Entries as they are joined later.
+    (
+        b"@inproceedings{c, crossref = {p}} @proceedings{p, title = {T}}",
+        b"#jan=January\n@inproceedings c\n.crossref=p\n@proceedings p\n.title=T\n<>\n",
+    ),
+    (
+        b"@misc{c, title = \"a\" # zz # { b }}",
+        b"#jan=January\n@misc c\n.title=a b\n<>\n!Warning--undefined macro zz!\n",
+    ),
+    (
+        b"@string{s = \" and \"} @misc{c, title = \"a\" # s # \"b\"}",
+        b"#jan=January\n#s= and \n@misc c\n.title=a and b\n<>\n",
+    ),
+];
+
+#[test]
+fn texts_are_read(rt: HostRuntime) -> Result<(), Fail> {
+    let style = style(rt.alloc())?;
+    let before = opening(rt.alloc(), &style)?;
+    expect_databases(&rt, rt.alloc(), &before, &READ)?;
+    Ok(())
+}
+
+/// Expects texts to give these databases.
+fn expect_databases(
+    rt: &impl Abort,
+    alloc: Global,
+    before: &Database,
+    rows: &[(&[u8], &[u8])],
+) -> Result<(), Fail> {
+    for (source, want) in rows {
+        let database = read(alloc, source, before)?;
+        assert!(rt; shown(alloc, &database)?.as_slice() == *want);
+    }
+    Ok(())
 }
 
 #[test]
