@@ -76,6 +76,7 @@ fn the_first_line_at_fault_is_answered(rt: HostRuntime) -> Result<(), Fail> {
 /// Expects faults at the starts of these lines.
 fn expect_faults(rt: &impl Abort, alloc: Global, rows: &[(&[u8], AuxFault, u32)]) {
     for (source, fault, line) in rows {
+        assert!(rt; source.len() <= 16777216);
         let want = moved(
             *fault,
             Place {
@@ -152,6 +153,7 @@ fn requests_come_in_their_order(rt: HostRuntime) -> Result<(), Fail> {
 /// Expects files to be read so.
 fn expect_read(rt: &impl Abort, alloc: Global, rows: &[(&[u8], &[u8])]) -> Result<(), Fail> {
     for (source, want) in rows {
+        assert!(rt; source.len() <= 16777216);
         let aux = read(alloc, source)?;
         assert!(rt; shown(alloc, &aux)?.as_slice() == *want);
     }

@@ -200,6 +200,7 @@ fn expect_faults(
     kind: BibFault,
 ) {
     for (source, line, column) in rows {
+        assert!(rt; source.len() <= 16777216);
         let want = moved(kind, at(*line, *column));
         assert!(rt; read(alloc, source, before).err() == Some(want));
     }
@@ -399,6 +400,7 @@ fn expect_databases(
     rows: &[(&[u8], &[u8])],
 ) -> Result<(), Fail> {
     for (source, want) in rows {
+        assert!(rt; source.len() <= 16777216);
         let database = read(alloc, source, before)?;
         assert!(rt; shown(alloc, &database)?.as_slice() == *want);
     }
