@@ -1,0 +1,10 @@
+pub mod Symbols
+pub mod Facts
+pub mod Decided
+pub mod Stands
+pub mod References
+pub mod Changes
+pub mod WellMade
+pub mod Renaming
+pub mod Starting
+pub mod Entailing

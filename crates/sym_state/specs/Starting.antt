@@ -1,0 +1,125 @@
+-- The state that starts from pieces (docs/STATES.md, "Start from pieces").
+use Rattle.std.specs.Prelude.{ℕ, suc, ◌+◌, pos, Bool, true, false, nat_eq, max, if◌then◌else◌, List, [], ◌∷◌, ◌++◌, map, Option, None, Some, is_none}
+use Rattle.std.specs.List.{list_any, filter, flat_map, sum_by, count_by}
+use Rattle.std.specs.Option.{option_map_or}
+use Rattle.std.specs.Global.{Global}
+use Rattle.lin_facts.specs.declared.row.Row.{Row}
+use Rattle.lin_facts.specs.declared.row.Term.TheVariants.{Length, Names}
+use Rattle.name_table.specs.declared.names.NameId.{NameId}
+use Rattle.name_table.specs.declared.names.Kind.{Kind}
+use Rattle.name_table.specs.declared.names.Kind.TheVariants.{Field, IntEntry, StrEntry, IntGlobal, StrGlobal}
+use Rattle.name_table.specs.declared.style.Style.{Style}
+use Rattle.bst_meaning.specs.declared.condition.NamesLine.{NamesLine}
+use Rattle.bst_meaning.specs.declared.condition.Cond.{Cond}
+use Rattle.bst_meaning.specs.StyleParts.{kind_of}
+use Rattle.sym_state.specs.declared.symbol.Sym.{Sym}
+use Rattle.sym_state.specs.declared.symbol.Bind.{Bind}
+use Rattle.sym_state.specs.declared.symbol.Kinds.TheVariants.{Int, Str, Optional}
+use Rattle.sym_state.specs.declared.symbol.Fact.{Fact}
+use Rattle.sym_state.specs.declared.symbol.Fact.TheVariants.{Is, Nonblank, Wellformed}
+use Rattle.sym_state.specs.declared.piece.Piece.{Piece}
+use Rattle.sym_state.specs.declared.state.State.{State}
+use Rattle.sym_state.specs.Changes.{symbol_at}
+use Rattle.sym_state.specs.References.{at_most}
+use Rattle.sym_state.specs.Renaming.{piece_renamed}
+use Rattle.sym_state.specs.WellMade.{is_variable, is_field, takes_part, ids_from}
+
+-- one more than the greatest symbol
+abbrev pub symbol_count : List Sym → ℕ
+symbol_count [] = 0
+symbol_count (s ∷ syms) = max (suc s.0) (symbol_count syms)
+
+-- the symbols at a piece's places: stack, variables, fields
+abbrev pub placed : Piece → List Sym
+placed piece = piece.stack ++ (map (λ bind. bind.sym) piece.vars ++ map (λ bind. bind.sym) piece.fields)
+
+-- the pieces with their symbols numbered on, piece after piece
+abbrev pub numbered_on : ℕ → List Piece → List Piece
+numbered_on next [] = []
+numbered_on next (piece ∷ pieces) =
+    piece_renamed (λ s. next + s) piece ∷ numbered_on (next + symbol_count (placed piece)) pieces
+
+-- each of these names with the symbol that a piece binds to it, and where none does with the next symbol
+abbrev pub seat : Option Sym → NameId → ℕ → (ℕ → List Bind) → List Bind
+seat (Some sym) name next later = record { name = name; sym = sym } ∷ later next
+seat None name next later = record { name = name; sym = record { 0 = next } } ∷ later (suc next)
+
+abbrev pub seats : List Bind → ℕ → List NameId → List Bind
+seats binds next [] = []
+seats binds next (name ∷ names) = seat (symbol_at name binds) name next (λ n. seats binds n names)
+
+-- how many of these names no piece binds
+abbrev pub unbound : List Bind → List NameId → ℕ
+unbound binds names = count_by (λ name. is_none (symbol_at name binds)) names
+
+-- the condition has a `nonblank` line for a field
+abbrev pub is_nonblank : Cond → NameId → Bool
+is_nonblank cond name = list_any (λ other. nat_eq other.0 name.0) cond.nonblank
+
+-- the number of the condition's `names` line for a field
+abbrev pub most_names : NameId → List NamesLine → Option ℕ
+most_names name [] = None
+most_names name (line ∷ lines) = if nat_eq line.field.0 name.0 then Some line.most else most_names name lines
+
+abbrev pub field_kind : Bool → Sym → List Fact
+field_kind true sym = Is sym Str ∷ Nonblank sym ∷ []
+field_kind false sym = Is sym Optional ∷ []
+
+abbrev pub name_facts : Option ℕ → Sym → List Fact
+name_facts (Some most) sym = Wellformed sym ∷ []
+name_facts None sym = []
+
+abbrev pub name_rows : Option ℕ → Sym → List Row
+name_rows (Some most) sym = at_most (Names sym.0) (pos most) ∷ []
+name_rows None sym = []
+
+-- the facts that a variable or a field gives of its own, by its kind
+abbrev pub own_facts : Cond → Option Kind → Bind → List Fact
+own_facts cond (Some IntEntry) bind = Is bind.sym Int ∷ []
+own_facts cond (Some IntGlobal) bind = Is bind.sym Int ∷ []
+own_facts cond (Some StrEntry) bind = Is bind.sym Str ∷ []
+own_facts cond (Some StrGlobal) bind = Is bind.sym Str ∷ []
+own_facts cond (Some Field) bind =
+    field_kind (is_nonblank cond bind.name) bind.sym ++ name_facts (most_names bind.name cond.names) bind.sym
+own_facts cond _ bind = []
+
+-- its rows: a string is no longer than its variable's size, a field no longer than the condition says
+abbrev pub own_rows : Cond → Option Kind → Bind → List Row
+own_rows cond (Some StrEntry) bind = at_most (Length bind.sym.0) (pos 250) ∷ []
+own_rows cond (Some StrGlobal) bind = at_most (Length bind.sym.0) (pos 20000) ∷ []
+own_rows cond (Some Field) bind =
+    at_most (Length bind.sym.0) (pos cond.length) ∷ name_rows (most_names bind.name cond.names) bind.sym
+own_rows cond _ bind = []
+
+-- the kind of a bound name passes a test
+abbrev pub has_kind : Style → (Kind → Bool) → Bind → Bool
+has_kind style test bind = option_map_or test (kind_of style bind.name) false
+
+-- the state where the pieces' symbols are numbered on and each variable and field has its symbol
+abbrev pub started_from : Global → Style → Cond → List Piece → ℕ → List Bind → Bool → Bool → State
+started_from alloc style cond pieces next binds whole at_entry = record {
+  alloc = alloc;
+  stack = flat_map (λ piece. piece.stack) pieces;
+  whole = whole;
+  at_entry = at_entry;
+  vars = filter (has_kind style (is_variable at_entry)) binds;
+  fields = filter (has_kind style (is_field at_entry)) binds;
+  facts = flat_map (λ piece. piece.facts) pieces ++ flat_map (λ bind. own_facts cond (kind_of style bind.name) bind) binds;
+  rows = flat_map (λ piece. piece.rows) pieces ++ flat_map (λ bind. own_rows cond (kind_of style bind.name) bind) binds;
+  next = next;
+}
+
+-- what the pieces bind
+abbrev pub bound_by : List Piece → List Bind
+bound_by pieces = flat_map (λ piece. piece.vars ++ piece.fields) pieces
+
+-- the names that have a value, in the order of ids
+abbrev pub names_in_play : Style → Bool → List NameId
+names_in_play style at_entry = ids_from (takes_part at_entry) 0 style.names
+
+abbrev pub started : Global → Style → Cond → List Piece → Bool → Bool → State
+started alloc style cond pieces whole at_entry =
+    let on = numbered_on 0 pieces in
+    let names = names_in_play style at_entry in
+    let first = sum_by (λ piece. symbol_count (placed piece)) pieces in
+    started_from alloc style cond on (first + unbound (bound_by on) names) (seats (bound_by on) first names) whole at_entry

@@ -1,0 +1,45 @@
+-- What symbols stand for (docs/STATES.md, "Assignments"): values, and the integers of rows that they give.
+use Rattle.std.specs.Prelude.{◌≡◌, ℕ, true, ℤ, pos, length}
+use Rattle.lin_facts.specs.Rows.{Assignment}
+use Rattle.lin_facts.specs.declared.row.Term.TheVariants.{Value as ValueOf, Length as LengthOf, Names as NamesOf, Pos, Count}
+use Rattle.name_split.specs.Names.{names_of}
+use Rattle.bst_meaning.specs.declared.value.Value.{Value}
+use Rattle.bst_meaning.specs.declared.value.Value.TheVariants.{Int, Str}
+use Rattle.bst_meaning.specs.Entries.{IsByteList}
+use Rattle.bst_meaning.specs.Operands.{has_32_bits}
+
+-- an assignment: a value for each symbol, how many entries the command visited before the present one, and how many
+-- entries there are
+pub record Valuation : Type 0 where
+  pub value : ℕ → Value
+  pub position : ℕ
+  pub count : ℕ
+
+-- a value of the machine: its integers have 32 bits, and its strings are of bytes
+abbrev pub IsValue : Value → Type 0
+IsValue (Int n) = has_32_bits n ≡ true
+IsValue (Str bytes) = IsByteList bytes
+IsValue _ = Unit {0}
+
+-- the integer that a value is, and 0 where it is none
+abbrev pub integer_of : Value → ℤ
+integer_of (Int n) = n
+integer_of _ = pos 0
+
+-- how many bytes a string has, and 0 for what is none
+abbrev pub length_of : Value → ℤ
+length_of (Str bytes) = pos (length bytes)
+length_of _ = pos 0
+
+-- how many names a string has, and 0 for what is none
+abbrev pub name_count_of : Value → ℤ
+name_count_of (Str bytes) = pos (length (names_of bytes))
+name_count_of _ = pos 0
+
+-- the integers that an assignment gives the terms of rows
+abbrev pub numbers : Valuation → Assignment
+numbers v (ValueOf s) = integer_of (v.value s)
+numbers v (LengthOf s) = length_of (v.value s)
+numbers v (NamesOf s) = name_count_of (v.value s)
+numbers v Pos = pos v.position
+numbers v Count = pos v.count

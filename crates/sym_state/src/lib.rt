@@ -1,0 +1,10 @@
+//! Symbolic states of the checker: what is known of a configuration of the machine, what that says of it, and the
+//! calls that start, change and compare states.
+#![tactic(auto)]
+
+pub mod demand;
+pub mod hint;
+pub mod piece;
+pub mod proof;
+pub mod state;
+pub mod symbol;
