@@ -2,9 +2,13 @@
 //! calls that start, change and compare states.
 #![tactic(auto)]
 
+pub mod copies;
 pub mod demand;
+pub mod facts;
 pub mod hint;
 pub mod piece;
 pub mod proof;
+pub mod references;
+pub mod shows;
 pub mod state;
 pub mod symbol;

@@ -1,5 +1,11 @@
 //! Symbolic states.
 
+ghost use Rattle.std.specs.Prelude.{◌≡◌, ◌<◌, ◌++◌, [], ◌∷◌, OnOk, OnErr, IfOk, MatchOption};
+ghost use Rattle.name_table.specs.declared.style.Style.{Style};
+ghost use Rattle.sym_state.specs.Changes as change;
+ghost use Rattle.sym_state.specs.WellMade.{WellMade};
+
+use crate::copies::{facts_of, rows_of};
 use crate::symbol::{Bind, Fact, Kinds, Sym};
 use bv_base::memory::NoMemory;
 use bv_base::seq::Seq;
@@ -26,4 +32,92 @@ pub struct State {
     pub rows: Seq<Row>,
     /// The symbols are those below this one.
     pub next: u32,
+}
+
+impl State {
+    /// Puts a symbol on top of the stack. A refusal leaves the state as it was.
+    pub fn push(&mut self, sym: Sym) -> Result<(), NoMemory>
+        ensures ok { OnOk result (self.new ≡ record self.old { stack = self.old.stack ++ sym ∷ [] }) }
+        ensures err { OnErr result (self.new ≡ self.old) }
+        ensures kept { (style : Style) → WellMade style self.old → sym.0 < self.old.next → WellMade style self.new }
+    {
+        self.stack.push(sym)
+    }
+
+    /// Takes the top symbol off the stack. `None` comes exactly where no symbol is known.
+    pub fn pop(&mut self) -> Option<Sym>
+        ensures popped { MatchOption result ((self.old.stack ≡ []) × (self.new ≡ self.old))
+            (λ sym. self.old ≡ record self.new { stack = self.new.stack ++ sym ∷ [] }) }
+        ensures kept { (style : Style) → WellMade style self.old → WellMade style self.new }
+    {
+        self.stack.pop()
+    }
+
+    /// Binds a variable or field that the state binds to another symbol. A refusal leaves the state as it was.
+    pub fn bind(&mut self, name: NameId, sym: Sym) -> Result<(), NoMemory>
+        ensures ok { OnOk result (self.new ≡ change.with_bind name sym self.old) }
+        ensures err { OnErr result (self.new ≡ self.old) }
+        ensures kept { (style : Style) → WellMade style self.old → sym.0 < self.old.next → WellMade style self.new }
+    {
+        let vars = rebound(self.alloc, name, sym, self.vars.as_slice())?;
+        let fields = rebound(self.alloc, name, sym, self.fields.as_slice())?;
+        self.vars = vars;
+        self.fields = fields;
+        Ok(())
+    }
+
+    /// The next symbol, of this kind. A refusal leaves the state as it was.
+    pub fn fresh(&mut self, kind: Kinds) -> Result<Sym, NoMemory>
+        requires { self.old.next < 4294967295 }
+        ensures symbol { IfOk result (λ sym. sym ≡ record { 0 = self.old.next }) }
+        ensures ok { OnOk result (self.new ≡ change.with_fresh kind self.old) }
+        ensures err { OnErr result (self.new ≡ self.old) }
+        ensures kept { (style : Style) → WellMade style self.old → WellMade style self.new }
+    {
+        let sym = Sym(self.next);
+        match kind {
+            Kinds::Any => {}
+            _ => self.facts.push(Fact::Is(sym, kind))?,
+        }
+        self.next += 1;
+        Ok(sym)
+    }
+
+    /// A state that is the same.
+    pub fn branch(&self) -> Result<State, NoMemory>
+        ensures { IfOk result (λ state. state ≡ self.now) }
+    {
+        Ok(State {
+            alloc: self.alloc,
+            stack: Seq::from_vec(self.stack.as_slice().to_vec(self.alloc)?),
+            whole: self.whole,
+            at_entry: self.at_entry,
+            vars: Seq::from_vec(self.vars.as_slice().to_vec(self.alloc)?),
+            fields: Seq::from_vec(self.fields.as_slice().to_vec(self.alloc)?),
+            facts: Seq::from_vec(facts_of(self.alloc, self.facts.as_slice())?),
+            rows: Seq::from_vec(rows_of(self.alloc, self.rows.as_slice())?),
+            next: self.next,
+        })
+    }
+}
+
+/// The bindings, with another symbol for a name.
+fn rebound(alloc: Global, name: NameId, sym: Sym, binds: &[Bind]) -> Result<Seq<Bind>, NoMemory>
+    ensures { IfOk result (λ new. new ≡ change.rebound name sym binds.now) }
+{
+    let mut new = binds.to_vec(alloc)?;
+    rebind(name, sym, &mut new);
+    Ok(Seq::from_vec(new))
+}
+
+/// Gives the first binding of a name, where there is one, another symbol.
+fn rebind(name: NameId, sym: Sym, binds: &mut [Bind])
+    ensures { binds.new ≡ change.rebound name sym binds.old }
+{
+    for i in 0..binds.len() {
+        if binds[i].name.0 == name.0 {
+            binds[i] = Bind { name, sym };
+            return;
+        }
+    }
 }

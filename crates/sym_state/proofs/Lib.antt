@@ -1,0 +1,5 @@
+pub mod Bindings
+pub mod Bounds
+pub mod Counting
+pub mod Deciding
+pub mod Saying

@@ -1,0 +1,252 @@
+//! What the facts of a state decide (docs/STATES.md, "What facts decide").
+
+ghost use Rattle.std.specs.Prelude.{◌≡◌, ◌≤◌, ◌^◌, false, nat_eq, length, option_map, IfSome};
+ghost use Rattle.std.specs.List.{All};
+ghost use Rattle.std.specs.Option.{option_map_or};
+ghost use Rattle.std.specs.Ordering.{int_eq};
+ghost use Rattle.std.specs.Cmp.Lexicographic.{pointwise};
+ghost use Rattle.sym_state.specs.Decided as decided;
+ghost use Rattle.sym_state.specs.Facts as rule;
+ghost use Rattle.sym_state.specs.WellMade.{HasShortText};
+
+use crate::symbol::{Fact, Kinds, Sym};
+use name_split::names::names_ok;
+use text_ops::is_blank::is_blank;
+
+/// The exact integer of a symbol.
+pub fn exact_integer(facts: &[Fact], sym: Sym) -> Option<i32>
+    ensures { result ≡ decided.exact_integer facts.now sym.0 }
+{
+    for fact in facts {
+        if subject(fact).0 == sym.0 {
+            if let Some(n) = integer_said(fact) {
+                return Some(n);
+            }
+        }
+    }
+    None
+}
+
+/// The exact text of a symbol.
+pub fn exact_text<'a>(facts: &'a [Fact], sym: Sym) -> Option<&'a [u8]>
+    ensures said { option_map (λ text. text.now) result ≡ decided.exact_text facts.now sym.0 }
+    ensures short { All HasShortText facts.now → IfSome result (λ text. length text.now ≤ 2 ^ 45) }
+{
+    for fact in facts {
+        if subject(fact).0 == sym.0 {
+            if let Some(text) = text_said(fact) {
+                return Some(text);
+            }
+        }
+    }
+    None
+}
+
+/// Whether the first fact on a symbol that decides `empty$` decides 0.
+pub fn is_known_nonblank(facts: &[Fact], sym: Sym) -> bool
+    ensures { result ≡ decided.is_known_nonblank facts.now sym.0 }
+{
+    for fact in facts {
+        if subject(fact).0 == sym.0 {
+            if let Some(empty) = emptiness_said(fact) {
+                return !empty;
+            }
+        }
+    }
+    false
+}
+
+/// Whether a fact follows for a symbol from one of the facts on it. That it is of some kind follows always.
+pub fn is_known(facts: &[Fact], sym: Sym, wanted: &Fact) -> bool
+    ensures { result ≡ decided.is_known facts.now sym.0 wanted.now }
+{
+    if says_nothing(wanted) {
+        return true;
+    }
+    for fact in facts {
+        if subject(fact).0 == sym.0 && gives(fact, wanted) {
+            return true;
+        }
+    }
+    false
+}
+
+/// The symbol that a fact is about.
+pub fn subject(fact: &Fact) -> Sym
+    ensures { result.0 ≡ rule.subject fact.now }
+{
+    match fact {
+        Fact::Is(sym, _) => *sym,
+        Fact::Int(sym, _) => *sym,
+        Fact::Text(sym, _) => *sym,
+        Fact::Call(sym, _) => *sym,
+        Fact::Block(sym, _) => *sym,
+        Fact::Blank(sym) => *sym,
+        Fact::Nonblank(sym) => *sym,
+        Fact::Wellformed(sym) => *sym,
+    }
+}
+
+/// Whether a fact is a consequence of another, on the same symbol.
+fn gives(fact: &Fact, wanted: &Fact) -> bool
+    ensures { result ≡ decided.gives fact.now wanted.now }
+{
+    match wanted {
+        Fact::Is(_, kind) => includes(*kind, kind_said(fact)),
+        Fact::Int(_, n) => gives_integer(*n, integer_said(fact)),
+        Fact::Text(_, text) => gives_text(text.as_slice(), text_said(fact)),
+        Fact::Call(_, name) => gives_number(name.0, name_said(fact)),
+        Fact::Block(_, number) => gives_number(*number, block_said(fact)),
+        Fact::Blank(_) => emptiness_said(fact).unwrap_or(false),
+        Fact::Nonblank(_) => !emptiness_said(fact).unwrap_or(true),
+        Fact::Wellformed(_) => wellformed_said(fact),
+    }
+}
+
+/// Whether an integer that is said is this one.
+fn gives_integer(wanted: i32, said: Option<i32>) -> bool
+    ensures { result ≡ option_map_or (int_eq wanted) said false }
+{
+    match said {
+        Some(n) => wanted == n,
+        None => false,
+    }
+}
+
+/// Whether a text that is said is this one.
+fn gives_text(wanted: &[u8], said: Option<&[u8]>) -> bool
+    ensures { result ≡ option_map_or (pointwise nat_eq wanted.now) (option_map (λ text. text.now) said.entry) false }
+{
+    match said {
+        Some(text) => wanted == text,
+        None => false,
+    }
+}
+
+/// Whether a number that is said is this one.
+fn gives_number(wanted: u32, said: Option<u32>) -> bool
+    ensures { result ≡ option_map_or (nat_eq wanted) said false }
+{
+    match said {
+        Some(number) => wanted == number,
+        None => false,
+    }
+}
+
+/// Whether a fact says no more than that there is a value.
+fn says_nothing(fact: &Fact) -> bool
+    ensures { result ≡ decided.says_nothing fact.now }
+{
+    match fact {
+        Fact::Is(_, Kinds::Any) => true,
+        _ => false,
+    }
+}
+
+/// The kind that a fact says.
+fn kind_said(fact: &Fact) -> Kinds
+    ensures { result ≡ decided.kind_said fact.now }
+{
+    match fact {
+        Fact::Is(_, kind) => *kind,
+        Fact::Int(_, _) => Kinds::Int,
+        Fact::Text(_, _) => Kinds::Str,
+        Fact::Call(_, _) => Kinds::Func,
+        Fact::Block(_, _) => Kinds::Func,
+        Fact::Blank(_) => Kinds::Optional,
+        Fact::Nonblank(_) => Kinds::Str,
+        Fact::Wellformed(_) => Kinds::Any,
+    }
+}
+
+/// Whether a kind includes another.
+fn includes(wide: Kinds, kind: Kinds) -> bool
+    ensures { result ≡ decided.includes wide kind }
+{
+    match (wide, kind) {
+        (Kinds::Any, _) => true,
+        (Kinds::Int, Kinds::Int) => true,
+        (Kinds::Str, Kinds::Str) => true,
+        (Kinds::Missing, Kinds::Missing) => true,
+        (Kinds::Optional, Kinds::Str) => true,
+        (Kinds::Optional, Kinds::Missing) => true,
+        (Kinds::Optional, Kinds::Optional) => true,
+        (Kinds::Func, Kinds::Func) => true,
+        _ => false,
+    }
+}
+
+/// The integer that a fact says.
+fn integer_said(fact: &Fact) -> Option<i32>
+    ensures { result ≡ decided.integer_said fact.now }
+{
+    match fact {
+        Fact::Int(_, n) => Some(*n),
+        _ => None,
+    }
+}
+
+/// The text that a fact says.
+fn text_said<'a>(fact: &'a Fact) -> Option<&'a [u8]>
+    ensures { option_map (λ text. text.now) result ≡ decided.text_said fact.now }
+{
+    match fact {
+        Fact::Text(_, text) => Some(text.as_slice()),
+        _ => None,
+    }
+}
+
+/// The id of the name that a fact says.
+fn name_said(fact: &Fact) -> Option<u32>
+    ensures { result ≡ option_map (λ name. name.0) (decided.name_said fact.now) }
+{
+    match fact {
+        Fact::Call(_, name) => Some(name.0),
+        _ => None,
+    }
+}
+
+/// The number of the block that a fact says.
+fn block_said(fact: &Fact) -> Option<u32>
+    ensures { result ≡ decided.block_said fact.now }
+{
+    match fact {
+        Fact::Block(_, number) => Some(*number),
+        _ => None,
+    }
+}
+
+/// What a fact says that `empty$` gives: true for 1.
+fn emptiness_said(fact: &Fact) -> Option<bool>
+    ensures { result ≡ decided.emptiness_said fact.now }
+{
+    match fact {
+        Fact::Is(_, Kinds::Missing) => Some(true),
+        Fact::Text(_, text) => Some(is_blank(text.as_slice())),
+        Fact::Blank(_) => Some(true),
+        Fact::Nonblank(_) => Some(false),
+        _ => None,
+    }
+}
+
+/// Whether a fact says that each name is well formed.
+fn wellformed_said(fact: &Fact) -> bool
+    ensures { result ≡ decided.wellformed_said fact.now }
+{
+    match fact {
+        Fact::Text(_, text) => names_ok(text.as_slice()),
+        Fact::Blank(_) => true,
+        Fact::Wellformed(_) => true,
+        _ => is_nameless(kind_said(fact)),
+    }
+}
+
+/// Whether no value of a kind has a name that isn't well formed.
+fn is_nameless(kind: Kinds) -> bool
+    ensures { result ≡ decided.is_nameless kind }
+{
+    match kind {
+        Kinds::Int | Kinds::Missing | Kinds::Func => true,
+        _ => false,
+    }
+}

@@ -1,0 +1,241 @@
+//! The rows that references say (docs/STATES.md, "References").
+
+ghost use Rattle.std.specs.Prelude.{◌≡◌, ◌≤◌, ◌^◌, None, Some, length, pos, slice_get, option_map, if◌then◌else◌, IfOk, IfSome};
+ghost use Rattle.std.specs.List.{All};
+ghost use Rattle.lin_facts.specs.Rows.{IsSmall, IsWithin};
+ghost use Rattle.sym_state.specs.Decided as decided;
+ghost use Rattle.sym_state.specs.References as rule;
+ghost use Rattle.sym_state.specs.WellMade.{HasBounds, IsBounded, HasShortText};
+
+use crate::copies::row_of;
+use crate::facts::{exact_integer, exact_text, is_known_nonblank};
+use crate::proof::Reference;
+use crate::state::State;
+use crate::symbol::Sym;
+use bst_meaning::condition::Cond;
+use bv_base::memory::NoMemory;
+use bv_base::seq::Seq;
+use lin_facts::row::{Part, Row, Term};
+use std::alloc::Global;
+
+/// The row that a reference says, where it is there.
+pub fn row_said(
+    alloc: Global,
+    state: &State,
+    cond: &Cond,
+    reference: Reference,
+) -> Result<Option<Row>, NoMemory>
+    requires { HasBounds state.now }
+    ensures said { IfOk result (λ row. row ≡ rule.row_said cond.now state.now reference) }
+    ensures small { IfOk result (λ row. IfSome row IsSmall) }
+{
+    match reference {
+        Reference::Row(k) => row_at(alloc, state.rows.as_slice(), k),
+        Reference::ValueLow(s) => low(alloc, state, s, Term::Value(s.0), -2147483648),
+        Reference::ValueHigh(s) => high(alloc, state, s, Term::Value(s.0), 2147483647),
+        Reference::LengthLow(s) => low(alloc, state, s, Term::Length(s.0), 0),
+        Reference::NamesLow(s) => low(alloc, state, s, Term::Names(s.0), 0),
+        Reference::NamesHigh(s) => names_high(alloc, state, s),
+        Reference::ExactLow(s) => exact_low(alloc, state, s),
+        Reference::ExactHigh(s) => exact_high(alloc, state, s),
+        Reference::NonblankLength(s) => nonblank(alloc, state, s, Term::Length(s.0)),
+        Reference::NonblankNames(s) => nonblank(alloc, state, s, Term::Names(s.0)),
+        Reference::TextLow(s) => text_low(alloc, state, s),
+        Reference::TextHigh(s) => text_high(alloc, state, s),
+        Reference::PosLow => pos_low(alloc, state.at_entry),
+        Reference::PosHigh => pos_high(alloc, state.at_entry),
+        Reference::CountLow => Ok(Some(at_least(alloc, Term::Count, 0)?)),
+        Reference::CountHigh => Ok(Some(at_most(alloc, Term::Count, cond.entries as i64)?)),
+    }
+}
+
+/// A row of the state, by its number.
+fn row_at(alloc: Global, rows: &[Row], k: u32) -> Result<Option<Row>, NoMemory>
+    requires { All IsBounded rows.now }
+    ensures said { IfOk result (λ row. row ≡ slice_get rows.now k) }
+    ensures small { IfOk result (λ row. IfSome row IsSmall) }
+{
+    match rows.get(k as usize) {
+        Some(row) => Ok(Some(row_of(alloc, row)?)),
+        None => Ok(None),
+    }
+}
+
+/// A symbol's term is at least a number, where it is the state's.
+fn low(alloc: Global, state: &State, s: Sym, term: Term, n: i64) -> Result<Option<Row>, NoMemory>
+    requires { IsWithin (2 ^ 45) n }
+    ensures said { IfOk result (λ row. row ≡ rule.on_symbol state.now s (Some (rule.at_least term n))) }
+    ensures small { IfOk result (λ row. IfSome row IsSmall) }
+{
+    if s.0 < state.next {
+        Ok(Some(at_least(alloc, term, n)?))
+    } else {
+        Ok(None)
+    }
+}
+
+/// A symbol's term is at most a number, where it is the state's.
+fn high(alloc: Global, state: &State, s: Sym, term: Term, n: i64) -> Result<Option<Row>, NoMemory>
+    requires { IsWithin (2 ^ 45) n }
+    ensures said { IfOk result (λ row. row ≡ rule.on_symbol state.now s (Some (rule.at_most term n))) }
+    ensures small { IfOk result (λ row. IfSome row IsSmall) }
+{
+    if s.0 < state.next {
+        Ok(Some(at_most(alloc, term, n)?))
+    } else {
+        Ok(None)
+    }
+}
+
+/// A string has no more names than bytes.
+fn names_high(alloc: Global, state: &State, s: Sym) -> Result<Option<Row>, NoMemory>
+    ensures said { IfOk result (λ row. row ≡ rule.on_symbol state.now s (Some (rule.exceeds (Term.Length s.0) (Term.Names s.0) (pos 0)))) }
+    ensures small { IfOk result (λ row. IfSome row IsSmall) }
+{
+    if s.0 < state.next {
+        Ok(Some(exceeds(alloc, Term::Length(s.0), Term::Names(s.0), 0)?))
+    } else {
+        Ok(None)
+    }
+}
+
+/// An exact integer is at least itself.
+fn exact_low(alloc: Global, state: &State, s: Sym) -> Result<Option<Row>, NoMemory>
+    ensures said { IfOk result (λ row. row ≡ rule.on_symbol state.now s
+        (option_map (rule.at_least (Term.Value s.0)) (decided.exact_integer state.now.facts s.0))) }
+    ensures small { IfOk result (λ row. IfSome row IsSmall) }
+{
+    match exact_integer(state.facts.as_slice(), s) {
+        Some(n) => low(alloc, state, s, Term::Value(s.0), n as i64),
+        None => Ok(None),
+    }
+}
+
+/// An exact integer is at most itself.
+fn exact_high(alloc: Global, state: &State, s: Sym) -> Result<Option<Row>, NoMemory>
+    ensures said { IfOk result (λ row. row ≡ rule.on_symbol state.now s
+        (option_map (rule.at_most (Term.Value s.0)) (decided.exact_integer state.now.facts s.0))) }
+    ensures small { IfOk result (λ row. IfSome row IsSmall) }
+{
+    match exact_integer(state.facts.as_slice(), s) {
+        Some(n) => high(alloc, state, s, Term::Value(s.0), n as i64),
+        None => Ok(None),
+    }
+}
+
+/// A term of a symbol known nonblank is at least 1.
+fn nonblank(alloc: Global, state: &State, s: Sym, term: Term) -> Result<Option<Row>, NoMemory>
+    ensures said { IfOk result (λ row. row ≡ rule.on_symbol state.now s
+        (if decided.is_known_nonblank state.now.facts s.0 then Some (rule.at_least term (pos 1)) else None)) }
+    ensures small { IfOk result (λ row. IfSome row IsSmall) }
+{
+    if is_known_nonblank(state.facts.as_slice(), s) {
+        low(alloc, state, s, term, 1)
+    } else {
+        Ok(None)
+    }
+}
+
+/// The length of an exact text is at least what it is.
+fn text_low(alloc: Global, state: &State, s: Sym) -> Result<Option<Row>, NoMemory>
+    requires { All HasShortText state.now.facts }
+    ensures said { IfOk result (λ row. row ≡ rule.on_symbol state.now s
+        (option_map (λ text. rule.at_least (Term.Length s.0) (pos (length text))) (decided.exact_text state.now.facts s.0))) }
+    ensures small { IfOk result (λ row. IfSome row IsSmall) }
+{
+    match exact_text(state.facts.as_slice(), s) {
+        Some(text) => low(alloc, state, s, Term::Length(s.0), text.len() as i64),
+        None => Ok(None),
+    }
+}
+
+/// The length of an exact text is at most what it is.
+fn text_high(alloc: Global, state: &State, s: Sym) -> Result<Option<Row>, NoMemory>
+    requires { All HasShortText state.now.facts }
+    ensures said { IfOk result (λ row. row ≡ rule.on_symbol state.now s
+        (option_map (λ text. rule.at_most (Term.Length s.0) (pos (length text))) (decided.exact_text state.now.facts s.0))) }
+    ensures small { IfOk result (λ row. IfSome row IsSmall) }
+{
+    match exact_text(state.facts.as_slice(), s) {
+        Some(text) => high(alloc, state, s, Term::Length(s.0), text.len() as i64),
+        None => Ok(None),
+    }
+}
+
+/// At an entry, the number of entries visited before is at least 0.
+fn pos_low(alloc: Global, at_entry: bool) -> Result<Option<Row>, NoMemory>
+    ensures said { IfOk result (λ row. row ≡ (if at_entry then Some (rule.at_least Term.Pos (pos 0)) else None)) }
+    ensures small { IfOk result (λ row. IfSome row IsSmall) }
+{
+    if at_entry {
+        Ok(Some(at_least(alloc, Term::Pos, 0)?))
+    } else {
+        Ok(None)
+    }
+}
+
+/// At an entry, the number of entries visited before is below the number of entries.
+fn pos_high(alloc: Global, at_entry: bool) -> Result<Option<Row>, NoMemory>
+    ensures said { IfOk result (λ row. row ≡ (if at_entry then Some (rule.exceeds Term.Count Term.Pos (pos 1)) else None)) }
+    ensures small { IfOk result (λ row. IfSome row IsSmall) }
+{
+    if at_entry {
+        Ok(Some(exceeds(alloc, Term::Count, Term::Pos, 1)?))
+    } else {
+        Ok(None)
+    }
+}
+
+/// A term is at least a number.
+fn at_least(alloc: Global, term: Term, n: i64) -> Result<Row, NoMemory>
+    requires { IsWithin (2 ^ 45) n }
+    ensures said { IfOk result (λ row. row ≡ rule.at_least term n) }
+    ensures small { IfOk result IsSmall }
+{
+    let part = Part {
+        coefficient: 1,
+        term,
+    };
+    Ok(Row {
+        constant: -n,
+        parts: Seq::from_vec([part].to_vec(alloc)?),
+    })
+}
+
+/// A term is at most a number.
+pub fn at_most(alloc: Global, term: Term, n: i64) -> Result<Row, NoMemory>
+    requires { IsWithin (2 ^ 45) n }
+    ensures said { IfOk result (λ row. row ≡ rule.at_most term n) }
+    ensures small { IfOk result IsSmall }
+{
+    let part = Part {
+        coefficient: -1,
+        term,
+    };
+    Ok(Row {
+        constant: n,
+        parts: Seq::from_vec([part].to_vec(alloc)?),
+    })
+}
+
+/// A term is at least a number more than another.
+fn exceeds(alloc: Global, greater: Term, less: Term, n: i64) -> Result<Row, NoMemory>
+    requires { IsWithin (2 ^ 45) n }
+    ensures said { IfOk result (λ row. row ≡ rule.exceeds greater less n) }
+    ensures small { IfOk result IsSmall }
+{
+    let parts = [
+        Part {
+            coefficient: 1,
+            term: greater,
+        },
+        Part {
+            coefficient: -1,
+            term: less,
+        },
+    ];
+    Ok(Row {
+        constant: -n,
+        parts: Seq::from_vec(parts.to_vec(alloc)?),
+    })
+}
