@@ -1,5 +1,5 @@
 -- When a state entails a piece (docs/STATES.md, "Entailment"), and the first line of the piece that fails.
-use Rattle.std.specs.Prelude.{ℕ, suc, ◌+◌, ◌-◌, Bool, false, nat_eq, nat_lt, if◌then◌else◌, List, [], ◌∷◌, ◌++◌, length, drop, Option, None, Some}
+use Rattle.std.specs.Prelude.{ℕ, suc, ◌+◌, ◌-◌, Bool, false, nat_eq, nat_lt, if◌then◌else◌, List, [], ◌∷◌, ◌++◌, length, take, drop, slice_get, Option, None, Some}
 use Rattle.std.specs.List.{list_all, filter_map, zip}
 use Rattle.std.specs.Option.{option_or, option_map, option_map_or}
 use Rattle.lin_facts.specs.declared.row.Row.{Row}
@@ -55,12 +55,17 @@ abbrev pub first_failing : {X : Type 0} → (X → Bool) → ℕ → List X → 
 first_failing test line [] = None
 first_failing test line (x ∷ xs) = if test x then first_failing test (suc line) xs else Some line
 
--- the same of the rows, each with its proof
+-- a row is shown under a match by its proof, if there is one
+abbrev pub row_shown : (ℕ → ℕ) → Cond → State → Row → Option Proof → Bool
+row_shown match cond state row proof = option_map_or (λ p. shows cond state p (row_renamed match row)) proof false
+
+-- the number of the first row that its proof doesn't show, where they are numbered from here
 abbrev pub first_unshown : (ℕ → ℕ) → Cond → State → ℕ → List Row → List Proof → Option ℕ
 first_unshown match cond state line [] proofs = None
-first_unshown match cond state line (row ∷ rows) [] = Some line
-first_unshown match cond state line (row ∷ rows) (proof ∷ proofs) =
-    if shows cond state proof (row_renamed match row) then first_unshown match cond state (suc line) rows proofs else Some line
+first_unshown match cond state line (row ∷ rows) proofs =
+    if row_shown match cond state row (slice_get proofs 0)
+    then first_unshown match cond state (suc line) rows (drop 1 proofs)
+    else Some line
 
 -- the number of the line after the one of the stack, which is written where there is a symbol on it
 abbrev pub after_stack : List Sym → ℕ
@@ -79,6 +84,14 @@ first_line_failing match cond state piece proofs =
     (option_or (first_failing (bind_agrees match state.fields) fields piece.fields)
     (option_or (first_failing (fact_follows match state.facts) facts piece.facts)
     (first_unshown match cond state rows piece.rows proofs))))
+
+-- how many lines a piece has at most
+abbrev pub line_count : Piece → ℕ
+line_count piece = 1 + (length piece.vars + (length piece.fields + (length piece.facts + length piece.rows)))
+
+-- the state's symbols below those that the piece's stack lies on
+abbrev pub under : State → Piece → List Sym
+under state piece = take (length state.stack - length piece.stack) state.stack
 
 -- the match of a piece to a state
 abbrev pub match_of : State → Piece → ℕ → ℕ → ℕ

@@ -8,3 +8,4 @@ pub mod WellMade
 pub mod Renaming
 pub mod Starting
 pub mod Entailing
+pub mod Matches

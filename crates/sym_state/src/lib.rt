@@ -2,10 +2,13 @@
 //! calls that start, change and compare states.
 #![tactic(auto)]
 
+pub mod binds;
 pub mod copies;
 pub mod demand;
+pub mod entails;
 pub mod facts;
 pub mod hint;
+pub mod matching;
 pub mod piece;
 pub mod proof;
 pub mod references;

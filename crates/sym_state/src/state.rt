@@ -5,6 +5,7 @@ ghost use Rattle.name_table.specs.declared.style.Style.{Style};
 ghost use Rattle.sym_state.specs.Changes as change;
 ghost use Rattle.sym_state.specs.WellMade.{WellMade};
 
+use crate::binds::rebound;
 use crate::copies::{facts_of, rows_of};
 use crate::symbol::{Bind, Fact, Kinds, Sym};
 use bv_base::memory::NoMemory;
@@ -98,26 +99,5 @@ impl State {
             rows: Seq::from_vec(rows_of(self.alloc, self.rows.as_slice())?),
             next: self.next,
         })
-    }
-}
-
-/// The bindings, with another symbol for a name.
-fn rebound(alloc: Global, name: NameId, sym: Sym, binds: &[Bind]) -> Result<Seq<Bind>, NoMemory>
-    ensures { IfOk result (λ new. new ≡ change.rebound name sym binds.now) }
-{
-    let mut new = binds.to_vec(alloc)?;
-    rebind(name, sym, &mut new);
-    Ok(Seq::from_vec(new))
-}
-
-/// Gives the first binding of a name, where there is one, another symbol.
-fn rebind(name: NameId, sym: Sym, binds: &mut [Bind])
-    ensures { binds.new ≡ change.rebound name sym binds.old }
-{
-    for i in 0..binds.len() {
-        if binds[i].name.0 == name.0 {
-            binds[i] = Bind { name, sym };
-            return;
-        }
     }
 }

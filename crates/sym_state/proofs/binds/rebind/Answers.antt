@@ -3,7 +3,7 @@ use Rattle.std.proofs.Common.{◌∙◌, ap, List, arith}
 use Rattle.sym_state.specs.declared.symbol.Bind.{Bind}
 use Rattle.sym_state.specs.Changes.{rebound}
 use Rattle.sym_state.proofs.Bindings.{set_found}
-use Rattle.sym_state.proofs.state.rebind.Goals as goal
+use Rattle.sym_state.proofs.binds.rebind.Goals as goal
 
 pub returns-then-binds-i : goal.returns-then-binds-i
 returns-then-binds-i c =

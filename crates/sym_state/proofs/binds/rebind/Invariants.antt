@@ -1,6 +1,6 @@
 use Rattle.std.proofs.Common.{◌≡◌, ◌++◌, take, drop}
 use Rattle.sym_state.specs.Changes.{rebound}
-use Rattle.sym_state.proofs.state.rebind.Given as goal
+use Rattle.sym_state.proofs.binds.rebind.Given as goal
 
 -- nothing is written yet, and the name's place is still ahead
 abbrev pub invariant-loop-i : goal.invariant-loop-i
