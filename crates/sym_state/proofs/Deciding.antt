@@ -14,7 +14,7 @@ use Rattle.sym_state.specs.Symbols.{Valuation}
 use Rattle.sym_state.specs.Facts.{subject, Says, FactHolds, emptiness}
 use Rattle.sym_state.specs.Decided.{first_said, integer_said, text_said, emptiness_said, exact_integer, exact_text, is_known_nonblank}
 
-same_number : (a b : ℕ) → nat_eq a b ≡ true → a ≡ b
+pub same_number : (a b : ℕ) → nat_eq a b ≡ true → a ≡ b
 same_number a b e = grind (arith, nat_tests)
 
 -- what the first fact on a symbol says is said by a fact that holds of the symbol's value
@@ -36,7 +36,7 @@ from_facts {X} said style v s (fact ∷ facts) x all e =
       | false ↦ λ here found. later found
     ] refl e
 
-integer_fact : (style : Style) (value : Value) (fact : Fact) (n : ℤ) → integer_said fact ≡ Some n → Says style fact value → value ≡ IntValue n
+pub integer_fact : (style : Style) (value : Value) (fact : Fact) (n : ℤ) → integer_said fact ≡ Some n → Says style fact value → value ≡ IntValue n
 integer_fact style value (Int s m) n e h = let same : m ≡ n = cc in h ∙ ap (λ (k : ℤ). IntValue k) same
 integer_fact style value (Is s k) n e h = absurd (cc)
 integer_fact style value (Text s k) n e h = absurd (cc)
@@ -46,7 +46,7 @@ integer_fact style value (Blank s) n e h = absurd (cc)
 integer_fact style value (Nonblank s) n e h = absurd (cc)
 integer_fact style value (Wellformed s) n e h = absurd (cc)
 
-text_fact : (style : Style) (value : Value) (fact : Fact) (text : List ℕ) → text_said fact ≡ Some text → Says style fact value → value ≡ StrValue text
+pub text_fact : (style : Style) (value : Value) (fact : Fact) (text : List ℕ) → text_said fact ≡ Some text → Says style fact value → value ≡ StrValue text
 text_fact style value (Text s m) text e h = let same : m ≡ text = cc in h ∙ ap (λ (k : List ℕ). StrValue k) same
 text_fact style value (Is s k) text e h = absurd (cc)
 text_fact style value (Int s k) text e h = absurd (cc)

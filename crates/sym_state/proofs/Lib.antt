@@ -1,5 +1,9 @@
 pub mod Bindings
+pub mod BlankNames
 pub mod Bounds
+pub mod Consequences
 pub mod Counting
 pub mod Deciding
+pub mod Entailed
 pub mod Saying
+pub mod Shown

@@ -69,11 +69,7 @@ fn first_line_failing(
     requires lines { rule.line_count piece.now ≤ 2147483648 }
     ensures { IfOk result (λ line. line ≡ rule.first_line_failing (matched_by matching.now) cond.now state.now piece.now proofs.now) }
 {
-    if !stack_agrees(
-        matching,
-        state.stack.as_slice(),
-        piece.stack.as_slice(),
-    ) {
+    if !stack_agrees(matching, state.stack.as_slice(), piece.stack.as_slice()) {
         return Ok(Some(1));
     }
     let vars = after_stack(piece.stack.as_slice());
@@ -141,12 +137,7 @@ fn stack_agrees(matching: &Matching, known: &[Sym], stack: &[Sym]) -> bool
 }
 
 /// The first line of a variable or field whose name isn't bound to the matched symbol.
-fn first_unbound(
-    matching: &Matching,
-    known: &[Bind],
-    first: u32,
-    binds: &[Bind],
-) -> Option<u32>
+fn first_unbound(matching: &Matching, known: &[Bind], first: u32, binds: &[Bind]) -> Option<u32>
     requires { first + length binds.now < 2 ^ 32 }
     ensures { result ≡ rule.first_failing (rule.bind_agrees (matched_by matching.now) known.now) first binds.now }
 {
@@ -171,12 +162,7 @@ fn bind_agrees(matching: &Matching, known: &[Bind], bind: Bind) -> bool
 }
 
 /// The first line of a fact that isn't known of the matched symbol.
-fn first_unknown(
-    matching: &Matching,
-    known: &[Fact],
-    first: u32,
-    facts: &[Fact],
-) -> Option<u32>
+fn first_unknown(matching: &Matching, known: &[Fact], first: u32, facts: &[Fact]) -> Option<u32>
     requires { first + length facts.now < 2 ^ 32 }
     ensures { result ≡ rule.first_failing (rule.fact_follows (matched_by matching.now) known.now) first facts.now }
 {

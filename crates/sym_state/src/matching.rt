@@ -25,21 +25,12 @@ pub struct Matching {
 
 impl Matching {
     /// The match of a piece that lies on the top of a state's stack.
-    pub fn new(
-        alloc: Global,
-        state: &State,
-        piece: &Piece,
-        kept: u32,
-    ) -> Result<Matching, NoMemory>
+    pub fn new(alloc: Global, state: &State, piece: &Piece, kept: u32) -> Result<Matching, NoMemory>
         requires { length piece.now.stack ≤ length state.now.stack }
         ensures { IfOk result (λ matching. matched_by matching ≡ rule.match_of state.now piece.now kept) }
     {
         let mut places = stack_places(alloc, state.stack.as_slice(), piece.stack.as_slice())?;
-        add_binds(
-            &mut places,
-            state.vars.as_slice(),
-            piece.vars.as_slice(),
-        )?;
+        add_binds(&mut places, state.vars.as_slice(), piece.vars.as_slice())?;
         add_binds(
             &mut places,
             state.fields.as_slice(),
@@ -92,11 +83,7 @@ impl Matching {
 }
 
 /// The places on the stack, which lies on the top of the state's.
-fn stack_places(
-    alloc: Global,
-    known: &[Sym],
-    stack: &[Sym],
-) -> Result<Vec<(Sym, Sym)>, NoMemory>
+fn stack_places(alloc: Global, known: &[Sym], stack: &[Sym]) -> Result<Vec<(Sym, Sym)>, NoMemory>
     requires { length stack.now ≤ length known.now }
     ensures { IfOk result (λ places. places.items ≡ rule.stack_places known.now stack.now) }
 {
@@ -109,11 +96,7 @@ fn stack_places(
 }
 
 /// Adds the places where names are bound.
-fn add_binds(
-    places: &mut Vec<(Sym, Sym)>,
-    known: &[Bind],
-    binds: &[Bind],
-) -> Result<(), NoMemory>
+fn add_binds(places: &mut Vec<(Sym, Sym)>, known: &[Bind], binds: &[Bind]) -> Result<(), NoMemory>
     ensures { OnOk result (places.new.items ≡ places.old.items ++ rule.bind_places known.now binds.now) }
 {
     for bind in binds {
