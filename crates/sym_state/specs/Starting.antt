@@ -1,6 +1,6 @@
 -- The state that starts from pieces (docs/STATES.md, "Start from pieces").
-use Rattle.std.specs.Prelude.{ℕ, suc, ◌+◌, pos, Bool, true, false, nat_eq, max, if◌then◌else◌, List, [], ◌∷◌, ◌++◌, map, Option, None, Some, is_none}
-use Rattle.std.specs.List.{list_any, filter, flat_map, sum_by, count_by}
+use Rattle.std.specs.Prelude.{ℕ, suc, ◌+◌, ◌<◌, pos, Bool, true, false, nat_eq, max, if◌then◌else◌, List, [], ◌∷◌, ◌++◌, map, Option, None, Some, is_none}
+use Rattle.std.specs.List.{All, list_any, filter, flat_map, sum_by, count_by}
 use Rattle.std.specs.Option.{option_map_or}
 use Rattle.std.specs.Global.{Global}
 use Rattle.lin_facts.specs.declared.row.Row.{Row}
@@ -20,9 +20,10 @@ use Rattle.sym_state.specs.declared.symbol.Fact.TheVariants.{Is, Nonblank, Wellf
 use Rattle.sym_state.specs.declared.piece.Piece.{Piece}
 use Rattle.sym_state.specs.declared.state.State.{State}
 use Rattle.sym_state.specs.Changes.{symbol_at}
+use Rattle.sym_state.specs.Facts.{subject}
 use Rattle.sym_state.specs.References.{at_most}
 use Rattle.sym_state.specs.Renaming.{piece_renamed}
-use Rattle.sym_state.specs.WellMade.{is_variable, is_field, takes_part, ids_from}
+use Rattle.sym_state.specs.WellMade.{IsTermBelow, is_variable, is_field, takes_part, ids_from}
 
 -- one more than the greatest symbol
 abbrev pub symbol_count : List Sym → ℕ
@@ -33,11 +34,26 @@ symbol_count (s ∷ syms) = max (suc s.0) (symbol_count syms)
 abbrev pub placed : Piece → List Sym
 placed piece = piece.stack ++ (map (λ bind. bind.sym) piece.vars ++ map (λ bind. bind.sym) piece.fields)
 
+-- how many symbols a piece has, and how many some pieces have
+abbrev pub symbols_of : Piece → ℕ
+symbols_of piece = symbol_count (placed piece)
+
+abbrev pub all_symbols : List Piece → ℕ
+all_symbols pieces = sum_by symbols_of pieces
+
+-- a piece's facts and rows name symbols that it has
+pub record IsNumbered (piece : Piece) : Type 0 where
+  pub facts : All (λ fact. subject fact < symbols_of piece) piece.facts
+  pub rows : All (λ row. All (λ part. IsTermBelow (symbols_of piece) part.term) row.parts) piece.rows
+
+-- a symbol that is numbered on
+abbrev pub raised : ℕ → ℕ → ℕ
+raised next s = next + s
+
 -- the pieces with their symbols numbered on, piece after piece
 abbrev pub numbered_on : ℕ → List Piece → List Piece
 numbered_on next [] = []
-numbered_on next (piece ∷ pieces) =
-    piece_renamed (λ s. next + s) piece ∷ numbered_on (next + symbol_count (placed piece)) pieces
+numbered_on next (piece ∷ pieces) = piece_renamed (raised next) piece ∷ numbered_on (next + symbols_of piece) pieces
 
 -- each of these names with the symbol that a piece binds to it, and where none does with the next symbol
 abbrev pub seat : Option Sym → NameId → ℕ → (ℕ → List Bind) → List Bind
@@ -121,5 +137,5 @@ abbrev pub started : Global → Style → Cond → List Piece → Bool → Bool 
 started alloc style cond pieces whole at_entry =
     let on = numbered_on 0 pieces in
     let names = names_in_play style at_entry in
-    let first = sum_by (λ piece. symbol_count (placed piece)) pieces in
+    let first = all_symbols pieces in
     started_from alloc style cond on (first + unbound (bound_by on) names) (seats (bound_by on) first names) whole at_entry

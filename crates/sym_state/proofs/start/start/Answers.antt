@@ -1,0 +1,63 @@
+-- The parts are those of the definition.
+use Rattle.std.proofs.Common.{◌<◌, ap, ◌∙◌, List, ◌++◌, length, arith}
+use Rattle.std.specs.List.{filter, flat_map}
+use Rattle.lin_facts.specs.declared.row.Row.{Row}
+use Rattle.bst_meaning.specs.StyleParts.{kind_of}
+use Rattle.sym_state.specs.declared.symbol.Fact.{Fact}
+use Rattle.std.proofs.lemmas.List.Elements.{All-same}
+use Rattle.name_table.specs.declared.names.NameId.{NameId}
+use Rattle.sym_state.specs.declared.symbol.Bind.{Bind}
+use Rattle.sym_state.specs.Starting.{has_kind, numbered_on, own_facts, own_rows}
+use Rattle.sym_state.specs.WellMade.{is_field, is_variable, takes_part}
+use Rattle.sym_state.proofs.Started.{ids_from-length, names_within, started_is}
+use Rattle.sym_state.proofs.start.start.Goals as goal
+
+pub seats-requires : goal.seats-requires
+seats-requires c =
+    let few = ids_from-length (takes_part c.args.at_entry) 0 c.args.style.now.names in
+    let names = ap (λ (ns : List NameId). length ns) (c.as_slice-2.ensures.value ∙ c.in_ok-names.ensures.names) in
+    omega (arith, few, names, c.in_ok-from.ensures.next, c.requires.few)
+
+pub add_own_facts-requires : goal.add_own_facts-requires
+add_own_facts-requires c =
+    All-same (λ b. b.name.0 < length c.args.style.now.names) _ _ c.as_slice-3.ensures.value
+    (names_within (length c.args.style.now.names) c.in_ok-binds.binds.items c.as_slice-2.result.now c.in_ok-binds.ensures.names
+    (All-same (λ name. name.0 < length c.args.style.now.names) _ _ c.as_slice-2.ensures.value c.in_ok-names.ensures.within))
+
+pub add_own_rows-requires : goal.add_own_rows-requires
+add_own_rows-requires c =
+    All-same (λ b. b.name.0 < length c.args.style.now.names) _ _ c.as_slice-4.ensures.value
+    (names_within (length c.args.style.now.names) c.in_ok-binds.binds.items c.as_slice-2.result.now c.in_ok-binds.ensures.names
+    (All-same (λ name. name.0 < length c.args.style.now.names) _ _ c.as_slice-2.ensures.value c.in_ok-names.ensures.within))
+
+pub variables-requires : goal.variables-requires
+variables-requires c =
+    All-same (λ b. b.name.0 < length c.args.style.now.names) _ _ c.as_slice-5.ensures.value
+    (names_within (length c.args.style.now.names) c.in_ok-binds.binds.items c.as_slice-2.result.now c.in_ok-binds.ensures.names
+    (All-same (λ name. name.0 < length c.args.style.now.names) _ _ c.as_slice-2.ensures.value c.in_ok-names.ensures.within))
+
+pub fields-requires : goal.fields-requires
+fields-requires c =
+    All-same (λ b. b.name.0 < length c.args.style.now.names) _ _ c.as_slice-6.ensures.value
+    (names_within (length c.args.style.now.names) c.in_ok-binds.binds.items c.as_slice-2.result.now c.in_ok-binds.ensures.names
+    (All-same (λ name. name.0 < length c.args.style.now.names) _ _ c.as_slice-2.ensures.value c.in_ok-names.ensures.within))
+
+pub returns : goal.returns
+returns c =
+    started_is c.args.alloc c.args.style.now c.args.cond.now c.args.pieces.now c.args.whole c.args.at_entry
+    c.from_vec.result c.as_slice.result.now c.in_ok-binds.binds.items c.from_vec-2.result c.from_vec-3.result c.as_slice-2.result.now
+    c.from_vec-4.result c.from_vec-5.result c.in_ok-from.from.next c.in_ok-binds.next
+    (c.from_vec.ensures ∙ c.in_ok-from.ensures.stack)
+    (c.as_slice.ensures.value ∙ c.in_ok-from.ensures.binds)
+    c.in_ok-from.ensures.next
+    (c.as_slice-2.ensures.value ∙ c.in_ok-names.ensures.names)
+    c.in_ok-binds.ensures.seats
+    c.in_ok-binds.ensures.next
+    (c.from_vec-2.ensures ∙ c.in_ok-variables.ensures ∙ ap (λ (bs : List Bind). filter (has_kind c.args.style.now (is_variable c.args.at_entry)) bs) c.as_slice-5.ensures.value)
+    (c.from_vec-3.ensures ∙ c.in_ok-fields.ensures ∙ ap (λ (bs : List Bind). filter (has_kind c.args.style.now (is_field c.args.at_entry)) bs) c.as_slice-6.ensures.value)
+    (c.from_vec-4.ensures ∙ c.in_ok-add_own_facts.ensures
+    ∙ ap (λ (fs : List Fact). fs ++ flat_map (λ bind. own_facts c.args.cond.now (kind_of c.args.style.now bind.name) bind) c.as_slice-3.result.now) c.in_ok-from.ensures.facts
+    ∙ ap (λ (bs : List Bind). flat_map (λ piece. piece.facts) (numbered_on 0 c.args.pieces.now) ++ flat_map (λ bind. own_facts c.args.cond.now (kind_of c.args.style.now bind.name) bind) bs) c.as_slice-3.ensures.value)
+    (c.from_vec-5.ensures ∙ c.in_ok-add_own_rows.ensures
+    ∙ ap (λ (rs : List Row). rs ++ flat_map (λ bind. own_rows c.args.cond.now (kind_of c.args.style.now bind.name) bind) c.as_slice-4.result.now) c.in_ok-from.ensures.rows
+    ∙ ap (λ (bs : List Bind). flat_map (λ piece. piece.rows) (numbered_on 0 c.args.pieces.now) ++ flat_map (λ bind. own_rows c.args.cond.now (kind_of c.args.style.now bind.name) bind) bs) c.as_slice-4.ensures.value)
