@@ -5,6 +5,7 @@ pub mod Consequences
 pub mod Counting
 pub mod Deciding
 pub mod Entailed
+pub mod Making
 pub mod Numbering
 pub mod Saying
 pub mod Shown

@@ -207,6 +207,7 @@ pub fn at_most(alloc: Global, term: Term, n: i64) -> Result<Row, NoMemory>
     requires { IsWithin (2 ^ 45) n }
     ensures said { IfOk result (λ row. row ≡ rule.at_most term n) }
     ensures small { IfOk result IsSmall }
+    ensures bounded { IfOk result IsBounded }
 {
     let part = Part {
         coefficient: -1,

@@ -32,7 +32,8 @@ pub fn start(
 ) -> Result<State, NoMemory>
     requires numbered { All rule.IsNumbered pieces.now }
     requires few { rule.all_symbols pieces.now + length style.now.names < 4294967296 }
-    ensures { IfOk result (λ state. state ≡ rule.started alloc style.now cond.now pieces.now whole at_entry) }
+    ensures started { IfOk result (λ state. state ≡ rule.started alloc style.now cond.now pieces.now whole at_entry) }
+    ensures made { All (rule.IsFit style.now) pieces.now → IfOk result (made.WellMade style.now) }
 {
     let from = joined(alloc, pieces)?;
     let names = names_in_play(alloc, style, at_entry)?;
@@ -219,7 +220,8 @@ fn add_own_rows(
     binds: &[Bind],
 ) -> Result<(), NoMemory>
     requires { All (λ bind. bind.name.0 < length style.now.names) binds.now }
-    ensures { OnOk result (rows.new.items ≡ rows.old.items
+    ensures bounded { All made.IsBounded rows.old.items → OnOk result (All made.IsBounded rows.new.items) }
+    ensures added { OnOk result (rows.new.items ≡ rows.old.items
         ++ flat_map (λ bind. rule.own_rows cond.now (kind_of style.now bind.name) bind) binds.now) }
 {
     for bind in binds {
@@ -236,7 +238,8 @@ fn push_rows(
     kind: Kind,
     bind: Bind,
 ) -> Result<(), NoMemory>
-    ensures { OnOk result (rows.new.items ≡ rows.old.items ++ rule.own_rows cond.now (Some kind) bind) }
+    ensures bounded { All made.IsBounded rows.old.items → OnOk result (All made.IsBounded rows.new.items) }
+    ensures added { OnOk result (rows.new.items ≡ rows.old.items ++ rule.own_rows cond.now (Some kind) bind) }
 {
     let length = Term::Length(bind.sym.0);
     match kind {
@@ -258,7 +261,8 @@ fn push_name_row(
     cond: &Cond,
     bind: Bind,
 ) -> Result<(), NoMemory>
-    ensures { OnOk result (rows.new.items ≡ rows.old.items ++ rule.name_rows (rule.most_names bind.name cond.now.names) bind.sym) }
+    ensures bounded { All made.IsBounded rows.old.items → OnOk result (All made.IsBounded rows.new.items) }
+    ensures added { OnOk result (rows.new.items ≡ rows.old.items ++ rule.name_rows (rule.most_names bind.name cond.now.names) bind.sym) }
 {
     if let Some(most) = most_names(bind.name, cond.names.as_slice()) {
         rows.push(at_most(alloc, Term::Names(bind.sym.0), most as i64)?)?;

@@ -1,14 +1,16 @@
 -- The parts are those of the definition.
-use Rattle.std.proofs.Common.{◌<◌, ap, ◌∙◌, List, ◌++◌, length, arith}
-use Rattle.std.specs.List.{filter, flat_map}
+use Rattle.std.proofs.Common.{◌<◌, ap, subst, sym, ◌∙◌, List, ◌++◌, length, arith}
+use Rattle.std.specs.List.{All, filter, flat_map}
 use Rattle.lin_facts.specs.declared.row.Row.{Row}
 use Rattle.bst_meaning.specs.StyleParts.{kind_of}
 use Rattle.sym_state.specs.declared.symbol.Fact.{Fact}
+use Rattle.sym_state.specs.declared.state.State.{State}
 use Rattle.std.proofs.lemmas.List.Elements.{All-same}
 use Rattle.name_table.specs.declared.names.NameId.{NameId}
 use Rattle.sym_state.specs.declared.symbol.Bind.{Bind}
 use Rattle.sym_state.specs.Starting.{has_kind, numbered_on, own_facts, own_rows}
-use Rattle.sym_state.specs.WellMade.{is_field, is_variable, takes_part}
+use Rattle.sym_state.specs.WellMade.{IsBounded, WellMade, is_field, is_variable, takes_part}
+use Rattle.sym_state.proofs.Making.{pieces_bounded, started_made}
 use Rattle.sym_state.proofs.Started.{ids_from-length, names_within, started_is}
 use Rattle.sym_state.proofs.start.start.Goals as goal
 
@@ -42,8 +44,8 @@ fields-requires c =
     (names_within (length c.args.style.now.names) c.in_ok-binds.binds.items c.as_slice-2.result.now c.in_ok-binds.ensures.names
     (All-same (λ name. name.0 < length c.args.style.now.names) _ _ c.as_slice-2.ensures.value c.in_ok-names.ensures.within))
 
-pub returns : goal.returns
-returns c =
+pub returns-clause-started : goal.returns-clause-started
+returns-clause-started c =
     started_is c.args.alloc c.args.style.now c.args.cond.now c.args.pieces.now c.args.whole c.args.at_entry
     c.from_vec.result c.as_slice.result.now c.in_ok-binds.binds.items c.from_vec-2.result c.from_vec-3.result c.as_slice-2.result.now
     c.from_vec-4.result c.from_vec-5.result c.in_ok-from.from.next c.in_ok-binds.next
@@ -58,6 +60,16 @@ returns c =
     (c.from_vec-4.ensures ∙ c.in_ok-add_own_facts.ensures
     ∙ ap (λ (fs : List Fact). fs ++ flat_map (λ bind. own_facts c.args.cond.now (kind_of c.args.style.now bind.name) bind) c.as_slice-3.result.now) c.in_ok-from.ensures.facts
     ∙ ap (λ (bs : List Bind). flat_map (λ piece. piece.facts) (numbered_on 0 c.args.pieces.now) ++ flat_map (λ bind. own_facts c.args.cond.now (kind_of c.args.style.now bind.name) bind) bs) c.as_slice-3.ensures.value)
-    (c.from_vec-5.ensures ∙ c.in_ok-add_own_rows.ensures
+    (c.from_vec-5.ensures ∙ c.in_ok-add_own_rows.ensures.added
     ∙ ap (λ (rs : List Row). rs ++ flat_map (λ bind. own_rows c.args.cond.now (kind_of c.args.style.now bind.name) bind) c.as_slice-4.result.now) c.in_ok-from.ensures.rows
     ∙ ap (λ (bs : List Bind). flat_map (λ piece. piece.rows) (numbered_on 0 c.args.pieces.now) ++ flat_map (λ bind. own_rows c.args.cond.now (kind_of c.args.style.now bind.name) bind) bs) c.as_slice-4.ensures.value)
+
+pub returns-clause-made : goal.returns-clause-made
+returns-clause-made c = λ fit.
+    let is = returns-clause-started c in
+    let before : All IsBounded c.in_ok-from.from.rows.items =
+    All-same IsBounded _ _ c.in_ok-from.ensures.rows (pieces_bounded c.args.style.now c.args.pieces.now fit) in
+    let bounded : All IsBounded c.from_vec-5.result = All-same IsBounded _ _ c.from_vec-5.ensures (c.in_ok-add_own_rows.ensures.bounded before) in
+    subst (λ (state : State). WellMade c.args.style.now state) (sym is)
+    (started_made c.args.alloc c.args.style.now c.args.cond.now c.args.pieces.now c.args.whole c.args.at_entry c.requires.numbered fit
+    (All-same IsBounded _ _ (sym (ap (λ (state : State). state.rows) is)) bounded))
