@@ -1,7 +1,7 @@
 //! What the facts of a state decide (docs/STATES.md, "What facts decide").
 
-ghost use Rattle.std.specs.Prelude.{◌≡◌, ◌≤◌, ◌^◌, false, nat_eq, length, option_map, IfSome};
-ghost use Rattle.std.specs.List.{All};
+ghost use Rattle.std.specs.Prelude.{◌≡◌, ◌≤◌, ◌^◌, ◌&&◌, false, nat_eq, length, option_map, IfSome};
+ghost use Rattle.std.specs.List.{All, list_any};
 ghost use Rattle.std.specs.Option.{option_map_or};
 ghost use Rattle.std.specs.Ordering.{int_eq};
 ghost use Rattle.std.specs.Cmp.Lexicographic.{pointwise};
@@ -51,6 +51,59 @@ pub fn is_known_nonblank(facts: &[Fact], sym: Sym) -> bool
             if let Some(empty) = emptiness_said(fact) {
                 return !empty;
             }
+        }
+    }
+    false
+}
+
+/// The kind of a symbol: the first single kind that a fact says, and where none does that of strings and missing fields
+/// if one says it.
+pub fn known_kind(facts: &[Fact], sym: Sym) -> Kinds
+    ensures { result ≡ decided.known_kind facts.now sym.0 }
+{
+    match single_kind(facts, sym) {
+        Some(kind) => kind,
+        None => {
+            if is_optional(facts, sym) {
+                Kinds::Optional
+            } else {
+                Kinds::Any
+            }
+        }
+    }
+}
+
+/// The first single kind that a fact on a symbol says.
+fn single_kind(facts: &[Fact], sym: Sym) -> Option<Kinds>
+    ensures { result ≡ decided.first_said (λ fact. decided.single (decided.kind_said fact)) sym.0 facts.now }
+{
+    for fact in facts {
+        if subject(fact).0 == sym.0 {
+            if let Some(kind) = single(kind_said(fact)) {
+                return Some(kind);
+            }
+        }
+    }
+    None
+}
+
+/// A kind, where all its values are integers, or strings, or missing fields, or functions.
+fn single(kind: Kinds) -> Option<Kinds>
+    ensures { result ≡ decided.single kind }
+{
+    match kind {
+        Kinds::Optional | Kinds::Any => None,
+        _ => Some(kind),
+    }
+}
+
+/// Whether a fact on a symbol says that it is a string or a missing field.
+fn is_optional(facts: &[Fact], sym: Sym) -> bool
+    ensures { result ≡ list_any (λ fact. nat_eq (rule.subject fact) sym.0 && decided.includes Kinds.Optional (decided.kind_said fact)) facts.now }
+{
+    for fact in facts {
+        if subject(fact).0 == sym.0 && includes(Kinds::Optional, kind_said(fact)) {
+            return true;
         }
     }
     false

@@ -8,6 +8,7 @@ pub mod demand;
 pub mod entails;
 pub mod facts;
 pub mod hint;
+pub mod laws;
 pub mod matching;
 pub mod piece;
 pub mod proof;
@@ -17,3 +18,5 @@ pub mod shows;
 pub mod start;
 pub mod state;
 pub mod symbol;
+#[cfg(test)]
+mod tests;
