@@ -1,5 +1,9 @@
 //! What a token demands of a state, and why a state has no effect.
 
+ghost use Rattle.std.specs.Prelude.{◌≡◌};
+
+use bv_base::memory::NoMemory;
+
 /// What a built-in function demands of its operands or its surroundings. Each is an execution error that it would
 /// come to, but the last: a whole stack is known.
 #[derive(Clone, Copy, Debug, PartialEq, Eq)]
@@ -40,4 +44,14 @@ pub enum EffectFault {
     WrongHint,
     /// Want of memory.
     NoMemory,
+}
+
+impl From<NoMemory> for EffectFault {
+    ghost use Rattle.sym_state.specs.declared.demand.EffectFault.TheVariants.{NoMemory as WantOfMemory};
+
+    ghost from_gives = { λ _ fault. fault ≡ WantOfMemory };
+
+    fn from(_refused: NoMemory) -> EffectFault {
+        EffectFault::NoMemory
+    }
 }
