@@ -17,7 +17,7 @@ use Rattle.bst_run.specs.Reading.{certificate_of}
 use Rattle.bst_run.specs.Sources.{read_style}
 use Rattle.bst_run.specs.Straight.{is_straight}
 use Rattle.bst_run.specs.Walk.{first_refusal}
-use Rattle.bst_run.specs.Report.{Answer, WrongWords, OutOfReach, Refuses, Accepts, output, error_text, status_of}
+use Rattle.bst_run.specs.Report.{Answer, OutOfReach, Refuses, Accepts, output, error_text, status_of}
 
 abbrev pub decided : Cond → Option Refusal → Result Cond Answer
 decided cond None = Ok cond
@@ -46,14 +46,10 @@ check_from (Err answer) = answer
 abbrev pub check_answer : Listing → List ℕ → List ℕ → Answer
 check_answer told style cert = check_from (condition_in told style cert)
 
--- the answer to the words, over these files
-abbrev pub form_answer : Listing → Form → Answer
-form_answer told (Check style cert) = check_answer told style cert
-form_answer told (Run aux steps) = run_answer told aux steps
-
-abbrev pub answer_of : Listing → Option Form → Answer
-answer_of told None = WrongWords
-answer_of told (Some form) = form_answer told form
+-- the answer to the words of a form, over these files
+abbrev pub answer_of : Listing → Form → Answer
+answer_of told (Check style cert) = check_answer told style cert
+answer_of told (Run aux steps) = run_answer told aux steps
 
 -- a style and a certificate's text for which the rules hold: the style is safe under the certificate's condition
 pub record IsDecidedWell (bytes : List ℕ) (style : Style) (text : List ℕ) (cond : Cond) : Type 0 where

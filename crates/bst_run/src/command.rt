@@ -36,7 +36,7 @@ pub fn command<F: Files, O: Sink, E: Sink>(
     ensures usage_only { result ≡ Status.Usage → forms.form_of words.now ≡ None }
     // Where the files tell, the words and the files decide the answer and its texts.
     ensures answered { IfSome (forms.form_of words.now) (λ form. IfSome (F.told files.old) (λ told.
-        top.IsAnswered result (top.form_answer told form) (O.written out.old) (O.written out.new) (E.written err.old) (E.written err.new))) }
+        top.IsAnswered result (top.answer_of told form) (O.written out.old) (O.written out.new) (E.written err.old) (E.written err.new))) }
     // What the outside did shows in the answer.
     ensures no_file { result ≡ Status.NoFile → IfSome (F.begun files.new) (λ begun.
         (begun.absent ≡ true) × (E.written err.new ≡ appended (E.written err.old) (report.error_text (report.FileAbsent begun.name)))) }

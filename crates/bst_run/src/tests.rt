@@ -5,6 +5,7 @@ use bv_base::mem_files::MemFiles;
 use bv_base::mem_sink::MemSink;
 use bv_base::status::Status;
 use std::alloc::{AllocError, Global};
+use std::process::Abort;
 use std::test::Fail;
 
 /// A straight style that joins two texts and writes them.
@@ -41,140 +42,143 @@ fn files_of(alloc: Global, style: Option<&[u8]>, cert: Option<&[u8]>) -> Result<
     Ok(files)
 }
 
-#[test]
-fn check_gives_the_worked_answers(rt: HostRuntime) -> Result<(), Fail> {
-    let alloc = rt.alloc();
-    let rows: [(&[u8], Status, &str, &str); 24] = [
-        (JOINS, Status::Done, ACCEPTED, ""),
-        (b"", Status::Done, ACCEPTED, ""),
-        (
-            b"ENTRY{}{}{} FUNCTION{f}{\"a\" *} READ EXECUTE{f}",
-            Status::Refused,
-            "",
-            "refused 1:29 EmptyPop 2\n",
-        ),
-        (
-            b"ENTRY{}{}{} FUNCTION{f}{write$} READ EXECUTE{f}",
-            Status::Refused,
-            "",
-            "refused 1:25 EmptyPop 1\n",
-        ),
-        (
-            b"ENTRY{}{}{} FUNCTION{f}{\"a\"} READ EXECUTE{f}",
-            Status::Refused,
-            "",
-            "refused 1:35 StackLeft\n",
-        ),
-        // A function that no command enters isn't walked.
-        (b"FUNCTION{f}{* *}", Status::Done, ACCEPTED, ""),
-        // Comments and names in capitals are part of the language.
-        (
-            b"% a comment\nentry{}{}{} Function{F}{\"a\" WRITE$}\nread execute{f}",
-            Status::Done,
-            ACCEPTED,
-            "",
-        ),
-        // A field, another built-in, and a command that isn't checked yet.
-        (
-            b"ENTRY{title}{}{} READ",
-            Status::NotBuilt,
-            "",
-            "not built\n",
-        ),
-        (b"FUNCTION{f}{skip$}", Status::NotBuilt, "", "not built\n"),
-        (
-            b"ENTRY{}{}{} READ SORT",
-            Status::NotBuilt,
-            "",
-            "not built\n",
-        ),
-        (b"FUNCTION{f}{{}}", Status::NotBuilt, "", "not built\n"),
-        (
-            b"READ",
-            Status::BadStyle,
-            "",
-            "bad style 1:1 ReadBeforeEntry\n",
-        ),
-        (
-            b"FOO",
-            Status::BadStyle,
-            "",
-            "bad style 1:1 UnknownCommand\n",
-        ),
-        (
-            b"EXECUTE{skip$}",
-            Status::BadStyle,
-            "",
-            "bad style 1:1 CommandBeforeRead\n",
-        ),
-        (
-            b"FUNCTION{f}{f}",
-            Status::BadStyle,
-            "",
-            "bad style 1:13 SelfUse\n",
-        ),
-        (
-            b"FUNCTION{f}{g}",
-            Status::BadStyle,
-            "",
-            "bad style 1:13 UnknownName\n",
-        ),
-        (
-            b"ENTRY{}{}{} ENTRY{}{}{}",
-            Status::BadStyle,
-            "",
-            "bad style 1:13 SecondEntry\n",
-        ),
-        (
-            b"ENTRY{}{}{} READ EXECUTE{sort.key$}",
-            Status::BadStyle,
-            "",
-            "bad style 1:26 NotCallable\n",
-        ),
-        (
-            b"FUNCTION{f}{#}",
-            Status::BadStyle,
-            "",
-            "bad style 1:13 BadInteger\n",
-        ),
-        (
-            b"MACRO{a}{\"x\"} MACRO{a}{\"y\"}",
-            Status::BadStyle,
-            "",
-            "bad style 1:21 AlreadyDefined\n",
-        ),
-        (
-            b"FUNCTION{f}{\"a",
-            Status::BadStyle,
-            "",
-            "bad style 1:13 NoEndQuote\n",
-        ),
-        (
-            b"ENTRY{}{}{} FUNCTION{f}{#2147483648 #1 + pop$} READ EXECUTE{f}",
-            Status::BadStyle,
-            "",
-            "bad style 1:25 IntegerRange\n",
-        ),
-        (
-            b"ENTRY{a,b}{}{}",
-            Status::BadStyle,
-            "",
-            "bad style 1:7 Expected\n",
-        ),
-        (
-            b"FUNCTION{f}{",
-            Status::BadStyle,
-            "",
-            "bad style 1:13 EndOfFile\n",
-        ),
-    ];
+/// A style, and what is answered for it with the certificate under which no entry is let in.
+type Check<'a> = (&'a [u8], Status, &'a str, &'a str);
+
+const CHECKS: [Check<'static>; 24] = [
+    (JOINS, Status::Done, ACCEPTED, ""),
+    (b"", Status::Done, ACCEPTED, ""),
+    (
+        b"ENTRY{}{}{} FUNCTION{f}{\"a\" *} READ EXECUTE{f}",
+        Status::Refused,
+        "",
+        "refused 1:29 EmptyPop 2\n",
+    ),
+    (
+        b"ENTRY{}{}{} FUNCTION{f}{write$} READ EXECUTE{f}",
+        Status::Refused,
+        "",
+        "refused 1:25 EmptyPop 1\n",
+    ),
+    (
+        b"ENTRY{}{}{} FUNCTION{f}{\"a\"} READ EXECUTE{f}",
+        Status::Refused,
+        "",
+        "refused 1:35 StackLeft\n",
+    ),
+    // A function that no command enters isn't walked.
+    (b"FUNCTION{f}{* *}", Status::Done, ACCEPTED, ""),
+    // Comments and names in capitals are part of the language.
+    (
+        b"% a comment\nentry{}{}{} Function{F}{\"a\" WRITE$}\nread execute{f}",
+        Status::Done,
+        ACCEPTED,
+        "",
+    ),
+    // A field, another built-in, and a command that isn't checked yet.
+    (
+        b"ENTRY{title}{}{} READ",
+        Status::NotBuilt,
+        "",
+        "not built\n",
+    ),
+    (b"FUNCTION{f}{skip$}", Status::NotBuilt, "", "not built\n"),
+    (
+        b"ENTRY{}{}{} READ SORT",
+        Status::NotBuilt,
+        "",
+        "not built\n",
+    ),
+    (b"FUNCTION{f}{{}}", Status::NotBuilt, "", "not built\n"),
+    (
+        b"READ",
+        Status::BadStyle,
+        "",
+        "bad style 1:1 ReadBeforeEntry\n",
+    ),
+    (
+        b"FOO",
+        Status::BadStyle,
+        "",
+        "bad style 1:1 UnknownCommand\n",
+    ),
+    (
+        b"EXECUTE{skip$}",
+        Status::BadStyle,
+        "",
+        "bad style 1:1 CommandBeforeRead\n",
+    ),
+    (
+        b"FUNCTION{f}{f}",
+        Status::BadStyle,
+        "",
+        "bad style 1:13 SelfUse\n",
+    ),
+    (
+        b"FUNCTION{f}{g}",
+        Status::BadStyle,
+        "",
+        "bad style 1:13 UnknownName\n",
+    ),
+    (
+        b"ENTRY{}{}{} ENTRY{}{}{}",
+        Status::BadStyle,
+        "",
+        "bad style 1:13 SecondEntry\n",
+    ),
+    (
+        b"ENTRY{}{}{} READ EXECUTE{sort.key$}",
+        Status::BadStyle,
+        "",
+        "bad style 1:26 NotCallable\n",
+    ),
+    (
+        b"FUNCTION{f}{#}",
+        Status::BadStyle,
+        "",
+        "bad style 1:13 BadInteger\n",
+    ),
+    (
+        b"MACRO{a}{\"x\"} MACRO{a}{\"y\"}",
+        Status::BadStyle,
+        "",
+        "bad style 1:21 AlreadyDefined\n",
+    ),
+    (
+        b"FUNCTION{f}{\"a",
+        Status::BadStyle,
+        "",
+        "bad style 1:13 NoEndQuote\n",
+    ),
+    (
+        b"ENTRY{}{}{} FUNCTION{f}{#2147483648 #1 + pop$} READ EXECUTE{f}",
+        Status::BadStyle,
+        "",
+        "bad style 1:25 IntegerRange\n",
+    ),
+    (
+        b"ENTRY{a,b}{}{}",
+        Status::BadStyle,
+        "",
+        "bad style 1:7 Expected\n",
+    ),
+    (
+        b"FUNCTION{f}{",
+        Status::BadStyle,
+        "",
+        "bad style 1:13 EndOfFile\n",
+    ),
+];
+
+/// Asserts what each style is answered.
+fn expect_checks(rt: &impl Abort, alloc: Global, rows: &[Check<'_>]) -> Result<(), Fail> {
     for (style, status, text, line) in rows {
         let words = owned(alloc, &["check", "a.bst", "b.cert"])?;
         let mut files = files_of(alloc, Some(style), Some(NO_ENTRIES))?;
         let mut out = MemSink::new(alloc);
         let mut err = MemSink::new(alloc);
         let answer = command(alloc, &words, &mut files, &mut out, &mut err);
-        assert_eq!(rt; answer, status, "at {line}");
+        assert_eq!(rt; answer, *status, "at {line}");
         assert_eq!(rt; out.bytes(), text.as_bytes(), "at {line}");
         assert_eq!(rt; err.bytes(), line.as_bytes(), "at {line}");
     }
@@ -182,51 +186,68 @@ fn check_gives_the_worked_answers(rt: HostRuntime) -> Result<(), Fail> {
 }
 
 #[test]
-fn certificates_have_one_spelling(rt: HostRuntime) -> Result<(), Fail> {
-    let alloc = rt.alloc();
-    let rows: [(&[u8], Status, &str); 7] = [
-        (
-            b"bstcert 1\nentries 1000000\nkey 1073741824\npreamble 10\nlength 9\nothertype yes\nend\ndone\n",
-            Status::Done,
-            "accepted\nlist 1\nentries 1000000\nkey 1073741824\npreamble 10\nlength 9\nothertype yes\nend\n",
-        ),
-        (b"", Status::NotBuilt, ""),
-        (
-            b"bstcert 1\nentries 1000001\nkey 0\npreamble 0\nlength 0\nothertype no\nend\ndone\n",
-            Status::NotBuilt,
-            "",
-        ),
-        (
-            b"bstcert 1\nentries 0\nkey 1073741825\npreamble 0\nlength 0\nothertype no\nend\ndone\n",
-            Status::NotBuilt,
-            "",
-        ),
-        (
-            b"bstcert 1\nentries 00\nkey 0\npreamble 0\nlength 0\nothertype no\nend\ndone\n",
-            Status::NotBuilt,
-            "",
-        ),
-        (
-            b"bstcert 1\nentries  0\nkey 0\npreamble 0\nlength 0\nothertype no\nend\ndone\n",
-            Status::NotBuilt,
-            "",
-        ),
-        (
-            b"bstcert 1\nentries 0\nkey 0\npreamble 0\nlength 0\nothertype no\nend\n",
-            Status::NotBuilt,
-            "",
-        ),
-    ];
+fn check_gives_the_worked_answers(rt: HostRuntime) -> Result<(), Fail> {
+    expect_checks(&rt, rt.alloc(), &CHECKS)
+}
+
+/// A certificate, and what is answered for a style that joins two texts.
+type Certificate<'a> = (&'a [u8], Status, &'a str);
+
+const CERTIFICATES: [Certificate<'static>; 7] = [
+    (
+        b"bstcert 1\nentries 1000000\nkey 1073741824\npreamble 10\nlength 9\nothertype yes\nend\ndone\n",
+        Status::Done,
+        "accepted\nlist 1\nentries 1000000\nkey 1073741824\npreamble 10\nlength 9\nothertype yes\nend\n",
+    ),
+    (b"", Status::NotBuilt, ""),
+    (
+        b"bstcert 1\nentries 1000001\nkey 0\npreamble 0\nlength 0\nothertype no\nend\ndone\n",
+        Status::NotBuilt,
+        "",
+    ),
+    (
+        b"bstcert 1\nentries 0\nkey 1073741825\npreamble 0\nlength 0\nothertype no\nend\ndone\n",
+        Status::NotBuilt,
+        "",
+    ),
+    (
+        b"bstcert 1\nentries 00\nkey 0\npreamble 0\nlength 0\nothertype no\nend\ndone\n",
+        Status::NotBuilt,
+        "",
+    ),
+    (
+        b"bstcert 1\nentries  0\nkey 0\npreamble 0\nlength 0\nothertype no\nend\ndone\n",
+        Status::NotBuilt,
+        "",
+    ),
+    (
+        b"bstcert 1\nentries 0\nkey 0\npreamble 0\nlength 0\nothertype no\nend\n",
+        Status::NotBuilt,
+        "",
+    ),
+];
+
+/// Asserts what each certificate is answered.
+fn expect_certificates(
+    rt: &impl Abort,
+    alloc: Global,
+    rows: &[Certificate<'_>],
+) -> Result<(), Fail> {
     for (cert, status, text) in rows {
         let words = owned(alloc, &["check", "a.bst", "b.cert"])?;
         let mut files = files_of(alloc, Some(JOINS), Some(cert))?;
         let mut out = MemSink::new(alloc);
         let mut err = MemSink::new(alloc);
         let answer = command(alloc, &words, &mut files, &mut out, &mut err);
-        assert_eq!(rt; answer, status);
+        assert_eq!(rt; answer, *status);
         assert_eq!(rt; out.bytes(), text.as_bytes());
     }
     Ok(())
+}
+
+#[test]
+fn certificates_have_one_spelling(rt: HostRuntime) -> Result<(), Fail> {
+    expect_certificates(&rt, rt.alloc(), &CERTIFICATES)
 }
 
 #[test]
