@@ -29,7 +29,7 @@ optional_of (MissingValue name) b e = refl
 optional_of (IntValue n) b e = absurd (cc)
 optional_of (FuncValue target) b e = absurd (cc)
 
-string_of : (value : Value) → emptiness value ≡ Some false → has_kind Str value ≡ true
+pub string_of : (value : Value) → emptiness value ≡ Some false → has_kind Str value ≡ true
 string_of (StrValue bytes) e = refl
 string_of (MissingValue name) e = absurd (cc)
 string_of (IntValue n) e = absurd (cc)

@@ -37,7 +37,7 @@ pub values_append : (v : Valuation) (a b : List Sym) → values_of v (a ++ b) �
 values_append v a b =
     ap (λ (s : List Sym). map (λ x. v.value x.0) s) (reverse-append a b) ∙ map-append (λ (x : Sym). v.value x.0) (reverse b) (reverse a)
 
-one_more : (v : Valuation) (s : Sym) (stack : List Sym) → values_of v (s ∷ stack) ≡ values_of v stack ++ v.value s.0 ∷ []
+pub one_more : (v : Valuation) (s : Sym) (stack : List Sym) → values_of v (s ∷ stack) ≡ values_of v stack ++ v.value s.0 ∷ []
 one_more v s stack = values_append v (s ∷ []) stack
 
 -- stacks whose symbols agree have the same values
@@ -68,7 +68,7 @@ stack_holds v match known stack below literal few all is =
     ∙ append_assoc (values_of (through match v) stack) (values_of v (take n known)) below
 
 -- a name that the state binds has the value of its symbol
-found_value : (style : Style) (v : Valuation) (c : Config) (name : NameId) (known : List Bind) (there : Sym)
+pub found_value : (style : Style) (v : Valuation) (c : Config) (name : NameId) (known : List Bind) (there : Sym)
     → AllByRecursion (IsBound style v c) known → symbol_at name known ≡ Some there → value_by (kind_of style name) name c ≡ Some (v.value there.0)
 found_value style v c name [] there all e = absurd (cc)
 found_value style v c name (b ∷ known) there all e =

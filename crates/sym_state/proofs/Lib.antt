@@ -7,6 +7,7 @@ pub mod Deciding
 pub mod Entailed
 pub mod Making
 pub mod Numbering
+pub mod Opened
 pub mod Reading
 pub mod Saying
 pub mod Shown

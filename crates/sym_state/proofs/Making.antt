@@ -80,7 +80,7 @@ raised_term n m k (Names s) few h = omega arith
 raised_term n m k Pos few h = tt
 raised_term n m k Count few h = tt
 
-abbrev RowBelow : ℕ → Row → Type 0
+abbrev pub RowBelow : ℕ → Row → Type 0
 RowBelow n row = All (λ part. IsTermBelow n part.term) row.parts
 
 raised_row : (n m k : ℕ) (row : Row) → k + m ≤ n → RowBelow m row → RowBelow n (row_renamed (raised k) row)
@@ -136,7 +136,7 @@ bounded_renamed k row h = record {
 }
 
 -- a symbol that is bound is below what all are below
-found_below : (n : ℕ) (name : NameId) (binds : List Bind) (s : Sym) → All (λ b. b.sym.0 < n) binds → symbol_at name binds ≡ Some s → s.0 < n
+pub found_below : (n : ℕ) (name : NameId) (binds : List Bind) (s : Sym) → All (λ b. b.sym.0 < n) binds → symbol_at name binds ≡ Some s → s.0 < n
 found_below n name [] s all e = absurd (cc)
 found_below n name (b ∷ binds) s all e =
     elim (nat_eq b.name.0 name.0) as (λ t. cond t (Some b.sym) (symbol_at name binds) ≡ Some s → s.0 < n) [
@@ -269,6 +269,30 @@ filter_keeps P test (x ∷ xs) all =
       | true ↦ All-cons P x (filter test xs) (All-head P x xs all) (filter_keeps P test xs (All-tail P x xs all))
       | false ↦ filter_keeps P test xs (All-tail P x xs all)
     ]
+
+-- the symbols of pieces that are numbered on are below their number
+no_more : (pieces : List Piece) → All IsNumbered pieces → All (λ (piece : Piece). Unit {0}) pieces
+no_more pieces numbered = All-weaker IsNumbered (λ piece. Unit {0}) (λ piece h. tt) pieces numbered
+
+pub stacks_below : (pieces : List Piece) → All IsNumbered pieces → All (λ (s : Sym). s.0 < all_symbols pieces) (flat_map (λ piece. piece.stack) (numbered_on 0 pieces))
+stacks_below pieces numbered =
+    each_part (λ (s : Sym). s.0 < all_symbols pieces) (λ piece. piece.stack) (λ piece. Unit {0}) (all_symbols pieces) 0 pieces
+    (λ k piece few h. raised_stack (all_symbols pieces) k piece few) (omega arith) (no_more pieces numbered)
+
+pub bindings_below : (pieces : List Piece) → All IsNumbered pieces → All (λ (b : Bind). b.sym.0 < all_symbols pieces) (bound_by (numbered_on 0 pieces))
+bindings_below pieces numbered =
+    each_part (λ (b : Bind). b.sym.0 < all_symbols pieces) (λ piece. piece.vars ++ piece.fields) (λ piece. Unit {0}) (all_symbols pieces) 0 pieces
+    (λ k piece few h. raised_binds (all_symbols pieces) k piece few) (omega arith) (no_more pieces numbered)
+
+pub facts_below : (pieces : List Piece) → All IsNumbered pieces → All (λ (f : Fact). subject f < all_symbols pieces) (flat_map (λ piece. piece.facts) (numbered_on 0 pieces))
+facts_below pieces numbered =
+    each_part (λ (f : Fact). subject f < all_symbols pieces) (λ piece. piece.facts) IsNumbered (all_symbols pieces) 0 pieces
+    (λ k piece few h. raised_facts (all_symbols pieces) k piece few h) (omega arith) numbered
+
+pub rows_below : (pieces : List Piece) → All IsNumbered pieces → All (RowBelow (all_symbols pieces)) (flat_map (λ piece. piece.rows) (numbered_on 0 pieces))
+rows_below pieces numbered =
+    each_part (RowBelow (all_symbols pieces)) (λ piece. piece.rows) IsNumbered (all_symbols pieces) 0 pieces
+    (λ k piece few h. raised_rows (all_symbols pieces) k piece few h) (omega arith) numbered
 
 -- the texts and rows of the pieces are within their bounds, and those that are given of their own
 pub started_made : (alloc : Global) (style : Style) (admits : Cond) (pieces : List Piece) (whole at_entry : Bool)

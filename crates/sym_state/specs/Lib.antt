@@ -9,3 +9,4 @@ pub mod Renaming
 pub mod Starting
 pub mod Entailing
 pub mod Matches
+pub mod Opening

@@ -1,9 +1,14 @@
 //! States that start from pieces (docs/STATES.md, "Start from pieces").
 
-ghost use Rattle.std.specs.Prelude.{◌≡◌, ◌+◌, ◌<◌, ◌++◌, Some, length, map, nat_eq, OnOk, IfOk};
+ghost use Rattle.std.specs.Prelude.{◌≡◌, ◌+◌, ◌<◌, ◌++◌, List, Some, length, map, nat_eq, OnOk, IfOk};
 ghost use Rattle.std.specs.List.{All, filter, flat_map, list_any};
+ghost use Rattle.bst_meaning.specs.Config.{Config};
 ghost use Rattle.bst_meaning.specs.StyleParts.{kind_of};
+ghost use Rattle.bst_meaning.specs.declared.entry.EntryList.{EntryList};
+ghost use Rattle.bst_meaning.specs.declared.value.Value.{Value};
+ghost use Rattle.sym_state.specs.Opening.{CanStart, StandsOpen};
 ghost use Rattle.sym_state.specs.Starting as rule;
+ghost use Rattle.sym_state.specs.Symbols.{Valuation};
 ghost use Rattle.sym_state.specs.WellMade as made;
 
 use crate::binds::symbol_at;
@@ -21,7 +26,8 @@ use name_table::style::Style;
 use std::alloc::Global;
 
 /// The state that starts from pieces: their symbols numbered on, piece after piece, a symbol for each other variable and
-/// field that has a value, the facts and rows of the pieces and then those that each variable and field gives.
+/// field that has a value, the facts and rows of the pieces and then those that each variable and field gives. It stands
+/// for each configuration of which the pieces hold, where each variable and field has a value of its kind.
 pub fn start(
     alloc: Global,
     style: &Style,
@@ -34,6 +40,9 @@ pub fn start(
     requires few { rule.all_symbols pieces.now + length style.now.names < 4294967296 }
     ensures started { IfOk result (λ state. state ≡ rule.started alloc style.now cond.now pieces.now whole at_entry) }
     ensures made { All (rule.IsFit style.now) pieces.now → IfOk result (made.WellMade style.now) }
+    ensures stands { IfOk result (λ state. (list : EntryList) (v : Valuation) (c : Config) (below : List Value)
+        → CanStart style.now cond.now list v pieces.now whole at_entry c below
+        → StandsOpen style.now cond.now list v (rule.all_symbols pieces.now) state c below) }
 {
     let from = joined(alloc, pieces)?;
     let names = names_in_play(alloc, style, at_entry)?;

@@ -8,9 +8,11 @@ use Rattle.sym_state.specs.declared.state.State.{State}
 use Rattle.std.proofs.lemmas.List.Elements.{All-same}
 use Rattle.name_table.specs.declared.names.NameId.{NameId}
 use Rattle.sym_state.specs.declared.symbol.Bind.{Bind}
-use Rattle.sym_state.specs.Starting.{has_kind, numbered_on, own_facts, own_rows}
+use Rattle.sym_state.specs.Opening.{StandsOpen}
+use Rattle.sym_state.specs.Starting.{all_symbols, has_kind, numbered_on, own_facts, own_rows}
 use Rattle.sym_state.specs.WellMade.{IsBounded, WellMade, is_field, is_variable, takes_part}
 use Rattle.sym_state.proofs.Making.{pieces_bounded, started_made}
+use Rattle.sym_state.proofs.Opened.{opened}
 use Rattle.sym_state.proofs.Started.{ids_from-length, names_within, started_is}
 use Rattle.sym_state.proofs.start.start.Goals as goal
 
@@ -73,3 +75,9 @@ returns-clause-made c = λ fit.
     subst (λ (state : State). WellMade c.args.style.now state) (sym is)
     (started_made c.args.alloc c.args.style.now c.args.cond.now c.args.pieces.now c.args.whole c.args.at_entry c.requires.numbered fit
     (All-same IsBounded _ _ (sym (ap (λ (state : State). state.rows) is)) bounded))
+
+pub returns-clause-stands : goal.returns-clause-stands
+returns-clause-stands c = λ list v config below can.
+    let is = returns-clause-started c in
+    subst (λ (state : State). StandsOpen c.args.style.now c.args.cond.now list v (all_symbols c.args.pieces.now) state config below) (sym is)
+    (opened c.args.alloc c.args.style.now c.args.cond.now list v c.args.pieces.now c.args.whole c.args.at_entry config below c.requires.numbered can)
