@@ -108,6 +108,20 @@ exact_integer facts s = first_said integer_said s facts
 abbrev pub exact_text : List Fact → ℕ → Option (List ℕ)
 exact_text facts s = first_said text_said s facts
 
+-- the function that one fact says: by its name, or a block by its number
+pub data Function : Type 0 where
+  ByName : (name : NameId) → Function
+  ByNumber : (number : ℕ) → Function
+
+abbrev pub function_said : Fact → Option Function
+function_said (Call s name) = Some (ByName name)
+function_said (Block s number) = Some (ByNumber number)
+function_said _ = None
+
+-- the exact function of a symbol
+abbrev pub exact_function : List Fact → ℕ → Option Function
+exact_function facts s = first_said function_said s facts
+
 -- a symbol is known nonblank where the first fact that decides `empty$` decides 0
 abbrev pub is_known_nonblank : List Fact → ℕ → Bool
 is_known_nonblank facts s = option_map_or not (first_said emptiness_said s facts) false

@@ -10,3 +10,7 @@ pub mod Starting
 pub mod Entailing
 pub mod Matches
 pub mod Opening
+pub mod Demands
+pub mod Results
+pub mod Effects
+pub mod Cases
