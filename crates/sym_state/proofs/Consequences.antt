@@ -42,7 +42,7 @@ function_of style number (StrValue n) h = absurd h
 function_of style number (MissingValue n) h = absurd h
 
 -- a value is of the kind that a fact on it says
-kind_holds : (style : Style) (value : Value) (fact : Fact) → Says style fact value → has_kind (kind_said fact) value ≡ true
+pub kind_holds : (style : Style) (value : Value) (fact : Fact) → Says style fact value → has_kind (kind_said fact) value ≡ true
 kind_holds style value (Is s kind) h = h
 kind_holds style value (Int s n) h = ap (has_kind IntKind) h
 kind_holds style value (Text s text) h = ap (has_kind Str) h
@@ -53,7 +53,7 @@ kind_holds style value (Nonblank s) h = string_of value h
 kind_holds style value (Wellformed s) h = refl
 
 -- a value of a kind is of each kind that includes it
-widened : (wide kind : Kinds) (value : Value) → includes wide kind ≡ true → has_kind kind value ≡ true → has_kind wide value ≡ true
+pub widened : (wide kind : Kinds) (value : Value) → includes wide kind ≡ true → has_kind kind value ≡ true → has_kind wide value ≡ true
 widened Any kind value e h = refl
 widened IntKind IntKind value e h = h
 widened Str Str value e h = h
@@ -182,7 +182,7 @@ nothing_said style value (Blank s) e = absurd (cc)
 nothing_said style value (Nonblank s) e = absurd (cc)
 nothing_said style value (Wellformed s) e = absurd (cc)
 
-some_gives : (style : Style) (v : Valuation) (s : ℕ) (facts : List Fact) (wanted : Fact) → AllByRecursion (FactHolds style v) facts
+pub some_gives : (style : Style) (v : Valuation) (s : ℕ) (facts : List Fact) (wanted : Fact) → AllByRecursion (FactHolds style v) facts
     → list_any (λ fact. nat_eq (subject fact) s && gives fact wanted) facts ≡ true → Says style wanted (v.value s)
 some_gives style v s [] wanted all e = absurd (cc)
 some_gives style v s (fact ∷ facts) wanted all e =

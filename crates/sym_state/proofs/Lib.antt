@@ -12,3 +12,6 @@ pub mod Reading
 pub mod Saying
 pub mod Shown
 pub mod Started
+pub mod Frames
+pub mod KnownKinds
+pub mod Pushing

@@ -14,3 +14,4 @@ pub mod Demands
 pub mod Results
 pub mod Effects
 pub mod Cases
+pub mod Covers

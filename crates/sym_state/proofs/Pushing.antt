@@ -1,0 +1,172 @@
+-- States that stand after values are taken from the literal stack and put on it.
+use Rattle.std.proofs.Common.{◌≡◌, ℕ, zero, suc, ◌<◌, ◌≤◌, ◌+◌, Bool, true, false, cond, nat_eq, List, [], ◌∷◌, ◌++◌, append_assoc, map, reverse, Option, None, Some, refl, sym, ap, subst, ◌∙◌, arith}
+use Rattle.std.specs.List.{All, AllByRecursion}
+use Rattle.std.proofs.lemmas.List.{reverse-append, reverse-reverse}
+use Rattle.std.proofs.lemmas.List.Elements.{All-append, All-cons, All-head, All-nil, All-same, All-tail}
+use Rattle.lin_facts.specs.Rows.{Holds}
+use Rattle.lin_facts.specs.declared.row.Row.{Row}
+use Rattle.name_table.specs.declared.names.NameId.{NameId}
+use Rattle.name_table.specs.declared.names.Kind.{Kind}
+use Rattle.name_table.specs.declared.names.Kind.TheVariants.{Builtin as BuiltinKind, Wizard, Field, IntEntry, StrEntry, IntGlobal, StrGlobal}
+use Rattle.name_table.specs.declared.style.Style.{Style}
+use Rattle.bst_meaning.specs.declared.condition.Cond.{Cond}
+use Rattle.bst_meaning.specs.declared.entry.EntryList.{EntryList}
+use Rattle.bst_meaning.specs.declared.value.Value.{Value}
+use Rattle.bst_meaning.specs.Config.{Config, Event}
+use Rattle.bst_meaning.specs.StyleParts.{kind_of}
+use Rattle.sym_state.specs.declared.symbol.Sym.{Sym}
+use Rattle.sym_state.specs.declared.symbol.Bind.{Bind}
+use Rattle.sym_state.specs.declared.symbol.Fact.{Fact}
+use Rattle.sym_state.specs.declared.symbol.Kinds.{Kinds}
+use Rattle.sym_state.specs.declared.symbol.Kinds.TheVariants.{Int, Str, Missing, Optional, Func, Any}
+use Rattle.sym_state.specs.declared.state.State.{State}
+use Rattle.sym_state.specs.Changes.{kind_facts}
+use Rattle.sym_state.specs.Covers.{Agrees}
+use Rattle.sym_state.specs.Facts.{FactHolds, has_kind}
+use Rattle.sym_state.specs.Results.{next_of, with_result, with_symbol, with_top}
+use Rattle.sym_state.specs.Stands.{HasList, IsBound, IsVisiting, Satisfies, Stands, value_by, values_of}
+use Rattle.sym_state.specs.Symbols.{Valuation, IsValue, numbers}
+use Rattle.sym_state.specs.WellMade.{WellMade}
+use Rattle.sym_state.proofs.Frames.{agrees_self, binds_agree, facts_agree, facts_joined, list_agrees, next_agrees, next_is, rows_agree, rows_joined, with_next}
+
+-- the values of symbols, in their order
+abbrev pub value_list : Valuation → List Sym → List Value
+value_list v syms = map (λ s. v.value s.0) syms
+
+all_reversed : (next : ℕ) (xs : List Sym) → All (λ s. s.0 < next) xs → All (λ s. s.0 < next) (reverse xs)
+all_reversed next [] all = All-nil (λ s. s.0 < next)
+all_reversed next (x ∷ xs) all =
+    All-same (λ s. s.0 < next) (reverse (x ∷ xs)) (reverse xs ++ x ∷ []) (reverse-append (x ∷ []) xs)
+    (All-append (λ s. s.0 < next) (reverse xs) (x ∷ []) (all_reversed next xs (All-tail (λ s. s.0 < next) x xs all))
+    (All-cons (λ s. s.0 < next) x [] (All-head (λ s. s.0 < next) x xs all) (All-nil (λ s. s.0 < next))))
+
+-- the symbols on the stack, the top first
+pub tops_below : (style : Style) (state : State) (tops : List Sym) → WellMade style state → reverse state.stack ≡ tops
+    → All (λ s. s.0 < state.next) tops
+tops_below style state tops made e =
+    All-same (λ s. s.0 < state.next) tops (reverse state.stack) (sym e) (all_reversed state.next state.stack made.stack)
+
+-- the machine's stack begins with the values of the symbols on top
+pub stack_of_tops : (style : Style) (admits : Cond) (list : EntryList) (v : Valuation) (state : State) (c : Config) (below : List Value) (tops : List Sym)
+    → Stands style admits list v state c below → reverse state.stack ≡ tops → c.stack ≡ value_list v tops ++ below
+stack_of_tops style admits list v state c below tops h e = h.stack ∙ ap (λ (l : List Sym). value_list v l ++ below) e
+
+-- what is read of variables and fields doesn't depend on the stack, on what was written and on the log
+abbrev pub with_stack : List Value → List Event → List (List ℕ) → Config → Config
+with_stack stack events log c = record c { stack = stack; events = events; log = log }
+
+value_same : (kind : Option Kind) (name : NameId) (stack : List Value) (events : List Event) (log : List (List ℕ)) (c : Config)
+    → value_by kind name (with_stack stack events log c) ≡ value_by kind name c
+value_same (Some Field) name stack events log c = refl
+value_same (Some IntEntry) name stack events log c = refl
+value_same (Some StrEntry) name stack events log c = refl
+value_same (Some IntGlobal) name stack events log c = refl
+value_same (Some StrGlobal) name stack events log c = refl
+value_same (Some (BuiltinKind op)) name stack events log c = refl
+value_same (Some (Wizard body)) name stack events log c = refl
+value_same None name stack events log c = refl
+
+pub binds_same : (style : Style) (v : Valuation) (stack : List Value) (events : List Event) (log : List (List ℕ)) (c : Config) (binds : List Bind)
+    → AllByRecursion (IsBound style v c) binds → AllByRecursion (IsBound style v (with_stack stack events log c)) binds
+binds_same style v stack events log c [] h = tt
+binds_same style v stack events log c (bind ∷ binds) h =
+    (value_same (kind_of style bind.name) bind.name stack events log c ∙ h.0, binds_same style v stack events log c binds h.1)
+
+pub list_same : (style : Style) (admits : Cond) (list : EntryList) (v w : Valuation) (stack : List Value) (events : List Event) (log : List (List ℕ)) (c : Config)
+    → w.count ≡ v.count → HasList style admits list v c → HasList style admits list w (with_stack stack events log c)
+list_same style admits list v w stack events log c e h =
+    record { fits = h.fits; meets = h.meets; preamble = h.preamble; entries = h.entries; count = e ∙ h.count }
+
+pub visiting_same : (v w : Valuation) (stack : List Value) (events : List Event) (log : List (List ℕ)) (c : Config)
+    → w.position ≡ v.position → IsVisiting v c → IsVisiting w (with_stack stack events log c)
+visiting_same v w stack events log c e h =
+    record { entry = h.entry; is_visited = h.is_visited; visit = h.visit; goes_on = h.goes_on; before = e ∙ h.before }
+
+-- a state of which operands are taken, over what stays of the machine's stack
+abbrev pub without : List Sym → State → State
+without rest state = record state { stack = reverse rest }
+
+-- nothing but the stack changes, and symbols of the state lie on it
+pub moved : (style : Style) (admits : Cond) (list : EntryList) (v : Valuation) (state : State) (c : Config) (below : List Value)
+    (tops : List Sym) (stack : List Sym) (events : List Event) (log : List (List ℕ)) → Stands style admits list v state c below
+    → reverse stack ≡ tops
+    → Stands style admits list v (record state { stack = stack }) (with_stack (value_list v tops ++ below) events log c) below
+moved style admits list v state c below tops stack events log h e = record {
+  satisfied = record {
+    values = h.satisfied.values;
+    count = h.satisfied.count;
+    position = h.satisfied.position;
+    facts = h.satisfied.facts;
+    rows = h.satisfied.rows;
+  };
+  has_list = list_same style admits list v v (value_list v tops ++ below) events log c refl h.has_list;
+  visiting = λ entered. visiting_same v v (value_list v tops ++ below) events log c refl (h.visiting entered);
+  stack = ap (λ (l : List Sym). value_list v l ++ below) (sym e);
+  whole = h.whole;
+  vars = binds_same style v (value_list v tops ++ below) events log c state.vars h.vars;
+  fields = binds_same style v (value_list v tops ++ below) events log c state.fields h.fields;
+}
+
+value_case : (next : ℕ) (value : Value) (v : Valuation) → IsValue value → ((s : ℕ) → IsValue (v.value s)) → (s : ℕ) (t : Bool)
+    → IsValue (cond t value (v.value s))
+value_case next value v is all s true = is
+value_case next value v is all s false = all s
+
+kind_fact : (style : Style) (kind : Kinds) (s : Sym) (value : Value) (w : Valuation) → w.value s.0 ≡ value → has_kind kind value ≡ true
+    → AllByRecursion (FactHolds style w) (kind_facts s kind)
+kind_fact style Any s value w e h = tt
+kind_fact style Int s value w e h = (ap (has_kind Int) e ∙ h, tt)
+kind_fact style Str s value w e h = (ap (has_kind Str) e ∙ h, tt)
+kind_fact style Missing s value w e h = (ap (has_kind Missing) e ∙ h, tt)
+kind_fact style Optional s value w e h = (ap (has_kind Optional) e ∙ h, tt)
+kind_fact style Func s value w e h = (ap (has_kind Func) e ∙ h, tt)
+
+-- a new symbol has a value, and what is said of it holds
+pub satisfies_next : (style : Style) (admits : Cond) (v : Valuation) (state : State) (kind : Kinds) (facts : List Fact) (rows : List Row) (value : Value)
+    → WellMade style state → Satisfies style admits v state → IsValue value → has_kind kind value ≡ true
+    → AllByRecursion (FactHolds style (with_next state.next value v)) facts
+    → AllByRecursion (Holds (numbers (with_next state.next value v))) rows
+    → Satisfies style admits (with_next state.next value v) (with_symbol kind facts rows state)
+satisfies_next style admits v state kind facts rows value made h is of_kind fine shown =
+    let w = with_next state.next value v in
+    let a = next_agrees state.next value v in record {
+      values = λ s. value_case state.next value v is h.values s (nat_eq s state.next);
+      count = h.count;
+      position = h.position;
+      facts = facts_joined style w state.facts (kind_facts (next_of state) kind ++ facts)
+          (facts_agree style state.next v w state.facts a made.facts h.facts)
+          (facts_joined style w (kind_facts (next_of state) kind) facts
+          (kind_fact style kind (next_of state) value w (next_is state.next value v) of_kind) fine);
+      rows = rows_joined w state.rows rows (rows_agree state.next v w state.rows a made.rows h.rows) shown;
+    }
+
+top_first : (w : Valuation) (rest : List Sym) (s : Sym) (below : List Value)
+    → values_of w (reverse rest ++ s ∷ []) ++ below ≡ w.value s.0 ∷ (value_list w rest ++ below)
+top_first w rest s below =
+    ap (λ (l : List Sym). value_list w l ++ below) (reverse-append (reverse rest) (s ∷ []))
+    ∙ ap (λ (l : List Sym). w.value s.0 ∷ (value_list w l ++ below)) (reverse-reverse rest)
+
+-- operands are taken, and a new symbol is put on top
+pub pushed : (style : Style) (admits : Cond) (list : EntryList) (v : Valuation) (state : State) (c : Config) (below : List Value)
+    (rest : List Sym) (kind : Kinds) (facts : List Fact) (rows : List Row) (value : Value) (events : List Event) (log : List (List ℕ))
+    → WellMade style state → Stands style admits list v state c below → All (λ s. s.0 < state.next) rest
+    → IsValue value → has_kind kind value ≡ true
+    → AllByRecursion (FactHolds style (with_next state.next value v)) facts
+    → AllByRecursion (Holds (numbers (with_next state.next value v))) rows
+    → Stands style admits list (with_next state.next value v) (with_result kind facts rows (without rest state))
+    (with_stack (value ∷ (value_list v rest ++ below)) events log c) below
+pushed style admits list v state c below rest kind facts rows value events log made h old is of_kind fine shown =
+    let w = with_next state.next value v in
+    let a = next_agrees state.next value v in
+    let stack = value ∷ (value_list v rest ++ below) in
+    let s = satisfies_next style admits v state kind facts rows value made h.satisfied is of_kind fine shown in record {
+      satisfied = record { values = s.values; count = s.count; position = s.position; facts = s.facts; rows = s.rows };
+      has_list = list_same style admits list v w stack events log c refl h.has_list;
+      visiting = λ entered. visiting_same v w stack events log c refl (h.visiting entered);
+      stack = ap (λ (x : Value). x ∷ (value_list v rest ++ below)) (sym (next_is state.next value v))
+          ∙ ap (λ (l : List Value). w.value state.next ∷ (l ++ below)) (sym (list_agrees state.next v w rest a old))
+          ∙ sym (top_first w rest (next_of state) below);
+      whole = h.whole;
+      vars = binds_same style w stack events log c state.vars (binds_agree style state.next v w c state.vars a made.vars h.vars);
+      fields = binds_same style w stack events log c state.fields (binds_agree style state.next v w c state.fields a made.fields h.fields);
+    }
