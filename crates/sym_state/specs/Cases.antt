@@ -1,6 +1,6 @@
 -- The cases of a test on a state (docs/EFFECTS.md, "Cases"): that of 1 or of a number above 0 first, then that of 0. A test that is
 -- decided has one case. Each case of an undecided test on integers takes a hint: it is kept, or dropped where it can't come about.
-use Rattle.std.specs.Prelude.{ℕ, ℤ, pos, negsuc, ◌-ℤ◌, Bool, true, false, ◌&&◌, ◌||◌, not, nat_eq, if◌then◌else◌, List, [], ◌∷◌, ◌++◌, reverse, Option, None, Some, Result, Ok, Err, is_some, is_none}
+use Rattle.std.specs.Prelude.{ℕ, ◌<◌, ◌≤◌, ℤ, pos, negsuc, ◌-ℤ◌, Bool, true, false, ◌&&◌, ◌||◌, not, nat_eq, if◌then◌else◌, List, [], ◌∷◌, ◌++◌, length, reverse, Option, None, Some, Result, Ok, Err, is_some, is_none}
 use Rattle.std.specs.Option.{option_map_or}
 use Rattle.std.specs.Cmp.Lexicographic.{pointwise}
 use Rattle.lin_facts.specs.declared.row.Row.{Row}
@@ -12,9 +12,11 @@ use Rattle.sym_state.specs.declared.demand.DemandKind.TheVariants.{EmptyPop, Wro
 use Rattle.sym_state.specs.declared.demand.EffectFault.{EffectFault}
 use Rattle.sym_state.specs.declared.demand.EffectFault.TheVariants.{NotEntailed, HintsShort, WrongHint}
 use Rattle.sym_state.specs.declared.hint.Hint.{Hint}
-use Rattle.sym_state.specs.declared.hint.Hint.TheVariants.{Keep, Drop}
+use Rattle.sym_state.specs.declared.hint.Hint.TheVariants.{Keep, Drop, Step}
 use Rattle.sym_state.specs.declared.state.State.{State}
 use Rattle.sym_state.specs.declared.symbol.Sym.{Sym}
+use Rattle.sym_state.specs.declared.test.Test.{Test}
+use Rattle.sym_state.specs.declared.test.Test.TheVariants.{Empty, Missing as IsMissing, Equal, Less, Greater, Above}
 use Rattle.sym_state.specs.declared.symbol.Fact.{Fact}
 use Rattle.sym_state.specs.declared.symbol.Fact.TheVariants.{Is, Int as IntFact, Text as TextFact, Blank, Nonblank}
 use Rattle.sym_state.specs.declared.symbol.Kinds.{Kinds}
@@ -24,15 +26,6 @@ use Rattle.sym_state.specs.Demands.{fails, is_of_kind}
 use Rattle.sym_state.specs.References.{at_least, at_most, exceeds, shows}
 use Rattle.sym_state.specs.Results.{next_of, row, with_result, sum_of_two}
 
--- a test of a built-in function, or whether the value of a symbol is above 0
-pub data Test : Type 0 where
-  Empty : Test
-  IsMissing : Test
-  Equal : Test
-  Less : Test
-  Greater : Test
-  Above : (s : Sym) → Test
-
 -- the states of the cases that are kept, and the hints that are left
 pub record Cases : Type 0 where
   pub states : List State
@@ -41,6 +34,9 @@ pub record Cases : Type 0 where
 abbrev pub Split : Type 0
 Split = Result Cases EffectFault
 
+abbrev pub given : List State → List Hint → Split
+given states hints = Ok (record { states = states; hints = hints })
+
 abbrev pub refused : DemandKind → ℕ → Split
 refused kind operand = Err (fails kind operand)
 
@@ -48,147 +44,255 @@ refused kind operand = Err (fails kind operand)
 abbrev pub with_case : List Fact → List Row → State → State
 with_case facts rows state = record state { facts = state.facts ++ facts; rows = state.rows ++ rows }
 
--- a built-in test's result is on top
+-- a built-in test's result: 1 or 0
+abbrev pub number_of : Bool → ℤ
+number_of true = pos 1
+number_of false = pos 0
+
+-- it is on top
 abbrev pub with_truth : Bool → State → State
-with_truth true state = with_result Int (IntFact (next_of state) (pos 1) ∷ []) [] state
-with_truth false state = with_result Int (IntFact (next_of state) (pos 0) ∷ []) [] state
+with_truth answer state = with_result Int (IntFact (next_of state) (number_of answer) ∷ []) [] state
 
 -- one case, since the test is decided
 abbrev pub decided : Bool → State → List Hint → Split
-decided answer rest hints = Ok (record { states = with_truth answer rest ∷ []; hints = hints })
+decided answer rest hints = given (with_truth answer rest ∷ []) hints
 
 -- both cases, which take no hint
 abbrev pub both : List Fact → List Fact → State → List Hint → Split
 both holds fails rest hints =
-    Ok (record { states = with_truth true (with_case holds [] rest) ∷ with_truth false (with_case fails [] rest) ∷ []; hints = hints })
+    given (with_truth true (with_case holds [] rest) ∷ with_truth false (with_case fails [] rest) ∷ []) hints
 
 -- nothing holds: -1 is at least 0
 abbrev pub absurdity : Row
 absurdity = row (negsuc 0) []
 
 -- the next hint keeps a case, or drops it by a proof that it can't come about
-abbrev pub weighed_by : Cond → State → Hint → List Hint → (List State → List Hint → Split) → Split
-weighed_by cond state Keep hints rule = rule (state ∷ []) hints
-weighed_by cond state (Drop proof) hints rule = if shows cond state proof absurdity then rule [] hints else Err (NotEntailed 0)
-weighed_by cond state hint hints rule = Err WrongHint
+abbrev pub weighed_by : Cond → State → Hint → List Hint → Split
+weighed_by cond state Keep hints = given (state ∷ []) hints
+weighed_by cond state (Drop proof) hints = if shows cond state proof absurdity then given [] hints else Err (NotEntailed 0)
+weighed_by cond state hint hints = Err WrongHint
 
-abbrev pub weighed : Cond → State → List Hint → (List State → List Hint → Split) → Split
-weighed cond state [] rule = Err HintsShort
-weighed cond state (hint ∷ hints) rule = weighed_by cond state hint hints rule
+abbrev pub weighed : Cond → State → List Hint → Split
+weighed cond state [] = Err HintsShort
+weighed cond state (hint ∷ hints) = weighed_by cond state hint hints
+
+-- cases, and those that come of the hints that are left
+abbrev pub before : List State → Split → Split
+before states (Ok cases) = given (states ++ cases.states) cases.hints
+before states (Err fault) = Err fault
+
+abbrev pub followed_by : Split → (List Hint → Split) → Split
+followed_by (Ok cases) rule = before cases.states (rule cases.hints)
+followed_by (Err fault) rule = Err fault
 
 -- two cases, each of which takes a hint
 abbrev pub weighed_both : Cond → State → State → List Hint → Split
-weighed_both cond first second hints =
-    weighed cond first hints (λ kept more. weighed cond second more (λ others left. Ok (record { states = kept ++ others; hints = left })))
+weighed_both cond first second hints = followed_by (weighed cond first hints) (weighed cond second)
 
--- two operands, the lower one first, and the state without them
-abbrev pub two_of : List Sym → State → (Sym → Sym → State → Split) → Split
-two_of [] state rule = refused EmptyPop 1
-two_of (b ∷ []) state rule = refused EmptyPop 2
-two_of (b ∷ (a ∷ rest)) state rule = rule a b (record state { stack = reverse rest })
+-- an operand, and the state without it
+pub record One : Type 0 where
+  pub operand : Sym
+  pub rest : State
 
-abbrev pub one_of : List Sym → State → (Sym → State → Split) → Split
-one_of [] state rule = refused EmptyPop 1
-one_of (a ∷ rest) state rule = rule a (record state { stack = reverse rest })
+-- two operands, the top one and the one below, and the state without them
+pub record Two : Type 0 where
+  pub lower : Sym
+  pub upper : Sym
+  pub rest : State
 
-abbrev pub where_met : Bool → ℕ → Split → Split
-where_met met operand next = if met then next else refused WrongKind operand
+abbrev pub one_of : List Sym → State → Result One EffectFault
+one_of [] state = Err (fails EmptyPop 1)
+one_of (a ∷ rest) state = Ok (record { operand = a; rest = record state { stack = reverse rest } })
+
+abbrev pub two_of : List Sym → State → Result Two EffectFault
+two_of [] state = Err (fails EmptyPop 1)
+two_of (b ∷ []) state = Err (fails EmptyPop 2)
+two_of (b ∷ (a ∷ rest)) state = Ok (record { lower = a; upper = b; rest = record state { stack = reverse rest } })
+
+-- a string or a missing field
+abbrev pub field_met : State → Result One EffectFault → Result One EffectFault
+field_met state (Ok one) = if is_of_kind state Optional one.operand then Ok one else Err (fails WrongKind 1)
+field_met state (Err fault) = Err fault
+
+abbrev pub field_of : State → Result One EffectFault
+field_of state = field_met state (one_of (reverse state.stack) state)
+
+-- two integers, the top one's kind first
+abbrev pub integers_met : State → Result Two EffectFault → Result Two EffectFault
+integers_met state (Ok two) =
+    if is_of_kind state Int two.upper
+    then (if is_of_kind state Int two.lower then Ok two else Err (fails WrongKind 2))
+    else Err (fails WrongKind 1)
+integers_met state (Err fault) = Err fault
+
+abbrev pub integers_of : State → Result Two EffectFault
+integers_of state = integers_met state (two_of (reverse state.stack) state)
+
+-- what follows where demands are met
+abbrev pub split_by : {X : Type 0} → Result X EffectFault → (X → Split) → Split
+split_by (Ok operands) rule = rule operands
+split_by (Err fault) rule = Err fault
 
 -- `empty$`
-abbrev pub empty_cases : Option Bool → Sym → State → List Hint → Split
-empty_cases (Some answer) a rest hints = decided answer rest hints
-empty_cases None a rest hints = both (Blank a ∷ []) (Is a Str ∷ Nonblank a ∷ []) rest hints
+abbrev pub empty_cases : Option Bool → One → List Hint → Split
+empty_cases (Some answer) one hints = decided answer one.rest hints
+empty_cases None one hints =
+    both (Blank one.operand ∷ []) (Is one.operand Str ∷ Nonblank one.operand ∷ []) one.rest hints
 
 abbrev pub empty : State → List Hint → Split
-empty state hints = one_of (reverse state.stack) state (λ a rest.
-    where_met (is_of_kind state Optional a) 1 (empty_cases (first_said emptiness_said a.0 state.facts) a rest hints))
+empty state hints = split_by (field_of state) (λ one. empty_cases (first_said emptiness_said one.operand.0 state.facts) one hints)
 
 -- `missing$`
-abbrev pub missing_cases : Kinds → Sym → State → List Hint → Split
-missing_cases Missing a rest hints = decided true rest hints
-missing_cases Str a rest hints = decided false rest hints
-missing_cases _ a rest hints = both (Is a Missing ∷ []) (Is a Str ∷ []) rest hints
+abbrev pub missing_cases : Kinds → One → List Hint → Split
+missing_cases Missing one hints = decided true one.rest hints
+missing_cases Str one hints = decided false one.rest hints
+missing_cases _ one hints = both (Is one.operand Missing ∷ []) (Is one.operand Str ∷ []) one.rest hints
 
 abbrev pub missing : State → List Hint → Split
-missing state hints = one_of (reverse state.stack) state (λ a rest.
-    where_met (is_of_kind state Optional a) 1 (missing_cases (known_kind state.facts a.0) a rest hints))
+missing state hints = split_by (field_of state) (λ one. missing_cases (known_kind state.facts one.operand.0) one hints)
 
--- the answer of a test on two integers that are both known
-abbrev pub answer : (ℤ → ℤ → Bool) → Option ℤ → Option ℤ → Option Bool
+-- the answer of a test on two values that are both known
+abbrev pub answer : {X : Type 0} → (X → X → Bool) → Option X → Option X → Option Bool
 answer test (Some a) (Some b) = Some (test a b)
 answer test _ _ = None
 
--- a test on two integers: what it is of one symbol twice, what it is of two known integers, and the rows of its cases
-abbrev pub integer_cases : Cond → Bool → Option Bool → List Row → List Row → Bool → State → List Hint → Split
-integer_cases cond true known holds fails reflexive rest hints = decided reflexive rest hints
-integer_cases cond false (Some answer) holds fails reflexive rest hints = decided answer rest hints
-integer_cases cond false None holds fails reflexive rest hints =
+-- the answer where both are one symbol, and else what is known
+abbrev pub answer_of : Bool → Bool → Option Bool → Option Bool
+answer_of true reflexive known = Some reflexive
+answer_of false reflexive known = known
+
+-- a test on two integers, which is that of one symbol twice: whether it is decided
+abbrev pub integers_decided : (ℤ → ℤ → Bool) → Bool → List Fact → Sym → Sym → Option Bool
+integers_decided test reflexive facts a b =
+    answer_of (nat_eq a.0 b.0) reflexive (answer test (exact_integer facts a.0) (exact_integer facts b.0))
+
+abbrev pub is_equal : ℤ → ℤ → Bool
+is_equal x y = is_zero (x -ℤ y)
+
+abbrev pub is_less : ℤ → ℤ → Bool
+is_less x y = is_positive (y -ℤ x)
+
+abbrev pub is_greater : ℤ → ℤ → Bool
+is_greater x y = is_positive (x -ℤ y)
+
+abbrev pub equal_decided : List Fact → Two → Option Bool
+equal_decided facts two = integers_decided is_equal true facts two.lower two.upper
+
+abbrev pub less_decided : List Fact → Two → Option Bool
+less_decided facts two = integers_decided is_less false facts two.lower two.upper
+
+abbrev pub greater_decided : List Fact → Two → Option Bool
+greater_decided facts two = integers_decided is_greater false facts two.lower two.upper
+
+-- the cases of a test on integers, with the rows of each
+abbrev pub integer_cases : Cond → Option Bool → List Row → List Row → State → List Hint → Split
+integer_cases cond (Some answer) holds fails rest hints = decided answer rest hints
+integer_cases cond None holds fails rest hints =
     weighed_both cond (with_truth true (with_case [] holds rest)) (with_truth false (with_case [] fails rest)) hints
 
-abbrev pub of_integers : Cond → State → Sym → Sym → (ℤ → ℤ → Bool) → List Row → List Row → Bool → State → List Hint → Split
-of_integers cond state a b test holds fails reflexive rest hints =
-    integer_cases cond (nat_eq a.0 b.0) (answer test (exact_integer state.facts a.0) (exact_integer state.facts b.0)) holds fails reflexive rest hints
+-- the rows of two symbols: the first is less, it is at least the second, and both are equal
+abbrev pub less_rows : Sym → Sym → List Row
+less_rows a b = exceeds (Value b.0) (Value a.0) (pos 1) ∷ []
 
--- `<` of two symbols
-abbrev pub less_than : Cond → State → Sym → Sym → State → List Hint → Split
-less_than cond state a b rest hints =
-    of_integers cond state a b (λ x y. is_positive (y -ℤ x))
-    (exceeds (Value b.0) (Value a.0) (pos 1) ∷ []) (exceeds (Value a.0) (Value b.0) (pos 0) ∷ []) false rest hints
+abbrev pub at_least_rows : Sym → Sym → List Row
+at_least_rows a b = exceeds (Value a.0) (Value b.0) (pos 0) ∷ []
 
-abbrev pub greater_than : Cond → State → Sym → Sym → State → List Hint → Split
-greater_than cond state a b rest hints =
-    of_integers cond state a b (λ x y. is_positive (x -ℤ y))
-    (exceeds (Value a.0) (Value b.0) (pos 1) ∷ []) (exceeds (Value b.0) (Value a.0) (pos 0) ∷ []) false rest hints
+abbrev pub equal_rows : Sym → Sym → List Row
+equal_rows a b = exceeds (Value a.0) (Value b.0) (pos 0) ∷ exceeds (Value b.0) (Value a.0) (pos 0) ∷ []
 
-abbrev pub compared : (Sym → Sym → State → Split) → State → Split
-compared rule state = two_of (reverse state.stack) state (λ a b rest.
-    where_met (is_of_kind state Int b) 1 (where_met (is_of_kind state Int a) 2 (rule a b rest)))
+-- `<`
+abbrev pub less : Cond → State → List Hint → Split
+less cond state hints = split_by (integers_of state) (λ two.
+    integer_cases cond (less_decided state.facts two) (less_rows two.lower two.upper) (at_least_rows two.lower two.upper) two.rest hints)
+
+-- `>`
+abbrev pub greater : Cond → State → List Hint → Split
+greater cond state hints = split_by (integers_of state) (λ two.
+    integer_cases cond (greater_decided state.facts two) (less_rows two.upper two.lower) (at_least_rows two.upper two.lower) two.rest hints)
 
 -- `=` of two strings: in the case of 1 a text that one has exactly passes to the other
-abbrev pub text_answer : Option (List ℕ) → Option (List ℕ) → Option Bool
-text_answer (Some a) (Some b) = Some (pointwise nat_eq a b)
-text_answer _ _ = None
+abbrev pub texts_decided : List Fact → Two → Option Bool
+texts_decided facts two =
+    answer_of (nat_eq two.lower.0 two.upper.0) true
+    (answer (pointwise nat_eq) (exact_text facts two.lower.0) (exact_text facts two.upper.0))
 
 abbrev pub passed : Option (List ℕ) → Sym → List Fact
 passed None s = []
 passed (Some text) s = TextFact s text ∷ []
 
-abbrev pub text_cases : Bool → Option Bool → List Fact → State → List Hint → Split
-text_cases true known facts rest hints = decided true rest hints
-text_cases false (Some answer) facts rest hints = decided answer rest hints
-text_cases false None facts rest hints = both facts [] rest hints
+abbrev pub passed_both : List Fact → Two → List Fact
+passed_both facts two = passed (exact_text facts two.lower.0) two.upper ++ passed (exact_text facts two.upper.0) two.lower
 
-abbrev pub of_texts : State → Sym → Sym → State → List Hint → Split
-of_texts state a b rest hints =
-    let x = exact_text state.facts a.0 in
-    let y = exact_text state.facts b.0 in
-    text_cases (nat_eq a.0 b.0) (text_answer x y) (passed x b ++ passed y a) rest hints
-
-abbrev pub equal_integers : Cond → State → Sym → Sym → State → List Hint → Split
-equal_integers cond state a b rest hints =
-    of_integers cond state a b (λ x y. is_zero (x -ℤ y))
-    (exceeds (Value a.0) (Value b.0) (pos 0) ∷ exceeds (Value b.0) (Value a.0) (pos 0) ∷ []) [] true rest hints
+abbrev pub text_cases : Option Bool → List Fact → State → List Hint → Split
+text_cases (Some answer) facts rest hints = decided answer rest hints
+text_cases None facts rest hints = both facts [] rest hints
 
 -- `=`: two integers or two strings
-abbrev pub equal_by : Cond → State → Kinds → Sym → Sym → State → List Hint → Split
-equal_by cond state Int a b rest hints = where_met (is_of_kind state Int a) 2 (equal_integers cond state a b rest hints)
-equal_by cond state Str a b rest hints = where_met (is_of_kind state Str a) 2 (of_texts state a b rest hints)
-equal_by cond state _ a b rest hints = refused WrongKind 1
+abbrev pub equal_by : Cond → State → Kinds → Two → List Hint → Split
+equal_by cond state Int two hints =
+    if is_of_kind state Int two.lower
+    then integer_cases cond (equal_decided state.facts two) (equal_rows two.lower two.upper) [] two.rest hints
+    else refused WrongKind 2
+equal_by cond state Str two hints =
+    if is_of_kind state Str two.lower
+    then text_cases (texts_decided state.facts two) (passed_both state.facts two) two.rest hints
+    else refused WrongKind 2
+equal_by cond state _ two hints = refused WrongKind 1
 
 abbrev pub equal : Cond → State → List Hint → Split
-equal cond state hints = two_of (reverse state.stack) state (λ a b rest.
-    equal_by cond state (known_kind state.facts b.0) a b rest hints)
+equal cond state hints = split_by (two_of (reverse state.stack) state) (λ two.
+    equal_by cond state (known_kind state.facts two.upper.0) two hints)
 
--- whether a value is above 0: nothing is taken from the stack or put on it
+-- whether an integer is above 0: nothing is taken from the stack or put on it
+abbrev pub positive_rows : Sym → List Row
+positive_rows s = at_least (Value s.0) (pos 1) ∷ []
+
+abbrev pub not_positive_rows : Sym → List Row
+not_positive_rows s = at_most (Value s.0) (pos 0) ∷ []
+
 abbrev pub above_cases : Cond → State → Sym → Option ℤ → List Hint → Split
-above_cases cond state s (Some n) hints = Ok (record { states = state ∷ []; hints = hints })
+above_cases cond state s (Some n) hints = given (state ∷ []) hints
 above_cases cond state s None hints =
-    weighed_both cond (with_case [] (at_least (Value s.0) (pos 1) ∷ []) state) (with_case [] (at_most (Value s.0) (pos 0) ∷ []) state) hints
+    weighed_both cond (with_case [] (positive_rows s) state) (with_case [] (not_positive_rows s) state) hints
 
 abbrev pub split_of : Cond → State → Test → List Hint → Split
 split_of cond state Empty hints = empty state hints
 split_of cond state IsMissing hints = missing state hints
 split_of cond state Equal hints = equal cond state hints
-split_of cond state Less hints = compared (λ a b rest. less_than cond state a b rest hints) state
-split_of cond state Greater hints = compared (λ a b rest. greater_than cond state a b rest hints) state
+split_of cond state Less hints = less cond state hints
+split_of cond state Greater hints = greater cond state hints
 split_of cond state (Above s) hints = above_cases cond state s (exact_integer state.facts s.0) hints
+
+-- how many hints the cases of a test on integers take: none where it is decided
+abbrev pub hints_of : {X : Type 0} → Option X → ℕ
+hints_of (Some x) = 0
+hints_of None = 2
+
+-- none is taken where demands aren't met
+abbrev pub hints_where : {X : Type 0} → Result X EffectFault → (X → ℕ) → ℕ
+hints_where (Ok operands) rule = rule operands
+hints_where (Err fault) rule = 0
+
+abbrev pub hints_of_equal : State → Kinds → Two → ℕ
+hints_of_equal state Int two = if is_of_kind state Int two.lower then hints_of (equal_decided state.facts two) else 0
+hints_of_equal state _ two = 0
+
+-- how many hints the cases of a test take
+abbrev pub needs_of : State → Test → ℕ
+needs_of state Equal =
+    hints_where (two_of (reverse state.stack) state) (λ two. hints_of_equal state (known_kind state.facts two.upper.0) two)
+needs_of state Less = hints_where (integers_of state) (λ two. hints_of (less_decided state.facts two))
+needs_of state Greater = hints_where (integers_of state) (λ two. hints_of (greater_decided state.facts two))
+needs_of state (Above s) = hints_of (exact_integer state.facts s.0)
+needs_of state _ = 0
+
+-- the symbol that a test is about is one of the state's
+abbrev pub IsTestOf : State → Test → Type 0
+IsTestOf state (Above s) = s.0 < state.next
+IsTestOf state _ = Unit {0}
+
+-- a proof of a hint takes no more rows than can be added up
+abbrev pub HasFewUses : Hint → Type 0
+HasFewUses (Drop proof) = length proof.uses ≤ 64
+HasFewUses (Step proof) = length proof.uses ≤ 64
+HasFewUses _ = Unit {0}

@@ -42,6 +42,20 @@ pub fn exact_text<'a>(facts: &'a [Fact], sym: Sym) -> Option<&'a [u8]>
     None
 }
 
+/// What `empty$` gives for a symbol, true for 1, by the first fact on it that decides that.
+pub fn known_emptiness(facts: &[Fact], sym: Sym) -> Option<bool>
+    ensures { result ≡ decided.first_said decided.emptiness_said sym.0 facts.now }
+{
+    for fact in facts {
+        if subject(fact).0 == sym.0 {
+            if let Some(empty) = emptiness_said(fact) {
+                return Some(empty);
+            }
+        }
+    }
+    None
+}
+
 /// Whether the first fact on a symbol that decides `empty$` decides 0.
 pub fn is_known_nonblank(facts: &[Fact], sym: Sym) -> bool
     ensures { result ≡ decided.is_known_nonblank facts.now sym.0 }
@@ -213,7 +227,7 @@ fn kind_said(fact: &Fact) -> Kinds
 }
 
 /// Whether a kind includes another.
-fn includes(wide: Kinds, kind: Kinds) -> bool
+pub fn includes(wide: Kinds, kind: Kinds) -> bool
     ensures { result ≡ decided.includes wide kind }
 {
     match (wide, kind) {

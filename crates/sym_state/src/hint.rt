@@ -49,6 +49,13 @@ impl<'a> Hints<'a> {
         Hints { rest: list }
     }
 
+    /// Another cursor at the same place.
+    pub fn copied(&self) -> Hints<'a>
+        ensures { result ≡ self.now }
+    {
+        Hints { rest: self.rest }
+    }
+
     /// Takes the first hint that is left. `None` comes exactly where none is.
     pub fn next(&mut self) -> Option<&'a Hint>
         ensures { MatchOption result ((self.old ≡ []) × (self.new ≡ [])) (λ hint. self.old ≡ hint.now ∷ self.new) }

@@ -18,5 +18,6 @@ pub mod shows;
 pub mod start;
 pub mod state;
 pub mod symbol;
+pub mod test;
 #[cfg(test)]
 mod tests;

@@ -187,10 +187,11 @@ fn pos_high(alloc: Global, at_entry: bool) -> Result<Option<Row>, NoMemory>
 }
 
 /// A term is at least a number.
-fn at_least(alloc: Global, term: Term, n: i64) -> Result<Row, NoMemory>
+pub fn at_least(alloc: Global, term: Term, n: i64) -> Result<Row, NoMemory>
     requires { IsWithin (2 ^ 45) n }
     ensures said { IfOk result (λ row. row ≡ rule.at_least term n) }
     ensures small { IfOk result IsSmall }
+    ensures bounded { IfOk result IsBounded }
 {
     let part = Part {
         coefficient: 1,
@@ -220,10 +221,11 @@ pub fn at_most(alloc: Global, term: Term, n: i64) -> Result<Row, NoMemory>
 }
 
 /// A term is at least a number more than another.
-fn exceeds(alloc: Global, greater: Term, less: Term, n: i64) -> Result<Row, NoMemory>
+pub fn exceeds(alloc: Global, greater: Term, less: Term, n: i64) -> Result<Row, NoMemory>
     requires { IsWithin (2 ^ 45) n }
     ensures said { IfOk result (λ row. row ≡ rule.exceeds greater less n) }
     ensures small { IfOk result IsSmall }
+    ensures bounded { IfOk result IsBounded }
 {
     let parts = [
         Part {
