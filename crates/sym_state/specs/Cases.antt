@@ -175,14 +175,14 @@ is_less x y = is_positive (y -ℤ x)
 abbrev pub is_greater : ℤ → ℤ → Bool
 is_greater x y = is_positive (x -ℤ y)
 
-abbrev pub equal_decided : List Fact → Two → Option Bool
-equal_decided facts two = integers_decided is_equal true facts two.lower two.upper
+abbrev pub equal_decided : List Fact → Sym → Sym → Option Bool
+equal_decided facts a b = integers_decided is_equal true facts a b
 
-abbrev pub less_decided : List Fact → Two → Option Bool
-less_decided facts two = integers_decided is_less false facts two.lower two.upper
+abbrev pub less_decided : List Fact → Sym → Sym → Option Bool
+less_decided facts a b = integers_decided is_less false facts a b
 
-abbrev pub greater_decided : List Fact → Two → Option Bool
-greater_decided facts two = integers_decided is_greater false facts two.lower two.upper
+abbrev pub greater_decided : List Fact → Sym → Sym → Option Bool
+greater_decided facts a b = integers_decided is_greater false facts a b
 
 -- the cases of a test on integers, with the rows of each
 abbrev pub integer_cases : Cond → Option Bool → List Row → List Row → State → List Hint → Split
@@ -203,25 +203,24 @@ equal_rows a b = exceeds (Value a.0) (Value b.0) (pos 0) ∷ exceeds (Value b.0)
 -- `<`
 abbrev pub less : Cond → State → List Hint → Split
 less cond state hints = split_by (integers_of state) (λ two.
-    integer_cases cond (less_decided state.facts two) (less_rows two.lower two.upper) (at_least_rows two.lower two.upper) two.rest hints)
+    integer_cases cond (less_decided state.facts two.lower two.upper) (less_rows two.lower two.upper) (at_least_rows two.lower two.upper) two.rest hints)
 
 -- `>`
 abbrev pub greater : Cond → State → List Hint → Split
 greater cond state hints = split_by (integers_of state) (λ two.
-    integer_cases cond (greater_decided state.facts two) (less_rows two.upper two.lower) (at_least_rows two.upper two.lower) two.rest hints)
+    integer_cases cond (greater_decided state.facts two.lower two.upper) (less_rows two.upper two.lower) (at_least_rows two.upper two.lower) two.rest hints)
 
 -- `=` of two strings: in the case of 1 a text that one has exactly passes to the other
-abbrev pub texts_decided : List Fact → Two → Option Bool
-texts_decided facts two =
-    answer_of (nat_eq two.lower.0 two.upper.0) true
-    (answer (pointwise nat_eq) (exact_text facts two.lower.0) (exact_text facts two.upper.0))
+abbrev pub texts_decided : List Fact → Sym → Sym → Option Bool
+texts_decided facts a b =
+    answer_of (nat_eq a.0 b.0) true (answer (pointwise nat_eq) (exact_text facts a.0) (exact_text facts b.0))
 
 abbrev pub passed : Option (List ℕ) → Sym → List Fact
 passed None s = []
 passed (Some text) s = TextFact s text ∷ []
 
-abbrev pub passed_both : List Fact → Two → List Fact
-passed_both facts two = passed (exact_text facts two.lower.0) two.upper ++ passed (exact_text facts two.upper.0) two.lower
+abbrev pub passed_both : List Fact → Sym → Sym → List Fact
+passed_both facts a b = passed (exact_text facts a.0) b ++ passed (exact_text facts b.0) a
 
 abbrev pub text_cases : Option Bool → List Fact → State → List Hint → Split
 text_cases (Some answer) facts rest hints = decided answer rest hints
@@ -231,11 +230,11 @@ text_cases None facts rest hints = both facts [] rest hints
 abbrev pub equal_by : Cond → State → Kinds → Two → List Hint → Split
 equal_by cond state Int two hints =
     if is_of_kind state Int two.lower
-    then integer_cases cond (equal_decided state.facts two) (equal_rows two.lower two.upper) [] two.rest hints
+    then integer_cases cond (equal_decided state.facts two.lower two.upper) (equal_rows two.lower two.upper) [] two.rest hints
     else refused WrongKind 2
 equal_by cond state Str two hints =
     if is_of_kind state Str two.lower
-    then text_cases (texts_decided state.facts two) (passed_both state.facts two) two.rest hints
+    then text_cases (texts_decided state.facts two.lower two.upper) (passed_both state.facts two.lower two.upper) two.rest hints
     else refused WrongKind 2
 equal_by cond state _ two hints = refused WrongKind 1
 
@@ -263,26 +262,26 @@ split_of cond state Less hints = less cond state hints
 split_of cond state Greater hints = greater cond state hints
 split_of cond state (Above s) hints = above_cases cond state s (exact_integer state.facts s.0) hints
 
--- how many hints the cases of a test on integers take: none where it is decided
+-- the two topmost symbols, the lower one first, where both are known to be integers
+abbrev pub top_integers : State → List Sym → Option (Sym × Sym)
+top_integers state (b ∷ (a ∷ rest)) = if (is_of_kind state Int b && is_of_kind state Int a) then Some (a, b) else None
+top_integers state _ = None
+
+-- two hints where a test isn't decided
 abbrev pub hints_of : {X : Type 0} → Option X → ℕ
 hints_of (Some x) = 0
 hints_of None = 2
 
--- none is taken where demands aren't met
-abbrev pub hints_where : {X : Type 0} → Result X EffectFault → (X → ℕ) → ℕ
-hints_where (Ok operands) rule = rule operands
-hints_where (Err fault) rule = 0
-
-abbrev pub hints_of_equal : State → Kinds → Two → ℕ
-hints_of_equal state Int two = if is_of_kind state Int two.lower then hints_of (equal_decided state.facts two) else 0
-hints_of_equal state _ two = 0
+-- how many hints the cases of a test on two integers take: none where they aren't there
+abbrev pub hints_on : (Sym → Sym → Option Bool) → Option (Sym × Sym) → ℕ
+hints_on rule (Some tops) = hints_of (rule tops.0 tops.1)
+hints_on rule None = 0
 
 -- how many hints the cases of a test take
 abbrev pub needs_of : State → Test → ℕ
-needs_of state Equal =
-    hints_where (two_of (reverse state.stack) state) (λ two. hints_of_equal state (known_kind state.facts two.upper.0) two)
-needs_of state Less = hints_where (integers_of state) (λ two. hints_of (less_decided state.facts two))
-needs_of state Greater = hints_where (integers_of state) (λ two. hints_of (greater_decided state.facts two))
+needs_of state Equal = hints_on (equal_decided state.facts) (top_integers state (reverse state.stack))
+needs_of state Less = hints_on (less_decided state.facts) (top_integers state (reverse state.stack))
+needs_of state Greater = hints_on (greater_decided state.facts) (top_integers state (reverse state.stack))
 needs_of state (Above s) = hints_of (exact_integer state.facts s.0)
 needs_of state _ = 0
 

@@ -49,11 +49,11 @@ impl<'a> Hints<'a> {
         Hints { rest: list }
     }
 
-    /// Another cursor at the same place.
-    pub fn copied(&self) -> Hints<'a>
-        ensures { result ≡ self.now }
+    /// The hints that are left.
+    pub fn rest(&self) -> &'a [Hint]
+        ensures { result.now ≡ self.now }
     {
-        Hints { rest: self.rest }
+        self.rest
     }
 
     /// Takes the first hint that is left. `None` comes exactly where none is.

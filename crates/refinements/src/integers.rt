@@ -1,0 +1,213 @@
+//! The cases of tests on integers, each of which takes a hint where the test isn't decided.
+
+ghost use Rattle.std.specs.Prelude.{◌≡◌, ◌≢◌, ◌<◌, [], ◌∷◌, None, true, false, Ok, Err, IfOk, IfErr};
+ghost use Rattle.std.specs.List.{All};
+ghost use Rattle.sym_state.specs.Cases as rule;
+ghost use Rattle.sym_state.specs.Decided as decided;
+ghost use Rattle.sym_state.specs.WellMade.{HasBounds, IsBounded};
+ghost use Rattle.sym_state.specs.declared.demand.EffectFault.TheVariants.{NoMemory as WantOfMemory};
+
+use crate::cases::{decided, with_case, with_truth};
+use crate::deciding::{equal_decided, greater_decided, less_decided};
+use crate::operands::{integers_of, is_of_kind, two_of, unmet};
+use crate::strings::equal_texts;
+use crate::weighing::{one, weighed_both};
+use bst_meaning::condition::Cond;
+use bv_base::memory::NoMemory;
+use lin_facts::row::{Row, Term};
+use std::alloc::Global;
+use sym_state::demand::{DemandKind, EffectFault};
+use sym_state::facts::{exact_integer, known_kind};
+use sym_state::hint::Hints;
+use sym_state::references::{at_least, at_most, exceeds};
+use sym_state::state::State;
+use sym_state::symbol::{Kinds, Sym};
+
+/// The cases of `<`.
+pub fn less(state: &State, cond: &Cond, hints: &mut Hints<'_>) -> Result<Vec<State>, EffectFault>
+    requires bounds { HasBounds state.now }
+    requires room { state.now.next < 4294967295 }
+    requires proofs { All rule.HasFewUses hints.old }
+    ensures ok { IfOk result (λ states. rule.less cond.now state.now hints.old ≡ Ok (record { states = states.items; hints = hints.new })) }
+    ensures fault { IfErr result (λ fault. fault ≢ WantOfMemory → rule.less cond.now state.now hints.old ≡ Err fault) }
+{
+    let (a, b, rest) = integers_of(state)?;
+    match less_decided(state.facts.as_slice(), a, b) {
+        Some(answer) => Ok(decided(answer, rest)?),
+        None => ordered(cond, a, b, rest, hints),
+    }
+}
+
+/// The cases of `>`.
+pub fn greater(
+    state: &State,
+    cond: &Cond,
+    hints: &mut Hints<'_>,
+) -> Result<Vec<State>, EffectFault>
+    requires bounds { HasBounds state.now }
+    requires room { state.now.next < 4294967295 }
+    requires proofs { All rule.HasFewUses hints.old }
+    ensures ok { IfOk result (λ states. rule.greater cond.now state.now hints.old ≡ Ok (record { states = states.items; hints = hints.new })) }
+    ensures fault { IfErr result (λ fault. fault ≢ WantOfMemory → rule.greater cond.now state.now hints.old ≡ Err fault) }
+{
+    let (a, b, rest) = integers_of(state)?;
+    match greater_decided(state.facts.as_slice(), a, b) {
+        Some(answer) => Ok(decided(answer, rest)?),
+        None => ordered(cond, b, a, rest, hints),
+    }
+}
+
+/// The cases of an undecided test on integers: the first is less than the second, or it is at least that.
+fn ordered(
+    cond: &Cond,
+    a: Sym,
+    b: Sym,
+    rest: State,
+    hints: &mut Hints<'_>,
+) -> Result<Vec<State>, EffectFault>
+    requires bounds { HasBounds rest }
+    requires room { rest.next < 4294967295 }
+    requires proofs { All rule.HasFewUses hints.old }
+    ensures ok { IfOk result (λ states. rule.integer_cases cond.now None (rule.less_rows a b) (rule.at_least_rows a b) rest hints.old
+        ≡ Ok (record { states = states.items; hints = hints.new })) }
+    ensures fault { IfErr result (λ fault. fault ≢ WantOfMemory →
+        rule.integer_cases cond.now None (rule.less_rows a b) (rule.at_least_rows a b) rest hints.old ≡ Err fault) }
+{
+    let alloc = rest.alloc;
+    let holds = one_row(exceeds(alloc, Term::Value(b.0), Term::Value(a.0), 1)?, alloc)?;
+    let fails = one_row(exceeds(alloc, Term::Value(a.0), Term::Value(b.0), 0)?, alloc)?;
+    truths(cond, holds, fails, rest, hints)
+}
+
+/// The cases of an undecided test on integers, with the rows of each.
+fn truths(
+    cond: &Cond,
+    holds: Vec<Row>,
+    fails: Vec<Row>,
+    rest: State,
+    hints: &mut Hints<'_>,
+) -> Result<Vec<State>, EffectFault>
+    requires bounds { HasBounds rest }
+    requires room { rest.next < 4294967295 }
+    requires holds { All IsBounded holds.items }
+    requires fails { All IsBounded fails.items }
+    requires proofs { All rule.HasFewUses hints.old }
+    ensures ok { IfOk result (λ states. rule.integer_cases cond.now None holds.items fails.items rest hints.old
+        ≡ Ok (record { states = states.items; hints = hints.new })) }
+    ensures fault { IfErr result (λ fault. fault ≢ WantOfMemory →
+        rule.integer_cases cond.now None holds.items fails.items rest hints.old ≡ Err fault) }
+{
+    let second = truth_case(false, fails, rest.branch()?)?;
+    let first = truth_case(true, holds, rest)?;
+    weighed_both(cond, first, second, hints)
+}
+
+/// The state of a case of a built-in function that tests integers.
+fn truth_case(answer: bool, rows: Vec<Row>, rest: State) -> Result<State, NoMemory>
+    requires bounds { HasBounds rest }
+    requires room { rest.next < 4294967295 }
+    requires rows { All IsBounded rows.items }
+    ensures after { IfOk result (λ after. after ≡ rule.with_truth answer (rule.with_case [] rows.items rest)) }
+    ensures bounds { IfOk result HasBounds }
+{
+    let alloc = rest.alloc;
+    let shown = with_case(rest, Vec::new(alloc), rows)?;
+    with_truth(answer, shown)
+}
+
+/// One row.
+fn one_row(row: Row, alloc: Global) -> Result<Vec<Row>, NoMemory>
+    ensures { IfOk result (λ rows. rows.items ≡ row ∷ []) }
+{
+    let mut rows = Vec::new(alloc);
+    rows.push(row)?;
+    Ok(rows)
+}
+
+/// The cases of `=`, which compares two integers or two strings.
+pub fn equal(state: &State, cond: &Cond, hints: &mut Hints<'_>) -> Result<Vec<State>, EffectFault>
+    requires bounds { HasBounds state.now }
+    requires room { state.now.next < 4294967295 }
+    requires proofs { All rule.HasFewUses hints.old }
+    ensures ok { IfOk result (λ states. rule.equal cond.now state.now hints.old ≡ Ok (record { states = states.items; hints = hints.new })) }
+    ensures fault { IfErr result (λ fault. fault ≢ WantOfMemory → rule.equal cond.now state.now hints.old ≡ Err fault) }
+{
+    let (a, b, rest) = two_of(state)?;
+    match known_kind(state.facts.as_slice(), b) {
+        Kinds::Int => {
+            if !is_of_kind(state, Kinds::Int, a) {
+                return Err(unmet(DemandKind::WrongKind, 2));
+            }
+            equal_integers(state, cond, a, b, rest, hints)
+        }
+        Kinds::Str => {
+            if !is_of_kind(state, Kinds::Str, a) {
+                return Err(unmet(DemandKind::WrongKind, 2));
+            }
+            Ok(equal_texts(state, a, b, rest)?)
+        }
+        _ => Err(unmet(DemandKind::WrongKind, 1)),
+    }
+}
+
+/// The cases of `=` of two integers.
+fn equal_integers(
+    state: &State,
+    cond: &Cond,
+    a: Sym,
+    b: Sym,
+    rest: State,
+    hints: &mut Hints<'_>,
+) -> Result<Vec<State>, EffectFault>
+    requires bounds { HasBounds rest }
+    requires room { rest.next < 4294967295 }
+    requires proofs { All rule.HasFewUses hints.old }
+    ensures ok { IfOk result (λ states. rule.integer_cases cond.now (rule.equal_decided state.now.facts a b) (rule.equal_rows a b) [] rest hints.old
+        ≡ Ok (record { states = states.items; hints = hints.new })) }
+    ensures fault { IfErr result (λ fault. fault ≢ WantOfMemory →
+        rule.integer_cases cond.now (rule.equal_decided state.now.facts a b) (rule.equal_rows a b) [] rest hints.old ≡ Err fault) }
+{
+    match equal_decided(state.facts.as_slice(), a, b) {
+        Some(answer) => Ok(decided(answer, rest)?),
+        None => {
+            let alloc = rest.alloc;
+            truths(cond, equal_rows(alloc, a, b)?, Vec::new(alloc), rest, hints)
+        }
+    }
+}
+
+/// The rows of two equal integers.
+fn equal_rows(alloc: Global, a: Sym, b: Sym) -> Result<Vec<Row>, NoMemory>
+    ensures rows { IfOk result (λ rows. rows.items ≡ rule.equal_rows a b) }
+    ensures bounded { IfOk result (λ rows. All IsBounded rows.items) }
+{
+    let mut rows = Vec::new(alloc);
+    rows.push(exceeds(alloc, Term::Value(a.0), Term::Value(b.0), 0)?)?;
+    rows.push(exceeds(alloc, Term::Value(b.0), Term::Value(a.0), 0)?)?;
+    Ok(rows)
+}
+
+/// The cases of whether an integer is above 0.
+pub fn above(
+    state: &State,
+    cond: &Cond,
+    sym: Sym,
+    hints: &mut Hints<'_>,
+) -> Result<Vec<State>, EffectFault>
+    requires bounds { HasBounds state.now }
+    requires proofs { All rule.HasFewUses hints.old }
+    ensures ok { IfOk result (λ states. rule.above_cases cond.now state.now sym (decided.exact_integer state.now.facts sym.0) hints.old
+        ≡ Ok (record { states = states.items; hints = hints.new })) }
+    ensures fault { IfErr result (λ fault. fault ≢ WantOfMemory →
+        rule.above_cases cond.now state.now sym (decided.exact_integer state.now.facts sym.0) hints.old ≡ Err fault) }
+{
+    if exact_integer(state.facts.as_slice(), sym).is_some() {
+        return Ok(one(state.branch()?)?);
+    }
+    let alloc = state.alloc;
+    let holds = one_row(at_least(alloc, Term::Value(sym.0), 1)?, alloc)?;
+    let fails = one_row(at_most(alloc, Term::Value(sym.0), 0)?, alloc)?;
+    let first = with_case(state.branch()?, Vec::new(alloc), holds)?;
+    let second = with_case(state.branch()?, Vec::new(alloc), fails)?;
+    weighed_both(cond, first, second, hints)
+}

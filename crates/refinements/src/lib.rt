@@ -1,0 +1,85 @@
+//! The cases of a test on a symbolic state (docs/EFFECTS.md, "Cases").
+#![tactic(auto)]
+
+ghost use Rattle.std.specs.Prelude.{◌≡◌, ◌≢◌, ◌<◌, Ok, Err, IfOk, IfErr, OnErr};
+ghost use Rattle.std.specs.List.{All};
+ghost use Rattle.name_table.specs.declared.style.Style.{Style};
+ghost use Rattle.sym_state.specs.Cases as rule;
+ghost use Rattle.sym_state.specs.WellMade.{HasBounds, WellMade};
+ghost use Rattle.sym_state.specs.declared.demand.EffectFault.TheVariants.{NoMemory as WantOfMemory};
+
+use crate::integers::{above, equal, greater, less};
+use crate::needed::{above_needs, equal_needs, greater_needs, less_needs};
+use crate::strings::{empty, missing};
+use bst_meaning::condition::Cond;
+use sym_state::demand::EffectFault;
+use sym_state::hint::Hints;
+use sym_state::state::State;
+
+pub use sym_state::test::Test;
+
+pub mod cases;
+pub mod deciding;
+pub mod integers;
+pub mod needed;
+pub mod operands;
+pub mod strings;
+pub mod weighing;
+
+/// The states of the cases of a test, that of 1 or of an integer above 0 first. A test that is decided has one case. The
+/// integer of `Above` is one: the caller has made that demand. The hints are taken one after the other, and each is
+/// decided before the next is taken. Where there is a fault, none is taken.
+pub fn split(
+    state: &State,
+    cond: &Cond,
+    test: Test,
+    hints: &mut Hints<'_>,
+) -> Result<Vec<State>, EffectFault>
+    requires bounds { HasBounds state.now }
+    requires room { state.now.next < 4294967295 }
+    requires proofs { All rule.HasFewUses hints.old }
+    ensures ok { IfOk result (λ states. rule.split_of cond.now state.now test hints.old ≡ Ok (record { states = states.items; hints = hints.new })) }
+    ensures fault { IfErr result (λ fault. fault ≢ WantOfMemory → rule.split_of cond.now state.now test hints.old ≡ Err fault) }
+    ensures cursor { OnErr result (hints.new ≡ hints.old) }
+{
+    let mut cursor = Hints::new(hints.rest());
+    let states = cases_of(state, cond, test, &mut cursor)?;
+    *hints = cursor;
+    Ok(states)
+}
+
+/// The states of the cases of a test.
+fn cases_of(
+    state: &State,
+    cond: &Cond,
+    test: Test,
+    hints: &mut Hints<'_>,
+) -> Result<Vec<State>, EffectFault>
+    requires bounds { HasBounds state.now }
+    requires room { state.now.next < 4294967295 }
+    requires proofs { All rule.HasFewUses hints.old }
+    ensures ok { IfOk result (λ states. rule.split_of cond.now state.now test hints.old ≡ Ok (record { states = states.items; hints = hints.new })) }
+    ensures fault { IfErr result (λ fault. fault ≢ WantOfMemory → rule.split_of cond.now state.now test hints.old ≡ Err fault) }
+{
+    match test {
+        Test::Empty => empty(state, hints),
+        Test::Missing => missing(state, hints),
+        Test::Equal => equal(state, cond, hints),
+        Test::Less => less(state, cond, hints),
+        Test::Greater => greater(state, cond, hints),
+        Test::Above(s) => above(state, cond, s, hints),
+    }
+}
+
+/// How many hints the split takes: 2 for a test on integers whose demands are met and that isn't decided, and else 0.
+pub fn needs(state: &State, test: Test) -> u32
+    ensures { result ≡ rule.needs_of state.now test }
+{
+    match test {
+        Test::Equal => equal_needs(state),
+        Test::Less => less_needs(state),
+        Test::Greater => greater_needs(state),
+        Test::Above(s) => above_needs(state, s),
+        _ => 0,
+    }
+}

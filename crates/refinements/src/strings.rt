@@ -1,0 +1,103 @@
+//! The cases of tests on strings and missing fields, which take no hint.
+
+ghost use Rattle.std.specs.Prelude.{◌≡◌, ◌≢◌, ◌<◌, [], ◌∷◌, Ok, Err, IfOk, IfErr};
+ghost use Rattle.sym_state.specs.Cases as rule;
+ghost use Rattle.sym_state.specs.Decided.{exact_text};
+ghost use Rattle.sym_state.specs.declared.demand.EffectFault.TheVariants.{NoMemory as WantOfMemory};
+
+use crate::cases::{both, decided};
+use crate::deciding::texts_decided;
+use crate::operands::field_of;
+use bv_base::memory::NoMemory;
+use bv_base::text::Text;
+use std::alloc::Global;
+use sym_state::demand::EffectFault;
+use sym_state::facts::{exact_text, known_emptiness, known_kind};
+use sym_state::hint::Hints;
+use sym_state::state::State;
+use sym_state::symbol::{Fact, Kinds, Sym};
+
+/// The cases of `empty$`.
+pub fn empty(state: &State, hints: &Hints<'_>) -> Result<Vec<State>, EffectFault>
+    requires { state.now.next < 4294967295 }
+    ensures ok { IfOk result (λ states. rule.empty state.now hints.now ≡ Ok (record { states = states.items; hints = hints.now })) }
+    ensures fault { IfErr result (λ fault. fault ≢ WantOfMemory → rule.empty state.now hints.now ≡ Err fault) }
+{
+    let (operand, rest) = field_of(state)?;
+    let known = known_emptiness(state.facts.as_slice(), operand);
+    Ok(empty_cases(known, operand, rest)?)
+}
+
+/// The cases of `empty$` of an operand, by what is known.
+fn empty_cases(known: Option<bool>, operand: Sym, rest: State) -> Result<Vec<State>, NoMemory>
+    requires { rest.next < 4294967295 }
+    ensures { IfOk result (λ states. rule.empty_cases known (record { operand = operand; rest = rest }) [] ≡ Ok (record { states = states.items; hints = [] })) }
+{
+    match known {
+        Some(answer) => decided(answer, rest),
+        None => {
+            let alloc = rest.alloc;
+            let holds = vec![in alloc; Fact::Blank(operand)]?;
+            let fails = vec![in alloc; Fact::Is(operand, Kinds::Str), Fact::Nonblank(operand)]?;
+            both(holds, fails, rest)
+        }
+    }
+}
+
+/// The cases of `missing$`.
+pub fn missing(state: &State, hints: &Hints<'_>) -> Result<Vec<State>, EffectFault>
+    requires { state.now.next < 4294967295 }
+    ensures ok { IfOk result (λ states. rule.missing state.now hints.now ≡ Ok (record { states = states.items; hints = hints.now })) }
+    ensures fault { IfErr result (λ fault. fault ≢ WantOfMemory → rule.missing state.now hints.now ≡ Err fault) }
+{
+    let (operand, rest) = field_of(state)?;
+    let known = known_kind(state.facts.as_slice(), operand);
+    Ok(missing_cases(known, operand, rest)?)
+}
+
+/// The cases of `missing$` of an operand, by its kind.
+fn missing_cases(known: Kinds, operand: Sym, rest: State) -> Result<Vec<State>, NoMemory>
+    requires { rest.next < 4294967295 }
+    ensures { IfOk result (λ states. rule.missing_cases known (record { operand = operand; rest = rest }) [] ≡ Ok (record { states = states.items; hints = [] })) }
+{
+    match known {
+        Kinds::Missing => decided(true, rest),
+        Kinds::Str => decided(false, rest),
+        _ => {
+            let alloc = rest.alloc;
+            let holds = vec![in alloc; Fact::Is(operand, Kinds::Missing)]?;
+            let fails = vec![in alloc; Fact::Is(operand, Kinds::Str)]?;
+            both(holds, fails, rest)
+        }
+    }
+}
+
+/// The cases of `=` of two strings: in that of 1 a text that one has exactly passes to the other.
+pub fn equal_texts(state: &State, a: Sym, b: Sym, rest: State) -> Result<Vec<State>, NoMemory>
+    requires { rest.next < 4294967295 }
+    ensures { IfOk result (λ states. rule.text_cases (rule.texts_decided state.now.facts a b) (rule.passed_both state.now.facts a b) rest []
+        ≡ Ok (record { states = states.items; hints = [] })) }
+{
+    let facts = state.facts.as_slice();
+    match texts_decided(facts, a, b) {
+        Some(answer) => decided(answer, rest),
+        None => {
+            let alloc = rest.alloc;
+            let mut holds = passed(alloc, facts, a, b)?;
+            let mut others = passed(alloc, facts, b, a)?;
+            holds.append(&mut others)?;
+            both(holds, Vec::new(alloc), rest)
+        }
+    }
+}
+
+/// The exact text of a symbol as that of another, where it has one.
+fn passed(alloc: Global, facts: &[Fact], from: Sym, to: Sym) -> Result<Vec<Fact>, NoMemory>
+    ensures { IfOk result (λ more. more.items ≡ rule.passed (exact_text facts.now from.0) to) }
+{
+    let mut more = Vec::new(alloc);
+    if let Some(text) = exact_text(facts, from) {
+        more.push(Fact::Text(to, Text::from_slice(alloc, text)?))?;
+    }
+    Ok(more)
+}

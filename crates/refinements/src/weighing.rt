@@ -1,0 +1,101 @@
+//! Cases that a hint keeps or drops.
+
+ghost use Rattle.std.specs.Prelude.{◌≡◌, ◌≢◌, ◌≤◌, [], ◌∷◌, ◌++◌, length, Ok, Err, IfOk, IfErr};
+ghost use Rattle.std.specs.List.{All};
+ghost use Rattle.sym_state.specs.Cases as rule;
+ghost use Rattle.sym_state.specs.References.{shows};
+ghost use Rattle.sym_state.specs.WellMade.{HasBounds, IsBounded};
+ghost use Rattle.sym_state.specs.declared.demand.EffectFault.TheVariants.{NoMemory as WantOfMemory};
+
+use bst_meaning::condition::Cond;
+use bv_base::memory::NoMemory;
+use bv_base::seq::Seq;
+use lin_facts::row::Row;
+use std::alloc::Global;
+use sym_state::demand::EffectFault;
+use sym_state::hint::{Hint, Hints};
+use sym_state::proof::Proof;
+use sym_state::shows::shows;
+use sym_state::state::State;
+
+/// The kept ones of two cases, each of which takes a hint.
+pub fn weighed_both(
+    cond: &Cond,
+    first: State,
+    second: State,
+    hints: &mut Hints<'_>,
+) -> Result<Vec<State>, EffectFault>
+    requires first { HasBounds first }
+    requires second { HasBounds second }
+    requires proofs { All rule.HasFewUses hints.old }
+    ensures ok { IfOk result (λ states. rule.weighed_both cond.now first second hints.old ≡ Ok (record { states = states.items; hints = hints.new })) }
+    ensures fault { IfErr result (λ fault. fault ≢ WantOfMemory → rule.weighed_both cond.now first second hints.old ≡ Err fault) }
+{
+    let kept = weighed(cond, first, hints)?;
+    let others = weighed(cond, second, hints)?;
+    Ok(joined(kept, others)?)
+}
+
+/// The states of both lists.
+fn joined(first: Vec<State>, second: Vec<State>) -> Result<Vec<State>, NoMemory>
+    ensures { IfOk result (λ states. states.items ≡ first.items ++ second.items) }
+{
+    let mut states = first;
+    let mut others = second;
+    states.append(&mut others)?;
+    Ok(states)
+}
+
+/// A case, where the next hint keeps it.
+fn weighed(cond: &Cond, state: State, hints: &mut Hints<'_>) -> Result<Vec<State>, EffectFault>
+    requires state { HasBounds state }
+    requires proofs { All rule.HasFewUses hints.old }
+    ensures ok { IfOk result (λ states. rule.weighed cond.now state hints.old ≡ Ok (record { states = states.items; hints = hints.new })) }
+    ensures fault { IfErr result (λ fault. fault ≢ WantOfMemory → rule.weighed cond.now state hints.old ≡ Err fault) }
+    ensures proofs { IfOk result (λ _. All rule.HasFewUses hints.new) }
+{
+    let alloc = state.alloc;
+    match hints.next() {
+        None => Err(EffectFault::HintsShort),
+        Some(Hint::Keep) => Ok(one(state)?),
+        Some(Hint::Drop(proof)) => {
+            if refutes(cond, &state, proof)? {
+                Ok(Vec::new(alloc))
+            } else {
+                Err(EffectFault::NotEntailed(0))
+            }
+        }
+        _ => Err(EffectFault::WrongHint),
+    }
+}
+
+/// One state.
+pub fn one(state: State) -> Result<Vec<State>, NoMemory>
+    ensures { IfOk result (λ states. states.items ≡ state ∷ []) }
+{
+    let alloc = state.alloc;
+    let mut states = Vec::new(alloc);
+    states.push(state)?;
+    Ok(states)
+}
+
+/// Whether a proof shows that a case can't come about.
+fn refutes(cond: &Cond, state: &State, proof: &Proof) -> Result<bool, NoMemory>
+    requires state { HasBounds state.now }
+    requires proof { length proof.now.uses ≤ 64 }
+    ensures { IfOk result (λ shown. shown ≡ shows cond.now state.now proof.now rule.absurdity) }
+{
+    let alloc = state.alloc;
+    shows(alloc, state, cond, proof, &absurdity(alloc))
+}
+
+/// The row that never holds: -1 is at least 0.
+fn absurdity(alloc: Global) -> Row
+    ensures row { result ≡ rule.absurdity }
+    ensures bounded { IsBounded result }
+{
+    Row {
+        constant: -1,
+        parts: Seq::new(alloc),
+    }
+}
