@@ -201,13 +201,39 @@ pub fn above(
     ensures fault { IfErr result (λ fault. fault ≢ WantOfMemory →
         rule.above_cases cond.now state.now sym (decided.exact_integer state.now.facts sym.0) hints.old ≡ Err fault) }
 {
-    if exact_integer(state.facts.as_slice(), sym).is_some() {
-        return Ok(one(state.branch()?)?);
+    match exact_integer(state.facts.as_slice(), sym) {
+        Some(_) => Ok(one(state.branch()?)?),
+        None => signs(state, cond, sym, hints),
     }
+}
+
+/// The cases of whether an integer that isn't known is above 0.
+fn signs(
+    state: &State,
+    cond: &Cond,
+    sym: Sym,
+    hints: &mut Hints<'_>,
+) -> Result<Vec<State>, EffectFault>
+    requires bounds { HasBounds state.now }
+    requires proofs { All rule.HasFewUses hints.old }
+    ensures ok { IfOk result (λ states. rule.above_cases cond.now state.now sym None hints.old
+        ≡ Ok (record { states = states.items; hints = hints.new })) }
+    ensures fault { IfErr result (λ fault. fault ≢ WantOfMemory → rule.above_cases cond.now state.now sym None hints.old ≡ Err fault) }
+{
     let alloc = state.alloc;
-    let holds = one_row(at_least(alloc, Term::Value(sym.0), 1)?, alloc)?;
-    let fails = one_row(at_most(alloc, Term::Value(sym.0), 0)?, alloc)?;
-    let first = with_case(state.branch()?, Vec::new(alloc), holds)?;
-    let second = with_case(state.branch()?, Vec::new(alloc), fails)?;
+    let first = sign_case(state, at_least(alloc, Term::Value(sym.0), 1)?)?;
+    let second = sign_case(state, at_most(alloc, Term::Value(sym.0), 0)?)?;
     weighed_both(cond, first, second, hints)
+}
+
+/// The state of a case of whether an integer is above 0.
+fn sign_case(state: &State, row: Row) -> Result<State, NoMemory>
+    requires bounds { HasBounds state.now }
+    requires row { IsBounded row }
+    ensures after { IfOk result (λ after. after ≡ rule.with_case [] (row ∷ []) state.now) }
+    ensures bounds { IfOk result HasBounds }
+{
+    let alloc = state.alloc;
+    let rows = one_row(row, alloc)?;
+    with_case(state.branch()?, Vec::new(alloc), rows)
 }

@@ -1,8 +1,10 @@
 //! How many hints the cases of a test take.
 
-ghost use Rattle.std.specs.Prelude.{◌≡◌, reverse};
+ghost use Rattle.std.specs.Prelude.{◌≡◌, ◌&&◌, reverse};
 ghost use Rattle.sym_state.specs.Cases as rule;
 ghost use Rattle.sym_state.specs.Decided as decided;
+ghost use Rattle.sym_state.specs.Demands as demand;
+ghost use Rattle.sym_state.specs.declared.symbol.Kinds.TheVariants.{Int as IntKind};
 
 use crate::deciding::{equal_decided, greater_decided, less_decided};
 use crate::operands::is_of_kind;
@@ -71,9 +73,16 @@ fn top_integers(state: &State) -> Option<(Sym, Sym)>
     }
     let upper = stack[count - 1];
     let lower = stack[count - 2];
-    if is_of_kind(state, Kinds::Int, upper) && is_of_kind(state, Kinds::Int, lower) {
+    if are_integers(state, lower, upper) {
         Some((lower, upper))
     } else {
         None
     }
+}
+
+/// Whether two symbols are known to be integers.
+fn are_integers(state: &State, lower: Sym, upper: Sym) -> bool
+    ensures { result ≡ (demand.is_of_kind state.now IntKind upper && demand.is_of_kind state.now IntKind lower) }
+{
+    is_of_kind(state, Kinds::Int, upper) && is_of_kind(state, Kinds::Int, lower)
 }

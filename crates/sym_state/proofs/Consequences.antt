@@ -130,7 +130,7 @@ block_fact style value (Blank s) number e h = absurd (cc)
 block_fact style value (Nonblank s) number e h = absurd (cc)
 block_fact style value (Wellformed s) number e h = absurd (cc)
 
-same_bytes : (a b : List ℕ) → pointwise nat_eq a b ≡ true → a ≡ b
+pub same_bytes : (a b : List ℕ) → pointwise nat_eq a b ≡ true → a ≡ b
 same_bytes [] [] e = refl
 same_bytes [] (y ∷ ys) e = absurd (cc)
 same_bytes (x ∷ xs) [] e = absurd (cc)

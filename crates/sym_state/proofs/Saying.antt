@@ -37,13 +37,13 @@ once x = omega (arith, ints, product_is (pos 1) x)
 minus : (x : ℤ) → negsuc 0 *ℤ x ≡ neg_ℤ x
 minus x = omega (arith, ints, product_is (negsuc 0) x)
 
-at_least_holds : (a : Assignment) (t : Term) (n : ℤ) → n ≤ℤ a t → Holds a (at_least t n)
+pub at_least_holds : (a : Assignment) (t : Term) (n : ℤ) → n ≤ℤ a t → Holds a (at_least t n)
 at_least_holds a t n h = omega (arith, ints, once (a t))
 
 pub at_most_holds : (a : Assignment) (t : Term) (n : ℤ) → a t ≤ℤ n → Holds a (at_most t n)
 at_most_holds a t n h = omega (arith, ints, minus (a t))
 
-exceeds_holds : (a : Assignment) (g l : Term) (n : ℤ) → (a l +ℤ n) ≤ℤ a g → Holds a (exceeds g l n)
+pub exceeds_holds : (a : Assignment) (g l : Term) (n : ℤ) → (a l +ℤ n) ≤ℤ a g → Holds a (exceeds g l n)
 exceeds_holds a g l n h = omega (arith, ints, once (a g), minus (a l))
 
 -- integers of values have 32 bits

@@ -1,0 +1,366 @@
+-- Of the cases of each test on two operands, one covers what the machine does.
+use Rattle.std.proofs.Common.{◌≡◌, ℕ, zero, suc, ◌<◌, ◌≤◌, ◌^◌, Bool, true, false, cond, List, [], ◌∷◌, ◌++◌, length, reverse, Option, None, Some, Result, Ok, Err, refl, sym, ap, subst, ◌∙◌, arith, nat_eq}
+use Rattle.std.specs.Prelude.{ℤ, pos, negsuc, ◌+ℤ◌, ◌-ℤ◌, ◌≤ℤ◌, is_none}
+use Rattle.std.specs.List.{All, AllByRecursion}
+use Rattle.std.specs.Option.{option_or}
+use Rattle.std.specs.Cmp.Lexicographic.{pointwise}
+use Rattle.std.proofs.lemmas.Bool.{leb-true}
+use Rattle.std.proofs.lemmas.Bool.Decides.{nat_tests}
+use Rattle.std.proofs.lemmas.Int.{ints}
+use Rattle.std.proofs.lemmas.List.Elements.{All-append, All-cons, All-head, All-nil, All-tail}
+use Rattle.lin_facts.specs.Rows.{Holds}
+use Rattle.lin_facts.specs.declared.row.Part.{Part}
+use Rattle.lin_facts.specs.declared.row.Row.{Row}
+use Rattle.lin_facts.specs.declared.row.Term.{Term}
+use Rattle.lin_facts.specs.declared.row.Term.TheVariants.{Value as ValueOf}
+use Rattle.name_table.specs.declared.builtin.Builtin.{Builtin}
+use Rattle.name_table.specs.declared.builtin.Builtin.TheVariants as op
+use Rattle.text_ops.specs.Blank.{blank}
+use Rattle.bst_meaning.specs.Builtins.{Context, built_in}
+use Rattle.bst_meaning.specs.Effect.{pushed}
+use Rattle.bst_meaning.specs.Operands.{is_positive, is_zero, truth}
+use Rattle.bst_meaning.specs.declared.value.Value.{Value}
+use Rattle.bst_meaning.specs.declared.value.Value.TheVariants.{Int as IntValue, Str as StrValue, Missing as MissingValue, Func as FuncValue}
+use Rattle.sym_state.specs.declared.hint.Hint.{Hint}
+use Rattle.sym_state.specs.declared.state.State.{State}
+use Rattle.sym_state.specs.declared.symbol.Fact.{Fact}
+use Rattle.sym_state.specs.declared.symbol.Fact.TheVariants.{Is, Int as IntFact, Text as TextFact, Call, Block, Blank, Nonblank, Wellformed}
+use Rattle.sym_state.specs.declared.symbol.Kinds.{Kinds}
+use Rattle.sym_state.specs.declared.symbol.Kinds.TheVariants.{Int, Str, Missing, Optional, Func, Any}
+use Rattle.sym_state.specs.declared.symbol.Sym.{Sym}
+use Rattle.sym_state.specs.Cases.{Cases, Split, Two, answer, answer_of, at_least_rows, both, empty, empty_cases, equal, equal_by, equal_decided, equal_rows, greater, integer_cases, integers_decided, is_equal, is_greater, is_less, less, less_rows, missing, missing_cases, passed, passed_both, text_cases, texts_decided}
+use Rattle.sym_state.specs.Decided.{emptiness_said, exact_integer, exact_text, first_said, known_kind, text_said}
+use Rattle.sym_state.specs.Demands.{fails, is_of_kind}
+use Rattle.sym_state.specs.Facts.{FactHolds, emptiness, has_kind, subject}
+use Rattle.sym_state.specs.References.{exceeds}
+use Rattle.sym_state.specs.Symbols.{Valuation, integer_of, numbers}
+use Rattle.sym_state.specs.WellMade.{HasShortText, IsBounded, IsOfStyle, IsTermBelow}
+use Rattle.sym_state.proofs.Consequences.{same_bytes}
+use Rattle.sym_state.proofs.Deciding.{emptiness_fact, exact_integer_is, exact_text_is, from_facts, same_number}
+use Rattle.sym_state.proofs.KnownKinds.{integer_is, known_kind_holds, of_kind_holds, string_is}
+use Rattle.sym_state.proofs.Pushing.{value_list, without}
+use Rattle.sym_state.proofs.Saying.{exceeds_holds}
+use Rattle.sym_state.specs.declared.demand.DemandKind.TheVariants.{WrongKind}
+use Rattle.sym_state.proofs.Frames.{facts_joined}
+use Rattle.refinements.proofs.Testing.{both_fit, one_fits}
+use Rattle.refinements.proofs.Fitting.{Fits, RowBelow, nothing_fits}
+use Rattle.refinements.proofs.Taking.{AtSpot, Field, Found, Integers, Pair, Spot, at_one, at_two, both_found, decided_found, field_cases, integers_cases, one_below, pair_cases, second_below, taken_one, taken_two, weighed_found}
+
+-- rows on two integers hold
+above_zero : (z : ℤ) → is_positive z ≡ true → pos 1 ≤ℤ z
+above_zero (pos n) e = let h = leb-true 1 n e in omega (arith, ints)
+above_zero (negsuc n) e = absurd (cc)
+
+not_above : (z : ℤ) → is_positive z ≡ false → z ≤ℤ pos 0
+not_above (pos zero) e = omega (arith, ints)
+not_above (pos (suc n)) e = absurd (cc)
+not_above (negsuc n) e = omega (arith, ints)
+
+zero_is : (z : ℤ) → is_zero z ≡ true → z ≡ pos 0
+zero_is (pos zero) e = refl
+zero_is (pos (suc n)) e = absurd (cc)
+zero_is (negsuc n) e = absurd (cc)
+
+nothing : (x : ℤ) → x -ℤ x ≡ pos 0
+nothing x = omega (arith, ints)
+
+never_less : (x : ℤ) → is_positive (x -ℤ x) ≡ false
+never_less x = ap is_positive (nothing x)
+
+always_equal : (x : ℤ) → is_zero (x -ℤ x) ≡ true
+always_equal x = ap is_zero (nothing x)
+
+-- the integers of two symbols
+record Known (p : Spot) (a b : Sym) (x y : ℤ) : Type 0 where
+  pub lower : p.v.value a.0 ≡ IntValue x
+  pub upper : p.v.value b.0 ≡ IntValue y
+
+less_hold : (p : Spot) (a b : Sym) (x y : ℤ) → Known p a b x y → is_positive (y -ℤ x) ≡ true → AllByRecursion (Holds (numbers p.v)) (less_rows a b)
+less_hold p a b x y known e =
+    let xa : numbers p.v (ValueOf a.0) ≡ x = ap integer_of known.lower in
+    let yb : numbers p.v (ValueOf b.0) ≡ y = ap integer_of known.upper in
+    let h = above_zero (y -ℤ x) e in
+    (exceeds_holds (numbers p.v) (ValueOf b.0) (ValueOf a.0) (pos 1) (omega (arith, ints)), tt)
+
+at_least_hold : (p : Spot) (a b : Sym) (x y : ℤ) → Known p a b x y → is_positive (y -ℤ x) ≡ false → AllByRecursion (Holds (numbers p.v)) (at_least_rows a b)
+at_least_hold p a b x y known e =
+    let xa : numbers p.v (ValueOf a.0) ≡ x = ap integer_of known.lower in
+    let yb : numbers p.v (ValueOf b.0) ≡ y = ap integer_of known.upper in
+    let h = not_above (y -ℤ x) e in
+    (exceeds_holds (numbers p.v) (ValueOf a.0) (ValueOf b.0) (pos 0) (omega (arith, ints)), tt)
+
+equal_hold : (p : Spot) (a b : Sym) (x y : ℤ) → Known p a b x y → is_zero (x -ℤ y) ≡ true → AllByRecursion (Holds (numbers p.v)) (equal_rows a b)
+equal_hold p a b x y known e =
+    let xa : numbers p.v (ValueOf a.0) ≡ x = ap integer_of known.lower in
+    let yb : numbers p.v (ValueOf b.0) ≡ y = ap integer_of known.upper in
+    let h = zero_is (x -ℤ y) e in
+    (
+      exceeds_holds (numbers p.v) (ValueOf a.0) (ValueOf b.0) (pos 0) (omega (arith, ints)),
+      (exceeds_holds (numbers p.v) (ValueOf b.0) (ValueOf a.0) (pos 0) (omega (arith, ints)), tt),
+    )
+
+-- rows on two symbols fit
+exceeds_below : (next : ℕ) (a b : Sym) (n : ℤ) → a.0 < next → b.0 < next → RowBelow next (exceeds (ValueOf a.0) (ValueOf b.0) n)
+exceeds_below next a b n lower upper =
+    let first : Part = record { coefficient = pos 1; term = ValueOf a.0 } in
+    let second : Part = record { coefficient = negsuc 0; term = ValueOf b.0 } in
+    All-cons (λ (part : Part). IsTermBelow next part.term) first (second ∷ []) lower
+    (All-cons (λ (part : Part). IsTermBelow next part.term) second [] upper (All-nil (λ (part : Part). IsTermBelow next part.term)))
+
+bounded_none : (a b : ℕ) → IsBounded (exceeds (ValueOf a) (ValueOf b) (pos 0))
+bounded_none a b = record { parts = omega arith; constant = record { low = omega (arith, ints); high = omega (arith, ints) }; coefficients = omega arith }
+
+bounded_one : (a b : ℕ) → IsBounded (exceeds (ValueOf a) (ValueOf b) (pos 1))
+bounded_one a b = record { parts = omega arith; constant = record { low = omega (arith, ints); high = omega (arith, ints) }; coefficients = omega arith }
+
+row_fits : (p : Spot) (row : Row) → RowBelow p.state.next row → IsBounded row → Fits p.style p.state.next [] (row ∷ [])
+row_fits p row below bounded = record {
+  facts = All-nil (λ fact. subject fact < p.state.next);
+  of_style = All-nil (IsOfStyle p.style);
+  short = All-nil HasShortText;
+  rows = All-cons (RowBelow p.state.next) row [] below (All-nil (RowBelow p.state.next));
+  bounded = All-cons IsBounded row [] bounded (All-nil IsBounded);
+}
+
+rows_fit : (p : Spot) (first second : Row) → RowBelow p.state.next first → IsBounded first → RowBelow p.state.next second → IsBounded second
+    → Fits p.style p.state.next [] (first ∷ (second ∷ []))
+rows_fit p first second below bounded others fine = record {
+  facts = All-nil (λ fact. subject fact < p.state.next);
+  of_style = All-nil (IsOfStyle p.style);
+  short = All-nil HasShortText;
+  rows = All-cons (RowBelow p.state.next) first (second ∷ []) below (All-cons (RowBelow p.state.next) second [] others (All-nil (RowBelow p.state.next)));
+  bounded = All-cons IsBounded first (second ∷ []) bounded (All-cons IsBounded second [] fine (All-nil IsBounded));
+}
+
+-- what decides a test of integers is what the machine gives
+integers_sure : (p : Spot) (test : ℤ → ℤ → Bool) (reflexive : Bool) (a b : Sym) (x y : ℤ) (t : Bool) → ((n : ℤ) → test n n ≡ reflexive) → Known p a b x y
+    → integers_decided test reflexive p.state.facts a b ≡ Some t → test x y ≡ t
+integers_sure p test reflexive a b x y t same known e =
+    elim (nat_eq a.0 b.0) as (λ (one : Bool). nat_eq a.0 b.0 ≡ one
+    → answer_of one reflexive (answer test (exact_integer p.state.facts a.0) (exact_integer p.state.facts b.0)) ≡ Some t → test x y ≡ t) [
+      | true ↦ λ one found.
+          let values : IntValue x ≡ IntValue y = sym known.lower ∙ ap p.v.value (same_number a.0 b.0 one) ∙ known.upper in
+          let xy : x ≡ y = cc in
+          let is : reflexive ≡ t = cc in
+          subst (λ (n : ℤ). test x n ≡ reflexive) xy (same x) ∙ is
+      | false ↦ λ one found. elim (exact_integer p.state.facts a.0) as (λ (o : Option ℤ). exact_integer p.state.facts a.0 ≡ o
+          → answer test o (exact_integer p.state.facts b.0) ≡ Some t → test x y ≡ t) [
+            | None ↦ λ none some. absurd (cc)
+            | Some m ↦ λ lower some. elim (exact_integer p.state.facts b.0) as (λ (o : Option ℤ). exact_integer p.state.facts b.0 ≡ o
+                → answer test (Some m) o ≡ Some t → test x y ≡ t) [
+                  | None ↦ λ none all. absurd (cc)
+                  | Some n ↦ λ upper all.
+                      let low : IntValue x ≡ IntValue m = sym known.lower ∙ exact_integer_is p.style p.v a.0 p.state.facts m p.stands.satisfied.facts lower in
+                      let high : IntValue y ≡ IntValue n = sym known.upper ∙ exact_integer_is p.style p.v b.0 p.state.facts n p.stands.satisfied.facts upper in
+                      let xm : x ≡ m = cc in
+                      let yn : y ≡ n = cc in
+                      let is : test m n ≡ t = cc in
+                      ap (λ (k : ℤ). test k y) xm ∙ ap (λ (k : ℤ). test m k) yn ∙ is
+                ] refl some
+          ] refl found
+    ] refl e
+
+integers_found : (p : Spot) (op : Builtin) (rest : List Sym) (test : ℤ → ℤ → Bool) (reflexive : Bool) (a b : Sym) (x y : ℤ)
+    (holds refuted : List Row) (hints : List Hint) (cases : Cases) → Known p a b x y → ((n : ℤ) → test n n ≡ reflexive)
+    → AtSpot p rest op (test x y) → Fits p.style p.state.next [] holds → Fits p.style p.state.next [] refuted
+    → (test x y ≡ true → AllByRecursion (Holds (numbers p.v)) holds) → (test x y ≡ false → AllByRecursion (Holds (numbers p.v)) refuted)
+    → integer_cases p.admits (integers_decided test reflexive p.state.facts a b) holds refuted (without rest p.state) hints ≡ Ok cases
+    → Found p op cases
+integers_found p op rest test reflexive a b x y holds refuted hints cases known same at fits others granted denied e =
+    elim (integers_decided test reflexive p.state.facts a b) as (λ (o : Option Bool). integers_decided test reflexive p.state.facts a b ≡ o
+    → integer_cases p.admits o holds refuted (without rest p.state) hints ≡ Ok cases → Found p op cases) [
+      | Some t ↦ λ is found. decided_found p op rest (test x y) t hints cases at (integers_sure p test reflexive a b x y t same known is) found
+      | None ↦ λ is found. weighed_found p op rest (test x y) holds refuted hints cases at fits others granted denied found
+    ] refl e
+
+record Values (p : Spot) (a b : Sym) : Type 0 where
+  pub x : ℤ
+  pub y : ℤ
+  pub known : Known p a b x y
+
+values_of_two : (p : Spot) (a b : Sym) → is_of_kind p.state Int a ≡ true → is_of_kind p.state Int b ≡ true → Values p a b
+values_of_two p a b lower upper =
+    let one = integer_is (p.v.value a.0) (of_kind_holds p.style p.v a.0 p.state.facts Int p.stands.satisfied.facts lower) in
+    let two = integer_is (p.v.value b.0) (of_kind_holds p.style p.v b.0 p.state.facts Int p.stands.satisfied.facts upper) in
+    record { x = one.0; y = two.0; known = record { lower = one.1; upper = two.1 } }
+
+-- `<`
+pub less_found : (p : Spot) (hints : List Hint) (cases : Cases) → less p.admits p.state hints ≡ Ok cases → Found p op.Less cases
+less_found p hints cases e =
+    let f = integers_cases p.state (λ two. integer_cases p.admits (integers_decided is_less false p.state.facts two.lower two.upper)
+        (less_rows two.lower two.upper) (at_least_rows two.lower two.upper) two.rest hints) cases e in
+    let a = f.pair.lower in
+    let b = f.pair.upper in
+    let lower = second_below p a b f.pair.rest f.pair.tops in
+    let upper = one_below p b (a ∷ f.pair.rest) f.pair.tops in
+    let values = values_of_two p a b f.lower_kind f.upper_kind in
+    integers_found p op.Less f.pair.rest is_less false a b values.x values.y (less_rows a b) (at_least_rows a b) hints cases values.known never_less
+    (at_two p op.Less a b f.pair.rest (IntValue values.x) (IntValue values.y) (is_less values.x values.y) f.pair.tops values.known.lower values.known.upper refl)
+    (row_fits p (exceeds (ValueOf b.0) (ValueOf a.0) (pos 1)) (exceeds_below p.state.next b a (pos 1) upper lower) (bounded_one b.0 a.0))
+    (row_fits p (exceeds (ValueOf a.0) (ValueOf b.0) (pos 0)) (exceeds_below p.state.next a b (pos 0) lower upper) (bounded_none a.0 b.0))
+    (less_hold p a b values.x values.y values.known) (at_least_hold p a b values.x values.y values.known) f.pair.given
+
+turned : (p : Spot) (a b : Sym) (x y : ℤ) → Known p a b x y → Known p b a y x
+turned p a b x y known = record { lower = known.upper; upper = known.lower }
+
+-- `>`
+pub greater_found : (p : Spot) (hints : List Hint) (cases : Cases) → greater p.admits p.state hints ≡ Ok cases → Found p op.Greater cases
+greater_found p hints cases e =
+    let f = integers_cases p.state (λ two. integer_cases p.admits (integers_decided is_greater false p.state.facts two.lower two.upper)
+        (less_rows two.upper two.lower) (at_least_rows two.upper two.lower) two.rest hints) cases e in
+    let a = f.pair.lower in
+    let b = f.pair.upper in
+    let lower = second_below p a b f.pair.rest f.pair.tops in
+    let upper = one_below p b (a ∷ f.pair.rest) f.pair.tops in
+    let values = values_of_two p a b f.lower_kind f.upper_kind in
+    integers_found p op.Greater f.pair.rest is_greater false a b values.x values.y (less_rows b a) (at_least_rows b a) hints cases values.known never_less
+    (at_two p op.Greater a b f.pair.rest (IntValue values.x) (IntValue values.y) (is_greater values.x values.y) f.pair.tops values.known.lower values.known.upper refl)
+    (row_fits p (exceeds (ValueOf a.0) (ValueOf b.0) (pos 1)) (exceeds_below p.state.next a b (pos 1) lower upper) (bounded_one a.0 b.0))
+    (row_fits p (exceeds (ValueOf b.0) (ValueOf a.0) (pos 0)) (exceeds_below p.state.next b a (pos 0) upper lower) (bounded_none b.0 a.0))
+    (less_hold p b a values.y values.x (turned p a b values.x values.y values.known))
+    (at_least_hold p b a values.y values.x (turned p a b values.x values.y values.known)) f.pair.given
+
+-- `=` of two integers
+equal_integers_found : (p : Spot) (a b : Sym) (rest : List Sym) (hints : List Hint) (cases : Cases) → reverse p.state.stack ≡ b ∷ (a ∷ rest)
+    → is_of_kind p.state Int a ≡ true → has_kind Int (p.v.value b.0) ≡ true
+    → integer_cases p.admits (integers_decided is_equal true p.state.facts a b) (equal_rows a b) [] (without rest p.state) hints ≡ Ok cases
+    → Found p op.Equal cases
+equal_integers_found p a b rest hints cases tops lower_kind upper_kind e =
+    let lower = second_below p a b rest tops in
+    let upper = one_below p b (a ∷ rest) tops in
+    let one = integer_is (p.v.value a.0) (of_kind_holds p.style p.v a.0 p.state.facts Int p.stands.satisfied.facts lower_kind) in
+    let two = integer_is (p.v.value b.0) upper_kind in
+    let known : Known p a b one.0 two.0 = record { lower = one.1; upper = two.1 } in
+    integers_found p op.Equal rest is_equal true a b one.0 two.0 (equal_rows a b) [] hints cases known always_equal
+    (at_two p op.Equal a b rest (IntValue one.0) (IntValue two.0) (is_equal one.0 two.0) tops one.1 two.1 refl)
+    (rows_fit p (exceeds (ValueOf a.0) (ValueOf b.0) (pos 0)) (exceeds (ValueOf b.0) (ValueOf a.0) (pos 0))
+    (exceeds_below p.state.next a b (pos 0) lower upper) (bounded_none a.0 b.0) (exceeds_below p.state.next b a (pos 0) upper lower) (bounded_none b.0 a.0))
+    (nothing_fits p.style p.state.next)
+    (equal_hold p a b one.0 two.0 known) (λ unequal. tt) e
+
+-- `=` of two strings
+same_self : (bytes : List ℕ) → pointwise nat_eq bytes bytes ≡ true
+same_self [] = refl
+same_self (b ∷ bytes) =
+    let head : nat_eq b b ≡ true = grind (arith, nat_tests) in
+    ap (λ (t : Bool). cond t (pointwise nat_eq bytes bytes) false) head ∙ same_self bytes
+
+record Texts (p : Spot) (a b : Sym) (x y : List ℕ) : Type 0 where
+  pub lower : p.v.value a.0 ≡ StrValue x
+  pub upper : p.v.value b.0 ≡ StrValue y
+
+texts_sure : (p : Spot) (a b : Sym) (x y : List ℕ) (t : Bool) → Texts p a b x y → texts_decided p.state.facts a b ≡ Some t → pointwise nat_eq x y ≡ t
+texts_sure p a b x y t known e =
+    elim (nat_eq a.0 b.0) as (λ (one : Bool). nat_eq a.0 b.0 ≡ one
+    → answer_of one true (answer (pointwise nat_eq) (exact_text p.state.facts a.0) (exact_text p.state.facts b.0)) ≡ Some t → pointwise nat_eq x y ≡ t) [
+      | true ↦ λ one found.
+          let values : StrValue x ≡ StrValue y = sym known.lower ∙ ap p.v.value (same_number a.0 b.0 one) ∙ known.upper in
+          let xy : x ≡ y = cc in
+          let is : true ≡ t = cc in
+          subst (λ (n : List ℕ). pointwise nat_eq x n ≡ true) xy (same_self x) ∙ is
+      | false ↦ λ one found. elim (exact_text p.state.facts a.0) as (λ (o : Option (List ℕ)). exact_text p.state.facts a.0 ≡ o
+          → answer (pointwise nat_eq) o (exact_text p.state.facts b.0) ≡ Some t → pointwise nat_eq x y ≡ t) [
+            | None ↦ λ none some. absurd (cc)
+            | Some m ↦ λ lower some. elim (exact_text p.state.facts b.0) as (λ (o : Option (List ℕ)). exact_text p.state.facts b.0 ≡ o
+                → answer (pointwise nat_eq) (Some m) o ≡ Some t → pointwise nat_eq x y ≡ t) [
+                  | None ↦ λ none all. absurd (cc)
+                  | Some n ↦ λ upper all.
+                      let low : StrValue x ≡ StrValue m = sym known.lower ∙ exact_text_is p.style p.v a.0 p.state.facts m p.stands.satisfied.facts lower in
+                      let high : StrValue y ≡ StrValue n = sym known.upper ∙ exact_text_is p.style p.v b.0 p.state.facts n p.stands.satisfied.facts upper in
+                      let xm : x ≡ m = cc in
+                      let yn : y ≡ n = cc in
+                      let is : pointwise nat_eq m n ≡ t = cc in
+                      ap (λ (k : List ℕ). pointwise nat_eq k y) xm ∙ ap (λ (k : List ℕ). pointwise nat_eq m k) yn ∙ is
+                ] refl some
+          ] refl found
+    ] refl e
+
+-- an exact text is one of a fact
+short_said : (fact : Fact) (text : List ℕ) → HasShortText fact → text_said fact ≡ Some text → length text ≤ 2 ^ 45
+short_said (TextFact s other) text h e = let same : other ≡ text = cc in subst (λ (t : List ℕ). length t ≤ 2 ^ 45) same h
+short_said (Is s k) text h e = absurd (cc)
+short_said (IntFact s k) text h e = absurd (cc)
+short_said (Call s k) text h e = absurd (cc)
+short_said (Block s k) text h e = absurd (cc)
+short_said (Blank s) text h e = absurd (cc)
+short_said (Nonblank s) text h e = absurd (cc)
+short_said (Wellformed s) text h e = absurd (cc)
+
+short_exact : (facts : List Fact) (s : ℕ) (text : List ℕ) → All HasShortText facts → exact_text facts s ≡ Some text → length text ≤ 2 ^ 45
+short_exact [] s text all e = absurd (cc)
+short_exact (fact ∷ facts) s text all e =
+    let later = short_exact facts s text (All-tail HasShortText fact facts all) in
+    let first = short_said fact text (All-head HasShortText fact facts all) in
+    elim (nat_eq (subject fact) s) as (λ (t : Bool). cond t (option_or (text_said fact) (exact_text facts s)) (exact_text facts s) ≡ Some text → length text ≤ 2 ^ 45) [
+      | true ↦ λ found. elim (text_said fact) as (λ (o : Option (List ℕ)). text_said fact ≡ o → option_or o (exact_text facts s) ≡ Some text → length text ≤ 2 ^ 45) [
+        | Some other ↦ λ is some. first (is ∙ some)
+        | None ↦ λ is some. later some
+      ] refl found
+      | false ↦ λ found. later found
+    ] e
+
+passed_holds : (p : Spot) (a b : Sym) → p.v.value a.0 ≡ p.v.value b.0 → AllByRecursion (FactHolds p.style p.v) (passed (exact_text p.state.facts a.0) b)
+passed_holds p a b same =
+    elim (exact_text p.state.facts a.0) as (λ (o : Option (List ℕ)). exact_text p.state.facts a.0 ≡ o → AllByRecursion (FactHolds p.style p.v) (passed o b)) [
+      | None ↦ λ is. tt
+      | Some text ↦ λ is. (sym same ∙ exact_text_is p.style p.v a.0 p.state.facts text p.stands.satisfied.facts is, tt)
+    ] refl
+
+passed_fits : (p : Spot) (a b : Sym) → b.0 < p.state.next → Fits p.style p.state.next (passed (exact_text p.state.facts a.0) b) []
+passed_fits p a b less =
+    elim (exact_text p.state.facts a.0) as (λ (o : Option (List ℕ)). exact_text p.state.facts a.0 ≡ o → Fits p.style p.state.next (passed o b) []) [
+      | None ↦ λ is. nothing_fits p.style p.state.next
+      | Some text ↦ λ is. one_fits p (TextFact b text) less tt (short_exact p.state.facts a.0 text p.made.bounds.facts is)
+    ] refl
+
+equal_texts_found : (p : Spot) (a b : Sym) (rest : List Sym) (hints : List Hint) (cases : Cases) → reverse p.state.stack ≡ b ∷ (a ∷ rest)
+    → is_of_kind p.state Str a ≡ true → has_kind Str (p.v.value b.0) ≡ true
+    → text_cases (texts_decided p.state.facts a b) (passed_both p.state.facts a b) (without rest p.state) hints ≡ Ok cases → Found p op.Equal cases
+equal_texts_found p a b rest hints cases tops lower_kind upper_kind e =
+    let lower = second_below p a b rest tops in
+    let upper = one_below p b (a ∷ rest) tops in
+    let one = string_is (p.v.value a.0) (of_kind_holds p.style p.v a.0 p.state.facts Str p.stands.satisfied.facts lower_kind) in
+    let two = string_is (p.v.value b.0) upper_kind in
+    let known : Texts p a b one.0 two.0 = record { lower = one.1; upper = two.1 } in
+    let at = at_two p op.Equal a b rest (StrValue one.0) (StrValue two.0) (pointwise nat_eq one.0 two.0) tops one.1 two.1 refl in
+    elim (texts_decided p.state.facts a b) as (λ (o : Option Bool). texts_decided p.state.facts a b ≡ o
+    → text_cases o (passed_both p.state.facts a b) (without rest p.state) hints ≡ Ok cases → Found p op.Equal cases) [
+      | Some t ↦ λ is found. decided_found p op.Equal rest (pointwise nat_eq one.0 two.0) t hints cases at (texts_sure p a b one.0 two.0 t known is) found
+      | None ↦ λ is found.
+          both_found p op.Equal rest (pointwise nat_eq one.0 two.0) (passed_both p.state.facts a b) [] hints cases at
+          (both_fit p (passed (exact_text p.state.facts a.0) b) (passed (exact_text p.state.facts b.0) a) (passed_fits p a b upper) (passed_fits p b a lower))
+          (nothing_fits p.style p.state.next)
+          (λ same.
+              let values : p.v.value a.0 ≡ p.v.value b.0 = one.1 ∙ ap (λ (bytes : List ℕ). StrValue bytes) (same_bytes one.0 two.0 same) ∙ sym two.1 in
+              facts_joined p.style p.v (passed (exact_text p.state.facts a.0) b) (passed (exact_text p.state.facts b.0) a)
+              (passed_holds p a b values) (passed_holds p b a (sym values)))
+          (λ unequal. tt) found
+    ] refl e
+
+equal_of_kind : (p : Spot) (a b : Sym) (rest : List Sym) (hints : List Hint) (cases : Cases) (kind : Kinds) → reverse p.state.stack ≡ b ∷ (a ∷ rest)
+    → has_kind kind (p.v.value b.0) ≡ true → equal_by p.admits p.state kind (taken_two a b rest p.state) hints ≡ Ok cases → Found p op.Equal cases
+equal_of_kind p a b rest hints cases Int tops upper e =
+    elim (is_of_kind p.state Int a) as (λ (t : Bool). is_of_kind p.state Int a ≡ t
+    → cond t (integer_cases p.admits (integers_decided is_equal true p.state.facts a b) (equal_rows a b) [] (without rest p.state) hints) (Err (fails WrongKind 2)) ≡ Ok cases
+    → Found p op.Equal cases) [
+      | true ↦ λ lower found. equal_integers_found p a b rest hints cases tops lower upper found
+      | false ↦ λ lower found. absurd (cc)
+    ] refl e
+equal_of_kind p a b rest hints cases Str tops upper e =
+    elim (is_of_kind p.state Str a) as (λ (t : Bool). is_of_kind p.state Str a ≡ t
+    → cond t (text_cases (texts_decided p.state.facts a b) (passed_both p.state.facts a b) (without rest p.state) hints) (Err (fails WrongKind 2)) ≡ Ok cases
+    → Found p op.Equal cases) [
+      | true ↦ λ lower found. equal_texts_found p a b rest hints cases tops lower upper found
+      | false ↦ λ lower found. absurd (cc)
+    ] refl e
+equal_of_kind p a b rest hints cases Missing tops upper e = absurd (cc)
+equal_of_kind p a b rest hints cases Optional tops upper e = absurd (cc)
+equal_of_kind p a b rest hints cases Func tops upper e = absurd (cc)
+equal_of_kind p a b rest hints cases Any tops upper e = absurd (cc)
+
+-- `=`
+pub equal_found : (p : Spot) (hints : List Hint) (cases : Cases) → equal p.admits p.state hints ≡ Ok cases → Found p op.Equal cases
+equal_found p hints cases e =
+    let f = pair_cases p.state (λ two. equal_by p.admits p.state (known_kind p.state.facts two.upper.0) two hints) cases e in
+    equal_of_kind p f.lower f.upper f.rest hints cases (known_kind p.state.facts f.upper.0) f.tops
+    (known_kind_holds p.style p.v f.upper.0 p.state.facts p.stands.satisfied.facts) f.given

@@ -1,0 +1,5 @@
+pub mod Comparing
+pub mod Covering
+pub mod Fitting
+pub mod Taking
+pub mod Testing

@@ -1,0 +1,209 @@
+-- The operands of a test that has cases, and where its state stands.
+use Rattle.std.proofs.Common.{◌≡◌, ℕ, ◌<◌, ◌≤◌, Bool, true, false, cond, List, [], ◌∷◌, ◌++◌, reverse, Option, None, Some, Result, Ok, Err, refl, sym, ap, subst, ◌∙◌, arith}
+use Rattle.std.specs.Prelude.{ℤ, pos, negsuc}
+use Rattle.std.specs.List.{All, AllByRecursion}
+use Rattle.std.proofs.lemmas.List.Elements.{All-head, All-tail}
+use Rattle.bv_base.specs.declared.place.Place.{Place}
+use Rattle.lin_facts.specs.Rows.{Holds}
+use Rattle.lin_facts.specs.declared.row.Row.{Row}
+use Rattle.name_table.specs.declared.builtin.Builtin.{Builtin}
+use Rattle.name_table.specs.declared.style.Style.{Style}
+use Rattle.bst_meaning.specs.declared.condition.Cond.{Cond}
+use Rattle.bst_meaning.specs.declared.entry.EntryList.{EntryList}
+use Rattle.bst_meaning.specs.declared.value.Value.{Value}
+use Rattle.bst_meaning.specs.Builtins.{built_in}
+use Rattle.bst_meaning.specs.Config.{Config}
+use Rattle.bst_meaning.specs.Effect.{pushed}
+use Rattle.bst_meaning.specs.Machine.{context_of}
+use Rattle.bst_meaning.specs.Operands.{truth}
+use Rattle.sym_state.specs.declared.demand.DemandKind.TheVariants.{WrongKind}
+use Rattle.sym_state.specs.declared.demand.EffectFault.{EffectFault}
+use Rattle.sym_state.specs.declared.hint.Hint.{Hint}
+use Rattle.sym_state.specs.declared.state.State.{State}
+use Rattle.sym_state.specs.declared.symbol.Fact.{Fact}
+use Rattle.sym_state.specs.declared.symbol.Kinds.TheVariants.{Int, Optional}
+use Rattle.sym_state.specs.declared.symbol.Sym.{Sym}
+use Rattle.sym_state.specs.Cases.{Cases, One, Split, Two, both, decided, field_met, field_of, integers_met, integers_of, one_of, split_by, two_of, weighed_both, with_case, with_truth}
+use Rattle.sym_state.specs.Demands.{fails, is_of_kind}
+use Rattle.sym_state.specs.Facts.{FactHolds}
+use Rattle.sym_state.specs.Stands.{Satisfies, Stands}
+use Rattle.sym_state.specs.Symbols.{Valuation, numbers}
+use Rattle.sym_state.specs.WellMade.{WellMade}
+use Rattle.sym_state.proofs.Pushing.{stack_of_tops, tops_below, value_list, without}
+use Rattle.refinements.specs.Covered.{IsAmong, OneCovers}
+use Rattle.refinements.proofs.Covering.{At, answer_covers, decided_covers, decided_is, first_is, first_kept, second_is, second_kept}
+use Rattle.refinements.proofs.Fitting.{Fits}
+
+-- a state that stands for a configuration at a place
+pub record Spot : Type 0 where
+  pub style : Style
+  pub admits : Cond
+  pub list : EntryList
+  pub v : Valuation
+  pub state : State
+  pub c : Config
+  pub below : List Value
+  pub place : Place
+  pub made : WellMade style state
+  pub stands : Stands style admits list v state c below
+
+abbrev pub Found : Spot → Builtin → Cases → Type 0
+Found p op cases = OneCovers p.style p.admits p.list p.v p.state p.c p.below p.place op cases.states
+
+abbrev pub AtSpot : Spot → List Sym → Builtin → Bool → Type 0
+AtSpot p rest op t = At p.style p.admits p.list p.v p.state p.c p.below rest op t
+
+abbrev pub taken_one : Sym → List Sym → State → One
+taken_one a rest state = record { operand = a; rest = without rest state }
+
+abbrev pub taken_two : Sym → Sym → List Sym → State → Two
+taken_two a b rest state = record { lower = a; upper = b; rest = without rest state }
+
+-- one operand, a string or a missing field
+pub record Field (state : State) (rule : One → Split) (cases : Cases) : Type 0 where
+  pub operand : Sym
+  pub rest : List Sym
+  pub tops : reverse state.stack ≡ operand ∷ rest
+  pub kind : is_of_kind state Optional operand ≡ true
+  pub given : rule (taken_one operand rest state) ≡ Ok cases
+
+field_from : (state : State) (rule : One → Split) (cases : Cases) (tops : List Sym) → reverse state.stack ≡ tops
+    → split_by (field_met state (one_of tops state)) rule ≡ Ok cases → Field state rule cases
+field_from state rule cases [] is e = absurd (cc)
+field_from state rule cases (a ∷ rest) is e =
+    elim (is_of_kind state Optional a) as (λ (t : Bool). is_of_kind state Optional a ≡ t
+    → split_by (cond t (Ok (taken_one a rest state)) (Err (fails WrongKind 1))) rule ≡ Ok cases → Field state rule cases) [
+      | true ↦ λ kind found. record { operand = a; rest = rest; tops = is; kind = kind; given = found }
+      | false ↦ λ kind found. absurd (cc)
+    ] refl e
+
+pub field_cases : (state : State) (rule : One → Split) (cases : Cases) → split_by (field_of state) rule ≡ Ok cases → Field state rule cases
+field_cases state rule cases e = field_from state rule cases (reverse state.stack) refl e
+
+-- two operands
+pub record Pair (state : State) (rule : Two → Split) (cases : Cases) : Type 0 where
+  pub lower : Sym
+  pub upper : Sym
+  pub rest : List Sym
+  pub tops : reverse state.stack ≡ upper ∷ (lower ∷ rest)
+  pub given : rule (taken_two lower upper rest state) ≡ Ok cases
+
+pair_from : (state : State) (rule : Two → Split) (cases : Cases) (tops : List Sym) → reverse state.stack ≡ tops
+    → split_by (two_of tops state) rule ≡ Ok cases → Pair state rule cases
+pair_from state rule cases [] is e = absurd (cc)
+pair_from state rule cases (b ∷ []) is e = absurd (cc)
+pair_from state rule cases (b ∷ (a ∷ rest)) is e = record { lower = a; upper = b; rest = rest; tops = is; given = e }
+
+pub pair_cases : (state : State) (rule : Two → Split) (cases : Cases) → split_by (two_of (reverse state.stack) state) rule ≡ Ok cases
+    → Pair state rule cases
+pair_cases state rule cases e = pair_from state rule cases (reverse state.stack) refl e
+
+-- two integers
+pub record Integers (state : State) (rule : Two → Split) (cases : Cases) : Type 0 where
+  pub pair : Pair state rule cases
+  pub upper_kind : is_of_kind state Int pair.upper ≡ true
+  pub lower_kind : is_of_kind state Int pair.lower ≡ true
+
+integers_from : (state : State) (rule : Two → Split) (cases : Cases) (tops : List Sym) → reverse state.stack ≡ tops
+    → split_by (integers_met state (two_of tops state)) rule ≡ Ok cases → Integers state rule cases
+integers_from state rule cases [] is e = absurd (cc)
+integers_from state rule cases (b ∷ []) is e = absurd (cc)
+integers_from state rule cases (b ∷ (a ∷ rest)) is e =
+    elim (is_of_kind state Int b) as (λ (t : Bool). is_of_kind state Int b ≡ t
+    → split_by (cond t (cond (is_of_kind state Int a) (Ok (taken_two a b rest state)) (Err (fails WrongKind 2))) (Err (fails WrongKind 1))) rule ≡ Ok cases
+    → Integers state rule cases) [
+      | true ↦ λ upper found. elim (is_of_kind state Int a) as (λ (t : Bool). is_of_kind state Int a ≡ t
+          → split_by (cond t (Ok (taken_two a b rest state)) (Err (fails WrongKind 2))) rule ≡ Ok cases → Integers state rule cases) [
+            | true ↦ λ lower all. record {
+                pair = record { lower = a; upper = b; rest = rest; tops = is; given = all };
+                upper_kind = upper;
+                lower_kind = lower;
+              }
+            | false ↦ λ lower all. absurd (cc)
+          ] refl found
+      | false ↦ λ upper found. absurd (cc)
+    ] refl e
+
+pub integers_cases : (state : State) (rule : Two → Split) (cases : Cases) → split_by (integers_of state) rule ≡ Ok cases → Integers state rule cases
+integers_cases state rule cases e = integers_from state rule cases (reverse state.stack) refl e
+
+-- the machine at an operand, or at two
+pub at_one : (p : Spot) (op : Builtin) (a : Sym) (rest : List Sym) (t : Bool) → reverse p.state.stack ≡ a ∷ rest
+    → built_in op (context_of p.style p.c) (p.v.value a.0 ∷ (value_list p.v rest ++ p.below)) ≡ pushed (truth t) (value_list p.v rest ++ p.below)
+    → AtSpot p rest op t
+at_one p op a rest t tops gives = record {
+  made = p.made;
+  stands = p.stands;
+  old = All-tail (λ s. s.0 < p.state.next) a rest (tops_below p.style p.state (a ∷ rest) p.made tops);
+  gives = ap (λ (l : List Value). built_in op (context_of p.style p.c) l)
+      (stack_of_tops p.style p.admits p.list p.v p.state p.c p.below (a ∷ rest) p.stands tops) ∙ gives;
+}
+
+pub at_two : (p : Spot) (op : Builtin) (a b : Sym) (rest : List Sym) (x y : Value) (t : Bool) → reverse p.state.stack ≡ b ∷ (a ∷ rest)
+    → p.v.value a.0 ≡ x → p.v.value b.0 ≡ y
+    → built_in op (context_of p.style p.c) (y ∷ (x ∷ (value_list p.v rest ++ p.below))) ≡ pushed (truth t) (value_list p.v rest ++ p.below)
+    → AtSpot p rest op t
+at_two p op a b rest x y t tops x_is y_is gives = record {
+  made = p.made;
+  stands = p.stands;
+  old = All-tail (λ s. s.0 < p.state.next) a rest (All-tail (λ s. s.0 < p.state.next) b (a ∷ rest) (tops_below p.style p.state (b ∷ (a ∷ rest)) p.made tops));
+  gives = ap (λ (l : List Value). built_in op (context_of p.style p.c) l)
+      (stack_of_tops p.style p.admits p.list p.v p.state p.c p.below (b ∷ (a ∷ rest)) p.stands tops)
+      ∙ ap (λ (z : Value). built_in op (context_of p.style p.c) (z ∷ (p.v.value a.0 ∷ (value_list p.v rest ++ p.below)))) y_is
+      ∙ ap (λ (z : Value). built_in op (context_of p.style p.c) (y ∷ (z ∷ (value_list p.v rest ++ p.below)))) x_is
+      ∙ gives;
+}
+
+-- the operands are the state's
+pub one_below : (p : Spot) (a : Sym) (rest : List Sym) → reverse p.state.stack ≡ a ∷ rest → a.0 < p.state.next
+one_below p a rest tops = All-head (λ s. s.0 < p.state.next) a rest (tops_below p.style p.state (a ∷ rest) p.made tops)
+
+pub second_below : (p : Spot) (a b : Sym) (rest : List Sym) → reverse p.state.stack ≡ b ∷ (a ∷ rest) → a.0 < p.state.next
+second_below p a b rest tops =
+    All-head (λ s. s.0 < p.state.next) a rest (All-tail (λ s. s.0 < p.state.next) b (a ∷ rest) (tops_below p.style p.state (b ∷ (a ∷ rest)) p.made tops))
+
+-- a decided test, one whose cases take no hint, and one whose cases take hints: the machine gives the truth of t
+pub decided_found : (p : Spot) (op : Builtin) (rest : List Sym) (t answer : Bool) (hints : List Hint) (cases : Cases) → AtSpot p rest op t
+    → t ≡ answer → decided answer (without rest p.state) hints ≡ Ok cases → Found p op cases
+decided_found p op rest t answer hints cases at is e = record {
+  after = with_truth answer (without rest p.state);
+  among = decided_is answer (without rest p.state) hints cases e;
+  covers = decided_covers p.style p.admits p.list p.v p.state p.c p.below p.place rest op answer (subst (λ (b : Bool). AtSpot p rest op b) is at);
+}
+
+pub both_found : (p : Spot) (op : Builtin) (rest : List Sym) (t : Bool) (holds refuted : List Fact) (hints : List Hint) (cases : Cases)
+    → AtSpot p rest op t → Fits p.style p.state.next holds [] → Fits p.style p.state.next refuted []
+    → (t ≡ true → AllByRecursion (FactHolds p.style p.v) holds) → (t ≡ false → AllByRecursion (FactHolds p.style p.v) refuted)
+    → both holds refuted (without rest p.state) hints ≡ Ok cases → Found p op cases
+both_found p op rest true holds refuted hints cases at fits others granted denied e = record {
+  after = with_truth true (with_case holds [] (without rest p.state));
+  among = first_is holds refuted (without rest p.state) hints cases e;
+  covers = answer_covers p.style p.admits p.list p.v p.state p.c p.below p.place rest op true holds [] at fits (granted refl) tt;
+}
+both_found p op rest false holds refuted hints cases at fits others granted denied e = record {
+  after = with_truth false (with_case refuted [] (without rest p.state));
+  among = second_is holds refuted (without rest p.state) hints cases e;
+  covers = answer_covers p.style p.admits p.list p.v p.state p.c p.below p.place rest op false refuted [] at others (denied refl) tt;
+}
+
+pub weighed_found : (p : Spot) (op : Builtin) (rest : List Sym) (t : Bool) (holds refuted : List Row) (hints : List Hint) (cases : Cases)
+    → AtSpot p rest op t → Fits p.style p.state.next [] holds → Fits p.style p.state.next [] refuted
+    → (t ≡ true → AllByRecursion (Holds (numbers p.v)) holds) → (t ≡ false → AllByRecursion (Holds (numbers p.v)) refuted)
+    → weighed_both p.admits (with_truth true (with_case [] holds (without rest p.state))) (with_truth false (with_case [] refuted (without rest p.state))) hints ≡ Ok cases
+    → Found p op cases
+weighed_found p op rest true holds refuted hints cases at fits others granted denied e =
+    let first = with_truth true (with_case [] holds (without rest p.state)) in
+    let second = with_truth false (with_case [] refuted (without rest p.state)) in
+    let covers = answer_covers p.style p.admits p.list p.v p.state p.c p.below p.place rest op true [] holds at fits tt (granted refl) in record {
+      after = first;
+      among = first_kept p.style p.admits covers.assignment first second hints cases covers.stands.satisfied e;
+      covers = covers;
+    }
+weighed_found p op rest false holds refuted hints cases at fits others granted denied e =
+    let first = with_truth true (with_case [] holds (without rest p.state)) in
+    let second = with_truth false (with_case [] refuted (without rest p.state)) in
+    let covers = answer_covers p.style p.admits p.list p.v p.state p.c p.below p.place rest op false [] refuted at others tt (denied refl) in record {
+      after = second;
+      among = second_kept p.style p.admits covers.assignment first second hints cases covers.stands.satisfied e;
+      covers = covers;
+    }

@@ -1,0 +1,185 @@
+-- Of the cases of each test, one covers what the machine does.
+use Rattle.std.proofs.Common.{◌≡◌, ℕ, ◌<◌, ◌≤◌, ◌^◌, Bool, true, false, cond, List, [], ◌∷◌, ◌++◌, length, reverse, Option, None, Some, Result, Ok, Err, refl, sym, ap, subst, ◌∙◌, arith, nat_eq}
+use Rattle.std.specs.Prelude.{ℤ, pos, negsuc, ◌+ℤ◌, ◌-ℤ◌, ◌≤ℤ◌, is_none}
+use Rattle.std.specs.List.{All, AllByRecursion}
+use Rattle.std.specs.Option.{option_or}
+use Rattle.std.specs.Cmp.Lexicographic.{pointwise}
+use Rattle.std.proofs.lemmas.Bool.{leb-true}
+use Rattle.std.proofs.lemmas.Bool.Decides.{nat_tests}
+use Rattle.std.proofs.lemmas.Int.{ints}
+use Rattle.std.proofs.lemmas.List.Elements.{All-append, All-cons, All-head, All-nil, All-tail}
+use Rattle.lin_facts.specs.Rows.{Holds}
+use Rattle.lin_facts.specs.declared.row.Part.{Part}
+use Rattle.lin_facts.specs.declared.row.Row.{Row}
+use Rattle.lin_facts.specs.declared.row.Term.{Term}
+use Rattle.lin_facts.specs.declared.row.Term.TheVariants.{Value as ValueOf}
+use Rattle.name_table.specs.declared.builtin.Builtin.{Builtin}
+use Rattle.name_table.specs.declared.builtin.Builtin.TheVariants as op
+use Rattle.text_ops.specs.Blank.{blank}
+use Rattle.bst_meaning.specs.Builtins.{Context, built_in}
+use Rattle.bst_meaning.specs.Effect.{pushed}
+use Rattle.bst_meaning.specs.Operands.{is_positive, is_zero, truth}
+use Rattle.bst_meaning.specs.declared.value.Value.{Value}
+use Rattle.bst_meaning.specs.declared.value.Value.TheVariants.{Int as IntValue, Str as StrValue, Missing as MissingValue, Func as FuncValue}
+use Rattle.sym_state.specs.declared.hint.Hint.{Hint}
+use Rattle.sym_state.specs.declared.state.State.{State}
+use Rattle.sym_state.specs.declared.symbol.Fact.{Fact}
+use Rattle.sym_state.specs.declared.symbol.Fact.TheVariants.{Is, Int as IntFact, Text as TextFact, Call, Block, Blank, Nonblank, Wellformed}
+use Rattle.sym_state.specs.declared.symbol.Kinds.{Kinds}
+use Rattle.sym_state.specs.declared.symbol.Kinds.TheVariants.{Int, Str, Missing, Optional, Func, Any}
+use Rattle.sym_state.specs.declared.symbol.Sym.{Sym}
+use Rattle.sym_state.specs.Cases.{Cases, Split, Two, answer, answer_of, at_least_rows, both, empty, empty_cases, equal, equal_by, equal_decided, equal_rows, greater, integer_cases, integers_decided, is_equal, is_greater, is_less, less, less_rows, missing, missing_cases, passed, passed_both, text_cases, texts_decided}
+use Rattle.sym_state.specs.Decided.{emptiness_said, exact_integer, exact_text, first_said, known_kind, text_said}
+use Rattle.sym_state.specs.Demands.{is_of_kind}
+use Rattle.sym_state.specs.Facts.{FactHolds, emptiness, has_kind, subject}
+use Rattle.sym_state.specs.References.{exceeds}
+use Rattle.sym_state.specs.Symbols.{Valuation, integer_of, numbers}
+use Rattle.sym_state.specs.WellMade.{HasShortText, IsBounded, IsOfStyle, IsTermBelow}
+use Rattle.sym_state.proofs.Consequences.{same_bytes}
+use Rattle.sym_state.proofs.Deciding.{emptiness_fact, exact_integer_is, exact_text_is, from_facts, same_number}
+use Rattle.sym_state.proofs.KnownKinds.{integer_is, known_kind_holds, of_kind_holds, string_is}
+use Rattle.sym_state.proofs.Pushing.{value_list, without}
+use Rattle.sym_state.proofs.Saying.{exceeds_holds}
+use Rattle.refinements.proofs.Fitting.{Fits, RowBelow, nothing_fits}
+use Rattle.refinements.proofs.Taking.{AtSpot, Field, Found, Integers, Pair, Spot, at_one, at_two, both_found, decided_found, field_cases, integers_cases, one_below, pair_cases, second_below, taken_one, taken_two, weighed_found}
+
+-- facts on an operand fit
+pub one_fits : (p : Spot) (fact : Fact) → subject fact < p.state.next → IsOfStyle p.style fact → HasShortText fact → Fits p.style p.state.next (fact ∷ []) []
+one_fits p fact below style short = record {
+  facts = All-cons (λ f. subject f < p.state.next) fact [] below (All-nil (λ f. subject f < p.state.next));
+  of_style = All-cons (IsOfStyle p.style) fact [] style (All-nil (IsOfStyle p.style));
+  short = All-cons HasShortText fact [] short (All-nil HasShortText);
+  rows = All-nil (RowBelow p.state.next);
+  bounded = All-nil IsBounded;
+}
+
+pub both_fit : (p : Spot) (first second : List Fact) → Fits p.style p.state.next first [] → Fits p.style p.state.next second []
+    → Fits p.style p.state.next (first ++ second) []
+both_fit p first second f s = record {
+  facts = All-append (λ fact. subject fact < p.state.next) first second f.facts s.facts;
+  of_style = All-append (IsOfStyle p.style) first second f.of_style s.of_style;
+  short = All-append HasShortText first second f.short s.short;
+  rows = All-nil (RowBelow p.state.next);
+  bounded = All-nil IsBounded;
+}
+
+-- `empty$`
+machine_empty : (context : Context) (value : Value) (b : Bool) (stack : List Value) → emptiness value ≡ Some b
+    → built_in op.Empty context (value ∷ stack) ≡ pushed (truth b) stack
+machine_empty context (StrValue bytes) b stack e = let same : blank bytes ≡ b = cc in ap (λ (t : Bool). pushed (truth t) stack) same
+machine_empty context (MissingValue name) b stack e = let same : true ≡ b = cc in ap (λ (t : Bool). pushed (truth t) stack) same
+machine_empty context (IntValue n) b stack e = absurd (cc)
+machine_empty context (FuncValue target) b stack e = absurd (cc)
+
+record Emptiness (value : Value) : Type 0 where
+  pub empty : Bool
+  pub is : emptiness value ≡ Some empty
+
+has_emptiness : (value : Value) → has_kind Optional value ≡ true → Emptiness value
+has_emptiness (StrValue bytes) e = record { empty = blank bytes; is = refl }
+has_emptiness (MissingValue name) e = record { empty = true; is = refl }
+has_emptiness (IntValue n) e = absurd (cc)
+has_emptiness (FuncValue target) e = absurd (cc)
+
+not_empty_string : (value : Value) → emptiness value ≡ Some false → has_kind Str value ≡ true
+not_empty_string (StrValue bytes) e = refl
+not_empty_string (MissingValue name) e = absurd (cc)
+not_empty_string (IntValue n) e = absurd (cc)
+not_empty_string (FuncValue target) e = absurd (cc)
+
+empty_undecided : (p : Spot) (a : Sym) (rest : List Sym) (hints : List Hint) (cases : Cases) (b : Bool) → reverse p.state.stack ≡ a ∷ rest
+    → emptiness (p.v.value a.0) ≡ Some b → both (Blank a ∷ []) (Is a Str ∷ (Nonblank a ∷ [])) (without rest p.state) hints ≡ Ok cases
+    → Found p op.Empty cases
+empty_undecided p a rest hints cases b tops is e =
+    let less = one_below p a rest tops in
+    both_found p op.Empty rest b (Blank a ∷ []) (Is a Str ∷ (Nonblank a ∷ [])) hints cases
+    (at_one p op.Empty a rest b tops (machine_empty _ (p.v.value a.0) b (value_list p.v rest ++ p.below) is))
+    (one_fits p (Blank a) less tt tt)
+    (both_fit p (Is a Str ∷ []) (Nonblank a ∷ []) (one_fits p (Is a Str) less tt tt) (one_fits p (Nonblank a) less tt tt))
+    (λ t. (is ∙ ap (λ (x : Bool). Some x) t, tt))
+    (λ t. (not_empty_string (p.v.value a.0) (is ∙ ap (λ (x : Bool). Some x) t), (is ∙ ap (λ (x : Bool). Some x) t, tt)))
+    e
+
+pub empty_found : (p : Spot) (hints : List Hint) (cases : Cases) → empty p.state hints ≡ Ok cases → Found p op.Empty cases
+empty_found p hints cases e =
+    let f = field_cases p.state (λ one. empty_cases (first_said emptiness_said one.operand.0 p.state.facts) one hints) cases e in
+    elim (first_said emptiness_said f.operand.0 p.state.facts) as (λ (o : Option Bool). first_said emptiness_said f.operand.0 p.state.facts ≡ o
+    → empty_cases o (taken_one f.operand f.rest p.state) hints ≡ Ok cases → Found p op.Empty cases) [
+      | Some b ↦ λ is found.
+          let source = from_facts emptiness_said p.style p.v f.operand.0 p.state.facts b p.stands.satisfied.facts is in
+          let says = emptiness_fact p.style (p.v.value f.operand.0) source.fact b source.says source.holds in
+          decided_found p op.Empty f.rest b b hints cases
+          (at_one p op.Empty f.operand f.rest b f.tops (machine_empty _ (p.v.value f.operand.0) b (value_list p.v f.rest ++ p.below) says)) refl found
+      | None ↦ λ is found.
+          let some = has_emptiness (p.v.value f.operand.0) (of_kind_holds p.style p.v f.operand.0 p.state.facts Optional p.stands.satisfied.facts f.kind) in
+          empty_undecided p f.operand f.rest hints cases some.empty f.tops some.is found
+    ] refl f.given
+
+-- `missing$`
+is_missing : Value → Bool
+is_missing (MissingValue name) = true
+is_missing _ = false
+
+machine_missing : (context : Context) (value : Value) (stack : List Value) → has_kind Optional value ≡ true
+    → built_in op.Missing context (value ∷ stack) ≡ pushed (truth (is_missing value)) stack
+machine_missing context (StrValue bytes) stack e = refl
+machine_missing context (MissingValue name) stack e = refl
+machine_missing context (IntValue n) stack e = absurd (cc)
+machine_missing context (FuncValue target) stack e = absurd (cc)
+
+missing_one : (value : Value) → has_kind Missing value ≡ true → is_missing value ≡ true
+missing_one (MissingValue name) e = refl
+missing_one (StrValue bytes) e = absurd (cc)
+missing_one (IntValue n) e = absurd (cc)
+missing_one (FuncValue target) e = absurd (cc)
+
+string_one : (value : Value) → has_kind Str value ≡ true → is_missing value ≡ false
+string_one (StrValue bytes) e = refl
+string_one (MissingValue name) e = absurd (cc)
+string_one (IntValue n) e = absurd (cc)
+string_one (FuncValue target) e = absurd (cc)
+
+one_missing : (value : Value) → is_missing value ≡ true → has_kind Missing value ≡ true
+one_missing (MissingValue name) e = refl
+one_missing (StrValue bytes) e = absurd (cc)
+one_missing (IntValue n) e = absurd (cc)
+one_missing (FuncValue target) e = absurd (cc)
+
+one_string : (value : Value) → has_kind Optional value ≡ true → is_missing value ≡ false → has_kind Str value ≡ true
+one_string (StrValue bytes) o e = refl
+one_string (MissingValue name) o e = absurd (cc)
+one_string (IntValue n) o e = absurd (cc)
+one_string (FuncValue target) o e = absurd (cc)
+
+missing_undecided : (p : Spot) (a : Sym) (rest : List Sym) (hints : List Hint) (cases : Cases) → reverse p.state.stack ≡ a ∷ rest
+    → has_kind Optional (p.v.value a.0) ≡ true → both (Is a Missing ∷ []) (Is a Str ∷ []) (without rest p.state) hints ≡ Ok cases
+    → Found p op.Missing cases
+missing_undecided p a rest hints cases tops kind e =
+    let less = one_below p a rest tops in
+    both_found p op.Missing rest (is_missing (p.v.value a.0)) (Is a Missing ∷ []) (Is a Str ∷ []) hints cases
+    (at_one p op.Missing a rest (is_missing (p.v.value a.0)) tops (machine_missing _ (p.v.value a.0) (value_list p.v rest ++ p.below) kind))
+    (one_fits p (Is a Missing) less tt tt) (one_fits p (Is a Str) less tt tt)
+    (λ t. (one_missing (p.v.value a.0) t, tt)) (λ t. (one_string (p.v.value a.0) kind t, tt)) e
+
+missing_decided : (p : Spot) (a : Sym) (rest : List Sym) (hints : List Hint) (cases : Cases) (kind : Kinds) → reverse p.state.stack ≡ a ∷ rest
+    → has_kind Optional (p.v.value a.0) ≡ true → has_kind kind (p.v.value a.0) ≡ true
+    → missing_cases kind (taken_one a rest p.state) hints ≡ Ok cases → Found p op.Missing cases
+missing_decided p a rest hints cases Missing tops o kind e =
+    decided_found p op.Missing rest (is_missing (p.v.value a.0)) true hints cases
+    (at_one p op.Missing a rest (is_missing (p.v.value a.0)) tops (machine_missing _ (p.v.value a.0) (value_list p.v rest ++ p.below) o))
+    (missing_one (p.v.value a.0) kind) e
+missing_decided p a rest hints cases Str tops o kind e =
+    decided_found p op.Missing rest (is_missing (p.v.value a.0)) false hints cases
+    (at_one p op.Missing a rest (is_missing (p.v.value a.0)) tops (machine_missing _ (p.v.value a.0) (value_list p.v rest ++ p.below) o))
+    (string_one (p.v.value a.0) kind) e
+missing_decided p a rest hints cases Int tops o kind e = missing_undecided p a rest hints cases tops o e
+missing_decided p a rest hints cases Func tops o kind e = missing_undecided p a rest hints cases tops o e
+missing_decided p a rest hints cases Optional tops o kind e = missing_undecided p a rest hints cases tops o e
+missing_decided p a rest hints cases Any tops o kind e = missing_undecided p a rest hints cases tops o e
+
+pub missing_found : (p : Spot) (hints : List Hint) (cases : Cases) → missing p.state hints ≡ Ok cases → Found p op.Missing cases
+missing_found p hints cases e =
+    let f = field_cases p.state (λ one. missing_cases (known_kind p.state.facts one.operand.0) one hints) cases e in
+    missing_decided p f.operand f.rest hints cases (known_kind p.state.facts f.operand.0) f.tops
+    (of_kind_holds p.style p.v f.operand.0 p.state.facts Optional p.stands.satisfied.facts f.kind)
+    (known_kind_holds p.style p.v f.operand.0 p.state.facts p.stands.satisfied.facts) f.given
