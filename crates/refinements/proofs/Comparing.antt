@@ -1,5 +1,5 @@
 -- Of the cases of each test on two operands, one covers what the machine does.
-use Rattle.std.proofs.Common.{◌≡◌, ℕ, zero, suc, ◌<◌, ◌≤◌, ◌^◌, Bool, true, false, cond, List, [], ◌∷◌, ◌++◌, length, reverse, Option, None, Some, Result, Ok, Err, refl, sym, ap, subst, ◌∙◌, arith, nat_eq}
+use Rattle.std.proofs.Common.{◌≡◌, ℕ, zero, suc, ◌<◌, ◌≤◌, ◌^◌, Bool, true, false, cond, List, [], ◌∷◌, ◌++◌, length, reverse, Option, None, Some, Result, Ok, Err, refl, sym, ap, subst, ◌∙◌, arith, nat_eq, nat_le, ◌&&◌}
 use Rattle.std.specs.Prelude.{ℤ, pos, negsuc, ◌+ℤ◌, ◌-ℤ◌, ◌≤ℤ◌, is_none}
 use Rattle.std.specs.List.{All, AllByRecursion}
 use Rattle.std.specs.Option.{option_or}
@@ -47,18 +47,19 @@ use Rattle.refinements.proofs.Fitting.{Fits, RowBelow, nothing_fits}
 use Rattle.refinements.proofs.Taking.{AtSpot, Field, Found, Integers, Pair, Spot, at_one, at_two, both_found, decided_found, field_cases, integers_cases, one_below, pair_cases, second_below, taken_one, taken_two, weighed_found}
 
 -- rows on two integers hold
-above_zero : (z : ℤ) → is_positive z ≡ true → pos 1 ≤ℤ z
+pub above_zero : (z : ℤ) → is_positive z ≡ true → pos 1 ≤ℤ z
 above_zero (pos n) e = let h = leb-true 1 n e in omega (arith, ints)
 above_zero (negsuc n) e = absurd (cc)
 
-not_above : (z : ℤ) → is_positive z ≡ false → z ≤ℤ pos 0
-not_above (pos zero) e = omega (arith, ints)
-not_above (pos (suc n)) e = absurd (cc)
+few : (n : ℕ) → nat_le 1 n ≡ false → n ≤ 0
+few n e = grind (arith, nat_tests)
+
+pub not_above : (z : ℤ) → is_positive z ≡ false → z ≤ℤ pos 0
+not_above (pos n) e = let h = few n e in omega (arith, ints)
 not_above (negsuc n) e = omega (arith, ints)
 
 zero_is : (z : ℤ) → is_zero z ≡ true → z ≡ pos 0
-zero_is (pos zero) e = refl
-zero_is (pos (suc n)) e = absurd (cc)
+zero_is (pos n) e = let h = leb-true n 0 e in omega (arith, ints)
 zero_is (negsuc n) e = absurd (cc)
 
 nothing : (x : ℤ) → x -ℤ x ≡ pos 0
@@ -243,7 +244,7 @@ same_self : (bytes : List ℕ) → pointwise nat_eq bytes bytes ≡ true
 same_self [] = refl
 same_self (b ∷ bytes) =
     let head : nat_eq b b ≡ true = grind (arith, nat_tests) in
-    ap (λ (t : Bool). cond t (pointwise nat_eq bytes bytes) false) head ∙ same_self bytes
+    ap (λ (t : Bool). t && pointwise nat_eq bytes bytes) head ∙ same_self bytes
 
 record Texts (p : Spot) (a b : Sym) (x y : List ℕ) : Type 0 where
   pub lower : p.v.value a.0 ≡ StrValue x

@@ -1,5 +1,7 @@
 pub mod Comparing
 pub mod Covering
 pub mod Fitting
+pub mod Found
+pub mod Signs
 pub mod Taking
 pub mod Testing

@@ -18,6 +18,7 @@ use Rattle.name_table.specs.declared.builtin.Builtin.TheVariants as op
 use Rattle.text_ops.specs.Blank.{blank}
 use Rattle.bst_meaning.specs.Builtins.{Context, built_in}
 use Rattle.bst_meaning.specs.Effect.{pushed}
+use Rattle.bst_meaning.specs.Machine.{context_of}
 use Rattle.bst_meaning.specs.Operands.{is_positive, is_zero, truth}
 use Rattle.bst_meaning.specs.declared.value.Value.{Value}
 use Rattle.bst_meaning.specs.declared.value.Value.TheVariants.{Int as IntValue, Str as StrValue, Missing as MissingValue, Func as FuncValue}
@@ -93,7 +94,7 @@ empty_undecided : (p : Spot) (a : Sym) (rest : List Sym) (hints : List Hint) (ca
 empty_undecided p a rest hints cases b tops is e =
     let less = one_below p a rest tops in
     both_found p op.Empty rest b (Blank a ∷ []) (Is a Str ∷ (Nonblank a ∷ [])) hints cases
-    (at_one p op.Empty a rest b tops (machine_empty _ (p.v.value a.0) b (value_list p.v rest ++ p.below) is))
+    (at_one p op.Empty a rest b tops (machine_empty (context_of p.style p.c) (p.v.value a.0) b (value_list p.v rest ++ p.below) is))
     (one_fits p (Blank a) less tt tt)
     (both_fit p (Is a Str ∷ []) (Nonblank a ∷ []) (one_fits p (Is a Str) less tt tt) (one_fits p (Nonblank a) less tt tt))
     (λ t. (is ∙ ap (λ (x : Bool). Some x) t, tt))
@@ -109,14 +110,14 @@ empty_found p hints cases e =
           let source = from_facts emptiness_said p.style p.v f.operand.0 p.state.facts b p.stands.satisfied.facts is in
           let says = emptiness_fact p.style (p.v.value f.operand.0) source.fact b source.says source.holds in
           decided_found p op.Empty f.rest b b hints cases
-          (at_one p op.Empty f.operand f.rest b f.tops (machine_empty _ (p.v.value f.operand.0) b (value_list p.v f.rest ++ p.below) says)) refl found
+          (at_one p op.Empty f.operand f.rest b f.tops (machine_empty (context_of p.style p.c) (p.v.value f.operand.0) b (value_list p.v f.rest ++ p.below) says)) refl found
       | None ↦ λ is found.
           let some = has_emptiness (p.v.value f.operand.0) (of_kind_holds p.style p.v f.operand.0 p.state.facts Optional p.stands.satisfied.facts f.kind) in
           empty_undecided p f.operand f.rest hints cases some.empty f.tops some.is found
     ] refl f.given
 
 -- `missing$`
-is_missing : Value → Bool
+abbrev is_missing : Value → Bool
 is_missing (MissingValue name) = true
 is_missing _ = false
 
@@ -157,7 +158,7 @@ missing_undecided : (p : Spot) (a : Sym) (rest : List Sym) (hints : List Hint) (
 missing_undecided p a rest hints cases tops kind e =
     let less = one_below p a rest tops in
     both_found p op.Missing rest (is_missing (p.v.value a.0)) (Is a Missing ∷ []) (Is a Str ∷ []) hints cases
-    (at_one p op.Missing a rest (is_missing (p.v.value a.0)) tops (machine_missing _ (p.v.value a.0) (value_list p.v rest ++ p.below) kind))
+    (at_one p op.Missing a rest (is_missing (p.v.value a.0)) tops (machine_missing (context_of p.style p.c) (p.v.value a.0) (value_list p.v rest ++ p.below) kind))
     (one_fits p (Is a Missing) less tt tt) (one_fits p (Is a Str) less tt tt)
     (λ t. (one_missing (p.v.value a.0) t, tt)) (λ t. (one_string (p.v.value a.0) kind t, tt)) e
 
@@ -166,11 +167,11 @@ missing_decided : (p : Spot) (a : Sym) (rest : List Sym) (hints : List Hint) (ca
     → missing_cases kind (taken_one a rest p.state) hints ≡ Ok cases → Found p op.Missing cases
 missing_decided p a rest hints cases Missing tops o kind e =
     decided_found p op.Missing rest (is_missing (p.v.value a.0)) true hints cases
-    (at_one p op.Missing a rest (is_missing (p.v.value a.0)) tops (machine_missing _ (p.v.value a.0) (value_list p.v rest ++ p.below) o))
+    (at_one p op.Missing a rest (is_missing (p.v.value a.0)) tops (machine_missing (context_of p.style p.c) (p.v.value a.0) (value_list p.v rest ++ p.below) o))
     (missing_one (p.v.value a.0) kind) e
 missing_decided p a rest hints cases Str tops o kind e =
     decided_found p op.Missing rest (is_missing (p.v.value a.0)) false hints cases
-    (at_one p op.Missing a rest (is_missing (p.v.value a.0)) tops (machine_missing _ (p.v.value a.0) (value_list p.v rest ++ p.below) o))
+    (at_one p op.Missing a rest (is_missing (p.v.value a.0)) tops (machine_missing (context_of p.style p.c) (p.v.value a.0) (value_list p.v rest ++ p.below) o))
     (string_one (p.v.value a.0) kind) e
 missing_decided p a rest hints cases Int tops o kind e = missing_undecided p a rest hints cases tops o e
 missing_decided p a rest hints cases Func tops o kind e = missing_undecided p a rest hints cases tops o e

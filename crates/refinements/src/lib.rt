@@ -21,6 +21,7 @@ pub use sym_state::test::Test;
 pub mod cases;
 pub mod deciding;
 pub mod integers;
+pub mod laws;
 pub mod needed;
 pub mod operands;
 pub mod strings;

@@ -1,0 +1,68 @@
+-- Of the cases of whether an integer is above 0, one stands where the state stands.
+use Rattle.std.proofs.Common.{◌≡◌, ℕ, zero, suc, ◌≤◌, ◌<◌, Bool, true, false, cond, List, [], ◌∷◌, ◌++◌, Option, None, Some, Result, Ok, Err, refl, sym, ap, subst, ◌∙◌, inl, arith}
+use Rattle.std.specs.Prelude.{ℤ, pos, negsuc, ◌≤ℤ◌}
+use Rattle.std.specs.List.{AllByRecursion}
+use Rattle.std.specs.Option.{option_map_or}
+use Rattle.std.proofs.lemmas.Int.{ints}
+use Rattle.lin_facts.specs.Rows.{Holds}
+use Rattle.lin_facts.specs.declared.row.Term.TheVariants.{Value as ValueOf}
+use Rattle.name_table.specs.declared.style.Style.{Style}
+use Rattle.bst_meaning.specs.declared.condition.Cond.{Cond}
+use Rattle.bst_meaning.specs.declared.entry.EntryList.{EntryList}
+use Rattle.bst_meaning.specs.declared.value.Value.{Value}
+use Rattle.bst_meaning.specs.declared.value.Value.TheVariants.{Int as IntValue}
+use Rattle.bst_meaning.specs.Config.{Config}
+use Rattle.bst_meaning.specs.Operands.{is_positive}
+use Rattle.sym_state.specs.declared.hint.Hint.{Hint}
+use Rattle.sym_state.specs.declared.state.State.{State}
+use Rattle.sym_state.specs.declared.symbol.Sym.{Sym}
+use Rattle.sym_state.specs.Cases.{Cases, above_cases, not_positive_rows, positive_rows, weighed_both, with_case}
+use Rattle.sym_state.specs.Decided.{exact_integer}
+use Rattle.sym_state.specs.Stands.{Stands}
+use Rattle.sym_state.specs.Symbols.{Valuation, integer_of, numbers}
+use Rattle.sym_state.proofs.Saying.{at_least_holds, at_most_holds}
+use Rattle.refinements.specs.Covered.{IsAmong, OneStands, above_case}
+use Rattle.refinements.proofs.Comparing.{above_zero, not_above}
+use Rattle.refinements.proofs.Covering.{first_kept, second_kept}
+use Rattle.refinements.proofs.Fitting.{case_stands}
+
+low : (x n : ℤ) → x ≡ n → is_positive n ≡ true → pos 1 ≤ℤ x
+low x n e is = let h = above_zero n is in omega (arith, ints)
+
+high : (x n : ℤ) → x ≡ n → is_positive n ≡ false → x ≤ℤ pos 0
+high x n e is = let h = not_above n is in omega (arith, ints)
+
+-- the case that an undecided integer is of
+sign_among : (style : Style) (admits : Cond) (list : EntryList) (v : Valuation) (state : State) (c : Config) (below : List Value)
+    (s : Sym) (n : ℤ) (hints : List Hint) (cases : Cases) (t : Bool) → Stands style admits list v state c below → v.value s.0 ≡ IntValue n → is_positive n ≡ t
+    → weighed_both admits (with_case [] (positive_rows s) state) (with_case [] (not_positive_rows s) state) hints ≡ Ok cases
+    → IsAmong (with_case [] (cond t (positive_rows s) (not_positive_rows s)) state) cases.states
+    × Stands style admits list v (with_case [] (cond t (positive_rows s) (not_positive_rows s)) state) c below
+sign_among style admits list v state c below s n hints cases true h is sign e =
+    let shown = at_least_holds (numbers v) (ValueOf s.0) (pos 1) (low (integer_of (v.value s.0)) n (ap integer_of is) sign) in
+    let stands = case_stands style admits list v state c below [] (positive_rows s) h tt (shown, tt) in
+    (first_kept style admits v (with_case [] (positive_rows s) state) (with_case [] (not_positive_rows s) state) hints cases stands.satisfied e, stands)
+sign_among style admits list v state c below s n hints cases false h is sign e =
+    let shown = at_most_holds (numbers v) (ValueOf s.0) (pos 0) (high (integer_of (v.value s.0)) n (ap integer_of is) sign) in
+    let stands = case_stands style admits list v state c below [] (not_positive_rows s) h tt (shown, tt) in
+    (second_kept style admits v (with_case [] (positive_rows s) state) (with_case [] (not_positive_rows s) state) hints cases stands.satisfied e, stands)
+
+pub sign_found : (style : Style) (admits : Cond) (list : EntryList) (v : Valuation) (state : State) (c : Config) (below : List Value)
+    (s : Sym) (n : ℤ) (hints : List Hint) (cases : Cases) → Stands style admits list v state c below → v.value s.0 ≡ IntValue n
+    → above_cases admits state s (exact_integer state.facts s.0) hints ≡ Ok cases
+    → OneStands style admits list v state c below s (is_positive n) cases.states
+sign_found style admits list v state c below s n hints cases h is e =
+    let case_by : Option ℤ → State = λ o. option_map_or (λ m. state) o (with_case [] (cond (is_positive n) (positive_rows s) (not_positive_rows s)) state) in
+    elim (exact_integer state.facts s.0) as (λ (o : Option ℤ). exact_integer state.facts s.0 ≡ o → above_cases admits state s o hints ≡ Ok cases
+    → OneStands style admits list v state c below s (is_positive n) cases.states) [
+      | Some m ↦ λ exact found.
+          let same : record { states = state ∷ []; hints = hints } ≡ cases = cc in record {
+            among = subst (λ (o : Option ℤ). IsAmong (case_by o) cases.states) (sym exact) (subst (λ (all : Cases). IsAmong state all.states) same (inl refl));
+            stands = subst (λ (o : Option ℤ). Stands style admits list v (case_by o) c below) (sym exact) h;
+          }
+      | None ↦ λ exact found.
+          let both = sign_among style admits list v state c below s n hints cases (is_positive n) h is refl found in record {
+            among = subst (λ (o : Option ℤ). IsAmong (case_by o) cases.states) (sym exact) both.0;
+            stands = subst (λ (o : Option ℤ). Stands style admits list v (case_by o) c below) (sym exact) both.1;
+          }
+    ] refl e

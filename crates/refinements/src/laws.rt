@@ -1,0 +1,40 @@
+//! What the cases of a test cover.
+
+ghost use Rattle.std.specs.Prelude.{◌≡◌, ℤ, List, Some, Ok};
+ghost use Rattle.bv_base.specs.declared.place.Place.{Place};
+ghost use Rattle.name_table.specs.declared.builtin.Builtin.{Builtin};
+ghost use Rattle.name_table.specs.declared.style.Style.{Style};
+ghost use Rattle.bst_meaning.specs.declared.condition.Cond.{Cond};
+ghost use Rattle.bst_meaning.specs.declared.entry.EntryList.{EntryList};
+ghost use Rattle.bst_meaning.specs.declared.value.Value.{Value};
+ghost use Rattle.bst_meaning.specs.declared.value.Value.TheVariants.{Int};
+ghost use Rattle.bst_meaning.specs.Config.{Config};
+ghost use Rattle.bst_meaning.specs.Operands.{is_positive};
+ghost use Rattle.sym_state.specs.declared.hint.Hint.{Hint};
+ghost use Rattle.sym_state.specs.declared.state.State.{State};
+ghost use Rattle.sym_state.specs.declared.symbol.Sym.{Sym};
+ghost use Rattle.sym_state.specs.declared.test.Test.{Test};
+ghost use Rattle.sym_state.specs.declared.test.Test.TheVariants.{Above};
+ghost use Rattle.sym_state.specs.Cases.{Cases, split_of};
+ghost use Rattle.sym_state.specs.Stands.{Stands};
+ghost use Rattle.sym_state.specs.Symbols.{Valuation};
+ghost use Rattle.sym_state.specs.WellMade.{WellMade};
+ghost use Rattle.refinements.specs.Covered.{OneCovers, OneStands, function_of};
+
+/// Where a well-made state stands for a configuration and the test of a built-in function has cases, the function gives
+/// no fault, and one of the cases stands for the configuration after it, whatever was dropped.
+pub fn one_case_covers()
+    ensures { (style : Style) (admits : Cond) (list : EntryList) (v : Valuation) (state : State) (c : Config) (below : List Value) (place : Place)
+        (test : Test) (op : Builtin) (hints : List Hint) (cases : Cases) → WellMade style state → Stands style admits list v state c below
+        → function_of test ≡ Some op → split_of admits state test hints ≡ Ok cases
+        → OneCovers style admits list v state c below place op cases.states }
+{}
+
+/// Where the value of a symbol is an integer and there are cases of whether it is above 0, the one that it is of is among
+/// them and stands for the same configuration by the same assignment, whatever was dropped.
+pub fn one_case_stands()
+    ensures { (style : Style) (admits : Cond) (list : EntryList) (v : Valuation) (state : State) (c : Config) (below : List Value)
+        (s : Sym) (n : ℤ) (hints : List Hint) (cases : Cases) → Stands style admits list v state c below
+        → v.value s.0 ≡ Int n → split_of admits state (Above s) hints ≡ Ok cases
+        → OneStands style admits list v state c below s (is_positive n) cases.states }
+{}
