@@ -14,6 +14,7 @@ use Rattle.lin_facts.specs.declared.row.Row.{Row}
 use Rattle.lin_facts.specs.declared.row.Term.{Term}
 use Rattle.lin_facts.specs.declared.row.Term.TheVariants.{Value as ValueOf}
 use Rattle.name_table.specs.declared.builtin.Builtin.{Builtin}
+use Rattle.name_table.specs.declared.style.Style.{Style}
 use Rattle.name_table.specs.declared.builtin.Builtin.TheVariants as op
 use Rattle.text_ops.specs.Blank.{blank}
 use Rattle.bst_meaning.specs.Builtins.{Context, built_in}
@@ -34,7 +35,7 @@ use Rattle.sym_state.specs.Demands.{fails, is_of_kind}
 use Rattle.sym_state.specs.Facts.{FactHolds, emptiness, has_kind, subject}
 use Rattle.sym_state.specs.References.{exceeds}
 use Rattle.sym_state.specs.Symbols.{Valuation, integer_of, numbers}
-use Rattle.sym_state.specs.WellMade.{HasShortText, IsBounded, IsOfStyle, IsTermBelow}
+use Rattle.sym_state.specs.WellMade.{HasShortText, IsBounded, IsOfStyle, IsTermBelow, WellMade}
 use Rattle.sym_state.proofs.Consequences.{same_bytes}
 use Rattle.sym_state.proofs.Deciding.{emptiness_fact, exact_integer_is, exact_text_is, from_facts, same_number}
 use Rattle.sym_state.proofs.KnownKinds.{integer_is, known_kind_holds, of_kind_holds, string_is}
@@ -94,42 +95,41 @@ equal_hold : (p : Spot) (a b : Sym) (x y : ℤ) → Known p a b x y → is_zero 
 equal_hold p a b x y known e =
     let xa : numbers p.v (ValueOf a.0) ≡ x = ap integer_of known.lower in
     let yb : numbers p.v (ValueOf b.0) ≡ y = ap integer_of known.upper in
-    let h = zero_is (x -ℤ y) e in
-    (
+    let h = zero_is (x -ℤ y) e in (
       exceeds_holds (numbers p.v) (ValueOf a.0) (ValueOf b.0) (pos 0) (omega (arith, ints)),
       (exceeds_holds (numbers p.v) (ValueOf b.0) (ValueOf a.0) (pos 0) (omega (arith, ints)), tt),
     )
 
 -- rows on two symbols fit
-exceeds_below : (next : ℕ) (a b : Sym) (n : ℤ) → a.0 < next → b.0 < next → RowBelow next (exceeds (ValueOf a.0) (ValueOf b.0) n)
+pub exceeds_below : (next : ℕ) (a b : Sym) (n : ℤ) → a.0 < next → b.0 < next → RowBelow next (exceeds (ValueOf a.0) (ValueOf b.0) n)
 exceeds_below next a b n lower upper =
     let first : Part = record { coefficient = pos 1; term = ValueOf a.0 } in
     let second : Part = record { coefficient = negsuc 0; term = ValueOf b.0 } in
     All-cons (λ (part : Part). IsTermBelow next part.term) first (second ∷ []) lower
     (All-cons (λ (part : Part). IsTermBelow next part.term) second [] upper (All-nil (λ (part : Part). IsTermBelow next part.term)))
 
-bounded_none : (a b : ℕ) → IsBounded (exceeds (ValueOf a) (ValueOf b) (pos 0))
+pub bounded_none : (a b : ℕ) → IsBounded (exceeds (ValueOf a) (ValueOf b) (pos 0))
 bounded_none a b = record { parts = omega arith; constant = record { low = omega (arith, ints); high = omega (arith, ints) }; coefficients = omega arith }
 
-bounded_one : (a b : ℕ) → IsBounded (exceeds (ValueOf a) (ValueOf b) (pos 1))
+pub bounded_one : (a b : ℕ) → IsBounded (exceeds (ValueOf a) (ValueOf b) (pos 1))
 bounded_one a b = record { parts = omega arith; constant = record { low = omega (arith, ints); high = omega (arith, ints) }; coefficients = omega arith }
 
-row_fits : (p : Spot) (row : Row) → RowBelow p.state.next row → IsBounded row → Fits p.style p.state.next [] (row ∷ [])
-row_fits p row below bounded = record {
-  facts = All-nil (λ fact. subject fact < p.state.next);
-  of_style = All-nil (IsOfStyle p.style);
+pub row_fits : (style : Style) (next : ℕ) (row : Row) → RowBelow next row → IsBounded row → Fits style next [] (row ∷ [])
+row_fits style next row below bounded = record {
+  facts = All-nil (λ fact. subject fact < next);
+  of_style = All-nil (IsOfStyle style);
   short = All-nil HasShortText;
-  rows = All-cons (RowBelow p.state.next) row [] below (All-nil (RowBelow p.state.next));
+  rows = All-cons (RowBelow next) row [] below (All-nil (RowBelow next));
   bounded = All-cons IsBounded row [] bounded (All-nil IsBounded);
 }
 
-rows_fit : (p : Spot) (first second : Row) → RowBelow p.state.next first → IsBounded first → RowBelow p.state.next second → IsBounded second
-    → Fits p.style p.state.next [] (first ∷ (second ∷ []))
-rows_fit p first second below bounded others fine = record {
-  facts = All-nil (λ fact. subject fact < p.state.next);
-  of_style = All-nil (IsOfStyle p.style);
+pub rows_fit : (style : Style) (next : ℕ) (first second : Row) → RowBelow next first → IsBounded first → RowBelow next second → IsBounded second
+    → Fits style next [] (first ∷ (second ∷ []))
+rows_fit style next first second below bounded others fine = record {
+  facts = All-nil (λ fact. subject fact < next);
+  of_style = All-nil (IsOfStyle style);
   short = All-nil HasShortText;
-  rows = All-cons (RowBelow p.state.next) first (second ∷ []) below (All-cons (RowBelow p.state.next) second [] others (All-nil (RowBelow p.state.next)));
+  rows = All-cons (RowBelow next) first (second ∷ []) below (All-cons (RowBelow next) second [] others (All-nil (RowBelow next)));
   bounded = All-cons IsBounded first (second ∷ []) bounded (All-cons IsBounded second [] fine (All-nil IsBounded));
 }
 
@@ -189,16 +189,16 @@ values_of_two p a b lower upper =
 pub less_found : (p : Spot) (hints : List Hint) (cases : Cases) → less p.admits p.state hints ≡ Ok cases → Found p op.Less cases
 less_found p hints cases e =
     let f = integers_cases p.state (λ two. integer_cases p.admits (integers_decided is_less false p.state.facts two.lower two.upper)
-        (less_rows two.lower two.upper) (at_least_rows two.lower two.upper) two.rest hints) cases e in
+    (less_rows two.lower two.upper) (at_least_rows two.lower two.upper) two.rest hints) cases e in
     let a = f.pair.lower in
     let b = f.pair.upper in
-    let lower = second_below p a b f.pair.rest f.pair.tops in
-    let upper = one_below p b (a ∷ f.pair.rest) f.pair.tops in
+    let lower = second_below p.style p.state a b f.pair.rest p.made f.pair.tops in
+    let upper = one_below p.style p.state b (a ∷ f.pair.rest) p.made f.pair.tops in
     let values = values_of_two p a b f.lower_kind f.upper_kind in
     integers_found p op.Less f.pair.rest is_less false a b values.x values.y (less_rows a b) (at_least_rows a b) hints cases values.known never_less
     (at_two p op.Less a b f.pair.rest (IntValue values.x) (IntValue values.y) (is_less values.x values.y) f.pair.tops values.known.lower values.known.upper refl)
-    (row_fits p (exceeds (ValueOf b.0) (ValueOf a.0) (pos 1)) (exceeds_below p.state.next b a (pos 1) upper lower) (bounded_one b.0 a.0))
-    (row_fits p (exceeds (ValueOf a.0) (ValueOf b.0) (pos 0)) (exceeds_below p.state.next a b (pos 0) lower upper) (bounded_none a.0 b.0))
+    (row_fits p.style p.state.next (exceeds (ValueOf b.0) (ValueOf a.0) (pos 1)) (exceeds_below p.state.next b a (pos 1) upper lower) (bounded_one b.0 a.0))
+    (row_fits p.style p.state.next (exceeds (ValueOf a.0) (ValueOf b.0) (pos 0)) (exceeds_below p.state.next a b (pos 0) lower upper) (bounded_none a.0 b.0))
     (less_hold p a b values.x values.y values.known) (at_least_hold p a b values.x values.y values.known) f.pair.given
 
 turned : (p : Spot) (a b : Sym) (x y : ℤ) → Known p a b x y → Known p b a y x
@@ -208,16 +208,16 @@ turned p a b x y known = record { lower = known.upper; upper = known.lower }
 pub greater_found : (p : Spot) (hints : List Hint) (cases : Cases) → greater p.admits p.state hints ≡ Ok cases → Found p op.Greater cases
 greater_found p hints cases e =
     let f = integers_cases p.state (λ two. integer_cases p.admits (integers_decided is_greater false p.state.facts two.lower two.upper)
-        (less_rows two.upper two.lower) (at_least_rows two.upper two.lower) two.rest hints) cases e in
+    (less_rows two.upper two.lower) (at_least_rows two.upper two.lower) two.rest hints) cases e in
     let a = f.pair.lower in
     let b = f.pair.upper in
-    let lower = second_below p a b f.pair.rest f.pair.tops in
-    let upper = one_below p b (a ∷ f.pair.rest) f.pair.tops in
+    let lower = second_below p.style p.state a b f.pair.rest p.made f.pair.tops in
+    let upper = one_below p.style p.state b (a ∷ f.pair.rest) p.made f.pair.tops in
     let values = values_of_two p a b f.lower_kind f.upper_kind in
     integers_found p op.Greater f.pair.rest is_greater false a b values.x values.y (less_rows b a) (at_least_rows b a) hints cases values.known never_less
     (at_two p op.Greater a b f.pair.rest (IntValue values.x) (IntValue values.y) (is_greater values.x values.y) f.pair.tops values.known.lower values.known.upper refl)
-    (row_fits p (exceeds (ValueOf a.0) (ValueOf b.0) (pos 1)) (exceeds_below p.state.next a b (pos 1) lower upper) (bounded_one a.0 b.0))
-    (row_fits p (exceeds (ValueOf b.0) (ValueOf a.0) (pos 0)) (exceeds_below p.state.next b a (pos 0) upper lower) (bounded_none b.0 a.0))
+    (row_fits p.style p.state.next (exceeds (ValueOf a.0) (ValueOf b.0) (pos 1)) (exceeds_below p.state.next a b (pos 1) lower upper) (bounded_one a.0 b.0))
+    (row_fits p.style p.state.next (exceeds (ValueOf b.0) (ValueOf a.0) (pos 0)) (exceeds_below p.state.next b a (pos 0) upper lower) (bounded_none b.0 a.0))
     (less_hold p b a values.y values.x (turned p a b values.x values.y values.known))
     (at_least_hold p b a values.y values.x (turned p a b values.x values.y values.known)) f.pair.given
 
@@ -227,14 +227,14 @@ equal_integers_found : (p : Spot) (a b : Sym) (rest : List Sym) (hints : List Hi
     → integer_cases p.admits (integers_decided is_equal true p.state.facts a b) (equal_rows a b) [] (without rest p.state) hints ≡ Ok cases
     → Found p op.Equal cases
 equal_integers_found p a b rest hints cases tops lower_kind upper_kind e =
-    let lower = second_below p a b rest tops in
-    let upper = one_below p b (a ∷ rest) tops in
+    let lower = second_below p.style p.state a b rest p.made tops in
+    let upper = one_below p.style p.state b (a ∷ rest) p.made tops in
     let one = integer_is (p.v.value a.0) (of_kind_holds p.style p.v a.0 p.state.facts Int p.stands.satisfied.facts lower_kind) in
     let two = integer_is (p.v.value b.0) upper_kind in
     let known : Known p a b one.0 two.0 = record { lower = one.1; upper = two.1 } in
     integers_found p op.Equal rest is_equal true a b one.0 two.0 (equal_rows a b) [] hints cases known always_equal
     (at_two p op.Equal a b rest (IntValue one.0) (IntValue two.0) (is_equal one.0 two.0) tops one.1 two.1 refl)
-    (rows_fit p (exceeds (ValueOf a.0) (ValueOf b.0) (pos 0)) (exceeds (ValueOf b.0) (ValueOf a.0) (pos 0))
+    (rows_fit p.style p.state.next (exceeds (ValueOf a.0) (ValueOf b.0) (pos 0)) (exceeds (ValueOf b.0) (ValueOf a.0) (pos 0))
     (exceeds_below p.state.next a b (pos 0) lower upper) (bounded_none a.0 b.0) (exceeds_below p.state.next b a (pos 0) upper lower) (bounded_none b.0 a.0))
     (nothing_fits p.style p.state.next)
     (equal_hold p a b one.0 two.0 known) (λ unequal. tt) e
@@ -307,19 +307,20 @@ passed_holds p a b same =
       | Some text ↦ λ is. (sym same ∙ exact_text_is p.style p.v a.0 p.state.facts text p.stands.satisfied.facts is, tt)
     ] refl
 
-passed_fits : (p : Spot) (a b : Sym) → b.0 < p.state.next → Fits p.style p.state.next (passed (exact_text p.state.facts a.0) b) []
-passed_fits p a b less =
-    elim (exact_text p.state.facts a.0) as (λ (o : Option (List ℕ)). exact_text p.state.facts a.0 ≡ o → Fits p.style p.state.next (passed o b) []) [
-      | None ↦ λ is. nothing_fits p.style p.state.next
-      | Some text ↦ λ is. one_fits p (TextFact b text) less tt (short_exact p.state.facts a.0 text p.made.bounds.facts is)
+pub passed_fits : (style : Style) (state : State) (a b : Sym) → WellMade style state → b.0 < state.next
+    → Fits style state.next (passed (exact_text state.facts a.0) b) []
+passed_fits style state a b made less =
+    elim (exact_text state.facts a.0) as (λ (o : Option (List ℕ)). exact_text state.facts a.0 ≡ o → Fits style state.next (passed o b) []) [
+      | None ↦ λ is. nothing_fits style state.next
+      | Some text ↦ λ is. one_fits style state.next (TextFact b text) less tt (short_exact state.facts a.0 text made.bounds.facts is)
     ] refl
 
 equal_texts_found : (p : Spot) (a b : Sym) (rest : List Sym) (hints : List Hint) (cases : Cases) → reverse p.state.stack ≡ b ∷ (a ∷ rest)
     → is_of_kind p.state Str a ≡ true → has_kind Str (p.v.value b.0) ≡ true
     → text_cases (texts_decided p.state.facts a b) (passed_both p.state.facts a b) (without rest p.state) hints ≡ Ok cases → Found p op.Equal cases
 equal_texts_found p a b rest hints cases tops lower_kind upper_kind e =
-    let lower = second_below p a b rest tops in
-    let upper = one_below p b (a ∷ rest) tops in
+    let lower = second_below p.style p.state a b rest p.made tops in
+    let upper = one_below p.style p.state b (a ∷ rest) p.made tops in
     let one = string_is (p.v.value a.0) (of_kind_holds p.style p.v a.0 p.state.facts Str p.stands.satisfied.facts lower_kind) in
     let two = string_is (p.v.value b.0) upper_kind in
     let known : Texts p a b one.0 two.0 = record { lower = one.1; upper = two.1 } in
@@ -329,12 +330,12 @@ equal_texts_found p a b rest hints cases tops lower_kind upper_kind e =
       | Some t ↦ λ is found. decided_found p op.Equal rest (pointwise nat_eq one.0 two.0) t hints cases at (texts_sure p a b one.0 two.0 t known is) found
       | None ↦ λ is found.
           both_found p op.Equal rest (pointwise nat_eq one.0 two.0) (passed_both p.state.facts a b) [] hints cases at
-          (both_fit p (passed (exact_text p.state.facts a.0) b) (passed (exact_text p.state.facts b.0) a) (passed_fits p a b upper) (passed_fits p b a lower))
+          (both_fit p.style p.state.next (passed (exact_text p.state.facts a.0) b) (passed (exact_text p.state.facts b.0) a) (passed_fits p.style p.state a b p.made upper) (passed_fits p.style p.state b a p.made lower))
           (nothing_fits p.style p.state.next)
           (λ same.
-              let values : p.v.value a.0 ≡ p.v.value b.0 = one.1 ∙ ap (λ (bytes : List ℕ). StrValue bytes) (same_bytes one.0 two.0 same) ∙ sym two.1 in
-              facts_joined p.style p.v (passed (exact_text p.state.facts a.0) b) (passed (exact_text p.state.facts b.0) a)
-              (passed_holds p a b values) (passed_holds p b a (sym values)))
+          let values : p.v.value a.0 ≡ p.v.value b.0 = one.1 ∙ ap (λ (bytes : List ℕ). StrValue bytes) (same_bytes one.0 two.0 same) ∙ sym two.1 in
+          facts_joined p.style p.v (passed (exact_text p.state.facts a.0) b) (passed (exact_text p.state.facts b.0) a)
+          (passed_holds p a b values) (passed_holds p b a (sym values)))
           (λ unequal. tt) found
     ] refl e
 

@@ -66,14 +66,14 @@ kept style admits v state (Plain ∷ hints) cases h e = absurd (cc)
 kept style admits v state (Step proof ∷ hints) cases h e = absurd (cc)
 
 -- what comes of two cases
-record Two (admits : Cond) (first second : State) (hints : List Hint) (states : List State) : Type 0 where
+pub record Two (admits : Cond) (first second : State) (hints : List Hint) (states : List State) : Type 0 where
   pub one : Cases
   pub other : Cases
   pub first_weighed : weighed admits first hints ≡ Ok one
   pub second_weighed : weighed admits second one.hints ≡ Ok other
   pub joined : states ≡ one.states ++ other.states
 
-both_weighed : (admits : Cond) (first second : State) (hints : List Hint) (cases : Cases) → weighed_both admits first second hints ≡ Ok cases
+pub both_weighed : (admits : Cond) (first second : State) (hints : List Hint) (cases : Cases) → weighed_both admits first second hints ≡ Ok cases
     → Two admits first second hints cases.states
 both_weighed admits first second hints cases e =
     elim (weighed admits first hints) as (λ (o : Split). weighed admits first hints ≡ o → followed_by o (weighed admits second) ≡ Ok cases

@@ -109,7 +109,6 @@ row_raised next row h =
     All-weaker (λ (part : Part). IsTermBelow next part.term) (λ (part : Part). IsTermBelow (next + 1) part.term)
     (λ part below. term_raised next part.term below) row.parts h
 
-
 -- the answer of a test on top of a state whose operands are taken
 pub truth_made : (style : Style) (state : State) (rest : List Sym) (answer : Bool) → WellMade style state → All (λ s. s.0 < state.next) rest
     → WellMade style (with_truth answer (without rest state))

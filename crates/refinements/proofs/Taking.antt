@@ -115,10 +115,10 @@ integers_from state rule cases (b ∷ (a ∷ rest)) is e =
       | true ↦ λ upper found. elim (is_of_kind state Int a) as (λ (t : Bool). is_of_kind state Int a ≡ t
           → split_by (cond t (Ok (taken_two a b rest state)) (Err (fails WrongKind 2))) rule ≡ Ok cases → Integers state rule cases) [
             | true ↦ λ lower all. record {
-                pair = record { lower = a; upper = b; rest = rest; tops = is; given = all };
-                upper_kind = upper;
-                lower_kind = lower;
-              }
+              pair = record { lower = a; upper = b; rest = rest; tops = is; given = all };
+              upper_kind = upper;
+              lower_kind = lower;
+            }
             | false ↦ λ lower all. absurd (cc)
           ] refl found
       | false ↦ λ upper found. absurd (cc)
@@ -155,12 +155,12 @@ at_two p op a b rest x y t tops x_is y_is gives = record {
 }
 
 -- the operands are the state's
-pub one_below : (p : Spot) (a : Sym) (rest : List Sym) → reverse p.state.stack ≡ a ∷ rest → a.0 < p.state.next
-one_below p a rest tops = All-head (λ s. s.0 < p.state.next) a rest (tops_below p.style p.state (a ∷ rest) p.made tops)
+pub one_below : (style : Style) (state : State) (a : Sym) (rest : List Sym) → WellMade style state → reverse state.stack ≡ a ∷ rest → a.0 < state.next
+one_below style state a rest made tops = All-head (λ s. s.0 < state.next) a rest (tops_below style state (a ∷ rest) made tops)
 
-pub second_below : (p : Spot) (a b : Sym) (rest : List Sym) → reverse p.state.stack ≡ b ∷ (a ∷ rest) → a.0 < p.state.next
-second_below p a b rest tops =
-    All-head (λ s. s.0 < p.state.next) a rest (All-tail (λ s. s.0 < p.state.next) b (a ∷ rest) (tops_below p.style p.state (b ∷ (a ∷ rest)) p.made tops))
+pub second_below : (style : Style) (state : State) (a b : Sym) (rest : List Sym) → WellMade style state → reverse state.stack ≡ b ∷ (a ∷ rest) → a.0 < state.next
+second_below style state a b rest made tops =
+    All-head (λ s. s.0 < state.next) a rest (All-tail (λ s. s.0 < state.next) b (a ∷ rest) (tops_below style state (b ∷ (a ∷ rest)) made tops))
 
 -- a decided test, one whose cases take no hint, and one whose cases take hints: the machine gives the truth of t
 pub decided_found : (p : Spot) (op : Builtin) (rest : List Sym) (t answer : Bool) (hints : List Hint) (cases : Cases) → AtSpot p rest op t

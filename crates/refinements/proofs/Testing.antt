@@ -14,6 +14,7 @@ use Rattle.lin_facts.specs.declared.row.Row.{Row}
 use Rattle.lin_facts.specs.declared.row.Term.{Term}
 use Rattle.lin_facts.specs.declared.row.Term.TheVariants.{Value as ValueOf}
 use Rattle.name_table.specs.declared.builtin.Builtin.{Builtin}
+use Rattle.name_table.specs.declared.style.Style.{Style}
 use Rattle.name_table.specs.declared.builtin.Builtin.TheVariants as op
 use Rattle.text_ops.specs.Blank.{blank}
 use Rattle.bst_meaning.specs.Builtins.{Context, built_in}
@@ -45,22 +46,22 @@ use Rattle.refinements.proofs.Fitting.{Fits, RowBelow, nothing_fits}
 use Rattle.refinements.proofs.Taking.{AtSpot, Field, Found, Integers, Pair, Spot, at_one, at_two, both_found, decided_found, field_cases, integers_cases, one_below, pair_cases, second_below, taken_one, taken_two, weighed_found}
 
 -- facts on an operand fit
-pub one_fits : (p : Spot) (fact : Fact) → subject fact < p.state.next → IsOfStyle p.style fact → HasShortText fact → Fits p.style p.state.next (fact ∷ []) []
-one_fits p fact below style short = record {
-  facts = All-cons (λ f. subject f < p.state.next) fact [] below (All-nil (λ f. subject f < p.state.next));
-  of_style = All-cons (IsOfStyle p.style) fact [] style (All-nil (IsOfStyle p.style));
+pub one_fits : (style : Style) (next : ℕ) (fact : Fact) → subject fact < next → IsOfStyle style fact → HasShortText fact → Fits style next (fact ∷ []) []
+one_fits style next fact below of_style short = record {
+  facts = All-cons (λ f. subject f < next) fact [] below (All-nil (λ f. subject f < next));
+  of_style = All-cons (IsOfStyle style) fact [] of_style (All-nil (IsOfStyle style));
   short = All-cons HasShortText fact [] short (All-nil HasShortText);
-  rows = All-nil (RowBelow p.state.next);
+  rows = All-nil (RowBelow next);
   bounded = All-nil IsBounded;
 }
 
-pub both_fit : (p : Spot) (first second : List Fact) → Fits p.style p.state.next first [] → Fits p.style p.state.next second []
-    → Fits p.style p.state.next (first ++ second) []
-both_fit p first second f s = record {
-  facts = All-append (λ fact. subject fact < p.state.next) first second f.facts s.facts;
-  of_style = All-append (IsOfStyle p.style) first second f.of_style s.of_style;
+pub both_fit : (style : Style) (next : ℕ) (first second : List Fact) → Fits style next first [] → Fits style next second []
+    → Fits style next (first ++ second) []
+both_fit style next first second f s = record {
+  facts = All-append (λ fact. subject fact < next) first second f.facts s.facts;
+  of_style = All-append (IsOfStyle style) first second f.of_style s.of_style;
   short = All-append HasShortText first second f.short s.short;
-  rows = All-nil (RowBelow p.state.next);
+  rows = All-nil (RowBelow next);
   bounded = All-nil IsBounded;
 }
 
@@ -92,11 +93,11 @@ empty_undecided : (p : Spot) (a : Sym) (rest : List Sym) (hints : List Hint) (ca
     → emptiness (p.v.value a.0) ≡ Some b → both (Blank a ∷ []) (Is a Str ∷ (Nonblank a ∷ [])) (without rest p.state) hints ≡ Ok cases
     → Found p op.Empty cases
 empty_undecided p a rest hints cases b tops is e =
-    let less = one_below p a rest tops in
+    let less = one_below p.style p.state a rest p.made tops in
     both_found p op.Empty rest b (Blank a ∷ []) (Is a Str ∷ (Nonblank a ∷ [])) hints cases
     (at_one p op.Empty a rest b tops (machine_empty (context_of p.style p.c) (p.v.value a.0) b (value_list p.v rest ++ p.below) is))
-    (one_fits p (Blank a) less tt tt)
-    (both_fit p (Is a Str ∷ []) (Nonblank a ∷ []) (one_fits p (Is a Str) less tt tt) (one_fits p (Nonblank a) less tt tt))
+    (one_fits p.style p.state.next (Blank a) less tt tt)
+    (both_fit p.style p.state.next (Is a Str ∷ []) (Nonblank a ∷ []) (one_fits p.style p.state.next (Is a Str) less tt tt) (one_fits p.style p.state.next (Nonblank a) less tt tt))
     (λ t. (is ∙ ap (λ (x : Bool). Some x) t, tt))
     (λ t. (not_empty_string (p.v.value a.0) (is ∙ ap (λ (x : Bool). Some x) t), (is ∙ ap (λ (x : Bool). Some x) t, tt)))
     e
@@ -156,10 +157,10 @@ missing_undecided : (p : Spot) (a : Sym) (rest : List Sym) (hints : List Hint) (
     → has_kind Optional (p.v.value a.0) ≡ true → both (Is a Missing ∷ []) (Is a Str ∷ []) (without rest p.state) hints ≡ Ok cases
     → Found p op.Missing cases
 missing_undecided p a rest hints cases tops kind e =
-    let less = one_below p a rest tops in
+    let less = one_below p.style p.state a rest p.made tops in
     both_found p op.Missing rest (is_missing (p.v.value a.0)) (Is a Missing ∷ []) (Is a Str ∷ []) hints cases
     (at_one p op.Missing a rest (is_missing (p.v.value a.0)) tops (machine_missing (context_of p.style p.c) (p.v.value a.0) (value_list p.v rest ++ p.below) kind))
-    (one_fits p (Is a Missing) less tt tt) (one_fits p (Is a Str) less tt tt)
+    (one_fits p.style p.state.next (Is a Missing) less tt tt) (one_fits p.style p.state.next (Is a Str) less tt tt)
     (λ t. (one_missing (p.v.value a.0) t, tt)) (λ t. (one_string (p.v.value a.0) kind t, tt)) e
 
 missing_decided : (p : Spot) (a : Sym) (rest : List Sym) (hints : List Hint) (cases : Cases) (kind : Kinds) → reverse p.state.stack ≡ a ∷ rest

@@ -54,11 +54,7 @@ pub fn with_truth(answer: bool, state: State) -> Result<State, NoMemory>
 fn number_of(answer: bool) -> i32
     ensures { result ≡ rule.number_of answer }
 {
-    if answer {
-        1
-    } else {
-        0
-    }
+    if answer { 1 } else { 0 }
 }
 
 /// A state with the facts and rows that a case adds.

@@ -39,11 +39,7 @@ pub fn less(state: &State, cond: &Cond, hints: &mut Hints<'_>) -> Result<Vec<Sta
 }
 
 /// The cases of `>`.
-pub fn greater(
-    state: &State,
-    cond: &Cond,
-    hints: &mut Hints<'_>,
-) -> Result<Vec<State>, EffectFault>
+pub fn greater(state: &State, cond: &Cond, hints: &mut Hints<'_>) -> Result<Vec<State>, EffectFault>
     requires bounds { HasBounds state.now }
     requires room { state.now.next < 4294967295 }
     requires proofs { All rule.HasFewUses hints.old }
@@ -74,8 +70,14 @@ fn ordered(
         rule.integer_cases cond.now None (rule.less_rows a b) (rule.at_least_rows a b) rest hints.old ≡ Err fault) }
 {
     let alloc = rest.alloc;
-    let holds = one_row(exceeds(alloc, Term::Value(b.0), Term::Value(a.0), 1)?, alloc)?;
-    let fails = one_row(exceeds(alloc, Term::Value(a.0), Term::Value(b.0), 0)?, alloc)?;
+    let holds = one_row(
+        exceeds(alloc, Term::Value(b.0), Term::Value(a.0), 1)?,
+        alloc,
+    )?;
+    let fails = one_row(
+        exceeds(alloc, Term::Value(a.0), Term::Value(b.0), 0)?,
+        alloc,
+    )?;
     truths(cond, holds, fails, rest, hints)
 }
 

@@ -15,7 +15,6 @@ use bst_meaning::condition::Cond;
 use sym_state::demand::EffectFault;
 use sym_state::hint::Hints;
 use sym_state::state::State;
-
 pub use sym_state::test::Test;
 
 pub mod cases;
@@ -25,6 +24,8 @@ pub mod laws;
 pub mod needed;
 pub mod operands;
 pub mod strings;
+#[cfg(test)]
+mod tests;
 pub mod weighing;
 
 /// The states of the cases of a test, that of 1 or of an integer above 0 first. A test that is decided has one case. The
@@ -42,6 +43,7 @@ pub fn split(
     ensures ok { IfOk result (λ states. rule.split_of cond.now state.now test hints.old ≡ Ok (record { states = states.items; hints = hints.new })) }
     ensures fault { IfErr result (λ fault. fault ≢ WantOfMemory → rule.split_of cond.now state.now test hints.old ≡ Err fault) }
     ensures cursor { OnErr result (hints.new ≡ hints.old) }
+    ensures kept { IfOk result (λ states. (style : Style) → WellMade style state.now → rule.IsTestOf state.now test → All (WellMade style) states.items) }
 {
     let mut cursor = Hints::new(hints.rest());
     let states = cases_of(state, cond, test, &mut cursor)?;

@@ -1,0 +1,227 @@
+-- Each state that the cases of a test give is well made.
+use Rattle.std.proofs.Common.{◌≡◌, ℕ, ◌<◌, ◌≤◌, Bool, true, false, cond, List, [], ◌∷◌, ◌++◌, reverse, Option, None, Some, Result, Ok, Err, refl, sym, ap, subst, ◌∙◌, arith}
+use Rattle.std.specs.Prelude.{ℤ, pos, negsuc}
+use Rattle.std.specs.List.{All}
+use Rattle.std.proofs.lemmas.Int.{ints}
+use Rattle.std.proofs.lemmas.List.Elements.{All-append, All-cons, All-nil, All-same, All-tail}
+use Rattle.lin_facts.specs.declared.row.Part.{Part}
+use Rattle.lin_facts.specs.declared.row.Row.{Row}
+use Rattle.lin_facts.specs.declared.row.Term.TheVariants.{Value as ValueOf}
+use Rattle.name_table.specs.declared.style.Style.{Style}
+use Rattle.bst_meaning.specs.declared.condition.Cond.{Cond}
+use Rattle.sym_state.specs.declared.demand.DemandKind.TheVariants.{WrongKind}
+use Rattle.sym_state.specs.declared.demand.EffectFault.TheVariants.{NotEntailed}
+use Rattle.sym_state.specs.declared.hint.Hint.{Hint}
+use Rattle.sym_state.specs.declared.hint.Hint.TheVariants.{Apply, Walk, Loop, Case, Plain, Keep, Drop, Step}
+use Rattle.sym_state.specs.declared.state.State.{State}
+use Rattle.sym_state.specs.declared.symbol.Fact.{Fact}
+use Rattle.sym_state.specs.declared.symbol.Fact.TheVariants.{Is, Blank, Nonblank}
+use Rattle.sym_state.specs.declared.symbol.Kinds.{Kinds}
+use Rattle.sym_state.specs.declared.symbol.Kinds.TheVariants.{Int, Str, Missing, Optional, Func, Any}
+use Rattle.sym_state.specs.declared.symbol.Sym.{Sym}
+use Rattle.sym_state.specs.declared.test.Test.{Test}
+use Rattle.sym_state.specs.declared.test.Test.TheVariants.{Empty, Missing as IsMissing, Equal, Less, Greater, Above}
+use Rattle.sym_state.specs.Cases.{Cases, IsTestOf, above_cases, absurdity, at_least_rows, both, decided, empty, empty_cases, equal, equal_by, equal_decided, equal_rows, greater, greater_decided, integer_cases, less, less_decided, less_rows, missing, missing_cases, not_positive_rows, passed, passed_both, positive_rows, split_of, text_cases, texts_decided, weighed, weighed_both, with_case, with_truth}
+use Rattle.sym_state.specs.Decided.{emptiness_said, exact_integer, exact_text, first_said, known_kind}
+use Rattle.sym_state.specs.Demands.{fails, is_of_kind}
+use Rattle.sym_state.specs.References.{at_least, at_most, exceeds, shows}
+use Rattle.sym_state.specs.WellMade.{IsBounded, IsTermBelow, WellMade}
+use Rattle.sym_state.proofs.Pushing.{tops_below, without}
+use Rattle.refinements.proofs.Comparing.{bounded_none, bounded_one, exceeds_below, passed_fits, row_fits, rows_fit}
+use Rattle.refinements.proofs.Covering.{both_weighed}
+use Rattle.refinements.proofs.Fitting.{Fits, RowBelow, case_made, nothing_fits, truth_made}
+use Rattle.refinements.proofs.Taking.{field_cases, integers_cases, one_below, pair_cases, second_below, taken_one, taken_two}
+use Rattle.refinements.proofs.Testing.{both_fit, one_fits}
+
+abbrev AreMade : Style → Cases → Type 0
+AreMade style cases = All (WellMade style) cases.states
+
+abbrev AreBelow : State → List Sym → Type 0
+AreBelow state rest = All (λ s. s.0 < state.next) rest
+
+truth_case_made : (style : Style) (state : State) (rest : List Sym) (t : Bool) (facts : List Fact) (rows : List Row) → WellMade style state
+    → AreBelow state rest → Fits style state.next facts rows → WellMade style (with_truth t (with_case facts rows (without rest state)))
+truth_case_made style state rest t facts rows made old fits =
+    truth_made style (with_case facts rows state) rest t (case_made style state facts rows made fits) old
+
+decided_made : (style : Style) (state : State) (rest : List Sym) (t : Bool) (hints : List Hint) (cases : Cases) → WellMade style state
+    → AreBelow state rest → decided t (without rest state) hints ≡ Ok cases → AreMade style cases
+decided_made style state rest t hints cases made old e =
+    let same : record { states = with_truth t (without rest state) ∷ []; hints = hints } ≡ cases = cc in
+    subst (λ (c : Cases). AreMade style c) same
+    (All-cons (WellMade style) (with_truth t (without rest state)) [] (truth_made style state rest t made old) (All-nil (WellMade style)))
+
+both_made : (style : Style) (state : State) (rest : List Sym) (first second : List Fact) (hints : List Hint) (cases : Cases) → WellMade style state
+    → AreBelow state rest → Fits style state.next first [] → Fits style state.next second [] → both first second (without rest state) hints ≡ Ok cases → AreMade style cases
+both_made style state rest first second hints cases made old fits others e =
+    let one = with_truth true (with_case first [] (without rest state)) in
+    let two = with_truth false (with_case second [] (without rest state)) in
+    let same : record { states = one ∷ (two ∷ []); hints = hints } ≡ cases = cc in
+    subst (λ (c : Cases). AreMade style c) same
+    (All-cons (WellMade style) one (two ∷ []) (truth_case_made style state rest true first [] made old fits)
+    (All-cons (WellMade style) two [] (truth_case_made style state rest false second [] made old others) (All-nil (WellMade style))))
+
+weighed_made : (style : Style) (admits : Cond) (state : State) (hints : List Hint) (cases : Cases) → WellMade style state
+    → weighed admits state hints ≡ Ok cases → AreMade style cases
+weighed_made style admits state [] cases made e = absurd (cc)
+weighed_made style admits state (Keep ∷ hints) cases made e =
+    let same : record { states = state ∷ []; hints = hints } ≡ cases = cc in
+    subst (λ (c : Cases). AreMade style c) same (All-cons (WellMade style) state [] made (All-nil (WellMade style)))
+weighed_made style admits state (Drop proof ∷ hints) cases made e =
+    elim (shows admits state proof absurdity) as (λ (t : Bool). cond t (Ok (record { states = []; hints = hints })) (Err (NotEntailed 0)) ≡ Ok cases → AreMade style cases) [
+      | true ↦ λ found. let same : record { states = []; hints = hints } ≡ cases = cc in
+          subst (λ (c : Cases). AreMade style c) same (All-nil (WellMade style))
+      | false ↦ λ found. absurd (cc)
+    ] e
+weighed_made style admits state (Apply k ∷ hints) cases made e = absurd (cc)
+weighed_made style admits state (Walk ∷ hints) cases made e = absurd (cc)
+weighed_made style admits state (Loop k ∷ hints) cases made e = absurd (cc)
+weighed_made style admits state (Case k ∷ hints) cases made e = absurd (cc)
+weighed_made style admits state (Plain ∷ hints) cases made e = absurd (cc)
+weighed_made style admits state (Step proof ∷ hints) cases made e = absurd (cc)
+
+weighed_both_made : (style : Style) (admits : Cond) (first second : State) (hints : List Hint) (cases : Cases) → WellMade style first → WellMade style second
+    → weighed_both admits first second hints ≡ Ok cases → AreMade style cases
+weighed_both_made style admits first second hints cases one other e =
+    let two = both_weighed admits first second hints cases e in
+    All-same (WellMade style) cases.states (two.one.states ++ two.other.states) two.joined
+    (All-append (WellMade style) two.one.states two.other.states
+    (weighed_made style admits first hints two.one one two.first_weighed) (weighed_made style admits second two.one.hints two.other other two.second_weighed))
+
+integers_made : (style : Style) (admits : Cond) (state : State) (rest : List Sym) (o : Option Bool) (first second : List Row) (hints : List Hint) (cases : Cases)
+    → WellMade style state → AreBelow state rest → Fits style state.next [] first → Fits style state.next [] second
+    → integer_cases admits o first second (without rest state) hints ≡ Ok cases → AreMade style cases
+integers_made style admits state rest (Some t) first second hints cases made old fits others e = decided_made style state rest t hints cases made old e
+integers_made style admits state rest None first second hints cases made old fits others e =
+    weighed_both_made style admits (with_truth true (with_case [] first (without rest state))) (with_truth false (with_case [] second (without rest state))) hints cases
+    (truth_case_made style state rest true [] first made old fits) (truth_case_made style state rest false [] second made old others) e
+
+-- what is below two operands, or one
+one_rest : (style : Style) (state : State) (a : Sym) (rest : List Sym) → WellMade style state → reverse state.stack ≡ a ∷ rest → AreBelow state rest
+one_rest style state a rest made tops = All-tail (λ s. s.0 < state.next) a rest (tops_below style state (a ∷ rest) made tops)
+
+two_rest : (style : Style) (state : State) (a b : Sym) (rest : List Sym) → WellMade style state → reverse state.stack ≡ b ∷ (a ∷ rest) → AreBelow state rest
+two_rest style state a b rest made tops = All-tail (λ s. s.0 < state.next) a rest (one_rest style state b (a ∷ rest) made tops)
+
+empty_kept : (style : Style) (state : State) (a : Sym) (rest : List Sym) (o : Option Bool) (hints : List Hint) (cases : Cases) → WellMade style state
+    → reverse state.stack ≡ a ∷ rest → empty_cases o (taken_one a rest state) hints ≡ Ok cases → AreMade style cases
+empty_kept style state a rest (Some t) hints cases made tops e = decided_made style state rest t hints cases made (one_rest style state a rest made tops) e
+empty_kept style state a rest None hints cases made tops e =
+    let less = one_below style state a rest made tops in
+    both_made style state rest (Blank a ∷ []) (Is a Str ∷ (Nonblank a ∷ [])) hints cases made (one_rest style state a rest made tops)
+    (one_fits style state.next (Blank a) less tt tt)
+    (both_fit style state.next (Is a Str ∷ []) (Nonblank a ∷ []) (one_fits style state.next (Is a Str) less tt tt) (one_fits style state.next (Nonblank a) less tt tt)) e
+
+missing_both : (style : Style) (state : State) (a : Sym) (rest : List Sym) (hints : List Hint) (cases : Cases) → WellMade style state
+    → reverse state.stack ≡ a ∷ rest → both (Is a Missing ∷ []) (Is a Str ∷ []) (without rest state) hints ≡ Ok cases → AreMade style cases
+missing_both style state a rest hints cases made tops e =
+    let less = one_below style state a rest made tops in
+    both_made style state rest (Is a Missing ∷ []) (Is a Str ∷ []) hints cases made (one_rest style state a rest made tops)
+    (one_fits style state.next (Is a Missing) less tt tt) (one_fits style state.next (Is a Str) less tt tt) e
+
+missing_kept : (style : Style) (state : State) (a : Sym) (rest : List Sym) (kind : Kinds) (hints : List Hint) (cases : Cases) → WellMade style state
+    → reverse state.stack ≡ a ∷ rest → missing_cases kind (taken_one a rest state) hints ≡ Ok cases → AreMade style cases
+missing_kept style state a rest Missing hints cases made tops e = decided_made style state rest true hints cases made (one_rest style state a rest made tops) e
+missing_kept style state a rest Str hints cases made tops e = decided_made style state rest false hints cases made (one_rest style state a rest made tops) e
+missing_kept style state a rest Int hints cases made tops e = missing_both style state a rest hints cases made tops e
+missing_kept style state a rest Optional hints cases made tops e = missing_both style state a rest hints cases made tops e
+missing_kept style state a rest Func hints cases made tops e = missing_both style state a rest hints cases made tops e
+missing_kept style state a rest Any hints cases made tops e = missing_both style state a rest hints cases made tops e
+
+texts_kept : (style : Style) (state : State) (a b : Sym) (rest : List Sym) (o : Option Bool) (hints : List Hint) (cases : Cases) → WellMade style state
+    → reverse state.stack ≡ b ∷ (a ∷ rest) → text_cases o (passed_both state.facts a b) (without rest state) hints ≡ Ok cases → AreMade style cases
+texts_kept style state a b rest (Some t) hints cases made tops e = decided_made style state rest t hints cases made (two_rest style state a b rest made tops) e
+texts_kept style state a b rest None hints cases made tops e =
+    both_made style state rest (passed_both state.facts a b) [] hints cases made (two_rest style state a b rest made tops)
+    (both_fit style state.next (passed (exact_text state.facts a.0) b) (passed (exact_text state.facts b.0) a)
+    (passed_fits style state a b made (one_below style state b (a ∷ rest) made tops)) (passed_fits style state b a made (second_below style state a b rest made tops)))
+    (nothing_fits style state.next) e
+
+-- the rows of two operands fit
+exceeding : (style : Style) (state : State) (a b : Sym) (n : ℤ) → a.0 < state.next → b.0 < state.next → IsBounded (exceeds (ValueOf a.0) (ValueOf b.0) n)
+    → Fits style state.next [] (exceeds (ValueOf a.0) (ValueOf b.0) n ∷ [])
+exceeding style state a b n lower upper bounded = row_fits style state.next (exceeds (ValueOf a.0) (ValueOf b.0) n) (exceeds_below state.next a b n lower upper) bounded
+
+equal_fit : (style : Style) (state : State) (a b : Sym) → a.0 < state.next → b.0 < state.next → Fits style state.next [] (equal_rows a b)
+equal_fit style state a b lower upper =
+    rows_fit style state.next (exceeds (ValueOf a.0) (ValueOf b.0) (pos 0)) (exceeds (ValueOf b.0) (ValueOf a.0) (pos 0))
+    (exceeds_below state.next a b (pos 0) lower upper) (bounded_none a.0 b.0) (exceeds_below state.next b a (pos 0) upper lower) (bounded_none b.0 a.0)
+
+equal_kept : (style : Style) (admits : Cond) (state : State) (a b : Sym) (rest : List Sym) (kind : Kinds) (hints : List Hint) (cases : Cases) → WellMade style state
+    → reverse state.stack ≡ b ∷ (a ∷ rest) → equal_by admits state kind (taken_two a b rest state) hints ≡ Ok cases → AreMade style cases
+equal_kept style admits state a b rest Int hints cases made tops e =
+    elim (is_of_kind state Int a) as (λ (t : Bool). cond t (integer_cases admits (equal_decided state.facts a b) (equal_rows a b) [] (without rest state) hints) (Err (fails WrongKind 2)) ≡ Ok cases
+    → AreMade style cases) [
+      | true ↦ λ found. integers_made style admits state rest (equal_decided state.facts a b) (equal_rows a b) [] hints cases made (two_rest style state a b rest made tops)
+          (equal_fit style state a b (second_below style state a b rest made tops) (one_below style state b (a ∷ rest) made tops)) (nothing_fits style state.next) found
+      | false ↦ λ found. absurd (cc)
+    ] e
+equal_kept style admits state a b rest Str hints cases made tops e =
+    elim (is_of_kind state Str a) as (λ (t : Bool). cond t (text_cases (texts_decided state.facts a b) (passed_both state.facts a b) (without rest state) hints) (Err (fails WrongKind 2)) ≡ Ok cases
+    → AreMade style cases) [
+      | true ↦ λ found. texts_kept style state a b rest (texts_decided state.facts a b) hints cases made tops found
+      | false ↦ λ found. absurd (cc)
+    ] e
+equal_kept style admits state a b rest Missing hints cases made tops e = absurd (cc)
+equal_kept style admits state a b rest Optional hints cases made tops e = absurd (cc)
+equal_kept style admits state a b rest Func hints cases made tops e = absurd (cc)
+equal_kept style admits state a b rest Any hints cases made tops e = absurd (cc)
+
+-- the rows of a sign fit
+positive_fits : (style : Style) (state : State) (s : Sym) → s.0 < state.next → Fits style state.next [] (positive_rows s)
+positive_fits style state s less =
+    let part : Part = record { coefficient = pos 1; term = ValueOf s.0 } in
+    row_fits style state.next (at_least (ValueOf s.0) (pos 1))
+    (All-cons (λ (p : Part). IsTermBelow state.next p.term) part [] less (All-nil (λ (p : Part). IsTermBelow state.next p.term)))
+    (record { parts = omega arith; constant = record { low = omega (arith, ints); high = omega (arith, ints) }; coefficients = omega arith })
+
+not_positive_fits : (style : Style) (state : State) (s : Sym) → s.0 < state.next → Fits style state.next [] (not_positive_rows s)
+not_positive_fits style state s less =
+    let part : Part = record { coefficient = negsuc 0; term = ValueOf s.0 } in
+    row_fits style state.next (at_most (ValueOf s.0) (pos 0))
+    (All-cons (λ (p : Part). IsTermBelow state.next p.term) part [] less (All-nil (λ (p : Part). IsTermBelow state.next p.term)))
+    (record { parts = omega arith; constant = record { low = omega (arith, ints); high = omega (arith, ints) }; coefficients = omega arith })
+
+above_kept : (style : Style) (admits : Cond) (state : State) (s : Sym) (o : Option ℤ) (hints : List Hint) (cases : Cases) → WellMade style state → s.0 < state.next
+    → above_cases admits state s o hints ≡ Ok cases → AreMade style cases
+above_kept style admits state s (Some n) hints cases made less e =
+    let same : record { states = state ∷ []; hints = hints } ≡ cases = cc in
+    subst (λ (c : Cases). AreMade style c) same (All-cons (WellMade style) state [] made (All-nil (WellMade style)))
+above_kept style admits state s None hints cases made less e =
+    weighed_both_made style admits (with_case [] (positive_rows s) state) (with_case [] (not_positive_rows s) state) hints cases
+    (case_made style state [] (positive_rows s) made (positive_fits style state s less))
+    (case_made style state [] (not_positive_rows s) made (not_positive_fits style state s less)) e
+
+-- each case of each test
+pub split_made : (style : Style) (admits : Cond) (state : State) (test : Test) (hints : List Hint) (cases : Cases) → WellMade style state → IsTestOf state test
+    → split_of admits state test hints ≡ Ok cases → All (WellMade style) cases.states
+split_made style admits state Empty hints cases made is e =
+    let f = field_cases state (λ one. empty_cases (first_said emptiness_said one.operand.0 state.facts) one hints) cases e in
+    empty_kept style state f.operand f.rest (first_said emptiness_said f.operand.0 state.facts) hints cases made f.tops f.given
+split_made style admits state IsMissing hints cases made is e =
+    let f = field_cases state (λ one. missing_cases (known_kind state.facts one.operand.0) one hints) cases e in
+    missing_kept style state f.operand f.rest (known_kind state.facts f.operand.0) hints cases made f.tops f.given
+split_made style admits state Equal hints cases made is e =
+    let f = pair_cases state (λ two. equal_by admits state (known_kind state.facts two.upper.0) two hints) cases e in
+    equal_kept style admits state f.lower f.upper f.rest (known_kind state.facts f.upper.0) hints cases made f.tops f.given
+split_made style admits state Less hints cases made is e =
+    let f = integers_cases state (λ two. integer_cases admits (less_decided state.facts two.lower two.upper)
+    (less_rows two.lower two.upper) (at_least_rows two.lower two.upper) two.rest hints) cases e in
+    let a = f.pair.lower in
+    let b = f.pair.upper in
+    let lower = second_below style state a b f.pair.rest made f.pair.tops in
+    let upper = one_below style state b (a ∷ f.pair.rest) made f.pair.tops in
+    integers_made style admits state f.pair.rest (less_decided state.facts a b) (less_rows a b) (at_least_rows a b) hints cases made
+    (two_rest style state a b f.pair.rest made f.pair.tops) (exceeding style state b a (pos 1) upper lower (bounded_one b.0 a.0))
+    (exceeding style state a b (pos 0) lower upper (bounded_none a.0 b.0)) f.pair.given
+split_made style admits state Greater hints cases made is e =
+    let f = integers_cases state (λ two. integer_cases admits (greater_decided state.facts two.lower two.upper)
+    (less_rows two.upper two.lower) (at_least_rows two.upper two.lower) two.rest hints) cases e in
+    let a = f.pair.lower in
+    let b = f.pair.upper in
+    let lower = second_below style state a b f.pair.rest made f.pair.tops in
+    let upper = one_below style state b (a ∷ f.pair.rest) made f.pair.tops in
+    integers_made style admits state f.pair.rest (greater_decided state.facts a b) (less_rows b a) (at_least_rows b a) hints cases made
+    (two_rest style state a b f.pair.rest made f.pair.tops) (exceeding style state a b (pos 1) lower upper (bounded_one a.0 b.0))
+    (exceeding style state b a (pos 0) upper lower (bounded_none b.0 a.0)) f.pair.given
+split_made style admits state (Above s) hints cases made is e = above_kept style admits state s (exact_integer state.facts s.0) hints cases made is e
