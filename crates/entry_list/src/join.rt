@@ -26,8 +26,8 @@ use std::alloc::Global;
 /// entry that `crossref` names, and `crossref` stays where that entry is in the list. Fields that the style doesn't
 /// declare are dropped.
 ///
-/// Keys are looked up in hash tables, so the time is linear in the citations, the entries of the databases and the
-/// fields of the list.
+/// Keys are looked up in hash tables, so the time is linear in the citations and the entries of the databases. Of each
+/// listed entry every field that the style declares is looked for among the entry's fields and its parent's.
 pub fn join(
     alloc: Global,
     style: &Style,
