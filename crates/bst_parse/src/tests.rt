@@ -14,66 +14,198 @@ fn at(column: u32) -> Place {
 
 /// Texts that are no style by a command or a name, each with its fault.
 const COMMAND_FAULTS: [(&[u8], StyleFault); 27] = [
-    (b"READ", StyleFault::ReadBeforeEntry(Place { line: 1, column: 1 })),
-    (b"INTEGERS{i} READ", StyleFault::ReadBeforeEntry(Place { line: 1, column: 13 })),
-    (b"FOO", StyleFault::UnknownCommand(Place { line: 1, column: 1 })),
-    (b"ENTRY{}{}{} READ X", StyleFault::UnknownCommand(Place { line: 1, column: 18 })),
-    (b"EXECUTE{skip$}", StyleFault::CommandBeforeRead(Place { line: 1, column: 1 })),
-    (b"ENTRY{}{}{} sort", StyleFault::CommandBeforeRead(Place { line: 1, column: 13 })),
-    (b"ENTRY{}{}{} ENTRY{}{}{}", StyleFault::SecondEntry(Place { line: 1, column: 13 })),
-    (b"ENTRY{}{}{} READ Entry", StyleFault::SecondEntry(Place { line: 1, column: 18 })),
-    (b"ENTRY{}{}{} READ READ", StyleFault::SecondRead(Place { line: 1, column: 18 })),
+    (
+        b"READ",
+        StyleFault::ReadBeforeEntry(Place { line: 1, column: 1 }),
+    ),
+    (
+        b"INTEGERS{i} READ",
+        StyleFault::ReadBeforeEntry(Place {
+            line: 1,
+            column: 13,
+        }),
+    ),
+    (
+        b"FOO",
+        StyleFault::UnknownCommand(Place { line: 1, column: 1 }),
+    ),
+    (
+        b"ENTRY{}{}{} READ X",
+        StyleFault::UnknownCommand(Place {
+            line: 1,
+            column: 18,
+        }),
+    ),
+    (
+        b"EXECUTE{skip$}",
+        StyleFault::CommandBeforeRead(Place { line: 1, column: 1 }),
+    ),
+    (
+        b"ENTRY{}{}{} sort",
+        StyleFault::CommandBeforeRead(Place {
+            line: 1,
+            column: 13,
+        }),
+    ),
+    (
+        b"ENTRY{}{}{} ENTRY{}{}{}",
+        StyleFault::SecondEntry(Place {
+            line: 1,
+            column: 13,
+        }),
+    ),
+    (
+        b"ENTRY{}{}{} READ Entry",
+        StyleFault::SecondEntry(Place {
+            line: 1,
+            column: 18,
+        }),
+    ),
+    (
+        b"ENTRY{}{}{} READ READ",
+        StyleFault::SecondRead(Place {
+            line: 1,
+            column: 18,
+        }),
+    ),
     (
         b"ENTRY{}{}{} READ SORT read",
-        StyleFault::SecondRead(Place { line: 1, column: 23 }),
+        StyleFault::SecondRead(Place {
+            line: 1,
+            column: 23,
+        }),
     ),
     (
         b"ENTRY{}{}{} READ MACRO{a}{\"x\"}",
-        StyleFault::MacroAfterRead(Place { line: 1, column: 18 }),
+        StyleFault::MacroAfterRead(Place {
+            line: 1,
+            column: 18,
+        }),
     ),
     (
         b"ENTRY{}{}{} READ SORT MACRO",
-        StyleFault::MacroAfterRead(Place { line: 1, column: 23 }),
+        StyleFault::MacroAfterRead(Place {
+            line: 1,
+            column: 23,
+        }),
     ),
     (
         b"ENTRY{}{}{} READ EXECUTE{sort.key$}",
-        StyleFault::NotCallable(Place { line: 1, column: 26 }),
+        StyleFault::NotCallable(Place {
+            line: 1,
+            column: 26,
+        }),
     ),
     (
         b"ENTRY{T}{}{} READ iterate{t}",
-        StyleFault::NotCallable(Place { line: 1, column: 27 }),
+        StyleFault::NotCallable(Place {
+            line: 1,
+            column: 27,
+        }),
     ),
     (
         b"ENTRY{}{}{} READ REVERSE{f}",
-        StyleFault::UnknownName(Place { line: 1, column: 26 }),
+        StyleFault::UnknownName(Place {
+            line: 1,
+            column: 26,
+        }),
     ),
     (
         b"MACRO{a}{\"x\"} MACRO{a}{\"y\"}",
-        StyleFault::AlreadyDefined(Place { line: 1, column: 21 }),
+        StyleFault::AlreadyDefined(Place {
+            line: 1,
+            column: 21,
+        }),
     ),
     (
         b"MACRO{a}{\"x\"} MACRO{b}{\"\"} MACRO{A}{\"y\"}",
-        StyleFault::AlreadyDefined(Place { line: 1, column: 34 }),
+        StyleFault::AlreadyDefined(Place {
+            line: 1,
+            column: 34,
+        }),
     ),
-    (b"ENTRY{crossref}{}{}", StyleFault::AlreadyDefined(Place { line: 1, column: 7 })),
-    (b"STRINGS{a b A}", StyleFault::AlreadyDefined(Place { line: 1, column: 13 })),
-    (b"FUNCTION{skip$}{}", StyleFault::AlreadyDefined(Place { line: 1, column: 10 })),
-    (b"ENTRY{a,b}{}{}", StyleFault::Expected(Place { line: 1, column: 7 }, Shape::Name)),
-    (b"FUNCTION{1a}{}", StyleFault::Expected(Place { line: 1, column: 10 }, Shape::Name)),
+    (
+        b"ENTRY{crossref}{}{}",
+        StyleFault::AlreadyDefined(Place { line: 1, column: 7 }),
+    ),
+    (
+        b"STRINGS{a b A}",
+        StyleFault::AlreadyDefined(Place {
+            line: 1,
+            column: 13,
+        }),
+    ),
+    (
+        b"FUNCTION{skip$}{}",
+        StyleFault::AlreadyDefined(Place {
+            line: 1,
+            column: 10,
+        }),
+    ),
+    (
+        b"ENTRY{a,b}{}{}",
+        StyleFault::Expected(Place { line: 1, column: 7 }, Shape::Name),
+    ),
+    (
+        b"FUNCTION{1a}{}",
+        StyleFault::Expected(
+            Place {
+                line: 1,
+                column: 10,
+            },
+            Shape::Name,
+        ),
+    ),
     (
         b"FUNCTION f",
-        StyleFault::Expected(Place { line: 1, column: 10 }, Shape::OpenBrace),
+        StyleFault::Expected(
+            Place {
+                line: 1,
+                column: 10,
+            },
+            Shape::OpenBrace,
+        ),
     ),
     (
         b"FUNCTION{f g}{}",
-        StyleFault::Expected(Place { line: 1, column: 12 }, Shape::CloseBrace),
+        StyleFault::Expected(
+            Place {
+                line: 1,
+                column: 12,
+            },
+            Shape::CloseBrace,
+        ),
     ),
-    (b"MACRO{a}{b}", StyleFault::Expected(Place { line: 1, column: 10 }, Shape::Text)),
+    (
+        b"MACRO{a}{b}",
+        StyleFault::Expected(
+            Place {
+                line: 1,
+                column: 10,
+            },
+            Shape::Text,
+        ),
+    ),
     (
         b"ENTRY{}{}{} READ EXECUTE{'skip$}",
-        StyleFault::Expected(Place { line: 1, column: 26 }, Shape::Name),
+        StyleFault::Expected(
+            Place {
+                line: 1,
+                column: 26,
+            },
+            Shape::Name,
+        ),
     ),
-    (b"ENTRY{}{}{} {", StyleFault::Expected(Place { line: 1, column: 13 }, Shape::Name)),
+    (
+        b"ENTRY{}{}{} {",
+        StyleFault::Expected(
+            Place {
+                line: 1,
+                column: 13,
+            },
+            Shape::Name,
+        ),
+    ),
 ];
 
 #[test]
@@ -87,66 +219,168 @@ fn faults_of_commands_and_names(rt: HostRuntime) -> Result<(), Fail> {
 
 /// Texts that are no style by a body or a lexeme, each with its fault.
 const BODY_FAULTS: [(&[u8], StyleFault); 24] = [
-    (b"FUNCTION{f}{f}", StyleFault::SelfUse(Place { line: 1, column: 13 })),
-    (b"FUNCTION{f}{{skip$ 'F}}", StyleFault::SelfUse(Place { line: 1, column: 20 })),
-    (b"FUNCTION{f}{g}", StyleFault::UnknownName(Place { line: 1, column: 13 })),
-    (b"FUNCTION{f}{' }", StyleFault::UnknownName(Place { line: 1, column: 13 })),
+    (
+        b"FUNCTION{f}{f}",
+        StyleFault::SelfUse(Place {
+            line: 1,
+            column: 13,
+        }),
+    ),
+    (
+        b"FUNCTION{f}{{skip$ 'F}}",
+        StyleFault::SelfUse(Place {
+            line: 1,
+            column: 20,
+        }),
+    ),
+    (
+        b"FUNCTION{f}{g}",
+        StyleFault::UnknownName(Place {
+            line: 1,
+            column: 13,
+        }),
+    ),
+    (
+        b"FUNCTION{f}{' }",
+        StyleFault::UnknownName(Place {
+            line: 1,
+            column: 13,
+        }),
+    ),
     (
         b"FUNCTION{f}{f{",
-        StyleFault::Lex(LexFault::StuffAfterToken(Place { line: 1, column: 14 })),
+        StyleFault::Lex(LexFault::StuffAfterToken(Place {
+            line: 1,
+            column: 14,
+        })),
     ),
     (
         b"FUNCTION{f}{'{",
-        StyleFault::Lex(LexFault::StuffAfterToken(Place { line: 1, column: 14 })),
+        StyleFault::Lex(LexFault::StuffAfterToken(Place {
+            line: 1,
+            column: 14,
+        })),
     ),
     (
         b"FUNCTION{f}{#}",
-        StyleFault::Lex(LexFault::BadInteger(Place { line: 1, column: 13 })),
+        StyleFault::Lex(LexFault::BadInteger(Place {
+            line: 1,
+            column: 13,
+        })),
     ),
     (
         b"FUNCTION{f}{#2147483648}",
-        StyleFault::Lex(LexFault::IntegerRange(Place { line: 1, column: 13 })),
+        StyleFault::Lex(LexFault::IntegerRange(Place {
+            line: 1,
+            column: 13,
+        })),
     ),
     (
         b"FUNCTION{f}{#-2147483649}",
-        StyleFault::Lex(LexFault::IntegerRange(Place { line: 1, column: 13 })),
+        StyleFault::Lex(LexFault::IntegerRange(Place {
+            line: 1,
+            column: 13,
+        })),
     ),
     (
         b"FUNCTION{f}{#99999999999x}",
-        StyleFault::Lex(LexFault::StuffAfterToken(Place { line: 1, column: 25 })),
+        StyleFault::Lex(LexFault::StuffAfterToken(Place {
+            line: 1,
+            column: 25,
+        })),
     ),
     (
         b"FUNCTION{f}{\"a",
-        StyleFault::Lex(LexFault::NoEndQuote(Place { line: 1, column: 13 })),
+        StyleFault::Lex(LexFault::NoEndQuote(Place {
+            line: 1,
+            column: 13,
+        })),
     ),
     (
         b"FUNCTION{f}{\"a\n\"}",
-        StyleFault::Lex(LexFault::NoEndQuote(Place { line: 1, column: 13 })),
+        StyleFault::Lex(LexFault::NoEndQuote(Place {
+            line: 1,
+            column: 13,
+        })),
     ),
     (
         b"FUNCTION{f}{skip$\x01}",
-        StyleFault::Lex(LexFault::IllegalByte(Place { line: 1, column: 18 })),
+        StyleFault::Lex(LexFault::IllegalByte(Place {
+            line: 1,
+            column: 18,
+        })),
     ),
     (
         b"INTEGERS{a\x7f}",
-        StyleFault::Lex(LexFault::IllegalByte(Place { line: 1, column: 11 })),
+        StyleFault::Lex(LexFault::IllegalByte(Place {
+            line: 1,
+            column: 11,
+        })),
     ),
-    (b"ENTRY{}{}", StyleFault::EndOfFile(Place { line: 1, column: 10 })),
-    (b"FUNCTION{f}{{} % }", StyleFault::EndOfFile(Place { line: 1, column: 19 })),
+    (
+        b"ENTRY{}{}",
+        StyleFault::EndOfFile(Place {
+            line: 1,
+            column: 10,
+        }),
+    ),
+    (
+        b"FUNCTION{f}{{} % }",
+        StyleFault::EndOfFile(Place {
+            line: 1,
+            column: 19,
+        }),
+    ),
     (
         b"FUNCTION{f}{\n",
         StyleFault::EndOfFile(Place { line: 2, column: 1 }),
     ),
-    (b"INTEGERS{", StyleFault::EndOfFile(Place { line: 1, column: 10 })),
-    (b"STRINGS", StyleFault::EndOfFile(Place { line: 1, column: 8 })),
-    (b"MACRO{a}{\"x\"", StyleFault::EndOfFile(Place { line: 1, column: 13 })),
-    (b"ENTRY{}{}{} READ EXECUTE", StyleFault::EndOfFile(Place { line: 1, column: 25 })),
-    (b"ENTRY{}{}{} READ ITERATE{", StyleFault::EndOfFile(Place { line: 1, column: 26 })),
+    (
+        b"INTEGERS{",
+        StyleFault::EndOfFile(Place {
+            line: 1,
+            column: 10,
+        }),
+    ),
+    (
+        b"STRINGS",
+        StyleFault::EndOfFile(Place { line: 1, column: 8 }),
+    ),
+    (
+        b"MACRO{a}{\"x\"",
+        StyleFault::EndOfFile(Place {
+            line: 1,
+            column: 13,
+        }),
+    ),
+    (
+        b"ENTRY{}{}{} READ EXECUTE",
+        StyleFault::EndOfFile(Place {
+            line: 1,
+            column: 25,
+        }),
+    ),
+    (
+        b"ENTRY{}{}{} READ ITERATE{",
+        StyleFault::EndOfFile(Place {
+            line: 1,
+            column: 26,
+        }),
+    ),
     (
         b"ENTRY{}{}{} READ REVERSE{skip$",
-        StyleFault::EndOfFile(Place { line: 1, column: 31 }),
+        StyleFault::EndOfFile(Place {
+            line: 1,
+            column: 31,
+        }),
     ),
-    (b"FUNCTION{f}", StyleFault::EndOfFile(Place { line: 1, column: 12 })),
+    (
+        b"FUNCTION{f}",
+        StyleFault::EndOfFile(Place {
+            line: 1,
+            column: 12,
+        }),
+    ),
 ];
 
 #[test]
