@@ -698,12 +698,10 @@ fn worked_example(rt: HostRuntime) -> Result<(), Fail> {
     Ok(())
 }
 
-/// Whether 64 rows, each taken 4294967295 times, show 64 values and a constant of 2^45 by that divisor.
-fn greatest(alloc: Global, constant: i64, uses: usize) -> Result<bool, NoMemory>
-    requires low { pos 0 ≤ℤ constant }
-    requires high { constant ≤ℤ pos 35184372088832 }
+/// A state with the row 2^39 + value 0 >= 0.
+fn greatest_state(alloc: Global) -> Result<State, NoMemory>
+    ensures { IfOk result HasBounds }
 {
-    let mut state = known_state(alloc, false)?;
     let part = Part {
         coefficient: 1,
         term: Term::Value(0),
@@ -712,9 +710,29 @@ fn greatest(alloc: Global, constant: i64, uses: usize) -> Result<bool, NoMemory>
         constant: 549755813888,
         parts: Seq::from_vec([part].to_vec(alloc)?),
     };
-    state.rows.push(used)?;
+    let mut rows = Seq::new(alloc);
+    rows.push(used)?;
+    Ok(State {
+        alloc,
+        stack: Seq::new(alloc),
+        whole: false,
+        at_entry: false,
+        vars: Seq::new(alloc),
+        fields: Seq::new(alloc),
+        facts: Seq::new(alloc),
+        rows,
+        next: 1,
+    })
+}
+
+/// Whether so many uses of that row, each taken 4294967295 times, show 64 values and a constant by that divisor.
+fn greatest(alloc: Global, constant: i64, uses: usize) -> Result<bool, NoMemory>
+    requires low { pos 0 ≤ℤ constant }
+    requires high { constant ≤ℤ pos 35184372088832 }
+{
+    let state = greatest_state(alloc)?;
     let take = Use {
-        reference: Reference::Row(1),
+        reference: Reference::Row(0),
         times: 4294967295,
     };
     let proof = Proof {
