@@ -12,11 +12,11 @@ use Rattle.sym_state.specs.declared.proof.Use.{Use}
 use Rattle.sym_state.specs.References.{row_uses}
 use Rattle.sym_state.specs.WellMade.{IsBounded, size}
 
-within_size : (bound : ℕ) (z : ℤ) → size z ≤ bound → IsWithin bound z
+pub within_size : (bound : ℕ) (z : ℤ) → size z ≤ bound → IsWithin bound z
 within_size bound (pos n) h = record { low = omega (arith, ints); high = omega (arith, ints) }
 within_size bound (negsuc n) h = record { low = omega (arith, ints); high = omega (arith, ints) }
 
-each_within : (bound : ℕ) (parts : List Part) → sum_by (λ part. size part.coefficient) parts ≤ bound → All (λ part. IsWithin bound part.coefficient) parts
+pub each_within : (bound : ℕ) (parts : List Part) → sum_by (λ part. size part.coefficient) parts ≤ bound → All (λ part. IsWithin bound part.coefficient) parts
 each_within bound [] h = All-nil (λ part. IsWithin bound part.coefficient)
 each_within bound (part ∷ parts) h =
     let sum = sum_by-cons (λ (p : Part). size p.coefficient) part parts in

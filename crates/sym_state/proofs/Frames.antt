@@ -77,29 +77,26 @@ pub rows_agree : (next : ℕ) (v w : Valuation) (rows : List Row) → Agrees nex
     → All (λ row. All (λ part. IsTermBelow next part.term) row.parts) rows
     → AllByRecursion (Holds (numbers v)) rows → AllByRecursion (Holds (numbers w)) rows
 rows_agree next v w [] a all h = tt
-rows_agree next v w (row ∷ rows) a all h =
-    (
-      row_agrees next v w row a (All-head (λ row. All (λ part. IsTermBelow next part.term) row.parts) row rows all) h.0,
-      rows_agree next v w rows a (All-tail (λ row. All (λ part. IsTermBelow next part.term) row.parts) row rows all) h.1,
-    )
+rows_agree next v w (row ∷ rows) a all h = (
+  row_agrees next v w row a (All-head (λ row. All (λ part. IsTermBelow next part.term) row.parts) row rows all) h.0,
+  rows_agree next v w rows a (All-tail (λ row. All (λ part. IsTermBelow next part.term) row.parts) row rows all) h.1,
+)
 
 pub facts_agree : (style : Style) (next : ℕ) (v w : Valuation) (facts : List Fact) → Agrees next v w → All (λ fact. subject fact < next) facts
     → AllByRecursion (FactHolds style v) facts → AllByRecursion (FactHolds style w) facts
 facts_agree style next v w [] a all h = tt
-facts_agree style next v w (fact ∷ facts) a all h =
-    (
-      subst (Says style fact) (sym (a.value (subject fact) (All-head (λ fact. subject fact < next) fact facts all))) h.0,
-      facts_agree style next v w facts a (All-tail (λ fact. subject fact < next) fact facts all) h.1,
-    )
+facts_agree style next v w (fact ∷ facts) a all h = (
+  subst (Says style fact) (sym (a.value (subject fact) (All-head (λ fact. subject fact < next) fact facts all))) h.0,
+  facts_agree style next v w facts a (All-tail (λ fact. subject fact < next) fact facts all) h.1,
+)
 
 pub binds_agree : (style : Style) (next : ℕ) (v w : Valuation) (c : Config) (binds : List Bind) → Agrees next v w
     → All (λ bind. bind.sym.0 < next) binds → AllByRecursion (IsBound style v c) binds → AllByRecursion (IsBound style w c) binds
 binds_agree style next v w c [] a all h = tt
-binds_agree style next v w c (bind ∷ binds) a all h =
-    (
-      h.0 ∙ ap Some (sym (a.value bind.sym.0 (All-head (λ bind. bind.sym.0 < next) bind binds all))),
-      binds_agree style next v w c binds a (All-tail (λ bind. bind.sym.0 < next) bind binds all) h.1,
-    )
+binds_agree style next v w c (bind ∷ binds) a all h = (
+  h.0 ∙ ap Some (sym (a.value bind.sym.0 (All-head (λ bind. bind.sym.0 < next) bind binds all))),
+  binds_agree style next v w c binds a (All-tail (λ bind. bind.sym.0 < next) bind binds all) h.1,
+)
 
 abbrev value_list : Valuation → List Sym → List Value
 value_list v syms = map (λ s. v.value s.0) syms

@@ -39,9 +39,9 @@ known_kind_holds style v s facts all =
           subst (λ (kind : Kinds). has_kind kind (v.value s) ≡ true) (single_is (kind_said source.fact) k source.says)
           (kind_holds style (v.value s) source.fact source.holds)
       | None ↦ λ e. elim wide as (λ (t : Bool). wide ≡ t → has_kind (cond t Optional Any) (v.value s) ≡ true) [
-            | true ↦ λ found. some_gives style v s facts (Is (record { 0 = 0 }) Optional) all found
-            | false ↦ λ found. refl
-          ] refl
+        | true ↦ λ found. some_gives style v s facts (Is (record { 0 = 0 }) Optional) all found
+        | false ↦ λ found. refl
+      ] refl
     ] refl
 
 -- an operand is of the kind that is demanded

@@ -12,6 +12,7 @@ pub mod Reading
 pub mod Saying
 pub mod Shown
 pub mod Started
+pub mod Sums
 pub mod Frames
 pub mod KnownKinds
 pub mod Pushing

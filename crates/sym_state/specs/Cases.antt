@@ -23,6 +23,7 @@ use Rattle.sym_state.specs.declared.symbol.Kinds.{Kinds}
 use Rattle.sym_state.specs.declared.symbol.Kinds.TheVariants.{Int, Str, Missing, Optional}
 use Rattle.sym_state.specs.Decided.{emptiness_said, exact_integer, exact_text, first_said, known_kind}
 use Rattle.sym_state.specs.Demands.{fails, is_of_kind}
+pub use Rattle.sym_state.specs.Demands.{HasFewUses}
 use Rattle.sym_state.specs.References.{at_least, at_most, exceeds, shows}
 use Rattle.sym_state.specs.Results.{next_of, row, with_result, sum_of_two}
 
@@ -290,8 +291,3 @@ abbrev pub IsTestOf : State → Test → Type 0
 IsTestOf state (Above s) = s.0 < state.next
 IsTestOf state _ = Unit {0}
 
--- a proof of a hint takes no more rows than can be added up
-abbrev pub HasFewUses : Hint → Type 0
-HasFewUses (Drop proof) = length proof.uses ≤ 64
-HasFewUses (Step proof) = length proof.uses ≤ 64
-HasFewUses _ = Unit {0}

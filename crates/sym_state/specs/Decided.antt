@@ -122,6 +122,11 @@ function_said _ = None
 abbrev pub exact_function : List Fact → ℕ → Option Function
 exact_function facts s = first_said function_said s facts
 
+-- the name of a function that has one
+abbrev pub name_of : Function → Option NameId
+name_of (ByName name) = Some name
+name_of (ByNumber number) = None
+
 -- a symbol is known nonblank where the first fact that decides `empty$` decides 0
 abbrev pub is_known_nonblank : List Fact → ℕ → Bool
 is_known_nonblank facts s = option_map_or not (first_said emptiness_said s facts) false

@@ -1,6 +1,6 @@
 -- What built-in functions demand of a state, and the hints that they take (docs/EFFECTS.md, "Demands" and "Steps"). Demands come
 -- in the order of the machine's faults: an operand that isn't there, the kinds from the top operand down, and then the others.
-use Rattle.std.specs.Prelude.{ℕ, Bool, if◌then◌else◌, List, [], ◌∷◌, reverse, Result, Ok, Err}
+use Rattle.std.specs.Prelude.{ℕ, ◌≤◌, Bool, if◌then◌else◌, List, [], ◌∷◌, length, reverse, Result, Ok, Err}
 use Rattle.lin_facts.specs.declared.row.Row.{Row}
 use Rattle.bst_meaning.specs.declared.condition.Cond.{Cond}
 use Rattle.sym_state.specs.declared.demand.DemandKind.{DemandKind}
@@ -8,7 +8,7 @@ use Rattle.sym_state.specs.declared.demand.DemandKind.TheVariants.{EmptyPop, Wro
 use Rattle.sym_state.specs.declared.demand.EffectFault.{EffectFault}
 use Rattle.sym_state.specs.declared.demand.EffectFault.TheVariants.{Demand, NotEntailed, HintsShort, WrongHint}
 use Rattle.sym_state.specs.declared.hint.Hint.{Hint}
-use Rattle.sym_state.specs.declared.hint.Hint.TheVariants.{Step, Plain}
+use Rattle.sym_state.specs.declared.hint.Hint.TheVariants.{Step, Plain, Drop}
 use Rattle.sym_state.specs.declared.proof.Proof.{Proof}
 use Rattle.sym_state.specs.declared.state.State.{State}
 use Rattle.sym_state.specs.declared.symbol.Sym.{Sym}
@@ -73,6 +73,12 @@ is_of_kind state kind s = includes kind (known_kind state.facts s.0)
 
 abbrev pub of_kind : State → Kinds → ℕ → Sym → Outcome → Outcome
 of_kind state kind operand s next = demand (is_of_kind state kind s) WrongKind operand next
+
+-- a hint whose proof, where it has one, uses at most 64 rows
+abbrev pub HasFewUses : Hint → Type 0
+HasFewUses (Step proof) = length proof.uses ≤ 64
+HasFewUses (Drop proof) = length proof.uses ≤ 64
+HasFewUses _ = Unit {0}
 
 -- the next hint is a step that shows a row, or else this fault; a hint of another sort is wrong
 abbrev pub step_by : Cond → State → Row → EffectFault → Hint → List Hint → (List Hint → Outcome) → Outcome

@@ -63,9 +63,9 @@ summed cond state sign a b rest None hints =
     (sum_of_two (pos 2147483647) (negsuc 0) (Value a.0) (neg_ℤ sign) (Value b.0))
     (fails IntRange 0) hints (λ left.
     gives left (with_result Int [] (
-      sum_of_three (pos 0) (pos 1) (Value r.0) (negsuc 0) (Value a.0) (neg_ℤ sign) (Value b.0)
-      ∷ sum_of_three (pos 0) (negsuc 0) (Value r.0) (pos 1) (Value a.0) sign (Value b.0)
-      ∷ []
+    sum_of_three (pos 0) (pos 1) (Value r.0) (negsuc 0) (Value a.0) (neg_ℤ sign) (Value b.0)
+    ∷ sum_of_three (pos 0) (negsuc 0) (Value r.0) (pos 1) (Value a.0) sign (Value b.0)
+    ∷ []
     ) rest))
 
 abbrev pub sum : Cond → State → ℤ → (ℤ → ℤ → ℤ) → List Hint → Outcome
@@ -80,9 +80,9 @@ join state hints = two_operands state (λ a b rest.
     of_kind state Str 1 b (of_kind state Str 2 a (gives hints (with_result Str
     (nonblank_where (is_known_nonblank state.facts a.0 || is_known_nonblank state.facts b.0) r)
     (
-      sum_of_three (pos 0) (pos 1) (Length r.0) (negsuc 0) (Length a.0) (negsuc 0) (Length b.0)
-      ∷ sum_of_three (pos 0) (negsuc 0) (Length r.0) (pos 1) (Length a.0) (pos 1) (Length b.0)
-      ∷ []
+    sum_of_three (pos 0) (pos 1) (Length r.0) (negsuc 0) (Length a.0) (negsuc 0) (Length b.0)
+    ∷ sum_of_three (pos 0) (negsuc 0) (Length r.0) (pos 1) (Length a.0) (pos 1) (Length b.0)
+    ∷ []
     ) rest))))
 
 -- `:=`: a string that may be longer than its variable is another one once it is cut
@@ -224,15 +224,21 @@ is_length _ = false
 abbrev pub known_size : Option ℤ → ℕ
 known_size found = option_map_or size found 0
 
+abbrev pub of_length : ℕ → List Hint → State → Outcome
+of_length size hints rest =
+    let r = next_of rest in
+    gives hints (with_result Str [] (at_least (Length r.0) (pos size) ∷ at_most (Length r.0) (pos size) ∷ []) rest)
+
+abbrev pub shorter : Sym → Option ℤ → List Hint → State → Outcome
+shorter a len hints rest =
+    let r = next_of rest in
+    gives hints (with_result Str [] (exceeds (Length a.0) (Length r.0) (pos 0) ∷ at_most_known len r) rest)
+
 abbrev pub substring_of : Cond → State → Sym → Option ℤ → Option ℤ → State → List Hint → Outcome
 substring_of cond state a start len rest hints =
-    let r = next_of rest in
     choice cond state (is_start start && is_length len)
     (at_least (Length a.0) (pos (known_size start + known_size len - 1))) hints
-    (λ left. gives left (with_result Str []
-    (at_least (Length r.0) (pos (known_size len)) ∷ at_most (Length r.0) (pos (known_size len)) ∷ []) rest))
-    (λ left. gives left (with_result Str []
-    (exceeds (Length a.0) (Length r.0) (pos 0) ∷ at_most_known len r) rest))
+    (λ left. of_length (known_size len) left rest) (λ left. shorter a len left rest)
 
 abbrev pub substring : Cond → State → List Hint → Outcome
 substring cond state hints = three_operands state (λ a b c rest.
@@ -257,6 +263,18 @@ abbrev pub log_stack : State → List Hint → Outcome
 log_stack state hints = demand state.whole WholeStack 0 (gives hints (record state { stack = [] }))
 
 -- the built-in functions that are neither a test nor enter a function
+abbrev pub is_plain : Builtin → Bool
+is_plain op.Equal = false
+is_plain op.Greater = false
+is_plain op.Less = false
+is_plain op.Empty = false
+is_plain op.Missing = false
+is_plain op.CallType = false
+is_plain op.IfElse = false
+is_plain op.WhileDo = false
+is_plain _ = true
+
+-- their effects
 abbrev pub effect_of : Style → Cond → State → Builtin → List Hint → Outcome
 effect_of style cond state op.Plus hints = sum cond state (pos 1) (λ a b. a +ℤ b) hints
 effect_of style cond state op.Minus hints = sum cond state (negsuc 0) (λ a b. a -ℤ b) hints

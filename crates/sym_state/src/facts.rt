@@ -2,7 +2,7 @@
 
 ghost use Rattle.std.specs.Prelude.{◌≡◌, ◌≤◌, ◌^◌, ◌&&◌, false, nat_eq, length, option_map, IfSome};
 ghost use Rattle.std.specs.List.{All, list_any};
-ghost use Rattle.std.specs.Option.{option_map_or};
+ghost use Rattle.std.specs.Option.{option_and_then, option_map_or};
 ghost use Rattle.std.specs.Ordering.{int_eq};
 ghost use Rattle.std.specs.Cmp.Lexicographic.{pointwise};
 ghost use Rattle.sym_state.specs.Decided as decided;
@@ -11,6 +11,7 @@ ghost use Rattle.sym_state.specs.WellMade.{HasShortText};
 
 use crate::symbol::{Fact, Kinds, Sym};
 use name_split::names::names_ok;
+use name_table::names::NameId;
 use text_ops::is_blank::is_blank;
 
 /// The exact integer of a symbol.
@@ -54,6 +55,29 @@ pub fn known_emptiness(facts: &[Fact], sym: Sym) -> Option<bool>
         }
     }
     None
+}
+
+/// The name of a symbol that is exactly the function of that name.
+pub fn exact_name(facts: &[Fact], sym: Sym) -> Option<NameId>
+    ensures { result ≡ option_and_then decided.name_of (decided.exact_function facts.now sym.0) }
+{
+    for fact in facts {
+        if subject(fact).0 == sym.0 {
+            match fact {
+                Fact::Call(_, name) => return Some(*name),
+                Fact::Block(_, _) => return None,
+                _ => {}
+            }
+        }
+    }
+    None
+}
+
+/// Whether a kind includes that of a symbol.
+pub fn is_of_kind(facts: &[Fact], kind: Kinds, sym: Sym) -> bool
+    ensures { result ≡ decided.includes kind (decided.known_kind facts.now sym.0) }
+{
+    includes(kind, known_kind(facts, sym))
 }
 
 /// Whether the first fact on a symbol that decides `empty$` decides 0.

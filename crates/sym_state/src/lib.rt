@@ -14,6 +14,7 @@ pub mod piece;
 pub mod proof;
 pub mod raising;
 pub mod references;
+pub mod results;
 pub mod shows;
 pub mod start;
 pub mod state;
