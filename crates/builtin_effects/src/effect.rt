@@ -1,0 +1,91 @@
+//! The effect of a built-in function.
+
+ghost use Rattle.std.specs.Prelude.{◌≡◌, ◌≢◌, ◌<◌, true, Ok, Err, OnErr, IfOk, IfErr};
+ghost use Rattle.std.specs.List.{All};
+ghost use Rattle.sym_state.specs.declared.demand.EffectFault.TheVariants.{NoMemory as WantOfMemory};
+ghost use Rattle.sym_state.specs.Demands.{HasFewUses};
+ghost use Rattle.sym_state.specs.Effects.{effect_of, is_plain};
+ghost use Rattle.sym_state.specs.WellMade.{HasBounds};
+ghost use Rattle.builtin_effects.specs.Given.{Gives};
+
+use crate::assign::assign;
+use crate::moves;
+use crate::numbers;
+use crate::operands::unmet;
+use crate::substring::substring;
+use crate::surroundings;
+use crate::texts;
+use bst_meaning::condition::Cond;
+use name_table::builtin::Builtin;
+use name_table::style::Style;
+use sym_state::demand::{DemandKind, EffectFault};
+use sym_state::hint::Hints;
+use sym_state::state::State;
+
+/// What a built-in function gives of a state, or the first demand that isn't met, or why its hints don't serve. After a
+/// fault the cursor stands where it stood. The tests, and what enters a function, have no effect of this kind.
+pub fn effect(
+    style: &Style,
+    state: &State,
+    cond: &Cond,
+    op: Builtin,
+    hints: &mut Hints<'_>,
+) -> Result<State, EffectFault>
+    requires bounds { HasBounds state.now }
+    requires next { state.now.next < 4294967295 }
+    requires plain { is_plain op ≡ true }
+    requires hints { All HasFewUses hints.old }
+    ensures ok { IfOk result (λ after. effect_of style.now cond.now state.now op hints.old ≡ Ok (record { state = after; hints = hints.new })) }
+    ensures fault { IfErr result (λ fault. fault ≢ WantOfMemory → effect_of style.now cond.now state.now op hints.old ≡ Err fault) }
+    ensures cursor { OnErr result (hints.new ≡ hints.old) }
+{
+    let mut left = Hints::new(hints.rest());
+    let after = effect_by(style, state, cond, op, &mut left)?;
+    *hints = left;
+    Ok(after)
+}
+
+/// The same, with a cursor that may have moved after a fault.
+fn effect_by(
+    style: &Style,
+    state: &State,
+    cond: &Cond,
+    op: Builtin,
+    hints: &mut Hints<'_>,
+) -> Result<State, EffectFault>
+    requires state { HasBounds state.now }
+    requires next { state.now.next < 4294967295 }
+    requires hints { All HasFewUses hints.old }
+    ensures { Gives result hints.new (effect_of style.now cond.now state.now op hints.old) }
+{
+    let alloc = state.alloc;
+    match op {
+        Builtin::Plus => numbers::plus(alloc, state, cond, hints),
+        Builtin::Minus => numbers::minus(alloc, state, cond, hints),
+        Builtin::Join => texts::join(alloc, state),
+        Builtin::Assign => assign(alloc, style, state, cond, hints),
+        Builtin::AddPeriod => texts::add_period(alloc, state),
+        Builtin::ChangeCase => texts::change_case(alloc, state),
+        Builtin::ChrToInt => numbers::chr_to_int(alloc, state, cond, hints),
+        Builtin::Cite => surroundings::cite(alloc, state, cond),
+        Builtin::Duplicate => moves::duplicate(state),
+        Builtin::FormatName => texts::format_name(alloc, state, cond, hints),
+        Builtin::IntToChr => numbers::int_to_chr(alloc, state, cond, hints),
+        Builtin::IntToStr => numbers::int_to_str(alloc, state),
+        Builtin::Newline | Builtin::Skip => moves::same(state),
+        Builtin::NumNames => numbers::num_names(alloc, state, cond, hints),
+        Builtin::Pop | Builtin::Top => moves::pop(state),
+        Builtin::Preamble => surroundings::preamble(alloc, state, cond),
+        Builtin::Purify => texts::purify(alloc, state),
+        Builtin::Quote => surroundings::quote(alloc, state),
+        Builtin::Stack => moves::log_stack(state),
+        Builtin::Substring => substring(alloc, state, cond, hints),
+        Builtin::Swap => moves::swap(state),
+        Builtin::TextLength => numbers::text_length(alloc, state, cond, hints),
+        Builtin::TextPrefix => texts::text_prefix(state),
+        Builtin::TypeName => surroundings::type_name(state),
+        Builtin::Warning | Builtin::Write => moves::pop_string(state),
+        Builtin::Width => numbers::width(alloc, state, cond, hints),
+        _ => Err(unmet(DemandKind::WrongKind, 0)),
+    }
+}

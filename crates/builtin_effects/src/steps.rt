@@ -1,0 +1,175 @@
+//! Steps of hints (docs/EFFECTS.md, "Steps").
+
+ghost use Rattle.std.specs.Prelude.{◌≡◌, ◌≢◌, List, [], ◌∷◌, Err, if◌then◌else◌, IfSome, MatchOption, MatchResult};
+ghost use Rattle.std.specs.List.{All};
+ghost use Rattle.sym_state.specs.declared.demand.EffectFault.TheVariants.{NoMemory as WantOfMemory};
+ghost use Rattle.sym_state.specs.declared.hint.Hint.{Hint};
+ghost use Rattle.sym_state.specs.Demands as rule;
+ghost use Rattle.sym_state.specs.Demands.{Outcome, HasFewUses};
+ghost use Rattle.sym_state.specs.WellMade.{HasBounds, IsBounded};
+
+use bst_meaning::condition::Cond;
+use lin_facts::row::Row;
+use std::alloc::Global;
+use sym_state::demand::EffectFault;
+use sym_state::hint::{Hint, Hints};
+use sym_state::shows::shows;
+use sym_state::state::State;
+
+/// Takes a step that shows a row; where it doesn't, this is the fault.
+pub fn step(
+    alloc: Global,
+    state: &State,
+    cond: &Cond,
+    row: &Row,
+    fault: EffectFault,
+    hints: &mut Hints<'_>,
+) -> Result<(), EffectFault>
+    requires state { HasBounds state.now }
+    requires row { IsBounded row.now }
+    requires hints { All HasFewUses hints.old }
+    ensures few { All HasFewUses hints.new }
+    ensures taken { MatchResult result
+        (λ _. (next : List Hint → Outcome) → rule.step cond.now state.now row.now fault hints.old next ≡ next hints.new)
+        (λ f. f ≢ WantOfMemory → (next : List Hint → Outcome) → rule.step cond.now state.now row.now fault hints.old next ≡ Err f) }
+{
+    match taken(hints) {
+        Some(hint) => step_by(alloc, state, cond, row, fault, hint),
+        None => Err(EffectFault::HintsShort),
+    }
+}
+
+/// Whether a hint is a step that shows a row; where it doesn't, this is the fault.
+fn step_by(
+    alloc: Global,
+    state: &State,
+    cond: &Cond,
+    row: &Row,
+    fault: EffectFault,
+    hint: &Hint,
+) -> Result<(), EffectFault>
+    requires state { HasBounds state.now }
+    requires row { IsBounded row.now }
+    requires hint { HasFewUses hint.now }
+    ensures { MatchResult result
+        (λ _. (left : List Hint) (next : List Hint → Outcome) → rule.step_by cond.now state.now row.now fault hint.now left next ≡ next left)
+        (λ f. f ≢ WantOfMemory → (left : List Hint) (next : List Hint → Outcome)
+            → rule.step_by cond.now state.now row.now fault hint.now left next ≡ Err f) }
+{
+    match hint {
+        Hint::Step(proof) => {
+            if shows(alloc, state, cond, proof, row)? {
+                Ok(())
+            } else {
+                Err(fault)
+            }
+        }
+        Hint::Apply(_) => Err(EffectFault::WrongHint),
+        Hint::Walk => Err(EffectFault::WrongHint),
+        Hint::Loop(_) => Err(EffectFault::WrongHint),
+        Hint::Case(_) => Err(EffectFault::WrongHint),
+        Hint::Plain => Err(EffectFault::WrongHint),
+        Hint::Keep => Err(EffectFault::WrongHint),
+        Hint::Drop(_) => Err(EffectFault::WrongHint),
+    }
+}
+
+/// Takes the first hint that is left.
+fn taken<'a>(hints: &mut Hints<'a>) -> Option<&'a Hint>
+    requires { All HasFewUses hints.old }
+    ensures first { MatchOption result ((hints.old ≡ []) × (hints.new ≡ [])) (λ hint. hints.old ≡ hint.now ∷ hints.new) }
+    ensures few { All HasFewUses hints.new }
+    ensures uses { IfSome result (λ hint. HasFewUses hint.now) }
+{
+    match hints.next() {
+        Some(hint) => Some(hint),
+        None => None,
+    }
+}
+
+/// Takes two steps for one demand.
+pub fn two_steps(
+    alloc: Global,
+    state: &State,
+    cond: &Cond,
+    first: &Row,
+    second: &Row,
+    fault: EffectFault,
+    hints: &mut Hints<'_>,
+) -> Result<(), EffectFault>
+    requires state { HasBounds state.now }
+    requires first { IsBounded first.now }
+    requires second { IsBounded second.now }
+    requires hints { All HasFewUses hints.old }
+    ensures few { All HasFewUses hints.new }
+    ensures taken { MatchResult result
+        (λ _. (next : List Hint → Outcome) → rule.two_steps cond.now state.now first.now second.now fault hints.old next ≡ next hints.new)
+        (λ f. f ≢ WantOfMemory → (next : List Hint → Outcome) → rule.two_steps cond.now state.now first.now second.now fault hints.old next ≡ Err f) }
+{
+    step(alloc, state, cond, first, fault, hints)?;
+    step(alloc, state, cond, second, fault, hints)
+}
+
+/// Takes `plain`, or a step that shows a row where one is wanted, and says whether it took the step.
+pub fn choice(
+    alloc: Global,
+    state: &State,
+    cond: &Cond,
+    wanted: bool,
+    row: &Row,
+    hints: &mut Hints<'_>,
+) -> Result<bool, EffectFault>
+    requires state { HasBounds state.now }
+    requires row { IsBounded row.now }
+    requires hints { All HasFewUses hints.old }
+    ensures few { All HasFewUses hints.new }
+    ensures taken { MatchResult result
+        (λ by_step. (first second : List Hint → Outcome) → rule.choice cond.now state.now wanted row.now hints.old first second
+            ≡ (if by_step then first hints.new else second hints.new))
+        (λ f. f ≢ WantOfMemory → (first second : List Hint → Outcome)
+            → rule.choice cond.now state.now wanted row.now hints.old first second ≡ Err f) }
+{
+    match taken(hints) {
+        Some(hint) => choice_by(alloc, state, cond, wanted, row, hint),
+        None => Err(EffectFault::HintsShort),
+    }
+}
+
+/// Whether a hint is a step that shows a row where one is wanted, or else `plain`.
+fn choice_by(
+    alloc: Global,
+    state: &State,
+    cond: &Cond,
+    wanted: bool,
+    row: &Row,
+    hint: &Hint,
+) -> Result<bool, EffectFault>
+    requires state { HasBounds state.now }
+    requires row { IsBounded row.now }
+    requires hint { HasFewUses hint.now }
+    ensures { MatchResult result
+        (λ by_step. (left : List Hint) (first second : List Hint → Outcome) → rule.choice_by cond.now state.now wanted row.now hint.now left first second
+            ≡ (if by_step then first left else second left))
+        (λ f. f ≢ WantOfMemory → (left : List Hint) (first second : List Hint → Outcome)
+            → rule.choice_by cond.now state.now wanted row.now hint.now left first second ≡ Err f) }
+{
+    match hint {
+        Hint::Step(proof) => {
+            if !wanted {
+                return Err(EffectFault::WrongHint);
+            }
+            if shows(alloc, state, cond, proof, row)? {
+                Ok(true)
+            } else {
+                Err(EffectFault::NotEntailed(0))
+            }
+        }
+        Hint::Plain => Ok(false),
+        Hint::Apply(_) => Err(EffectFault::WrongHint),
+        Hint::Walk => Err(EffectFault::WrongHint),
+        Hint::Loop(_) => Err(EffectFault::WrongHint),
+        Hint::Case(_) => Err(EffectFault::WrongHint),
+        Hint::Keep => Err(EffectFault::WrongHint),
+        Hint::Drop(_) => Err(EffectFault::WrongHint),
+    }
+}

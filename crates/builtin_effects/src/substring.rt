@@ -1,0 +1,151 @@
+//! `substring$`.
+
+ghost use Rattle.std.specs.Prelude.{◌≡◌, ◌<◌, ◌≤◌, List, IfOk};
+ghost use Rattle.std.specs.List.{All};
+ghost use Rattle.std.specs.Option.{option_to_list};
+ghost use Rattle.sym_state.specs.declared.hint.Hint.{Hint};
+ghost use Rattle.sym_state.specs.Demands.{HasFewUses};
+ghost use Rattle.sym_state.specs.Effects as rule;
+ghost use Rattle.sym_state.specs.WellMade.{HasBounds};
+ghost use Rattle.builtin_effects.specs.Given.{Gives};
+ghost use Rattle.builtin_effects.specs.Taken.{without};
+
+use crate::operands::{of_kind, three};
+use crate::results::{with_result, Said};
+use crate::steps::choice;
+use bst_meaning::condition::Cond;
+use bv_base::memory::NoMemory;
+use lin_facts::row::{Row, Term};
+use std::alloc::Global;
+use sym_state::demand::EffectFault;
+use sym_state::facts::exact_integer;
+use sym_state::hint::Hints;
+use sym_state::references::{at_least, at_most, exceeds};
+use sym_state::state::State;
+use sym_state::symbol::{Kinds, Sym};
+
+/// `substring$`
+pub fn substring(
+    alloc: Global,
+    state: &State,
+    cond: &Cond,
+    hints: &mut Hints<'_>,
+) -> Result<State, EffectFault>
+    requires state { HasBounds state.now }
+    requires next { state.now.next < 4294967295 }
+    requires hints { All HasFewUses hints.old }
+    ensures { Gives result hints.new (rule.substring cond.now state.now hints.old) }
+{
+    let (a, b, c) = three(state)?;
+    of_kind(state, Kinds::Int, 1, c)?;
+    of_kind(state, Kinds::Int, 2, b)?;
+    of_kind(state, Kinds::Str, 3, a)?;
+    let facts = state.facts.as_slice();
+    let (start, len) = (exact_integer(facts, b), exact_integer(facts, c));
+    substring_of(alloc, state, cond, a, start, len, hints)
+}
+
+/// The string from a start, of a length: of that length where a step shows that the string is long enough.
+fn substring_of(
+    alloc: Global,
+    state: &State,
+    cond: &Cond,
+    a: Sym,
+    start: Option<i32>,
+    len: Option<i32>,
+    hints: &mut Hints<'_>,
+) -> Result<State, EffectFault>
+    requires state { HasBounds state.now }
+    requires next { state.now.next < 4294967295 }
+    requires hints { All HasFewUses hints.old }
+    ensures { Gives result hints.new (rule.substring_of cond.now state.now a start len (without 3 state.now) hints.old) }
+{
+    let wanted = is_start(start) && is_length(len);
+    let enough = (known_size(start) + known_size(len)).saturating_sub(1);
+    let row = at_least(alloc, Term::Length(a.0), enough as i64)?;
+    if choice(alloc, state, cond, wanted, &row, hints)? {
+        long_enough(alloc, state, known_size(len))
+    } else {
+        no_longer(alloc, state, a, len)
+    }
+}
+
+/// A new string of this length.
+fn long_enough(alloc: Global, state: &State, size: u64) -> Result<State, EffectFault>
+    requires next { state.now.next < 4294967295 }
+    requires size { size ≤ 2147483648 }
+    ensures { (hints : List Hint) → Gives result hints (rule.of_length size hints (without 3 state.now)) }
+{
+    let r = Term::Length(state.next);
+    let said = Said {
+        fact: None,
+        first: Some(at_least(alloc, r, size as i64)?),
+        second: Some(at_most(alloc, r, size as i64)?),
+    };
+    Ok(with_result(state, 3, Kinds::Str, said)?)
+}
+
+/// A new string that is no longer than another, nor than a length that is known.
+fn no_longer(
+    alloc: Global,
+    state: &State,
+    a: Sym,
+    len: Option<i32>,
+) -> Result<State, EffectFault>
+    requires { state.now.next < 4294967295 }
+    ensures { (hints : List Hint) → Gives result hints (rule.shorter a len hints (without 3 state.now)) }
+{
+    let r = Sym(state.next);
+    let said = Said {
+        fact: None,
+        first: Some(exceeds(
+            alloc,
+            Term::Length(a.0),
+            Term::Length(r.0),
+            0,
+        )?),
+        second: at_most_known(alloc, len, r)?,
+    };
+    Ok(with_result(state, 3, Kinds::Str, said)?)
+}
+
+/// A string is no longer than a length that is known.
+fn at_most_known(alloc: Global, len: Option<i32>, r: Sym) -> Result<Option<Row>, NoMemory>
+    ensures { IfOk result (λ row. option_to_list row ≡ rule.at_most_known len r) }
+{
+    match len {
+        Some(n) => Ok(Some(at_most(alloc, Term::Length(r.0), n.max(0) as i64)?)),
+        None => Ok(None),
+    }
+}
+
+/// Whether a start is known and isn't 0.
+fn is_start(start: Option<i32>) -> bool
+    ensures { result ≡ rule.is_start start }
+{
+    match start {
+        Some(n) => n != 0,
+        None => false,
+    }
+}
+
+/// Whether a length is known and at least 1.
+fn is_length(len: Option<i32>) -> bool
+    ensures { result ≡ rule.is_length len }
+{
+    match len {
+        Some(n) => n >= 1,
+        None => false,
+    }
+}
+
+/// How great a number is, whatever its sign, and 0 where it isn't known.
+fn known_size(found: Option<i32>) -> u64
+    ensures size { result ≡ rule.known_size found }
+    ensures few { result ≤ 2147483648 }
+{
+    match found {
+        Some(n) => n.unsigned_abs() as u64,
+        None => 0,
+    }
+}

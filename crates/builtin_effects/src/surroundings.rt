@@ -1,0 +1,79 @@
+//! The built-in functions that push something of the surroundings, or a constant.
+
+ghost use Rattle.std.specs.Prelude.{◌≡◌, ◌<◌, List, []};
+ghost use Rattle.sym_state.specs.declared.hint.Hint.{Hint};
+ghost use Rattle.sym_state.specs.declared.symbol.Kinds.TheVariants.{Str};
+ghost use Rattle.sym_state.specs.Demands.{gives};
+ghost use Rattle.sym_state.specs.Effects as rule;
+ghost use Rattle.sym_state.specs.Results as results;
+ghost use Rattle.builtin_effects.specs.Given.{Gives};
+
+use crate::assign::at_entry;
+use crate::results::{with_result, Said};
+use bst_meaning::condition::Cond;
+use bv_base::text::Text;
+use lin_facts::row::Term;
+use std::alloc::Global;
+use sym_state::demand::EffectFault;
+use sym_state::references::at_most;
+use sym_state::state::State;
+use sym_state::symbol::{Fact, Kinds, Sym};
+
+/// `cite$`
+pub fn cite(alloc: Global, state: &State, cond: &Cond) -> Result<State, EffectFault>
+    requires { state.now.next < 4294967295 }
+    ensures { (hints : List Hint) → Gives result hints (rule.at_entry state.now (rule.limited cond.now.key hints state.now)) }
+{
+    at_entry(state)?;
+    limited(alloc, state, cond.key)
+}
+
+/// `preamble$`
+pub fn preamble(alloc: Global, state: &State, cond: &Cond) -> Result<State, EffectFault>
+    requires { state.now.next < 4294967295 }
+    ensures { (hints : List Hint) → Gives result hints (rule.limited cond.now.preamble hints state.now) }
+{
+    limited(alloc, state, cond.preamble)
+}
+
+/// A new string that is no longer than the condition says.
+fn limited(alloc: Global, state: &State, limit: u32) -> Result<State, EffectFault>
+    requires { state.now.next < 4294967295 }
+    ensures { (hints : List Hint) → Gives result hints (rule.limited limit hints state.now) }
+{
+    let said = Said {
+        fact: None,
+        first: Some(at_most(alloc, Term::Length(state.next), limit as i64)?),
+        second: None,
+    };
+    Ok(with_result(state, 0, Kinds::Str, said)?)
+}
+
+/// `type$`
+pub fn type_name(state: &State) -> Result<State, EffectFault>
+    requires { state.now.next < 4294967295 }
+    ensures { (hints : List Hint) → Gives result hints
+        (rule.at_entry state.now (gives hints (results.with_result Str [] [] state.now))) }
+{
+    at_entry(state)?;
+    let said = Said {
+        fact: None,
+        first: None,
+        second: None,
+    };
+    Ok(with_result(state, 0, Kinds::Str, said)?)
+}
+
+/// `quote$`
+pub fn quote(alloc: Global, state: &State) -> Result<State, EffectFault>
+    requires { state.now.next < 4294967295 }
+    ensures { (hints : List Hint) → Gives result hints (rule.quote hints state.now) }
+{
+    let text = Text::from_slice(alloc, b"\"")?;
+    let said = Said {
+        fact: Some(Fact::Text(Sym(state.next), text)),
+        first: None,
+        second: None,
+    };
+    Ok(with_result(state, 0, Kinds::Str, said)?)
+}
