@@ -14,7 +14,7 @@ ghost use Rattle.builtin_effects.specs.Given.{Gives};
 ghost use Rattle.builtin_effects.specs.Taken.{without};
 
 use crate::operands::{demand, of_kind, two, unmet};
-use crate::results::{with_symbol, without, Said};
+use crate::results::{Said, with_symbol, without};
 use crate::steps::choice;
 use bst_meaning::condition::Cond;
 use lin_facts::row::Term;
@@ -149,12 +149,7 @@ fn bound(state: &State, name: NameId, a: Sym) -> Result<State, EffectFault>
 }
 
 /// The variable is bound to a new string, of which no more is known than that it is cut.
-fn cut_bound(
-    alloc: Global,
-    state: &State,
-    name: NameId,
-    size: u32,
-) -> Result<State, EffectFault>
+fn cut_bound(alloc: Global, state: &State, name: NameId, size: u32) -> Result<State, EffectFault>
     requires { state.now.next < 4294967295 }
     ensures { (hints : List Hint) → Gives result hints (rule.cut_bound name size hints (without 2 state.now)) }
 {

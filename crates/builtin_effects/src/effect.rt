@@ -9,12 +9,9 @@ ghost use Rattle.sym_state.specs.WellMade.{HasBounds};
 ghost use Rattle.builtin_effects.specs.Given.{Gives};
 
 use crate::assign::assign;
-use crate::moves;
-use crate::numbers;
 use crate::operands::unmet;
 use crate::substring::substring;
-use crate::surroundings;
-use crate::texts;
+use crate::{moves, numbers, surroundings, texts};
 use bst_meaning::condition::Cond;
 use name_table::builtin::Builtin;
 use name_table::style::Style;

@@ -1,22 +1,24 @@
 //! The built-in functions that give integers or take one alone.
 
-ghost use Rattle.std.specs.Prelude.{◌≡◌, ◌<◌, ◌+ℤ◌, ◌-ℤ◌, pos, negsuc, ◌⊎◌, None, List, option_map};
+ghost use Rattle.std.specs.Prelude.{◌≡◌, ◌<◌, ◌^◌, neg_ℤ, ◌+ℤ◌, ◌-ℤ◌, pos, negsuc, None, Some, List, option_map};
 ghost use Rattle.std.specs.List.{All};
-ghost use Rattle.bst_meaning.specs.Operands.{has_32_bits};
-ghost use Rattle.sym_state.specs.declared.demand.DemandKind.TheVariants.{IntRange};
+ghost use Rattle.lin_facts.specs.Rows.{IsWithin};
+ghost use Rattle.lin_facts.specs.declared.row.Term.TheVariants.{Value};
 ghost use Rattle.sym_state.specs.declared.hint.Hint.{Hint};
-ghost use Rattle.sym_state.specs.Demands as demands;
 ghost use Rattle.sym_state.specs.Demands.{HasFewUses};
+ghost use Rattle.sym_state.specs.declared.symbol.Fact.TheVariants.{Int as IntFact};
+ghost use Rattle.sym_state.specs.declared.symbol.Sym.{Sym};
 ghost use Rattle.sym_state.specs.Effects as rule;
+ghost use Rattle.sym_state.specs.Results.{next_of};
 ghost use Rattle.sym_state.specs.WellMade.{HasBounds};
 ghost use Rattle.builtin_effects.specs.Given.{Gives};
 ghost use Rattle.builtin_effects.specs.Taken.{without};
 
 use crate::operands::{of_kind, one, two, unmet};
-use crate::results::{part, with_result, Said};
+use crate::results::{Said, part, with_result};
 use crate::steps::{step, two_steps};
 use bst_meaning::condition::Cond;
-use lin_facts::row::Term;
+use lin_facts::row::{Part, Term};
 use std::alloc::Global;
 use sym_state::demand::{DemandKind, EffectFault};
 use sym_state::facts::{exact_integer, exact_text};
@@ -43,8 +45,19 @@ pub fn plus(
     of_kind(state, Kinds::Int, 2, a)?;
     let facts = state.facts.as_slice();
     match (exact_integer(facts, a), exact_integer(facts, b)) {
-        (Some(m), Some(n)) => exact_sum(state, m as i64 + n as i64),
-        _ => unknown_sum(alloc, state, cond, 1, a, b, hints),
+        (Some(m), Some(n)) => match m.checked_add(n) {
+            Some(sum) => Ok(with_result(state, 2, Kinds::Int, exactly(state, sum))?),
+            None => Err(unmet(DemandKind::IntRange, 0)),
+        },
+        _ => unknown_sum(
+            alloc,
+            state,
+            cond,
+            a,
+            part(1, Term::Value(b.0)),
+            part(-1, Term::Value(b.0)),
+            hints,
+        ),
     }
 }
 
@@ -65,64 +78,66 @@ pub fn minus(
     of_kind(state, Kinds::Int, 2, a)?;
     let facts = state.facts.as_slice();
     match (exact_integer(facts, a), exact_integer(facts, b)) {
-        (Some(m), Some(n)) => exact_sum(state, m as i64 - n as i64),
-        _ => unknown_sum(alloc, state, cond, -1, a, b, hints),
+        (Some(m), Some(n)) => match m.checked_sub(n) {
+            Some(sum) => Ok(with_result(state, 2, Kinds::Int, exactly(state, sum))?),
+            None => Err(unmet(DemandKind::IntRange, 0)),
+        },
+        _ => unknown_sum(
+            alloc,
+            state,
+            cond,
+            a,
+            part(-1, Term::Value(b.0)),
+            part(1, Term::Value(b.0)),
+            hints,
+        ),
     }
 }
 
-/// A sum that is known has 32 bits.
-fn exact_sum(state: &State, n: i64) -> Result<State, EffectFault>
-    requires { state.now.next < 4294967295 }
-    ensures { (hints : List Hint) → Gives result hints (demands.demand (has_32_bits n) IntRange 0 (rule.known_integer n hints (without 2 state.now))) }
+/// A new integer that is known.
+fn exactly(state: &State, n: i32) -> Said
+    ensures { result ≡ record { fact = Some (IntFact (next_of state.now) n); first = None; second = None } }
 {
-    if -2147483648 <= n && n <= 2147483647 {
-        known_integer(state, 2, n as i32)
-    } else {
-        Err(unmet(DemandKind::IntRange, 0))
+    Said {
+        fact: Some(Fact::Int(Sym(state.next), n)),
+        first: None,
+        second: None,
     }
 }
 
-/// A sum that isn't known is shown to have 32 bits.
+/// A sum that isn't known is shown to have 32 bits. The second part is added, with its sign; the other has the opposite
+/// sign.
 fn unknown_sum(
     alloc: Global,
     state: &State,
     cond: &Cond,
-    sign: i64,
     a: Sym,
-    b: Sym,
+    second: Part,
+    opposite: Part,
     hints: &mut Hints<'_>,
 ) -> Result<State, EffectFault>
     requires state { HasBounds state.now }
     requires next { state.now.next < 4294967295 }
     requires hints { All HasFewUses hints.old }
-    requires sign { (sign ≡ pos 1) ⊎ (sign ≡ negsuc 0) }
-    ensures { Gives result hints.new (rule.summed cond.now state.now sign a b (without 2 state.now) None hints.old) }
+    requires second { IsWithin (2 ^ 40) second.coefficient }
+    requires opposite { IsWithin (2 ^ 40) opposite.coefficient }
+    requires sign { opposite.coefficient ≡ neg_ℤ second.coefficient }
+    requires term { opposite.term ≡ second.term }
+    ensures { (b : Sym) → second.term ≡ Value b.0
+        → Gives result hints.new (rule.summed cond.now state.now second.coefficient a b (without 2 state.now) None hints.old) }
 {
-    let (x, y) = (Term::Value(a.0), Term::Value(b.0));
-    let low = sum_of_two(alloc, 2147483648, part(1, x), part(sign, y))?;
-    let high = sum_of_two(alloc, 2147483647, part(-1, x), part(-sign, y))?;
+    let x = Term::Value(a.0);
+    let low = sum_of_two(alloc, 2147483648, part(1, x), second)?;
+    let high = sum_of_two(alloc, 2147483647, part(-1, x), opposite)?;
     let fault = unmet(DemandKind::IntRange, 0);
     two_steps(alloc, state, cond, &low, &high, fault, hints)?;
     let r = Term::Value(state.next);
     let said = Said {
         fact: None,
-        first: Some(sum_of_three(alloc, 0, part(1, r), part(-1, x), part(-sign, y))?),
-        second: Some(sum_of_three(alloc, 0, part(-1, r), part(1, x), part(sign, y))?),
+        first: Some(sum_of_three(alloc, 0, part(1, r), part(-1, x), opposite)?),
+        second: Some(sum_of_three(alloc, 0, part(-1, r), part(1, x), second)?),
     };
     Ok(with_result(state, 2, Kinds::Int, said)?)
-}
-
-/// A new integer that is known.
-fn known_integer(state: &State, taken: usize, n: i32) -> Result<State, EffectFault>
-    requires { state.now.next < 4294967295 }
-    ensures { (hints : List Hint) → Gives result hints (rule.known_integer n hints (without taken state.now)) }
-{
-    let said = Said {
-        fact: Some(Fact::Int(Sym(state.next), n)),
-        first: None,
-        second: None,
-    };
-    Ok(with_result(state, taken, Kinds::Int, said)?)
 }
 
 /// `chr.to.int$`
@@ -140,7 +155,14 @@ pub fn chr_to_int(
     let a = one(state)?;
     of_kind(state, Kinds::Str, 1, a)?;
     match one_byte(exact_text(state.facts.as_slice(), a)) {
-        Some(b) => known_integer(state, 1, b as i32),
+        Some(b) => {
+            let said = Said {
+                fact: Some(Fact::Int(Sym(state.next), b as i32)),
+                first: None,
+                second: None,
+            };
+            Ok(with_result(state, 1, Kinds::Int, said)?)
+        }
         None => unknown_byte(alloc, state, cond, a, hints),
     }
 }

@@ -23,12 +23,7 @@ pub struct Said {
 }
 
 /// A state without so many of its topmost operands, and with a new symbol on top.
-pub fn with_result(
-    state: &State,
-    taken: usize,
-    kind: Kinds,
-    said: Said,
-) -> Result<State, NoMemory>
+pub fn with_result(state: &State, taken: usize, kind: Kinds, said: Said) -> Result<State, NoMemory>
     requires { state.now.next < 4294967295 }
     ensures { IfOk result (λ after. after ≡ rule.with_result kind (facts_of said) (rows_of said) (without taken state.now)) }
 {
@@ -38,12 +33,7 @@ pub fn with_result(
 }
 
 /// The same without the symbol on top.
-pub fn with_symbol(
-    state: &State,
-    taken: usize,
-    kind: Kinds,
-    said: Said,
-) -> Result<State, NoMemory>
+pub fn with_symbol(state: &State, taken: usize, kind: Kinds, said: Said) -> Result<State, NoMemory>
     requires { state.now.next < 4294967295 }
     ensures { IfOk result (λ after. after ≡ rule.with_symbol kind (facts_of said) (rows_of said) (without taken state.now)) }
 {

@@ -54,7 +54,7 @@ fn step_by(
     ensures { MatchResult result
         (λ _. (left : List Hint) (next : List Hint → Outcome) → rule.step_by cond.now state.now row.now fault hint.now left next ≡ next left)
         (λ f. f ≢ WantOfMemory → (left : List Hint) (next : List Hint → Outcome)
-            → rule.step_by cond.now state.now row.now fault hint.now left next ≡ Err f) }
+        → rule.step_by cond.now state.now row.now fault hint.now left next ≡ Err f) }
 {
     match hint {
         Hint::Step(proof) => {
@@ -125,9 +125,9 @@ pub fn choice(
     ensures few { All HasFewUses hints.new }
     ensures taken { MatchResult result
         (λ by_step. (first second : List Hint → Outcome) → rule.choice cond.now state.now wanted row.now hints.old first second
-            ≡ (if by_step then first hints.new else second hints.new))
+        ≡ (if by_step then first hints.new else second hints.new))
         (λ f. f ≢ WantOfMemory → (first second : List Hint → Outcome)
-            → rule.choice cond.now state.now wanted row.now hints.old first second ≡ Err f) }
+        → rule.choice cond.now state.now wanted row.now hints.old first second ≡ Err f) }
 {
     match taken(hints) {
         Some(hint) => choice_by(alloc, state, cond, wanted, row, hint),
@@ -149,9 +149,9 @@ fn choice_by(
     requires hint { HasFewUses hint.now }
     ensures { MatchResult result
         (λ by_step. (left : List Hint) (first second : List Hint → Outcome) → rule.choice_by cond.now state.now wanted row.now hint.now left first second
-            ≡ (if by_step then first left else second left))
+        ≡ (if by_step then first left else second left))
         (λ f. f ≢ WantOfMemory → (left : List Hint) (first second : List Hint → Outcome)
-            → rule.choice_by cond.now state.now wanted row.now hint.now left first second ≡ Err f) }
+        → rule.choice_by cond.now state.now wanted row.now hint.now left first second ≡ Err f) }
 {
     match hint {
         Hint::Step(proof) => {

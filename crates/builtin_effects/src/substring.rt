@@ -1,17 +1,19 @@
 //! `substring$`.
 
-ghost use Rattle.std.specs.Prelude.{◌≡◌, ◌<◌, ◌≤◌, List, IfOk};
+ghost use Rattle.std.specs.Prelude.{◌≡◌, ◌<◌, ◌≤◌, ◌+◌, ◌-◌, ◌&&◌, pos, List, IfOk};
 ghost use Rattle.std.specs.List.{All};
 ghost use Rattle.std.specs.Option.{option_to_list};
 ghost use Rattle.sym_state.specs.declared.hint.Hint.{Hint};
 ghost use Rattle.sym_state.specs.Demands.{HasFewUses};
+ghost use Rattle.lin_facts.specs.declared.row.Term.TheVariants.{Length};
 ghost use Rattle.sym_state.specs.Effects as rule;
-ghost use Rattle.sym_state.specs.WellMade.{HasBounds};
+ghost use Rattle.sym_state.specs.References as references;
+ghost use Rattle.sym_state.specs.WellMade.{HasBounds, IsBounded};
 ghost use Rattle.builtin_effects.specs.Given.{Gives};
 ghost use Rattle.builtin_effects.specs.Taken.{without};
 
 use crate::operands::{of_kind, three};
-use crate::results::{with_result, Said};
+use crate::results::{Said, with_result};
 use crate::steps::choice;
 use bst_meaning::condition::Cond;
 use bv_base::memory::NoMemory;
@@ -60,23 +62,38 @@ fn substring_of(
     requires hints { All HasFewUses hints.old }
     ensures { Gives result hints.new (rule.substring_of cond.now state.now a start len (without 3 state.now) hints.old) }
 {
-    let wanted = is_start(start) && is_length(len);
-    let enough = (known_size(start) + known_size(len)).saturating_sub(1);
-    let row = at_least(alloc, Term::Length(a.0), enough as i64)?;
+    let row = enough(alloc, a, start, len)?;
+    let wanted = is_wanted(start, len);
     if choice(alloc, state, cond, wanted, &row, hints)? {
-        long_enough(alloc, state, known_size(len))
+        long_enough(alloc, state, len)
     } else {
         no_longer(alloc, state, a, len)
     }
 }
 
-/// A new string of this length.
-fn long_enough(alloc: Global, state: &State, size: u64) -> Result<State, EffectFault>
-    requires next { state.now.next < 4294967295 }
-    requires size { size ≤ 2147483648 }
-    ensures { (hints : List Hint) → Gives result hints (rule.of_length size hints (without 3 state.now)) }
+/// The string has as many bytes as a start and a length reach over.
+fn enough(alloc: Global, a: Sym, start: Option<i32>, len: Option<i32>) -> Result<Row, NoMemory>
+    ensures said { IfOk result (λ row. row ≡ references.at_least (Length a.0) (pos (rule.known_size start + rule.known_size len - 1))) }
+    ensures bounded { IfOk result IsBounded }
+{
+    let count = (known_size(start) + known_size(len)).saturating_sub(1);
+    at_least(alloc, Term::Length(a.0), count as i64)
+}
+
+/// Whether a step may show that the string is long enough.
+fn is_wanted(start: Option<i32>, len: Option<i32>) -> bool
+    ensures { result ≡ (rule.is_start start && rule.is_length len) }
+{
+    is_start(start) && is_length(len)
+}
+
+/// A new string of a length that is known.
+fn long_enough(alloc: Global, state: &State, len: Option<i32>) -> Result<State, EffectFault>
+    requires { state.now.next < 4294967295 }
+    ensures { (hints : List Hint) → Gives result hints (rule.of_length (rule.known_size len) hints (without 3 state.now)) }
 {
     let r = Term::Length(state.next);
+    let size = known_size(len);
     let said = Said {
         fact: None,
         first: Some(at_least(alloc, r, size as i64)?),
@@ -86,24 +103,14 @@ fn long_enough(alloc: Global, state: &State, size: u64) -> Result<State, EffectF
 }
 
 /// A new string that is no longer than another, nor than a length that is known.
-fn no_longer(
-    alloc: Global,
-    state: &State,
-    a: Sym,
-    len: Option<i32>,
-) -> Result<State, EffectFault>
+fn no_longer(alloc: Global, state: &State, a: Sym, len: Option<i32>) -> Result<State, EffectFault>
     requires { state.now.next < 4294967295 }
     ensures { (hints : List Hint) → Gives result hints (rule.shorter a len hints (without 3 state.now)) }
 {
     let r = Sym(state.next);
     let said = Said {
         fact: None,
-        first: Some(exceeds(
-            alloc,
-            Term::Length(a.0),
-            Term::Length(r.0),
-            0,
-        )?),
+        first: Some(exceeds(alloc, Term::Length(a.0), Term::Length(r.0), 0)?),
         second: at_most_known(alloc, len, r)?,
     };
     Ok(with_result(state, 3, Kinds::Str, said)?)

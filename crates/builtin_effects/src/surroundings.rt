@@ -9,7 +9,7 @@ ghost use Rattle.sym_state.specs.Results as results;
 ghost use Rattle.builtin_effects.specs.Given.{Gives};
 
 use crate::assign::at_entry;
-use crate::results::{with_result, Said};
+use crate::results::{Said, with_result};
 use bst_meaning::condition::Cond;
 use bv_base::text::Text;
 use lin_facts::row::Term;

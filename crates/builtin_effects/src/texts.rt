@@ -11,7 +11,7 @@ ghost use Rattle.builtin_effects.specs.Given.{Gives};
 ghost use Rattle.builtin_effects.specs.Taken.{without};
 
 use crate::operands::{demand, of_kind, one, three, two, unmet};
-use crate::results::{part, with_result, Said};
+use crate::results::{Said, part, with_result};
 use crate::steps::two_steps;
 use bst_meaning::condition::Cond;
 use lin_facts::row::Term;
@@ -67,11 +67,7 @@ pub fn add_period(alloc: Global, state: &State) -> Result<State, EffectFault>
 fn nonblank_where(known: bool, s: Sym) -> Option<Fact>
     ensures { option_to_list result ≡ rule.nonblank_where known s }
 {
-    if known {
-        Some(Fact::Nonblank(s))
-    } else {
-        None
-    }
+    if known { Some(Fact::Nonblank(s)) } else { None }
 }
 
 /// `purify$`
@@ -114,12 +110,7 @@ fn no_longer(alloc: Global, state: &State, taken: usize, a: Sym) -> Result<State
 {
     let said = Said {
         fact: None,
-        first: Some(exceeds(
-            alloc,
-            Term::Length(a.0),
-            Term::Length(state.next),
-            0,
-        )?),
+        first: Some(exceeds(alloc, Term::Length(a.0), Term::Length(state.next), 0)?),
         second: None,
     };
     Ok(with_result(state, taken, Kinds::Str, said)?)
@@ -165,11 +156,7 @@ pub fn format_name(
     let facts = state.facts.as_slice();
     let formed = is_known(facts, s, &Fact::Wellformed(s));
     demand(formed, DemandKind::BadName, 3)?;
-    demand(
-        is_pattern(exact_text(facts, p)),
-        DemandKind::BadPattern,
-        1,
-    )?;
+    demand(is_pattern(exact_text(facts, p)), DemandKind::BadPattern, 1)?;
     let said = Said {
         fact: None,
         first: None,
