@@ -1,5 +1,5 @@
 -- What a call gives, beside what a definition says (docs/EFFECTS.md, "Effects").
-use Rattle.std.specs.Prelude.{◌≡◌, ◌≢◌, List, ◌++◌, Result, Ok, Err, MatchResult}
+use Rattle.std.specs.Prelude.{◌≡◌, ◌≢◌, List, ◌++◌, Result, Err, MatchResult}
 use Rattle.std.specs.Option.{option_to_list}
 use Rattle.lin_facts.specs.declared.row.Row.{Row}
 use Rattle.sym_state.specs.declared.demand.EffectFault.{EffectFault}
