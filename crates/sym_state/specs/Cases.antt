@@ -290,4 +290,3 @@ needs_of state _ = 0
 abbrev pub IsTestOf : State → Test → Type 0
 IsTestOf state (Above s) = s.0 < state.next
 IsTestOf state _ = Unit {0}
-
