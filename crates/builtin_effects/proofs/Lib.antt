@@ -1,2 +1,5 @@
+pub mod Covering
 pub mod Fronts
+pub mod Inverting
+pub mod MovesCover
 pub mod Uses

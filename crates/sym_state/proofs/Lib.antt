@@ -9,8 +9,10 @@ pub mod Making
 pub mod Numbering
 pub mod Opened
 pub mod Reading
+pub mod RowSums
 pub mod Saying
 pub mod Shown
+pub mod Spots
 pub mod Started
 pub mod Sums
 pub mod Frames

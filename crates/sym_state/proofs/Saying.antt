@@ -31,10 +31,11 @@ use Rattle.sym_state.specs.Stands.{Satisfies}
 use Rattle.sym_state.proofs.Counting.{names_at_most, names_at_least}
 use Rattle.sym_state.proofs.Deciding.{exact_integer_is, exact_text_is, nonblank_is}
 
-once : (x : ℤ) → pos 1 *ℤ x ≡ x
+-- a term once, and once less
+pub once : (x : ℤ) → pos 1 *ℤ x ≡ x
 once x = omega (arith, ints, product_is (pos 1) x)
 
-minus : (x : ℤ) → negsuc 0 *ℤ x ≡ neg_ℤ x
+pub minus : (x : ℤ) → negsuc 0 *ℤ x ≡ neg_ℤ x
 minus x = omega (arith, ints, product_is (negsuc 0) x)
 
 pub at_least_holds : (a : Assignment) (t : Term) (n : ℤ) → n ≤ℤ a t → Holds a (at_least t n)

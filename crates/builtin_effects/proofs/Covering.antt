@@ -1,0 +1,163 @@
+-- What covers the machine: a new value on top of what is left, and symbols that are only moved.
+use Rattle.std.proofs.Common.{◌≡◌, ℕ, ◌<◌, List, [], ◌∷◌, ◌++◌, reverse, Option, None, Result, Ok, refl, sym, ap, subst, ◌∙◌}
+use Rattle.std.specs.List.{All, AllByRecursion}
+use Rattle.std.proofs.lemmas.List.{reverse-reverse}
+use Rattle.std.proofs.lemmas.List.Elements.{All-head, All-tail}
+use Rattle.lin_facts.specs.Rows.{Holds}
+use Rattle.lin_facts.specs.declared.row.Row.{Row}
+use Rattle.lin_facts.specs.declared.row.Term.{Term}
+use Rattle.lin_facts.specs.declared.row.Term.TheVariants.{Value as ValueOf, Length as LengthOf}
+use Rattle.name_table.specs.declared.builtin.Builtin.{Builtin}
+use Rattle.bst_meaning.specs.declared.value.Value.{Value}
+use Rattle.bst_meaning.specs.Builtins.{Context, built_in}
+use Rattle.bst_meaning.specs.Config.{Config, Event}
+use Rattle.bst_meaning.specs.Effect.{Effect, left, pushed}
+use Rattle.bst_meaning.specs.Machine.{context_of}
+use Rattle.sym_state.specs.declared.hint.Hint.{Hint}
+use Rattle.sym_state.specs.declared.proof.Proof.{Proof}
+use Rattle.sym_state.specs.declared.state.State.{State}
+use Rattle.sym_state.specs.declared.symbol.Fact.{Fact}
+use Rattle.sym_state.specs.declared.symbol.Kinds.{Kinds}
+use Rattle.sym_state.specs.declared.symbol.Kinds.TheVariants.{Int, Str}
+use Rattle.sym_state.specs.declared.symbol.Sym.{Sym}
+use Rattle.sym_state.specs.Covers.{Covers}
+use Rattle.sym_state.specs.Demands.{After, gives, is_of_kind}
+use Rattle.sym_state.specs.Facts.{FactHolds, has_kind}
+use Rattle.sym_state.specs.References.{shows}
+use Rattle.sym_state.specs.Results.{with_result}
+use Rattle.sym_state.specs.Symbols.{IsValue, Valuation, integer_of, length_of, numbers}
+use Rattle.sym_state.specs.WellMade.{IsTermBelow}
+use Rattle.sym_state.proofs.Frames.{agrees_self, next_agrees, next_is, term_agrees, with_next}
+use Rattle.sym_state.proofs.KnownKinds.{of_kind_holds}
+use Rattle.sym_state.proofs.Pushing.{moved, pushed as stands_pushed, stack_of_tops, tops_below, value_list, without}
+use Rattle.sym_state.proofs.Shown.{shown_holds}
+use Rattle.sym_state.proofs.Spots.{Spot}
+use Rattle.builtin_effects.proofs.Inverting.{gives_is}
+
+abbrev pub CoversAt : Spot → Builtin → State → Type 0
+CoversAt s o after = Covers s.style s.admits s.list s.v s.state s.c s.below s.place o after
+
+-- what surrounds the call, and the values of symbols below what is known
+abbrev pub around : Spot → Context
+around s = context_of s.style s.c
+
+abbrev pub lower : Spot → List Sym → List Value
+lower s rest = value_list s.v rest ++ s.below
+
+-- these symbols are the state's
+abbrev pub Old : Spot → List Sym → Type 0
+Old s syms = All (λ x. x.0 < s.state.next) syms
+
+pub tops_old : (s : Spot) (tops : List Sym) → reverse s.state.stack ≡ tops → Old s tops
+tops_old s tops e = tops_below s.style s.state tops s.made e
+
+pub first_old : (s : Spot) (a : Sym) (rest : List Sym) → Old s (a ∷ rest) → a.0 < s.state.next
+first_old s a rest old = All-head (λ x. x.0 < s.state.next) a rest old
+
+pub others_old : (s : Spot) (a : Sym) (rest : List Sym) → Old s (a ∷ rest) → Old s rest
+others_old s a rest old = All-tail (λ x. x.0 < s.state.next) a rest old
+
+-- the machine's stack begins with the values of the symbols on top
+pub machine_tops : (s : Spot) (tops : List Sym) → reverse s.state.stack ≡ tops → s.c.stack ≡ lower s tops
+machine_tops s tops e = stack_of_tops s.style s.admits s.list s.v s.state s.c s.below tops s.stands e
+
+-- what the machine gives of the values of the operands
+pub machine_gives : (s : Spot) (o : Builtin) (tops : List Sym) (values : List Value) (effect : Effect) → reverse s.state.stack ≡ tops
+    → lower s tops ≡ values → built_in o (around s) values ≡ Ok effect → built_in o (around s) s.c.stack ≡ Ok effect
+machine_gives s o tops values effect e is gives = ap (λ (l : List Value). built_in o (around s) l) (machine_tops s tops e ∙ is) ∙ gives
+
+-- what it is given of one operand, of two and of three, by their values
+pub one_given : (s : Spot) (o : Builtin) (a : Sym) (rest : List Sym) (x : Value) → reverse s.state.stack ≡ a ∷ rest → s.v.value a.0 ≡ x
+    → built_in o (around s) s.c.stack ≡ built_in o (around s) (x ∷ lower s rest)
+one_given s o a rest x tops x_is =
+    ap (λ (l : List Value). built_in o (around s) l) (machine_tops s (a ∷ rest) tops ∙ ap (λ (k : Value). k ∷ lower s rest) x_is)
+
+pub two_given : (s : Spot) (o : Builtin) (a b : Sym) (rest : List Sym) (x y : Value) → reverse s.state.stack ≡ b ∷ (a ∷ rest)
+    → s.v.value a.0 ≡ x → s.v.value b.0 ≡ y → built_in o (around s) s.c.stack ≡ built_in o (around s) (y ∷ (x ∷ lower s rest))
+two_given s o a b rest x y tops x_is y_is =
+    ap (λ (l : List Value). built_in o (around s) l) (
+      machine_tops s (b ∷ (a ∷ rest)) tops ∙ ap (λ (k : Value). k ∷ (s.v.value a.0 ∷ lower s rest)) y_is ∙ ap (λ (k : Value). y ∷ (k ∷ lower s rest)) x_is
+    )
+
+pub three_given : (s : Spot) (o : Builtin) (a b c : Sym) (rest : List Sym) (x y z : Value) → reverse s.state.stack ≡ c ∷ (b ∷ (a ∷ rest))
+    → s.v.value a.0 ≡ x → s.v.value b.0 ≡ y → s.v.value c.0 ≡ z
+    → built_in o (around s) s.c.stack ≡ built_in o (around s) (z ∷ (y ∷ (x ∷ lower s rest)))
+three_given s o a b c rest x y z tops x_is y_is z_is =
+    ap (λ (l : List Value). built_in o (around s) l) (
+      machine_tops s (c ∷ (b ∷ (a ∷ rest))) tops
+      ∙ ap (λ (k : Value). k ∷ (s.v.value b.0 ∷ (s.v.value a.0 ∷ lower s rest))) z_is
+      ∙ ap (λ (k : Value). z ∷ (k ∷ (s.v.value a.0 ∷ lower s rest))) y_is
+      ∙ ap (λ (k : Value). z ∷ (y ∷ (k ∷ lower s rest))) x_is
+    )
+
+-- an operand is of its kind
+pub kind_met : (s : Spot) (kind : Kinds) (a : Sym) → is_of_kind s.state kind a ≡ true → has_kind kind (s.v.value a.0) ≡ true
+kind_met s kind a e = of_kind_holds s.style s.v a.0 s.state.facts kind s.stands.satisfied.facts e
+
+-- a row that is shown holds
+pub row_met : (s : Spot) (proof : Proof) (row : Row) → shows s.admits s.state proof row ≡ true → Holds (numbers s.v) row
+row_met s proof row e = shown_holds s.style s.admits s.v s.state proof row s.stands.satisfied e
+
+-- with a new value the terms on symbols that were there are what they were, and those on the new one are the value's
+abbrev pub after_value : Spot → Value → Valuation
+after_value s value = with_next s.state.next value s.v
+
+pub value_old : (s : Spot) (value : Value) (a : Sym) → a.0 < s.state.next → (after_value s value).value a.0 ≡ s.v.value a.0
+value_old s value a less = let agrees = next_agrees s.state.next value s.v in agrees.value a.0 less
+
+pub value_new : (s : Spot) (value : Value) → (after_value s value).value s.state.next ≡ value
+value_new s value = next_is s.state.next value s.v
+
+pub term_old : (s : Spot) (value : Value) (t : Term) → IsTermBelow s.state.next t → numbers (after_value s value) t ≡ numbers s.v t
+term_old s value t less = term_agrees s.state.next s.v (after_value s value) t (next_agrees s.state.next value s.v) less
+
+pub term_new_value : (s : Spot) (value : Value) → numbers (after_value s value) (ValueOf s.state.next) ≡ integer_of value
+term_new_value s value = ap integer_of (value_new s value)
+
+pub term_new_length : (s : Spot) (value : Value) → numbers (after_value s value) (LengthOf s.state.next) ≡ length_of value
+term_new_length s value = ap length_of (value_new s value)
+
+-- a new value is put on top of what is left
+pub put : (s : Spot) (o : Builtin) (rest : List Sym) (kind : Kinds) (facts : List Fact) (rows : List Row) (value : Value) (hints : List Hint) (after : After)
+    → Old s rest → built_in o (around s) s.c.stack ≡ pushed value (lower s rest) → IsValue value → has_kind kind value ≡ true
+    → AllByRecursion (FactHolds s.style (after_value s value)) facts → AllByRecursion (Holds (numbers (after_value s value))) rows
+    → gives hints (with_result kind facts rows (without rest s.state)) ≡ Ok after → CoversAt s o after.state
+put s o rest kind facts rows value hints after old machine is of_kind fine shown e =
+    let state : State = with_result kind facts rows (without rest s.state) in
+    subst (λ (x : State). CoversAt s o x) (gives_is hints state after e) (record {
+      effect = left (value ∷ lower s rest);
+      gives = machine;
+      assignment = after_value s value;
+      agrees = next_agrees s.state.next value s.v;
+      stands = stands_pushed s.style s.admits s.list s.v s.state s.c s.below rest kind facts rows value (s.c.events ++ []) (s.c.log ++ [])
+          s.made s.stands old is of_kind fine shown;
+    })
+
+-- the same where nothing is taken
+pub untaken : (state : State) → without (reverse state.stack) state ≡ state
+untaken state = ap (λ (l : List Sym). record state { stack = l }) (reverse-reverse state.stack)
+
+pub put_first : (s : Spot) (o : Builtin) (kind : Kinds) (facts : List Fact) (rows : List Row) (value : Value) (hints : List Hint) (after : After)
+    → built_in o (around s) s.c.stack ≡ pushed value s.c.stack → IsValue value → has_kind kind value ≡ true
+    → AllByRecursion (FactHolds s.style (after_value s value)) facts → AllByRecursion (Holds (numbers (after_value s value))) rows
+    → gives hints (with_result kind facts rows s.state) ≡ Ok after → CoversAt s o after.state
+put_first s o kind facts rows value hints after machine is of_kind fine shown e =
+    let tops : List Sym = reverse s.state.stack in
+    put s o tops kind facts rows value hints after (tops_old s tops refl)
+    (machine ∙ ap (λ (l : List Value). pushed value l) (machine_tops s tops refl)) is of_kind fine shown
+    (subst (λ (x : State). gives hints (with_result kind facts rows x) ≡ Ok after) (sym (untaken s.state)) e)
+
+-- symbols are moved, and something is written or logged
+pub shift : (s : Spot) (o : Builtin) (tops stack : List Sym) (wrote : List Event) (logged : List (List ℕ)) (hints : List Hint) (after : After)
+    → reverse stack ≡ tops
+    → built_in o (around s) s.c.stack ≡ Ok (record (left (lower s tops)) { wrote = wrote; logged = logged })
+    → gives hints (record s.state { stack = stack }) ≡ Ok after → CoversAt s o after.state
+shift s o tops stack wrote logged hints after is machine e =
+    let state : State = record s.state { stack = stack } in
+    subst (λ (x : State). CoversAt s o x) (gives_is hints state after e) (record {
+      effect = record (left (lower s tops)) { wrote = wrote; logged = logged };
+      gives = machine;
+      assignment = s.v;
+      agrees = agrees_self s.state.next s.v;
+      stands = moved s.style s.admits s.list s.v s.state s.c s.below tops stack (s.c.events ++ wrote) (s.c.log ++ logged) s.stands is;
+    })

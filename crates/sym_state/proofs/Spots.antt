@@ -1,0 +1,24 @@
+-- A state that stands for a configuration at a place, with all that surrounds it.
+use Rattle.std.proofs.Common.{List}
+use Rattle.bv_base.specs.declared.place.Place.{Place}
+use Rattle.name_table.specs.declared.style.Style.{Style}
+use Rattle.bst_meaning.specs.declared.condition.Cond.{Cond}
+use Rattle.bst_meaning.specs.declared.entry.EntryList.{EntryList}
+use Rattle.bst_meaning.specs.declared.value.Value.{Value}
+use Rattle.bst_meaning.specs.Config.{Config}
+use Rattle.sym_state.specs.declared.state.State.{State}
+use Rattle.sym_state.specs.Stands.{Stands}
+use Rattle.sym_state.specs.Symbols.{Valuation}
+use Rattle.sym_state.specs.WellMade.{WellMade}
+
+pub record Spot : Type 0 where
+  pub style : Style
+  pub admits : Cond
+  pub list : EntryList
+  pub v : Valuation
+  pub state : State
+  pub c : Config
+  pub below : List Value
+  pub place : Place
+  pub made : WellMade style state
+  pub stands : Stands style admits list v state c below
