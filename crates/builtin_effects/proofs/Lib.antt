@@ -1,5 +1,9 @@
 pub mod Covering
+pub mod EntryCovers
 pub mod Fronts
+pub mod Integers
 pub mod Inverting
 pub mod MovesCover
+pub mod OperandValues
+pub mod SumsCover
 pub mod Uses
