@@ -1,3 +1,6 @@
+pub mod ByteTexts
+pub mod CharactersCover
+pub mod CountsCover
 pub mod Covering
 pub mod EntryCovers
 pub mod Fronts
@@ -5,5 +8,8 @@ pub mod Integers
 pub mod Inverting
 pub mod MovesCover
 pub mod OperandValues
+pub mod Rebinding
+pub mod StringsCover
 pub mod SumsCover
+pub mod TextSizes
 pub mod Uses

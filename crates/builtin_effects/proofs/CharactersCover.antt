@@ -1,0 +1,166 @@
+-- The effects of `chr.to.int$`, `int.to.chr$` and `int.to.str$` cover the machine.
+use Rattle.std.proofs.Common.{◌≡◌, ℕ, ◌<◌, ◌≤◌, Bool, true, false, cond, nat_lt, List, [], ◌∷◌, length, reverse, Option, None, Some, Result, Ok, Err, refl, sym, ap, subst, ◌∙◌, lt-ltb, arith}
+use Rattle.std.specs.Prelude.{ℤ, pos, negsuc, ◌≤ℤ◌}
+use Rattle.std.proofs.lemmas.Bool.{le-leb}
+use Rattle.std.proofs.lemmas.Int.{ints}
+use Rattle.lin_facts.specs.declared.row.Term.TheVariants.{Value as ValueOf, Length as LengthOf}
+use Rattle.name_table.specs.declared.builtin.Builtin.TheVariants as op
+use Rattle.bst_meaning.specs.declared.fault.Fault.TheVariants.{NotAscii as BeyondAscii}
+use Rattle.bst_meaning.specs.declared.value.Value.{Value}
+use Rattle.bst_meaning.specs.declared.value.Value.TheVariants.{Int as IntValue, Str as StrValue}
+use Rattle.bst_meaning.specs.Builtins.{built_in}
+use Rattle.bst_meaning.specs.Effect.{pushed}
+use Rattle.bst_meaning.specs.Entries.{IsByteList}
+use Rattle.bst_meaning.specs.Operands.{has_32_bits}
+use Rattle.text_ops.specs.IntToStr.{numeral}
+use Rattle.sym_state.specs.declared.demand.DemandKind.TheVariants.{NotAscii, NotOneByte}
+use Rattle.sym_state.specs.declared.hint.Hint.{Hint}
+use Rattle.sym_state.specs.declared.state.State.{State}
+use Rattle.sym_state.specs.declared.symbol.Fact.TheVariants.{Int as IntFact, Nonblank}
+use Rattle.sym_state.specs.declared.symbol.Kinds.TheVariants.{Int, Str}
+use Rattle.sym_state.specs.declared.symbol.Sym.{Sym}
+use Rattle.sym_state.specs.Decided.{exact_text}
+use Rattle.sym_state.specs.Demands.{After, fails, gives, two_steps}
+use Rattle.sym_state.specs.Effects.{byte_number, effect_of, one_byte}
+use Rattle.sym_state.specs.Facts.{emptiness}
+use Rattle.sym_state.specs.References.{at_least, at_most}
+use Rattle.sym_state.specs.Results.{next_of, with_result}
+use Rattle.sym_state.specs.Symbols.{integer_of, length_of, numbers}
+use Rattle.sym_state.proofs.Deciding.{exact_text_is}
+use Rattle.sym_state.proofs.Pushing.{without}
+use Rattle.sym_state.proofs.RowSums.{at_least_says, at_most_says}
+use Rattle.sym_state.proofs.Saying.{at_least_holds, at_most_holds}
+use Rattle.sym_state.proofs.Spots.{Spot}
+use Rattle.builtin_effects.proofs.ByteTexts.{numeral_bytes}
+use Rattle.builtin_effects.proofs.Covering.{CoversAt, Old, after_value, around, lower, one_given, put, row_met, term_new_length, term_new_value, value_new}
+use Rattle.builtin_effects.proofs.Inverting.{Steps, steps_ok}
+use Rattle.builtin_effects.proofs.OperandValues.{NumberOperand, TextOperand, number_operand, text_operand}
+use Rattle.builtin_effects.proofs.TextSizes.{numeral_nonblank, numeral_sizes}
+
+-- a text of one byte
+record OneByte (bytes : List ℕ) : Type 0 where
+  pub byte : ℕ
+  pub is : bytes ≡ byte ∷ []
+
+has_one_byte : (bytes : List ℕ) → pos 1 ≤ℤ pos (length bytes) → pos (length bytes) ≤ℤ pos 1 → OneByte bytes
+has_one_byte [] low high = absurd (omega (arith, ints, low))
+has_one_byte (b ∷ []) low high = record { byte = b; is = refl }
+has_one_byte (b ∷ (c ∷ bytes)) low high = absurd (omega (arith, ints, high))
+
+one_byte_is : (found : Option (List ℕ)) (b : ℕ) → one_byte found ≡ Some b → found ≡ Some (b ∷ [])
+one_byte_is (Some (c ∷ [])) b e = let same : c ≡ b = cc in ap (λ (k : ℕ). Some (k ∷ [])) same
+one_byte_is (Some []) b e = absurd (cc)
+one_byte_is (Some (c ∷ (d ∷ bytes))) b e = absurd (cc)
+one_byte_is None b e = absurd (cc)
+
+byte_bits : (b : ℕ) → b < 256 → has_32_bits (pos b) ≡ true
+byte_bits b less = le-leb b 2147483647 (omega (arith, less))
+
+-- `chr.to.int$` of a string whose one byte is b
+one_byte_pushed : (s : Spot) (a : Sym) (rest : List Sym) (b : ℕ) → reverse s.state.stack ≡ a ∷ rest → s.v.value a.0 ≡ StrValue (b ∷ [])
+    → built_in op.ChrToInt (around s) s.c.stack ≡ pushed (IntValue (pos b)) (lower s rest)
+one_byte_pushed s a rest b tops is = one_given s op.ChrToInt a rest (StrValue (b ∷ [])) tops is
+
+first_below : (b : ℕ) (bytes : List ℕ) → IsByteList bytes → bytes ≡ b ∷ [] → b < 256
+first_below b bytes fine is = let all : IsByteList (b ∷ []) = subst (λ (l : List ℕ). IsByteList l) is fine in all.0
+
+exact_byte : (s : Spot) (a : Sym) (rest : List Sym) (bytes : List ℕ) (b : ℕ) (hints : List Hint) (after : After) → reverse s.state.stack ≡ a ∷ rest
+    → Old s rest → s.v.value a.0 ≡ StrValue bytes → IsByteList bytes → exact_text s.state.facts a.0 ≡ Some (b ∷ [])
+    → byte_number s.admits s.state a (without rest s.state) (Some b) hints ≡ Ok after → CoversAt s op.ChrToInt after.state
+exact_byte s a rest bytes b hints after tops others is fine exact e =
+    let value_is = exact_text_is s.style s.v a.0 s.state.facts (b ∷ []) s.stands.satisfied.facts exact in
+    let same : StrValue bytes ≡ StrValue (b ∷ []) = sym is ∙ value_is in
+    let bytes_are : bytes ≡ b ∷ [] = cc in
+    let value : Value = IntValue (pos b) in
+    put s op.ChrToInt rest Int (IntFact (next_of s.state) (pos b) ∷ []) [] value hints after others (one_byte_pushed s a rest b tops value_is)
+    (byte_bits b (first_below b bytes fine bytes_are)) refl (value_new s value, tt) tt e
+
+shown_byte : (s : Spot) (a : Sym) (rest : List Sym) (bytes : List ℕ) (hints : List Hint) (after : After) → reverse s.state.stack ≡ a ∷ rest
+    → Old s rest → s.v.value a.0 ≡ StrValue bytes → IsByteList bytes
+    → byte_number s.admits s.state a (without rest s.state) None hints ≡ Ok after → CoversAt s op.ChrToInt after.state
+shown_byte s a rest bytes hints after tops others is fine e =
+    let low = at_least (LengthOf a.0) (pos 1) in
+    let high = at_most (LengthOf a.0) (pos 1) in
+    let r = ValueOf s.state.next in
+    let first = at_least r (pos 0) in
+    let second = at_most r (pos 255) in
+    let t = steps_ok s.admits s.state low high (fails NotOneByte 1) hints
+        (λ left. gives left (with_result Int [] (first ∷ second ∷ []) (without rest s.state))) after e in
+    let length_is : numbers s.v (LengthOf a.0) ≡ pos (length bytes) = ap length_of is in
+    let least = at_least_says (numbers s.v) (LengthOf a.0) (pos 1) (row_met s t.one low t.first_shown) in
+    let most = at_most_says (numbers s.v) (LengthOf a.0) (pos 1) (row_met s t.other high t.second_shown) in
+    let one = has_one_byte bytes (subst (λ (k : ℤ). pos 1 ≤ℤ k) length_is least) (subst (λ (k : ℤ). k ≤ℤ pos 1) length_is most) in
+    let b : ℕ = one.byte in
+    let less = first_below b bytes fine one.is in
+    let value : Value = IntValue (pos b) in
+    let w = numbers (after_value s value) in
+    let wr : w r ≡ pos b = term_new_value s value in
+    put s op.ChrToInt rest Int [] (first ∷ second ∷ []) value t.left after others
+    (one_byte_pushed s a rest b tops (is ∙ ap (λ (l : List ℕ). StrValue l) one.is)) (byte_bits b less) refl tt
+    (at_least_holds w r (pos 0) (omega (arith, ints, wr)), (at_most_holds w r (pos 255) (omega (arith, ints, wr, less)), tt)) t.given
+
+pub chr_to_int_covers : (s : Spot) (hints : List Hint) (after : After) → effect_of s.style s.admits s.state op.ChrToInt hints ≡ Ok after
+    → CoversAt s op.ChrToInt after.state
+chr_to_int_covers s hints after e =
+    let t = text_operand s (λ a rest. byte_number s.admits s.state a rest (one_byte (exact_text s.state.facts a.0)) hints) after e in
+    elim (one_byte (exact_text s.state.facts t.a.0)) as (λ (o : Option ℕ). one_byte (exact_text s.state.facts t.a.0) ≡ o
+    → byte_number s.admits s.state t.a (without t.rest s.state) o hints ≡ Ok after → CoversAt s op.ChrToInt after.state) [
+      | Some b ↦ λ is found.
+          exact_byte s t.a t.rest t.text.bytes b hints after t.tops t.others t.text.is t.text.fine (one_byte_is (exact_text s.state.facts t.a.0) b is) found
+      | None ↦ λ is found. shown_byte s t.a t.rest t.text.bytes hints after t.tops t.others t.text.is t.text.fine found
+    ] refl t.given
+
+-- `int.to.chr$`
+record Ascii (n : ℤ) : Type 0 where
+  pub byte : ℕ
+  pub is : n ≡ pos byte
+  pub below : byte < 128
+
+is_ascii : (n : ℤ) → pos 0 ≤ℤ n → n ≤ℤ pos 127 → Ascii n
+is_ascii (pos k) low high = record { byte = k; is = refl; below = omega (arith, ints, high) }
+is_ascii (negsuc k) low high = absurd (omega (arith, ints, low))
+
+pub int_to_chr_covers : (s : Spot) (hints : List Hint) (after : After) → effect_of s.style s.admits s.state op.IntToChr hints ≡ Ok after
+    → CoversAt s op.IntToChr after.state
+int_to_chr_covers s hints after e =
+    let r = LengthOf s.state.next in
+    let first = at_least r (pos 1) in
+    let second = at_most r (pos 1) in
+    let t = number_operand s (λ a rest. two_steps s.admits s.state (at_least (ValueOf a.0) (pos 0)) (at_most (ValueOf a.0) (pos 127)) (fails NotAscii 1) hints
+        (λ left. gives left (with_result Str [] (first ∷ second ∷ []) rest))) after e in
+    let low = at_least (ValueOf t.a.0) (pos 0) in
+    let high = at_most (ValueOf t.a.0) (pos 127) in
+    let u = steps_ok s.admits s.state low high (fails NotAscii 1) hints
+        (λ left. gives left (with_result Str [] (first ∷ second ∷ []) (without t.rest s.state))) after t.given in
+    let number_is : numbers s.v (ValueOf t.a.0) ≡ t.number.n = ap integer_of t.number.is in
+    let least = at_least_says (numbers s.v) (ValueOf t.a.0) (pos 0) (row_met s u.one low u.first_shown) in
+    let most = at_most_says (numbers s.v) (ValueOf t.a.0) (pos 127) (row_met s u.other high u.second_shown) in
+    let ascii = is_ascii t.number.n (subst (λ (k : ℤ). pos 0 ≤ℤ k) number_is least) (subst (λ (k : ℤ). k ≤ℤ pos 127) number_is most) in
+    let b : ℕ = ascii.byte in
+    let value : Value = StrValue (b ∷ []) in
+    let w = numbers (after_value s value) in
+    let wr : w r ≡ pos 1 = term_new_length s value in
+    let byte_is : s.v.value t.a.0 ≡ IntValue (pos b) = t.number.is ∙ ap (λ (k : ℤ). IntValue k) ascii.is in
+    put s op.IntToChr t.rest Str [] (first ∷ second ∷ []) value u.left after t.others
+    (one_given s op.IntToChr t.a t.rest (IntValue (pos b)) t.tops byte_is
+    ∙ ap (λ (c : Bool). cond c (pushed value (lower s t.rest)) (Err BeyondAscii)) (lt-ltb b 128 ascii.below))
+    (omega (arith, ascii.below), tt) refl tt
+    (at_least_holds w r (pos 1) (omega (arith, ints, wr)), (at_most_holds w r (pos 1) (omega (arith, ints, wr)), tt)) u.given
+
+-- `int.to.str$`
+pub int_to_str_covers : (s : Spot) (hints : List Hint) (after : After) → effect_of s.style s.admits s.state op.IntToStr hints ≡ Ok after
+    → CoversAt s op.IntToStr after.state
+int_to_str_covers s hints after e =
+    let r = LengthOf s.state.next in
+    let first = at_least r (pos 1) in
+    let second = at_most r (pos 11) in
+    let t = number_operand s (λ a rest. gives hints (with_result Str (Nonblank (next_of s.state) ∷ []) (first ∷ second ∷ []) rest)) after e in
+    let n : ℤ = t.number.n in
+    let value : Value = StrValue (numeral n) in
+    let w = numbers (after_value s value) in
+    let wr : w r ≡ pos (length (numeral n)) = term_new_length s value in
+    let sizes = numeral_sizes n t.number.bits in
+    put s op.IntToStr t.rest Str (Nonblank (next_of s.state) ∷ []) (first ∷ second ∷ []) value hints after t.others
+    (one_given s op.IntToStr t.a t.rest (IntValue n) t.tops t.number.is) (numeral_bytes n) refl
+    (ap emptiness (value_new s value) ∙ ap (λ (b : Bool). Some b) (numeral_nonblank n), tt)
+    (at_least_holds w r (pos 1) (omega (arith, ints, wr, sizes.0)), (at_most_holds w r (pos 11) (omega (arith, ints, wr, sizes.1)), tt)) t.given

@@ -1,0 +1,186 @@
+-- Variables with new values, and the bindings of a state on them.
+use Rattle.std.proofs.Common.{◌≡◌, ℕ, zero, suc, ◌+◌, ◌<◌, Bool, true, false, cond, nat_eq, List, [], ◌∷◌, map, length, Option, None, Some, refl, sym, ap, subst, ◌∙◌, arith}
+use Rattle.std.proofs.Math.ListN.{set}
+use Rattle.std.specs.Prelude.{slice_get}
+use Rattle.std.specs.List.{AllByRecursion}
+use Rattle.std.proofs.lemmas.Bool.Decides.{nat_tests}
+use Rattle.name_table.specs.declared.names.Kind.{Kind}
+use Rattle.name_table.specs.declared.names.NameId.{NameId}
+use Rattle.name_table.specs.declared.style.Style.{Style}
+use Rattle.name_table.specs.Names.{kind_at}
+use Rattle.bst_meaning.specs.declared.value.Value.{Value}
+use Rattle.bst_meaning.specs.Config.{Config, Variable}
+use Rattle.bst_meaning.specs.Machine.{value_at, with_variable}
+use Rattle.bst_meaning.specs.StyleParts.{kind_of}
+use Rattle.sym_state.specs.declared.symbol.Bind.{Bind}
+use Rattle.sym_state.specs.declared.symbol.Sym.{Sym}
+use Rattle.sym_state.specs.Changes.{rebound}
+use Rattle.sym_state.specs.Stands.{IsBound, value_by}
+use Rattle.sym_state.specs.Symbols.{Valuation}
+use Rattle.sym_state.specs.WellMade.{ids_from}
+use Rattle.sym_state.proofs.Deciding.{same_number}
+
+same_self : (n : ℕ) → nat_eq n n ≡ true
+same_self n = grind (arith, nat_tests)
+
+-- the value of a variable after an assignment to it, and to another
+pub variable_new : (new : Variable) (variables : List Variable) (old : Value) → value_at new.name.0 variables ≡ Some old
+    → value_at new.name.0 (with_variable new variables) ≡ Some new.value
+variable_new new [] old e = absurd (cc)
+variable_new new (first ∷ variables) old e =
+    let id : ℕ = new.name.0 in
+    elim (nat_eq first.name.0 id) as (λ (t : Bool). nat_eq first.name.0 id ≡ t → cond t (Some first.value) (value_at id variables) ≡ Some old
+    → value_at id (cond t (new ∷ variables) (first ∷ with_variable new variables)) ≡ Some new.value) [
+      | true ↦ λ is found. ap (λ (t : Bool). cond t (Some new.value) (value_at id variables)) (same_self id)
+      | false ↦ λ is found.
+          ap (λ (t : Bool). cond t (Some first.value) (value_at id (with_variable new variables))) is ∙ variable_new new variables old found
+    ] refl e
+
+differs : (a b c : ℕ) → nat_eq a b ≡ true → nat_eq c b ≡ false → nat_eq a c ≡ false
+differs a b c same other = grind (arith, nat_tests)
+
+turned : (a b : ℕ) → nat_eq a b ≡ false → nat_eq b a ≡ false
+turned a b e = grind (arith, nat_tests)
+
+pub variable_kept : (new : Variable) (id : ℕ) (variables : List Variable) → nat_eq id new.name.0 ≡ false
+    → value_at id (with_variable new variables) ≡ value_at id variables
+variable_kept new id [] e = refl
+variable_kept new id (first ∷ variables) e =
+    let rest : Option Value = value_at id variables in
+    elim (nat_eq first.name.0 new.name.0) as (λ (t : Bool). nat_eq first.name.0 new.name.0 ≡ t
+    → value_at id (cond t (new ∷ variables) (first ∷ with_variable new variables)) ≡ value_at id (first ∷ variables)) [
+      | true ↦ λ is.
+          ap (λ (t : Bool). cond t (Some new.value) rest) (turned id new.name.0 e)
+          ∙ sym (ap (λ (t : Bool). cond t (Some first.value) rest) (differs first.name.0 new.name.0 id is e))
+      | false ↦ λ is. ap (λ (o : Option Value). cond (nat_eq first.name.0 id) (Some first.value) o) (variable_kept new id variables e)
+    ] refl
+
+-- an element of a list is replaced
+pub set_element : {X : Type 0} (xs : List X) (i : ℕ) (x y : X) → slice_get xs i ≡ Some x → slice_get (set xs i y) i ≡ Some y
+set_element [] i x y e = absurd (cc)
+set_element (z ∷ xs) zero x y e = refl
+set_element (z ∷ xs) (suc i) x y e = set_element xs i x y e
+
+pub set_length : {X : Type 0} (xs : List X) (i : ℕ) (y : X) → length (set xs i y) ≡ length xs
+set_length [] i y = refl
+set_length (z ∷ xs) zero y = refl
+set_length (z ∷ xs) (suc i) y = ap (λ (n : ℕ). suc n) (set_length xs i y)
+
+pub set_seen : {X Y : Type 0} (f : X → Y) (xs : List X) (i : ℕ) (x y : X) → slice_get xs i ≡ Some x → f y ≡ f x → map f (set xs i y) ≡ map f xs
+set_seen f [] i x y e same = refl
+set_seen {X} {Y} f (z ∷ xs) zero x y e same =
+    let is : z ≡ x = cc in ap (λ (k : Y). k ∷ map f xs) (same ∙ ap f (sym is))
+set_seen {X} {Y} f (z ∷ xs) (suc i) x y e same = ap (λ (l : List Y). f z ∷ l) (set_seen f xs i x y e same)
+
+-- no binding of these is on a name, and each name is bound once
+abbrev pub Differs : ℕ → List Bind → Type 0
+Differs id binds = AllByRecursion (λ b. nat_eq b.name.0 id ≡ false) binds
+
+abbrev pub Unique : List Bind → Type 0
+Unique [] = Unit {0}
+Unique (b ∷ binds) = Differs b.name.0 binds × Unique binds
+
+abbrev names_of : List Bind → List NameId
+names_of binds = map (λ b. b.name) binds
+
+greater : (n id low : ℕ) → n ≡ id → low < id → nat_eq n low ≡ false
+greater n id low e less = grind (arith, nat_tests)
+
+first_differs : (id low : ℕ) (rest : List NameId) (binds : List Bind) → low < id → names_of binds ≡ record { 0 = id } ∷ rest
+    → ((bs : List Bind) → names_of bs ≡ rest → Differs low bs) → Differs low binds
+first_differs id low rest [] less e later = absurd (cc)
+first_differs id low rest (b ∷ binds) less e later =
+    let head : b.name ≡ record { 0 = id } = cc in
+    let tail : names_of binds ≡ rest = cc in
+    (greater b.name.0 id low (ap (λ (n : NameId). n.0) head) less, later binds tail)
+
+later_differ : (test : Kind → Bool) (id low : ℕ) (names : List (List ℕ × Kind)) (binds : List Bind) → low < id
+    → names_of binds ≡ ids_from test id names → Differs low binds
+later_differ test id low [] [] less e = tt
+later_differ test id low [] (b ∷ binds) less e = absurd (cc)
+later_differ test id low (name ∷ names) binds less e =
+    elim (test name.1) as (λ (t : Bool). names_of binds ≡ cond t (record { 0 = id } ∷ ids_from test (suc id) names) (ids_from test (suc id) names)
+    → Differs low binds) [
+      | true ↦ λ found.
+          first_differs id low (ids_from test (suc id) names) binds less found (λ bs is. later_differ test (suc id) low names bs (omega (arith, less)) is)
+      | false ↦ λ found. later_differ test (suc id) low names binds (omega (arith, less)) found
+    ] e
+
+first_unique : (id : ℕ) (rest : List NameId) (binds : List Bind) → names_of binds ≡ record { 0 = id } ∷ rest
+    → ((bs : List Bind) → names_of bs ≡ rest → Differs id bs) → ((bs : List Bind) → names_of bs ≡ rest → Unique bs) → Unique binds
+first_unique id rest [] e differ later = absurd (cc)
+first_unique id rest (b ∷ binds) e differ later =
+    let head : b.name ≡ record { 0 = id } = cc in
+    let tail : names_of binds ≡ rest = cc in
+    (subst (λ (n : NameId). Differs n.0 binds) (sym head) (differ binds tail), later binds tail)
+
+pub each_once : (test : Kind → Bool) (id : ℕ) (names : List (List ℕ × Kind)) (binds : List Bind) → names_of binds ≡ ids_from test id names → Unique binds
+each_once test id [] [] e = tt
+each_once test id [] (b ∷ binds) e = absurd (cc)
+each_once test id (name ∷ names) binds e =
+    elim (test name.1) as (λ (t : Bool). names_of binds ≡ cond t (record { 0 = id } ∷ ids_from test (suc id) names) (ids_from test (suc id) names)
+    → Unique binds) [
+      | true ↦ λ found.
+          first_unique id (ids_from test (suc id) names) binds found (λ bs is. later_differ test (suc id) id names bs (omega arith) is)
+          (λ bs is. each_once test (suc id) names bs is)
+      | false ↦ λ found. each_once test (suc id) names binds found
+    ] e
+
+-- the binding of a name whose kind passes the test
+pub record Found (P : Bind → Type 0) (id : ℕ) : Type 0 where
+  pub bind : Bind
+  pub named : bind.name.0 ≡ id
+  pub holds : P bind
+
+first_found : (P : Bind → Type 0) (id : ℕ) (rest : List NameId) (binds : List Bind) → names_of binds ≡ record { 0 = id } ∷ rest
+    → AllByRecursion P binds → Found P id
+first_found P id rest [] e all = absurd (cc)
+first_found P id rest (b ∷ binds) e all =
+    let head : b.name ≡ record { 0 = id } = cc in record { bind = b; named = ap (λ (n : NameId). n.0) head; holds = all.0 }
+
+others_found : (P : Bind → Type 0) (id goal : ℕ) (rest : List NameId) (binds : List Bind) → names_of binds ≡ record { 0 = id } ∷ rest
+    → AllByRecursion P binds → ((bs : List Bind) → names_of bs ≡ rest → AllByRecursion P bs → Found P goal) → Found P goal
+others_found P id goal rest [] e all later = absurd (cc)
+others_found P id goal rest (b ∷ binds) e all later = let tail : names_of binds ≡ rest = cc in later binds tail all.1
+
+pub bound_at : (P : Bind → Type 0) (test : Kind → Bool) (id i : ℕ) (names : List (List ℕ × Kind)) (kind : Kind) (binds : List Bind)
+    → kind_at (record { 0 = i }) names ≡ Some kind → test kind ≡ true → names_of binds ≡ ids_from test id names → AllByRecursion P binds → Found P (id + i)
+bound_at P test id i [] kind binds is passes e all = absurd (cc)
+bound_at P test id zero (name ∷ names) kind binds is passes e all =
+    let same : kind ≡ name.1 = cc in
+    let takes : test name.1 ≡ true = subst (λ (k : Kind). test k ≡ true) same passes in
+    let ids : names_of binds ≡ record { 0 = id } ∷ ids_from test (suc id) names =
+    e ∙ ap (λ (t : Bool). cond t (record { 0 = id } ∷ ids_from test (suc id) names) (ids_from test (suc id) names)) takes in
+    let none : id ≡ id + 0 = omega arith in
+    subst (λ (n : ℕ). Found P n) none (first_found P id (ids_from test (suc id) names) binds ids all)
+bound_at P test id (suc i) (name ∷ names) kind binds is passes e all =
+    let rest : List NameId = ids_from test (suc id) names in
+    let next : suc id + i ≡ id + suc i = omega arith in
+    let later : (bs : List Bind) → names_of bs ≡ rest → AllByRecursion P bs → Found P (id + suc i) =
+    λ bs ids each. subst (λ (n : ℕ). Found P n) next (bound_at P test (suc id) i names kind bs is passes ids each) in
+    elim (test name.1) as (λ (t : Bool). names_of binds ≡ cond t (record { 0 = id } ∷ rest) rest → Found P (id + suc i)) [
+      | true ↦ λ found. others_found P id (id + suc i) rest binds found all later
+      | false ↦ λ found. later binds found all
+    ] e
+
+-- the value of one name changes, and its binding with it
+abbrev pub Kept : Style → NameId → Config → Config → Type 0
+Kept style name c after = (n : NameId) → nat_eq n.0 name.0 ≡ false → value_by (kind_of style n) n after ≡ value_by (kind_of style n) n c
+
+others_bound : (style : Style) (w : Valuation) (name : NameId) (c after : Config) (binds : List Bind) → Kept style name c after
+    → Differs name.0 binds → AllByRecursion (IsBound style w c) binds → AllByRecursion (IsBound style w after) binds
+others_bound style w name c after [] kept differ all = tt
+others_bound style w name c after (b ∷ binds) kept differ all =
+    (kept b.name differ.0 ∙ all.0, others_bound style w name c after binds kept differ.1 all.1)
+
+pub rebound_bound : (style : Style) (w : Valuation) (name : NameId) (s : Sym) (c after : Config) (binds : List Bind) → Kept style name c after
+    → value_by (kind_of style name) name after ≡ Some (w.value s.0) → Unique binds → AllByRecursion (IsBound style w c) binds
+    → AllByRecursion (IsBound style w after) (rebound name s binds)
+rebound_bound style w name s c after [] kept here once all = tt
+rebound_bound style w name s c after (b ∷ binds) kept here once all =
+    elim (nat_eq b.name.0 name.0) as (λ (t : Bool). nat_eq b.name.0 name.0 ≡ t
+    → AllByRecursion (IsBound style w after) (cond t (record { name = name; sym = s } ∷ binds) (b ∷ rebound name s binds))) [
+      | true ↦ λ is.
+          (here, others_bound style w name c after binds kept (subst (λ (n : ℕ). Differs n binds) (same_number b.name.0 name.0 is) once.0) all.1)
+      | false ↦ λ is. (kept b.name is ∙ all.0, rebound_bound style w name s c after binds kept here once.1 all.1)
+    ] refl
