@@ -127,7 +127,7 @@ int_to_chr_covers s hints after e =
     let first = at_least r (pos 1) in
     let second = at_most r (pos 1) in
     let t = number_operand s (λ a rest. two_steps s.admits s.state (at_least (ValueOf a.0) (pos 0)) (at_most (ValueOf a.0) (pos 127)) (fails NotAscii 1) hints
-        (λ left. gives left (with_result Str [] (first ∷ second ∷ []) rest))) after e in
+        (λ left. gives left (with_result Str [] (at_least (LengthOf rest.next) (pos 1) ∷ at_most (LengthOf rest.next) (pos 1) ∷ []) rest))) after e in
     let low = at_least (ValueOf t.a.0) (pos 0) in
     let high = at_most (ValueOf t.a.0) (pos 127) in
     let u = steps_ok s.admits s.state low high (fails NotAscii 1) hints
@@ -154,7 +154,9 @@ int_to_str_covers s hints after e =
     let r = LengthOf s.state.next in
     let first = at_least r (pos 1) in
     let second = at_most r (pos 11) in
-    let t = number_operand s (λ a rest. gives hints (with_result Str (Nonblank (next_of s.state) ∷ []) (first ∷ second ∷ []) rest)) after e in
+    let t = number_operand s (λ a rest.
+        gives hints (with_result Str (Nonblank (next_of rest) ∷ []) (at_least (LengthOf rest.next) (pos 1) ∷ at_most (LengthOf rest.next) (pos 11) ∷ []) rest))
+        after e in
     let n : ℤ = t.number.n in
     let value : Value = StrValue (numeral n) in
     let w = numbers (after_value s value) in

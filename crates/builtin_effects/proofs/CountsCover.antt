@@ -39,7 +39,7 @@ pub num_names_covers : (s : Spot) (hints : List Hint) (after : After) → effect
 num_names_covers s hints after e =
     let r = ValueOf s.state.next in
     let t = text_operand s (λ a rest. step s.admits s.state (at_most (NamesOf a.0) (pos 2147483647)) (fails IntRange 0) hints
-        (λ left. gives left (with_result Int [] (exceeds r (NamesOf a.0) (pos 0) ∷ exceeds (NamesOf a.0) r (pos 0) ∷ []) rest))) after e in
+        (λ left. gives left (with_result Int [] (exceeds (ValueOf rest.next) (NamesOf a.0) (pos 0) ∷ exceeds (NamesOf a.0) (ValueOf rest.next) (pos 0) ∷ []) rest))) after e in
     let names = NamesOf t.a.0 in
     let first = exceeds r names (pos 0) in
     let second = exceeds names r (pos 0) in
@@ -62,7 +62,7 @@ pub text_length_covers : (s : Spot) (hints : List Hint) (after : After) → effe
 text_length_covers s hints after e =
     let r = ValueOf s.state.next in
     let t = text_operand s (λ a rest. step s.admits s.state (at_most (LengthOf a.0) (pos 2147483647)) (fails IntRange 0) hints
-        (λ left. gives left (with_result Int [] (at_least r (pos 0) ∷ exceeds (LengthOf a.0) r (pos 0) ∷ []) rest))) after e in
+        (λ left. gives left (with_result Int [] (at_least (ValueOf rest.next) (pos 0) ∷ exceeds (LengthOf a.0) (ValueOf rest.next) (pos 0) ∷ []) rest))) after e in
     let bytes = LengthOf t.a.0 in
     let first = at_least r (pos 0) in
     let second = exceeds bytes r (pos 0) in
@@ -94,7 +94,9 @@ width_covers s hints after e =
     let r = ValueOf s.state.next in
     let t = text_operand s (λ a rest.
         step s.admits s.state (sum_of_two (pos 2147483647) (negsuc 1027) (LengthOf a.0) (pos 0) (LengthOf a.0)) (fails IntRange 0) hints
-        (λ left. gives left (with_result Int [] (at_least r (pos 0) ∷ sum_of_two (pos 0) (pos 1028) (LengthOf a.0) (negsuc 0) r ∷ []) rest))) after e in
+        (λ left. gives left (with_result Int [] (
+        at_least (ValueOf rest.next) (pos 0) ∷ sum_of_two (pos 0) (pos 1028) (LengthOf a.0) (negsuc 0) (ValueOf rest.next) ∷ []
+        ) rest))) after e in
     let bytes = LengthOf t.a.0 in
     let enough = sum_of_two (pos 2147483647) (negsuc 1027) bytes (pos 0) bytes in
     let first = at_least r (pos 0) in

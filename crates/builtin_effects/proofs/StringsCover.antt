@@ -99,9 +99,9 @@ pub join_covers : (s : Spot) (hints : List Hint) (after : After) → effect_of s
 join_covers s hints after e =
     let r = LengthOf s.state.next in
     let known = λ (a b : Sym). is_known_nonblank s.state.facts a.0 || is_known_nonblank s.state.facts b.0 in
-    let t = two_texts s (λ a b rest. gives hints (with_result Str (nonblank_where (known a b) (next_of s.state))
-        (sum_of_three (pos 0) (pos 1) r (negsuc 0) (LengthOf a.0) (negsuc 0) (LengthOf b.0)
-        ∷ sum_of_three (pos 0) (negsuc 0) r (pos 1) (LengthOf a.0) (pos 1) (LengthOf b.0) ∷ []) rest)) after e in
+    let t = two_texts s (λ a b rest. gives hints (with_result Str (nonblank_where (known a b) (next_of rest))
+        (sum_of_three (pos 0) (pos 1) (LengthOf rest.next) (negsuc 0) (LengthOf a.0) (negsuc 0) (LengthOf b.0)
+        ∷ sum_of_three (pos 0) (negsuc 0) (LengthOf rest.next) (pos 1) (LengthOf a.0) (pos 1) (LengthOf b.0) ∷ []) rest)) after e in
     let la = LengthOf t.a.0 in
     let lb = LengthOf t.b.0 in
     let first = sum_of_three (pos 0) (pos 1) r (negsuc 0) la (negsuc 0) lb in
@@ -130,8 +130,8 @@ pub add_period_covers : (s : Spot) (hints : List Hint) (after : After) → effec
     → CoversAt s op.AddPeriod after.state
 add_period_covers s hints after e =
     let r = LengthOf s.state.next in
-    let t = text_operand s (λ a rest. gives hints (with_result Str (nonblank_where (is_known_nonblank s.state.facts a.0) (next_of s.state))
-        (exceeds r (LengthOf a.0) (pos 0) ∷ exceeds (LengthOf a.0) r (negsuc 0) ∷ []) rest)) after e in
+    let t = text_operand s (λ a rest. gives hints (with_result Str (nonblank_where (is_known_nonblank s.state.facts a.0) (next_of rest))
+        (exceeds (LengthOf rest.next) (LengthOf a.0) (pos 0) ∷ exceeds (LengthOf a.0) (LengthOf rest.next) (negsuc 0) ∷ []) rest)) after e in
     let la = LengthOf t.a.0 in
     let x : List ℕ = t.text.bytes in
     let known : Bool = is_known_nonblank s.state.facts t.a.0 in
