@@ -10,6 +10,7 @@ pub mod MovesCover
 pub mod OperandValues
 pub mod Rebinding
 pub mod StringsCover
+pub mod SubstringCovers
 pub mod SumsCover
 pub mod TextSizes
 pub mod Uses
