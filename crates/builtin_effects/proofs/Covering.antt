@@ -24,12 +24,13 @@ use Rattle.sym_state.specs.Covers.{Covers}
 use Rattle.sym_state.specs.Demands.{After, gives, is_of_kind}
 use Rattle.sym_state.specs.Facts.{FactHolds, has_kind}
 use Rattle.sym_state.specs.References.{shows}
-use Rattle.sym_state.specs.Results.{with_result}
+use Rattle.sym_state.specs.Results.{with_result, with_symbol}
+use Rattle.sym_state.specs.Stands.{Stands}
 use Rattle.sym_state.specs.Symbols.{IsValue, Valuation, integer_of, length_of, numbers}
 use Rattle.sym_state.specs.WellMade.{IsTermBelow}
-use Rattle.sym_state.proofs.Frames.{agrees_self, next_agrees, next_is, term_agrees, with_next}
+use Rattle.sym_state.proofs.Frames.{agrees_self, list_agrees, next_agrees, next_is, term_agrees, with_next}
 use Rattle.sym_state.proofs.KnownKinds.{of_kind_holds}
-use Rattle.sym_state.proofs.Pushing.{moved, pushed as stands_pushed, stack_of_tops, tops_below, value_list, without}
+use Rattle.sym_state.proofs.Pushing.{moved, pushed as stands_pushed, stack_of_tops, tops_below, value_list, with_stack, without}
 use Rattle.sym_state.proofs.Shown.{shown_holds}
 use Rattle.sym_state.proofs.Spots.{Spot}
 use Rattle.builtin_effects.proofs.Inverting.{gives_is}
@@ -133,7 +134,20 @@ put s o rest kind facts rows value hints after old machine is of_kind fine shown
           s.made s.stands old is of_kind fine shown;
     })
 
--- the same where nothing is taken
+-- a new value that isn't put on the stack
+pub unseen : (s : Spot) (rest : List Sym) (kind : Kinds) (facts : List Fact) (rows : List Row) (value : Value) (events : List Event) (log : List (List ℕ))
+    → Old s rest → IsValue value → has_kind kind value ≡ true → AllByRecursion (FactHolds s.style (after_value s value)) facts
+    → AllByRecursion (Holds (numbers (after_value s value))) rows
+    → Stands s.style s.admits s.list (after_value s value) (with_symbol kind facts rows (without rest s.state)) (with_stack (lower s rest) events log s.c) s.below
+unseen s rest kind facts rows value events log old is of_kind fine shown =
+    let w : Valuation = after_value s value in
+    let top = stands_pushed s.style s.admits s.list s.v s.state s.c s.below rest kind facts rows value events log s.made s.stands old is of_kind fine shown in
+    subst (λ (l : List Value). Stands s.style s.admits s.list w (with_symbol kind facts rows (without rest s.state)) (with_stack (l ++ s.below) events log s.c) s.below)
+    (list_agrees s.state.next s.v w rest (next_agrees s.state.next value s.v) old)
+    (moved s.style s.admits s.list w (with_result kind facts rows (without rest s.state)) (with_stack (value ∷ lower s rest) events log s.c) s.below
+    rest (reverse rest) events log top (reverse-reverse rest))
+
+-- a new value on top where nothing is taken
 pub untaken : (state : State) → without (reverse state.stack) state ≡ state
 untaken state = ap (λ (l : List Sym). record state { stack = l }) (reverse-reverse state.stack)
 

@@ -1,3 +1,5 @@
+pub mod AssignCovers
+pub mod Assigned
 pub mod ByteTexts
 pub mod CharactersCover
 pub mod CountsCover

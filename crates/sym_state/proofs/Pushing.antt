@@ -55,7 +55,7 @@ stack_of_tops style admits list v state c below tops h e = h.stack ∙ ap (λ (l
 abbrev pub with_stack : List Value → List Event → List (List ℕ) → Config → Config
 with_stack stack events log c = record c { stack = stack; events = events; log = log }
 
-value_same : (kind : Option Kind) (name : NameId) (stack : List Value) (events : List Event) (log : List (List ℕ)) (c : Config)
+pub value_same : (kind : Option Kind) (name : NameId) (stack : List Value) (events : List Event) (log : List (List ℕ)) (c : Config)
     → value_by kind name (with_stack stack events log c) ≡ value_by kind name c
 value_same (Some Field) name stack events log c = refl
 value_same (Some IntEntry) name stack events log c = refl
