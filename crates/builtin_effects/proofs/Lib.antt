@@ -4,7 +4,10 @@ pub mod ByteTexts
 pub mod CharactersCover
 pub mod CountsCover
 pub mod Covering
+pub mod EffectsCover
 pub mod EntryCovers
+pub mod FormatCovers
+pub mod FormattedBytes
 pub mod Fronts
 pub mod Integers
 pub mod Inverting
