@@ -36,9 +36,10 @@ use Rattle.sym_state.specs.Symbols.{Valuation, IsValue, numbers}
 use Rattle.sym_state.specs.WellMade.{WellMade}
 use Rattle.sym_state.proofs.Frames.{next_agrees, next_is, with_next}
 use Rattle.sym_state.proofs.Pushing.{pushed as stands_pushed, value_list, with_stack, without}
+use Rattle.sym_state.proofs.Resulting.{Fits}
 use Rattle.sym_state.proofs.Shown.{shown_holds}
 use Rattle.refinements.specs.Covered.{IsAmong, OneCovers}
-use Rattle.refinements.proofs.Fitting.{Fits, case_made, case_stands}
+use Rattle.refinements.proofs.Fitting.{case_made, case_stands}
 
 -- a row that never holds isn't shown in a state that is satisfied
 not_shown : {X : Type 0} (style : Style) (admits : Cond) (v : Valuation) (state : State) (proof : Proof) → Satisfies style admits v state

@@ -30,9 +30,9 @@ use Rattle.sym_state.specs.Stands.{Satisfies, Stands}
 use Rattle.sym_state.specs.Symbols.{Valuation, numbers}
 use Rattle.sym_state.specs.WellMade.{WellMade}
 use Rattle.sym_state.proofs.Pushing.{stack_of_tops, tops_below, value_list, without}
+use Rattle.sym_state.proofs.Resulting.{Fits}
 use Rattle.refinements.specs.Covered.{IsAmong, OneCovers}
 use Rattle.refinements.proofs.Covering.{At, answer_covers, decided_covers, decided_is, first_is, first_kept, second_is, second_kept}
-use Rattle.refinements.proofs.Fitting.{Fits}
 
 -- a state that stands for a configuration at a place
 pub record Spot : Type 0 where

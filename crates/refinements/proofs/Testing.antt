@@ -41,29 +41,9 @@ use Rattle.sym_state.proofs.Consequences.{same_bytes}
 use Rattle.sym_state.proofs.Deciding.{emptiness_fact, exact_integer_is, exact_text_is, from_facts, same_number}
 use Rattle.sym_state.proofs.KnownKinds.{integer_is, known_kind_holds, of_kind_holds, string_is}
 use Rattle.sym_state.proofs.Pushing.{value_list, without}
+use Rattle.sym_state.proofs.Resulting.{both_fit, one_fits}
 use Rattle.sym_state.proofs.Saying.{exceeds_holds}
-use Rattle.refinements.proofs.Fitting.{Fits, RowBelow, nothing_fits}
 use Rattle.refinements.proofs.Taking.{AtSpot, Field, Found, Integers, Pair, Spot, at_one, at_two, both_found, decided_found, field_cases, integers_cases, one_below, pair_cases, second_below, taken_one, taken_two, weighed_found}
-
--- facts on an operand fit
-pub one_fits : (style : Style) (next : ℕ) (fact : Fact) → subject fact < next → IsOfStyle style fact → HasShortText fact → Fits style next (fact ∷ []) []
-one_fits style next fact below of_style short = record {
-  facts = All-cons (λ f. subject f < next) fact [] below (All-nil (λ f. subject f < next));
-  of_style = All-cons (IsOfStyle style) fact [] of_style (All-nil (IsOfStyle style));
-  short = All-cons HasShortText fact [] short (All-nil HasShortText);
-  rows = All-nil (RowBelow next);
-  bounded = All-nil IsBounded;
-}
-
-pub both_fit : (style : Style) (next : ℕ) (first second : List Fact) → Fits style next first [] → Fits style next second []
-    → Fits style next (first ++ second) []
-both_fit style next first second f s = record {
-  facts = All-append (λ fact. subject fact < next) first second f.facts s.facts;
-  of_style = All-append (IsOfStyle style) first second f.of_style s.of_style;
-  short = All-append HasShortText first second f.short s.short;
-  rows = All-nil (RowBelow next);
-  bounded = All-nil IsBounded;
-}
 
 -- `empty$`
 machine_empty : (context : Context) (value : Value) (b : Bool) (stack : List Value) → emptiness value ≡ Some b
@@ -96,8 +76,8 @@ empty_undecided p a rest hints cases b tops is e =
     let less = one_below p.style p.state a rest p.made tops in
     both_found p op.Empty rest b (Blank a ∷ []) (Is a Str ∷ (Nonblank a ∷ [])) hints cases
     (at_one p op.Empty a rest b tops (machine_empty (context_of p.style p.c) (p.v.value a.0) b (value_list p.v rest ++ p.below) is))
-    (one_fits p.style p.state.next (Blank a) less tt tt)
-    (both_fit p.style p.state.next (Is a Str ∷ []) (Nonblank a ∷ []) (one_fits p.style p.state.next (Is a Str) less tt tt) (one_fits p.style p.state.next (Nonblank a) less tt tt))
+    (one_fits p.style p.state.next (Blank a) less tt tt tt tt)
+    (both_fit p.style p.state.next (Is a Str ∷ []) (Nonblank a ∷ []) [] [] (one_fits p.style p.state.next (Is a Str) less tt tt tt tt) (one_fits p.style p.state.next (Nonblank a) less tt tt tt tt))
     (λ t. (is ∙ ap (λ (x : Bool). Some x) t, tt))
     (λ t. (not_empty_string (p.v.value a.0) (is ∙ ap (λ (x : Bool). Some x) t), (is ∙ ap (λ (x : Bool). Some x) t, tt)))
     e
@@ -160,7 +140,7 @@ missing_undecided p a rest hints cases tops kind e =
     let less = one_below p.style p.state a rest p.made tops in
     both_found p op.Missing rest (is_missing (p.v.value a.0)) (Is a Missing ∷ []) (Is a Str ∷ []) hints cases
     (at_one p op.Missing a rest (is_missing (p.v.value a.0)) tops (machine_missing (context_of p.style p.c) (p.v.value a.0) (value_list p.v rest ++ p.below) kind))
-    (one_fits p.style p.state.next (Is a Missing) less tt tt) (one_fits p.style p.state.next (Is a Str) less tt tt)
+    (one_fits p.style p.state.next (Is a Missing) less tt tt tt tt) (one_fits p.style p.state.next (Is a Str) less tt tt tt tt)
     (λ t. (one_missing (p.v.value a.0) t, tt)) (λ t. (one_string (p.v.value a.0) kind t, tt)) e
 
 missing_decided : (p : Spot) (a : Sym) (rest : List Sym) (hints : List Hint) (cases : Cases) (kind : Kinds) → reverse p.state.stack ≡ a ∷ rest
