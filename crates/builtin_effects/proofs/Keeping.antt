@@ -30,6 +30,7 @@ use Rattle.sym_state.specs.declared.symbol.Fact.TheVariants.{Int as IntFact, Tex
 use Rattle.sym_state.specs.declared.symbol.Kinds.{Kinds}
 use Rattle.sym_state.specs.declared.symbol.Kinds.TheVariants.{Int, Str, Func}
 use Rattle.sym_state.specs.declared.symbol.Sym.{Sym}
+use Rattle.sym_state.specs.Changes.{with_bind}
 use Rattle.sym_state.specs.Decided.{ByName, ByNumber, Function, exact_function, exact_integer, exact_text, is_known, is_known_nonblank}
 use Rattle.sym_state.specs.Demands.{After, Outcome, choice, demand, fails, is_of_kind, of_kind, one_of, one_operand, step, three_of, three_operands, two_of, two_operands, two_steps}
 use Rattle.sym_state.specs.Effects.{add_period, assign, assigned, assigned_to, at_most_known, byte_number, change_case, chr_to_int, cut_bound, effect_of, exact_sum, fits_exactly, format_name, int_to_chr, int_to_str, is_length, is_mode, is_pattern, is_start, join, known_integer, known_size, limited, log_stack, no_longer, nonblank_where, num_names, of_length, one_byte, purify, quote, shorter, string_assigned, substring, substring_of, sum, summed, text_length, text_prefix, width}

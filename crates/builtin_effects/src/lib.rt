@@ -3,6 +3,7 @@
 
 pub mod assign;
 pub mod effect;
+pub mod laws;
 pub mod moves;
 pub mod numbers;
 pub mod operands;
