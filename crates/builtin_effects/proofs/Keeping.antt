@@ -1,5 +1,5 @@
 -- Where a built-in function has an effect on a well-made state, the state after it is well made.
-use Rattle.std.proofs.Common.{◌≡◌, ℕ, suc, ◌<◌, ◌≤◌, ◌+◌, ◌^◌, Bool, true, false, cond, ◌||◌, List, [], ◌∷◌, ◌++◌, reverse, length, Option, None, Some, Result, Ok, Err, refl, subst, arith}
+use Rattle.std.proofs.Common.{◌≡◌, ℕ, ◌<◌, ◌≤◌, ◌+◌, ◌^◌, Bool, true, false, cond, ◌||◌, List, [], ◌∷◌, reverse, Option, None, Some, Ok, Err, refl, subst, arith}
 use Rattle.std.specs.Prelude.{ℤ, pos, negsuc, neg_ℤ, ◌+ℤ◌, ◌-ℤ◌, ◌-◌, ◌&&◌, codes, IfOk}
 use Rattle.std.specs.List.{All}
 use Rattle.std.proofs.lemmas.Bool.{leb-true}
@@ -32,11 +32,11 @@ use Rattle.sym_state.specs.declared.symbol.Kinds.TheVariants.{Int, Str, Func}
 use Rattle.sym_state.specs.declared.symbol.Sym.{Sym}
 use Rattle.sym_state.specs.Changes.{with_bind}
 use Rattle.sym_state.specs.Decided.{ByName, ByNumber, Function, exact_function, exact_integer, exact_text, is_known, is_known_nonblank}
-use Rattle.sym_state.specs.Demands.{After, Outcome, choice, demand, fails, is_of_kind, of_kind, one_of, one_operand, step, three_of, three_operands, two_of, two_operands, two_steps}
-use Rattle.sym_state.specs.Effects.{add_period, assign, assigned, assigned_to, at_most_known, byte_number, change_case, chr_to_int, cut_bound, effect_of, exact_sum, fits_exactly, format_name, int_to_chr, int_to_str, is_length, is_mode, is_pattern, is_start, join, known_integer, known_size, limited, log_stack, no_longer, nonblank_where, num_names, of_length, one_byte, purify, quote, shorter, string_assigned, substring, substring_of, sum, summed, text_length, text_prefix, width}
+use Rattle.sym_state.specs.Demands.{After, Outcome, choice, demand, fails, gives, is_of_kind, of_kind, one_of, one_operand, step, three_of, three_operands, two_of, two_operands, two_steps}
+use Rattle.sym_state.specs.Effects.{add_period, assign, assigned, assigned_to, at_most_known, byte_number, change_case, chr_to_int, cut_bound, effect_of, exact_sum, fits_exactly, format_name, int_to_chr, int_to_str, is_length, is_mode, is_pattern, is_start, join, known_integer, known_size, limited, no_longer, nonblank_where, num_names, of_length, one_byte, shorter, string_assigned, substring, substring_of, sum, summed, text_length, text_prefix, width}
 use Rattle.sym_state.specs.References.{at_least, at_most, exceeds, shows}
 use Rattle.sym_state.specs.Results.{next_of, sum_of_three, sum_of_two, with_result, with_symbol, with_top}
-use Rattle.sym_state.specs.WellMade.{HasSmallLimits, IsTermBelow, WellMade, size}
+use Rattle.sym_state.specs.WellMade.{HasSmallLimits, WellMade, size}
 use Rattle.sym_state.proofs.Exact.{exact_bytes, exact_small}
 use Rattle.sym_state.proofs.Pushing.{all_reversed, without}
 use Rattle.sym_state.proofs.Resulting.{Fits, RowFits, at_least_fits, at_most_fits, bind_made, both_fit, exceeds_fits, nothing_fits, one_fits, rest_made, result_made, row_fits, rows_fit, symbol_made, three_fits, top_made, two_fits}
@@ -55,48 +55,68 @@ kinded : (style : Style) (state : State) (kind : Kinds) (operand : ℕ) (s : Sym
     → Keeps style (of_kind state kind operand s next)
 kinded style state kind operand s next h = demanded style (is_of_kind state kind s) WrongKind operand next (λ met. h)
 
--- operands, and the state without them
-one_from : (style : Style) (state : State) (rule : Sym → State → Outcome) (tops : List Sym) → WellMade style state → All (λ s. s.0 < state.next) tops
-    → ((a : Sym) (rest : List Sym) → a.0 < state.next → WellMade style (without rest state) → Keeps style (rule a (without rest state)))
-    → Keeps style (one_of tops state rule)
+-- symbols that are the state's
+abbrev AreBelow : State → List Sym → Type 0
+AreBelow state syms = All (λ s. s.0 < state.next) syms
+
+head_below : (state : State) (a : Sym) (rest : List Sym) → AreBelow state (a ∷ rest) → a.0 < state.next
+head_below state a rest old = All-head (λ s. s.0 < state.next) a rest old
+
+tail_below : (state : State) (a : Sym) (rest : List Sym) → AreBelow state (a ∷ rest) → AreBelow state rest
+tail_below state a rest old = All-tail (λ s. s.0 < state.next) a rest old
+
+stack_below : (style : Style) (state : State) → WellMade style state → AreBelow state (reverse state.stack)
+stack_below style state made = all_reversed state.next state.stack made.stack
+
+-- one operand, and the state without it
+abbrev KeepsOne : Style → State → (Sym → State → Outcome) → Type 0
+KeepsOne style state rule =
+    (a : Sym) (rest : List Sym) → a.0 < state.next → WellMade style (without rest state) → Keeps style (rule a (without rest state))
+
+one_from : (style : Style) (state : State) (rule : Sym → State → Outcome) (tops : List Sym) → WellMade style state → AreBelow state tops
+    → KeepsOne style state rule → Keeps style (one_of tops state rule)
 one_from style state rule [] made old h = tt
 one_from style state rule (a ∷ rest) made old h =
-    h a rest (All-head (λ s. s.0 < state.next) a rest old) (rest_made style state rest made (All-tail (λ s. s.0 < state.next) a rest old))
+    h a rest (head_below state a rest old) (rest_made style state rest made (tail_below state a rest old))
 
-one : (style : Style) (state : State) (rule : Sym → State → Outcome) → WellMade style state
-    → ((a : Sym) (rest : List Sym) → a.0 < state.next → WellMade style (without rest state) → Keeps style (rule a (without rest state)))
+one : (style : Style) (state : State) (rule : Sym → State → Outcome) → WellMade style state → KeepsOne style state rule
     → Keeps style (one_operand state rule)
-one style state rule made h = one_from style state rule (reverse state.stack) made (all_reversed state.next state.stack made.stack) h
+one style state rule made h = one_from style state rule (reverse state.stack) made (stack_below style state made) h
 
-two_from : (style : Style) (state : State) (rule : Sym → Sym → State → Outcome) (tops : List Sym) → WellMade style state → All (λ s. s.0 < state.next) tops
-    → ((a b : Sym) (rest : List Sym) → a.0 < state.next → b.0 < state.next → WellMade style (without rest state) → Keeps style (rule a b (without rest state)))
-    → Keeps style (two_of tops state rule)
+-- two operands, the lower one first
+abbrev KeepsTwo : Style → State → (Sym → Sym → State → Outcome) → Type 0
+KeepsTwo style state rule = (a b : Sym) (rest : List Sym) → a.0 < state.next → b.0 < state.next → WellMade style (without rest state)
+    → Keeps style (rule a b (without rest state))
+
+two_from : (style : Style) (state : State) (rule : Sym → Sym → State → Outcome) (tops : List Sym) → WellMade style state → AreBelow state tops
+    → KeepsTwo style state rule → Keeps style (two_of tops state rule)
 two_from style state rule [] made old h = tt
 two_from style state rule (b ∷ []) made old h = tt
 two_from style state rule (b ∷ (a ∷ rest)) made old h =
-    let later = All-tail (λ s. s.0 < state.next) b (a ∷ rest) old in
-    h a b rest (All-head (λ s. s.0 < state.next) a rest later) (All-head (λ s. s.0 < state.next) b (a ∷ rest) old)
-    (rest_made style state rest made (All-tail (λ s. s.0 < state.next) a rest later))
+    let later = tail_below state b (a ∷ rest) old in
+    h a b rest (head_below state a rest later) (head_below state b (a ∷ rest) old) (rest_made style state rest made (tail_below state a rest later))
 
-two : (style : Style) (state : State) (rule : Sym → Sym → State → Outcome) → WellMade style state
-    → ((a b : Sym) (rest : List Sym) → a.0 < state.next → b.0 < state.next → WellMade style (without rest state) → Keeps style (rule a b (without rest state)))
+two : (style : Style) (state : State) (rule : Sym → Sym → State → Outcome) → WellMade style state → KeepsTwo style state rule
     → Keeps style (two_operands state rule)
-two style state rule made h = two_from style state rule (reverse state.stack) made (all_reversed state.next state.stack made.stack) h
+two style state rule made h = two_from style state rule (reverse state.stack) made (stack_below style state made) h
 
-three_from : (style : Style) (state : State) (rule : Sym → Sym → Sym → State → Outcome) (tops : List Sym) → WellMade style state → All (λ s. s.0 < state.next) tops
-    → ((a b c : Sym) (rest : List Sym) → a.0 < state.next → WellMade style (without rest state) → Keeps style (rule a b c (without rest state)))
-    → Keeps style (three_of tops state rule)
+-- three, of which the lowest may be named in rows
+abbrev KeepsThree : Style → State → (Sym → Sym → Sym → State → Outcome) → Type 0
+KeepsThree style state rule = (a b c : Sym) (rest : List Sym) → a.0 < state.next → WellMade style (without rest state)
+    → Keeps style (rule a b c (without rest state))
+
+three_from : (style : Style) (state : State) (rule : Sym → Sym → Sym → State → Outcome) (tops : List Sym) → WellMade style state
+    → AreBelow state tops → KeepsThree style state rule → Keeps style (three_of tops state rule)
 three_from style state rule [] made old h = tt
 three_from style state rule (c ∷ []) made old h = tt
 three_from style state rule (c ∷ (b ∷ [])) made old h = tt
 three_from style state rule (c ∷ (b ∷ (a ∷ rest))) made old h =
-    let below = All-tail (λ s. s.0 < state.next) b (a ∷ rest) (All-tail (λ s. s.0 < state.next) c (b ∷ (a ∷ rest)) old) in
-    h a b c rest (All-head (λ s. s.0 < state.next) a rest below) (rest_made style state rest made (All-tail (λ s. s.0 < state.next) a rest below))
+    let later = tail_below state b (a ∷ rest) (tail_below state c (b ∷ (a ∷ rest)) old) in
+    h a b c rest (head_below state a rest later) (rest_made style state rest made (tail_below state a rest later))
 
-three : (style : Style) (state : State) (rule : Sym → Sym → Sym → State → Outcome) → WellMade style state
-    → ((a b c : Sym) (rest : List Sym) → a.0 < state.next → WellMade style (without rest state) → Keeps style (rule a b c (without rest state)))
+three : (style : Style) (state : State) (rule : Sym → Sym → Sym → State → Outcome) → WellMade style state → KeepsThree style state rule
     → Keeps style (three_operands state rule)
-three style state rule made h = three_from style state rule (reverse state.stack) made (all_reversed state.next state.stack made.stack) h
+three style state rule made h = three_from style state rule (reverse state.stack) made (stack_below style state made) h
 
 -- hints
 shown : (style : Style) (met : Bool) (fault : EffectFault) (next : Outcome) → Keeps style next → Keeps style (cond met next (Err fault))
@@ -182,7 +202,7 @@ summed_kept style admits state sign a b rest None hints made lower upper plus mi
     (omega arith) (omega arith) (omega arith) (omega arith) (omega arith) (omega arith) plus) in
     both_stepped style admits state (sum_of_two (pos 2147483648) (pos 1) (Value a.0) sign (Value b.0))
     (sum_of_two (pos 2147483647) (negsuc 0) (Value a.0) (neg_ℤ sign) (Value b.0)) (fails IntRange 0) hints
-    (λ left. Ok (record { state = with_result Int [] (low ∷ (high ∷ [])) rest; hints = left })) (λ left. after)
+    (λ left. gives left (with_result Int [] (low ∷ (high ∷ [])) rest)) (λ left. after)
 
 sum_kept : (style : Style) (admits : Cond) (state : State) (sign : ℤ) (rule : ℤ → ℤ → ℤ) (hints : List Hint) → WellMade style state
     → size sign ≤ 2 ^ 40 → size (neg_ℤ sign) ≤ 2 ^ 40 → Keeps style (sum admits state sign rule hints)
@@ -195,16 +215,18 @@ sum_kept style admits state sign rule hints made plus minus =
     (summed_kept style admits state sign a b (without rest state) (found a b) hints left lower upper plus minus)))
 
 -- `*`
+abbrev joined_low : Sym → Sym → State → Row
+joined_low a b rest = sum_of_three (pos 0) (pos 1) (Length rest.next) (negsuc 0) (Length a.0) (negsuc 0) (Length b.0)
+
+abbrev joined_high : Sym → Sym → State → Row
+joined_high a b rest = sum_of_three (pos 0) (negsuc 0) (Length rest.next) (pos 1) (Length a.0) (pos 1) (Length b.0)
+
 joined_kept : (style : Style) (t : Bool) (a b : Sym) (rest : State) → WellMade style rest → a.0 < rest.next → b.0 < rest.next
-    → WellMade style (with_result Str (nonblank_where t (next_of rest)) (
-    sum_of_three (pos 0) (pos 1) (Length rest.next) (negsuc 0) (Length a.0) (negsuc 0) (Length b.0)
-    ∷ (sum_of_three (pos 0) (negsuc 0) (Length rest.next) (pos 1) (Length a.0) (pos 1) (Length b.0) ∷ [])) rest)
+    → WellMade style (with_result Str (nonblank_where t (next_of rest)) (joined_low a b rest ∷ (joined_high a b rest ∷ [])) rest)
 joined_kept style t a b rest made lower upper =
     let n = rest.next + 1 in
-    with_facts style rest Str (nonblank_where t (next_of rest))
-    (sum_of_three (pos 0) (pos 1) (Length rest.next) (negsuc 0) (Length a.0) (negsuc 0) (Length b.0))
-    (sum_of_three (pos 0) (negsuc 0) (Length rest.next) (pos 1) (Length a.0) (pos 1) (Length b.0))
-    made (nonblank_fits style n t (next_of rest) (omega arith))
+    with_facts style rest Str (nonblank_where t (next_of rest)) (joined_low a b rest) (joined_high a b rest) made
+    (nonblank_fits style n t (next_of rest) (omega arith))
     (three_fits n (pos 0) (pos 1) (Length rest.next) (negsuc 0) (Length a.0) (negsuc 0) (Length b.0)
     (omega arith) (omega arith) (omega arith) (omega arith) (omega arith) (omega arith) (omega arith))
     (three_fits n (pos 0) (negsuc 0) (Length rest.next) (pos 1) (Length a.0) (pos 1) (Length b.0)
@@ -213,16 +235,12 @@ joined_kept style t a b rest made lower upper =
 join_kept : (style : Style) (state : State) (hints : List Hint) → WellMade style state → Keeps style (join state hints)
 join_kept style state hints made =
     let test : Sym → Sym → Bool = λ a b. is_known_nonblank state.facts a.0 || is_known_nonblank state.facts b.0 in
-    let next : Sym → Sym → State → Outcome = λ a b rest. Ok (record {
-      state = with_result Str (nonblank_where (test a b) (next_of rest)) (
-      sum_of_three (pos 0) (pos 1) (Length rest.next) (negsuc 0) (Length a.0) (negsuc 0) (Length b.0)
-      ∷ (sum_of_three (pos 0) (negsuc 0) (Length rest.next) (pos 1) (Length a.0) (pos 1) (Length b.0) ∷ [])) rest;
-      hints = hints;
-    }) in
+    let next : Sym → Sym → State → Outcome = λ a b rest.
+    gives hints (with_result Str (nonblank_where (test a b) (next_of rest)) (joined_low a b rest ∷ (joined_high a b rest ∷ [])) rest) in
     two style state (λ a b rest. of_kind state Str 1 b (of_kind state Str 2 a (next a b rest))) made
     (λ a b rest lower upper left.
-    kinded style state Str 1 b (of_kind state Str 2 a (next a b (without rest state))) (kinded style state Str 2 a (next a b (without rest state))
-    (joined_kept style (test a b) a b (without rest state) left lower upper)))
+    kinded style state Str 1 b (of_kind state Str 2 a (next a b (without rest state)))
+    (kinded style state Str 2 a (next a b (without rest state)) (joined_kept style (test a b) a b (without rest state) left lower upper)))
 
 -- `:=`
 cut_kept : (style : Style) (name : NameId) (most : ℕ) (hints : List Hint) (rest : State) → WellMade style rest → most ≤ 2 ^ 45
@@ -237,22 +255,23 @@ string_assigned_kept : (style : Style) (admits : Cond) (state : State) (name : N
     → WellMade style rest → a.0 < rest.next → most ≤ 2 ^ 45 → Keeps style (string_assigned admits state name most a rest hints)
 string_assigned_kept style admits state name most a rest hints made below few =
     let bound = bind_made style rest name a made below in
-    elim (fits_exactly (exact_text state.facts a.0) most) as (λ (t : Bool). Keeps style (cond t (Ok (record { state = with_bind name a rest; hints = hints }))
-    (choice admits state true (at_most (Length a.0) (pos most)) hints (λ left. Ok (record { state = with_bind name a rest; hints = left })) (λ left. cut_bound name most left rest)))) [
+    let given : List Hint → Outcome = λ left. gives left (with_bind name a rest) in
+    let cut : List Hint → Outcome = λ left. cut_bound name most left rest in
+    let row = at_most (Length a.0) (pos most) in
+    elim (fits_exactly (exact_text state.facts a.0) most) as (λ (t : Bool). Keeps style (cond t (given hints) (choice admits state true row hints given cut))) [
       | true ↦ bound
-      | false ↦ chosen style admits state true (at_most (Length a.0) (pos most)) hints (λ left. Ok (record { state = with_bind name a rest; hints = left }))
-          (λ left. cut_bound name most left rest) (λ left. bound) (λ left. cut_kept style name most left rest made few)
+      | false ↦ chosen style admits state true row hints given cut (λ left. bound) (λ left. cut_kept style name most left rest made few)
     ]
 
 assigned_kept : (style : Style) (admits : Cond) (state : State) (kind : Option Kind) (name : NameId) (a : Sym) (rest : State) (hints : List Hint)
     → WellMade style rest → a.0 < rest.next → Keeps style (assigned admits state kind name a rest hints)
 assigned_kept style admits state (Some IntGlobal) name a rest hints made below =
-    kinded style state Int 2 a (Ok (record { state = with_bind name a rest; hints = hints })) (bind_made style rest name a made below)
+    kinded style state Int 2 a (gives hints (with_bind name a rest)) (bind_made style rest name a made below)
 assigned_kept style admits state (Some StrGlobal) name a rest hints made below =
     kinded style state Str 2 a (string_assigned admits state name 20000 a rest hints)
     (string_assigned_kept style admits state name 20000 a rest hints made below (omega arith))
 assigned_kept style admits state (Some IntEntry) name a rest hints made below =
-    let next : Outcome = Ok (record { state = with_bind name a rest; hints = hints }) in
+    let next : Outcome = gives hints (with_bind name a rest) in
     demanded style state.at_entry NoEntry 0 (of_kind state Int 2 a next) (λ met. kinded style state Int 2 a next (bind_made style rest name a made below))
 assigned_kept style admits state (Some StrEntry) name a rest hints made below =
     let next = string_assigned admits state name 250 a rest hints in
@@ -285,15 +304,27 @@ string_kept style state kind rule made h =
     (λ a rest below left. kinded style state kind 1 a (rule a (without rest state)) (h a (without rest state) left below))
 
 -- texts
+abbrev period_low : Sym → State → Row
+period_low a rest = exceeds (Length rest.next) (Length a.0) (pos 0)
+
+abbrev period_high : Sym → State → Row
+period_high a rest = exceeds (Length a.0) (Length rest.next) (negsuc 0)
+
 period_kept : (style : Style) (t : Bool) (a : Sym) (rest : State) → WellMade style rest → a.0 < rest.next
-    → WellMade style (with_result Str (nonblank_where t (next_of rest))
-    (exceeds (Length rest.next) (Length a.0) (pos 0) ∷ (exceeds (Length a.0) (Length rest.next) (negsuc 0) ∷ [])) rest)
+    → WellMade style (with_result Str (nonblank_where t (next_of rest)) (period_low a rest ∷ (period_high a rest ∷ [])) rest)
 period_kept style t a rest made below =
     let n = rest.next + 1 in
-    with_facts style rest Str (nonblank_where t (next_of rest)) (exceeds (Length rest.next) (Length a.0) (pos 0)) (exceeds (Length a.0) (Length rest.next) (negsuc 0))
-    made (nonblank_fits style n t (next_of rest) (omega arith))
+    with_facts style rest Str (nonblank_where t (next_of rest)) (period_low a rest) (period_high a rest) made
+    (nonblank_fits style n t (next_of rest) (omega arith))
     (exceeds_fits n (Length rest.next) (Length a.0) (pos 0) (omega arith) (omega arith) (omega arith))
     (exceeds_fits n (Length a.0) (Length rest.next) (negsuc 0) (omega arith) (omega arith) (omega arith))
+
+add_period_kept : (style : Style) (state : State) (hints : List Hint) → WellMade style state → Keeps style (add_period state hints)
+add_period_kept style state hints made =
+    let test : Sym → Bool = λ a. is_known_nonblank state.facts a.0 in
+    string_kept style state Str
+    (λ a rest. gives hints (with_result Str (nonblank_where (test a) (next_of rest)) (period_low a rest ∷ (period_high a rest ∷ [])) rest)) made
+    (λ a rest left below. period_kept style (test a) a rest left below)
 
 no_longer_kept : (style : Style) (a : Sym) (hints : List Hint) (rest : State) → WellMade style rest → a.0 < rest.next → Keeps style (no_longer a hints rest)
 no_longer_kept style a hints rest made below =
@@ -311,7 +342,7 @@ change_case_kept style state hints made =
 
 text_prefix_kept : (style : Style) (state : State) (hints : List Hint) → WellMade style state → Keeps style (text_prefix state hints)
 text_prefix_kept style state hints made =
-    let next : State → Outcome = λ rest. Ok (record { state = with_result Str [] [] rest; hints = hints }) in
+    let next : State → Outcome = λ rest. gives hints (with_result Str [] [] rest) in
     two style state (λ a n rest. of_kind state Int 1 n (of_kind state Str 2 a (next rest))) made
     (λ a n rest lower upper left.
     kinded style state Int 1 n (of_kind state Str 2 a (next (without rest state))) (kinded style state Str 2 a (next (without rest state))
@@ -319,20 +350,21 @@ text_prefix_kept style state hints made =
 
 format_name_kept : (style : Style) (admits : Cond) (state : State) (hints : List Hint) → WellMade style state → Keeps style (format_name admits state hints)
 format_name_kept style admits state hints made =
-    let given : State → List Hint → Outcome = λ rest left. Ok (record { state = with_result Str [] [] rest; hints = left }) in
+    let given : State → List Hint → Outcome = λ rest left. gives left (with_result Str [] [] rest) in
     let formed : Sym → State → List Hint → Outcome = λ p rest left. demand (is_pattern (exact_text state.facts p.0)) BadPattern 1 (given rest left) in
     let named : Sym → Sym → State → List Hint → Outcome = λ s p rest left. demand (is_known state.facts s.0 (Wellformed s)) BadName 3 (formed p rest left) in
-    let next : Sym → Sym → Sym → State → Outcome = λ s i p rest.
-    two_steps admits state (at_least (Value i.0) (pos 1)) (exceeds (Names s.0) (Value i.0) (pos 0)) (fails BadNameIndex 2) hints (named s p rest) in
+    let low : Sym → Row = λ i. at_least (Value i.0) (pos 1) in
+    let high : Sym → Sym → Row = λ s i. exceeds (Names s.0) (Value i.0) (pos 0) in
+    let next : Sym → Sym → Sym → State → Outcome = λ s i p rest. two_steps admits state (low i) (high s i) (fails BadNameIndex 2) hints (named s p rest) in
     three style state (λ s i p rest. of_kind state Str 1 p (of_kind state Int 2 i (of_kind state Str 3 s (next s i p rest)))) made
     (λ s i p rest below left.
     let others = without rest state in
     kinded style state Str 1 p (of_kind state Int 2 i (of_kind state Str 3 s (next s i p others)))
     (kinded style state Int 2 i (of_kind state Str 3 s (next s i p others))
     (kinded style state Str 3 s (next s i p others)
-    (both_stepped style admits state (at_least (Value i.0) (pos 1)) (exceeds (Names s.0) (Value i.0) (pos 0)) (fails BadNameIndex 2) hints (named s p others) (λ more.
-    demanded style (is_known state.facts s.0 (Wellformed s)) BadName 3 (formed p others more) (λ known.
-    demanded style (is_pattern (exact_text state.facts p.0)) BadPattern 1 (given others more) (λ met. bare style others Str left)))))))
+    (both_stepped style admits state (low i) (high s i) (fails BadNameIndex 2) hints (named s p others)
+    (λ more. demanded style (is_known state.facts s.0 (Wellformed s)) BadName 3 (formed p others more)
+    (λ known. demanded style (is_pattern (exact_text state.facts p.0)) BadPattern 1 (given others more) (λ met. bare style others Str left)))))))
 
 quote_kept : (style : Style) (state : State) → WellMade style state → WellMade style (with_result Str (TextFact (next_of state) (codes "\"") ∷ []) [] state)
 quote_kept style state made =
@@ -347,7 +379,8 @@ limited_kept style limit hints state made few =
 byte_small : (b : ℕ) → b < 256 → has_32_bits (pos b) ≡ true
 byte_small b h = grind (arith, nat_tests)
 
-one_byte_small : (found : Option (List ℕ)) (b : ℕ) → ((text : List ℕ) → found ≡ Some text → IsByteList text) → one_byte found ≡ Some b → has_32_bits (pos b) ≡ true
+one_byte_small : (found : Option (List ℕ)) (b : ℕ) → ((text : List ℕ) → found ≡ Some text → IsByteList text) → one_byte found ≡ Some b
+    → has_32_bits (pos b) ≡ true
 one_byte_small None b bytes e = absurd (cc)
 one_byte_small (Some []) b bytes e = absurd (cc)
 one_byte_small (Some (x ∷ [])) b bytes e =
@@ -363,7 +396,7 @@ byte_number_kept style admits state a rest None hints made small =
     let low = at_least (Value rest.next) (pos 0) in
     let high = at_most (Value rest.next) (pos 255) in
     both_stepped style admits state (at_least (Length a.0) (pos 1)) (at_most (Length a.0) (pos 1)) (fails NotOneByte 1) hints
-    (λ left. Ok (record { state = with_result Int [] (low ∷ (high ∷ [])) rest; hints = left }))
+    (λ left. gives left (with_result Int [] (low ∷ (high ∷ [])) rest))
     (λ left. with_rows style rest Int low high made (at_least_fits n (Value rest.next) (pos 0) (omega arith) (omega arith))
     (at_most_fits n (Value rest.next) (pos 255) (omega arith) (omega arith)))
 
@@ -375,30 +408,45 @@ chr_to_int_kept style admits state hints made =
 
 int_to_chr_kept : (style : Style) (admits : Cond) (state : State) (hints : List Hint) → WellMade style state → Keeps style (int_to_chr admits state hints)
 int_to_chr_kept style admits state hints made =
+    let first : Sym → Row = λ a. at_least (Value a.0) (pos 0) in
+    let second : Sym → Row = λ a. at_most (Value a.0) (pos 127) in
     let low : State → Row = λ rest. at_least (Length rest.next) (pos 1) in
     let high : State → Row = λ rest. at_most (Length rest.next) (pos 1) in
-    let given : State → List Hint → Outcome = λ rest left. Ok (record { state = with_result Str [] (low rest ∷ (high rest ∷ [])) rest; hints = left }) in
-    string_kept style state Int (λ a rest. two_steps admits state (at_least (Value a.0) (pos 0)) (at_most (Value a.0) (pos 127)) (fails NotAscii 1) hints (given rest)) made
-    (λ a rest left below. both_stepped style admits state (at_least (Value a.0) (pos 0)) (at_most (Value a.0) (pos 127)) (fails NotAscii 1) hints (given rest)
+    let given : State → List Hint → Outcome = λ rest left. gives left (with_result Str [] (low rest ∷ (high rest ∷ [])) rest) in
+    string_kept style state Int (λ a rest. two_steps admits state (first a) (second a) (fails NotAscii 1) hints (given rest)) made
+    (λ a rest left below. both_stepped style admits state (first a) (second a) (fails NotAscii 1) hints (given rest)
     (λ more. with_rows style rest Str (low rest) (high rest) left (at_least_fits (rest.next + 1) (Length rest.next) (pos 1) (omega arith) (omega arith))
     (at_most_fits (rest.next + 1) (Length rest.next) (pos 1) (omega arith) (omega arith))))
 
+abbrev numeral_low : State → Row
+numeral_low rest = at_least (Length rest.next) (pos 1)
+
+abbrev numeral_high : State → Row
+numeral_high rest = at_most (Length rest.next) (pos 11)
+
 numeral_kept : (style : Style) (rest : State) → WellMade style rest
-    → WellMade style (with_result Str (Nonblank (next_of rest) ∷ []) (at_least (Length rest.next) (pos 1) ∷ (at_most (Length rest.next) (pos 11) ∷ [])) rest)
+    → WellMade style (with_result Str (Nonblank (next_of rest) ∷ []) (numeral_low rest ∷ (numeral_high rest ∷ [])) rest)
 numeral_kept style rest made =
     let n = rest.next + 1 in
-    with_facts style rest Str (Nonblank (next_of rest) ∷ []) (at_least (Length rest.next) (pos 1)) (at_most (Length rest.next) (pos 11)) made
+    with_facts style rest Str (Nonblank (next_of rest) ∷ []) (numeral_low rest) (numeral_high rest) made
     (one_fits style n (Nonblank (next_of rest)) (omega arith) tt tt tt tt) (at_least_fits n (Length rest.next) (pos 1) (omega arith) (omega arith))
     (at_most_fits n (Length rest.next) (pos 11) (omega arith) (omega arith))
+
+int_to_str_kept : (style : Style) (state : State) (hints : List Hint) → WellMade style state → Keeps style (int_to_str state hints)
+int_to_str_kept style state hints made =
+    string_kept style state Int
+    (λ a rest. gives hints (with_result Str (Nonblank (next_of rest) ∷ []) (numeral_low rest ∷ (numeral_high rest ∷ [])) rest)) made
+    (λ a rest left below. numeral_kept style rest left)
 
 -- a step on a string, and an integer with two rows
 counted : (style : Style) (admits : Cond) (state : State) (row : Sym → Row) (first second : Sym → State → Row) (hints : List Hint) → WellMade style state
     → ((a : Sym) (rest : State) → a.0 < rest.next → RowFits (rest.next + 1) (first a rest))
     → ((a : Sym) (rest : State) → a.0 < rest.next → RowFits (rest.next + 1) (second a rest))
     → Keeps style (one_operand state (λ a rest. of_kind state Str 1 a (step admits state (row a) (fails IntRange 0) hints
-    (λ left. Ok (record { state = with_result Int [] (first a rest ∷ (second a rest ∷ [])) rest; hints = left })))))
+    (λ left. gives left (with_result Int [] (first a rest ∷ (second a rest ∷ [])) rest)))))
 counted style admits state row first second hints made f s =
-    let given : Sym → State → List Hint → Outcome = λ a rest left. Ok (record { state = with_result Int [] (first a rest ∷ (second a rest ∷ [])) rest; hints = left }) in
+    let given : Sym → State → List Hint → Outcome = λ a rest left.
+    gives left (with_result Int [] (first a rest ∷ (second a rest ∷ [])) rest) in
     string_kept style state Str (λ a rest. step admits state (row a) (fails IntRange 0) hints (given a rest)) made
     (λ a rest left below. stepped style admits state (row a) (fails IntRange 0) hints (given a rest)
     (λ more. with_rows style rest Int (first a rest) (second a rest) left (f a rest below) (s a rest below)))
@@ -449,7 +497,8 @@ known_fits style next (Some (pos n)) r below small =
 known_fits style next (Some (negsuc n)) r below small =
     row_fits style next (at_most (Length r.0) (pos 0)) (at_most_fits next (Length r.0) (pos 0) below (omega arith))
 
-of_length_kept : (style : Style) (count : ℕ) (hints : List Hint) (rest : State) → WellMade style rest → count ≤ 2 ^ 32 → Keeps style (of_length count hints rest)
+of_length_kept : (style : Style) (count : ℕ) (hints : List Hint) (rest : State) → WellMade style rest → count ≤ 2 ^ 32
+    → Keeps style (of_length count hints rest)
 of_length_kept style count hints rest made few =
     with_rows style rest Str (at_least (Length rest.next) (pos count)) (at_most (Length rest.next) (pos count)) made
     (at_least_fits (rest.next + 1) (Length rest.next) (pos count) (omega arith) (omega arith))
@@ -483,23 +532,23 @@ substring_kept style admits state hints made =
 
 -- what is only moved
 taken_kept : (style : Style) (state : State) (hints : List Hint) → WellMade style state
-    → Keeps style (one_operand state (λ a rest. Ok (record { state = rest; hints = hints })))
-taken_kept style state hints made = one style state (λ a rest. Ok (record { state = rest; hints = hints })) made (λ a rest below left. left)
+    → Keeps style (one_operand state (λ a rest. gives hints rest))
+taken_kept style state hints made = one style state (λ a rest. gives hints rest) made (λ a rest below left. left)
 
 string_taken_kept : (style : Style) (state : State) (hints : List Hint) → WellMade style state
-    → Keeps style (one_operand state (λ a rest. of_kind state Str 1 a (Ok (record { state = rest; hints = hints }))))
+    → Keeps style (one_operand state (λ a rest. of_kind state Str 1 a (gives hints rest)))
 string_taken_kept style state hints made =
-    string_kept style state Str (λ a rest. Ok (record { state = rest; hints = hints })) made (λ a rest left below. left)
+    string_kept style state Str (λ a rest. gives hints rest) made (λ a rest left below. left)
 
 duplicate_kept : (style : Style) (state : State) (hints : List Hint) → WellMade style state
-    → Keeps style (one_operand state (λ a rest. Ok (record { state = with_top a state; hints = hints })))
+    → Keeps style (one_operand state (λ a rest. gives hints (with_top a state)))
 duplicate_kept style state hints made =
-    one style state (λ a rest. Ok (record { state = with_top a state; hints = hints })) made (λ a rest below left. top_made style state a made below)
+    one style state (λ a rest. gives hints (with_top a state)) made (λ a rest below left. top_made style state a made below)
 
 swap_kept : (style : Style) (state : State) (hints : List Hint) → WellMade style state
-    → Keeps style (two_operands state (λ a b rest. Ok (record { state = with_top a (with_top b rest); hints = hints })))
+    → Keeps style (two_operands state (λ a b rest. gives hints (with_top a (with_top b rest))))
 swap_kept style state hints made =
-    two style state (λ a b rest. Ok (record { state = with_top a (with_top b rest); hints = hints })) made
+    two style state (λ a b rest. gives hints (with_top a (with_top b rest))) made
     (λ a b rest lower upper left. top_made style (with_top b (without rest state)) a (top_made style (without rest state) b left upper) lower)
 
 -- each built-in function
@@ -509,12 +558,7 @@ effect_kept style admits state op.Plus hints limits made = sum_kept style admits
 effect_kept style admits state op.Minus hints limits made = sum_kept style admits state (negsuc 0) (λ a b. a -ℤ b) hints made (omega arith) (omega arith)
 effect_kept style admits state op.Join hints limits made = join_kept style state hints made
 effect_kept style admits state op.Assign hints limits made = assign_kept style admits state hints made
-effect_kept style admits state op.AddPeriod hints limits made =
-    string_kept style state Str (λ a rest. Ok (record {
-      state = with_result Str (nonblank_where (is_known_nonblank state.facts a.0) (next_of rest))
-      (exceeds (Length rest.next) (Length a.0) (pos 0) ∷ (exceeds (Length a.0) (Length rest.next) (negsuc 0) ∷ [])) rest;
-      hints = hints;
-    })) made (λ a rest left below. period_kept style (is_known_nonblank state.facts a.0) a rest left below)
+effect_kept style admits state op.AddPeriod hints limits made = add_period_kept style state hints made
 effect_kept style admits state op.ChangeCase hints limits made = change_case_kept style state hints made
 effect_kept style admits state op.ChrToInt hints limits made = chr_to_int_kept style admits state hints made
 effect_kept style admits state op.Cite hints limits made =
@@ -522,11 +566,7 @@ effect_kept style admits state op.Cite hints limits made =
 effect_kept style admits state op.Duplicate hints limits made = duplicate_kept style state hints made
 effect_kept style admits state op.FormatName hints limits made = format_name_kept style admits state hints made
 effect_kept style admits state op.IntToChr hints limits made = int_to_chr_kept style admits state hints made
-effect_kept style admits state op.IntToStr hints limits made =
-    string_kept style state Int (λ a rest. Ok (record {
-      state = with_result Str (Nonblank (next_of rest) ∷ []) (at_least (Length rest.next) (pos 1) ∷ (at_most (Length rest.next) (pos 11) ∷ [])) rest;
-      hints = hints;
-    })) made (λ a rest left below. numeral_kept style rest left)
+effect_kept style admits state op.IntToStr hints limits made = int_to_str_kept style state hints made
 effect_kept style admits state op.Newline hints limits made = made
 effect_kept style admits state op.NumNames hints limits made = num_names_kept style admits state hints made
 effect_kept style admits state op.Pop hints limits made = taken_kept style state hints made
@@ -536,7 +576,7 @@ effect_kept style admits state op.Purify hints limits made =
 effect_kept style admits state op.Quote hints limits made = quote_kept style state made
 effect_kept style admits state op.Skip hints limits made = made
 effect_kept style admits state op.Stack hints limits made =
-    demanded style state.whole WholeStack 0 (Ok (record { state = without [] state; hints = hints }))
+    demanded style state.whole WholeStack 0 (gives hints (without [] state))
     (λ met. rest_made style state [] made (All-nil (λ (s : Sym). s.0 < state.next)))
 effect_kept style admits state op.Substring hints limits made = substring_kept style admits state hints made
 effect_kept style admits state op.Swap hints limits made = swap_kept style state hints made
@@ -544,7 +584,7 @@ effect_kept style admits state op.TextLength hints limits made = text_length_kep
 effect_kept style admits state op.TextPrefix hints limits made = text_prefix_kept style state hints made
 effect_kept style admits state op.Top hints limits made = taken_kept style state hints made
 effect_kept style admits state op.TypeName hints limits made =
-    demanded style state.at_entry NoEntry 0 (Ok (record { state = with_result Str [] [] state; hints = hints })) (λ met. bare style state Str made)
+    demanded style state.at_entry NoEntry 0 (gives hints (with_result Str [] [] state)) (λ met. bare style state Str made)
 effect_kept style admits state op.Warning hints limits made = string_taken_kept style state hints made
 effect_kept style admits state op.Width hints limits made = width_kept style admits state hints made
 effect_kept style admits state op.Write hints limits made = string_taken_kept style state hints made

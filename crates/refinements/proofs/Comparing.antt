@@ -1,51 +1,42 @@
 -- Of the cases of each test on two operands, one covers what the machine does.
-use Rattle.std.proofs.Common.{◌≡◌, ℕ, zero, suc, ◌<◌, ◌≤◌, ◌^◌, Bool, true, false, cond, List, [], ◌∷◌, ◌++◌, length, reverse, Option, None, Some, Result, Ok, Err, refl, sym, ap, subst, ◌∙◌, arith, nat_eq, nat_le, ◌&&◌}
-use Rattle.std.specs.Prelude.{ℤ, pos, negsuc, ◌+ℤ◌, ◌-ℤ◌, ◌≤ℤ◌, is_none}
-use Rattle.std.specs.List.{All, AllByRecursion}
-use Rattle.std.specs.Option.{option_or}
+use Rattle.std.proofs.Common.{◌≡◌, ℕ, ◌<◌, ◌≤◌, ◌^◌, Bool, true, false, cond, List, [], ◌∷◌, reverse, Option, None, Some, Ok, Err, refl, sym, ap, subst, ◌∙◌, arith, nat_eq, nat_le, ◌&&◌}
+use Rattle.std.specs.Prelude.{ℤ, pos, negsuc, ◌-ℤ◌, ◌≤ℤ◌}
+use Rattle.std.specs.List.{AllByRecursion}
 use Rattle.std.specs.Cmp.Lexicographic.{pointwise}
 use Rattle.std.proofs.lemmas.Bool.{leb-true}
 use Rattle.std.proofs.lemmas.Bool.Decides.{nat_tests}
 use Rattle.std.proofs.lemmas.Int.{ints}
-use Rattle.std.proofs.lemmas.List.Elements.{All-append, All-cons, All-head, All-nil, All-tail}
 use Rattle.lin_facts.specs.Rows.{Holds}
-use Rattle.lin_facts.specs.declared.row.Part.{Part}
 use Rattle.lin_facts.specs.declared.row.Row.{Row}
-use Rattle.lin_facts.specs.declared.row.Term.{Term}
 use Rattle.lin_facts.specs.declared.row.Term.TheVariants.{Value as ValueOf}
 use Rattle.name_table.specs.declared.builtin.Builtin.{Builtin}
 use Rattle.name_table.specs.declared.style.Style.{Style}
 use Rattle.name_table.specs.declared.builtin.Builtin.TheVariants as op
-use Rattle.text_ops.specs.Blank.{blank}
-use Rattle.bst_meaning.specs.Builtins.{Context, built_in}
-use Rattle.bst_meaning.specs.Effect.{pushed}
-use Rattle.bst_meaning.specs.Operands.{is_positive, is_zero, truth}
-use Rattle.bst_meaning.specs.declared.value.Value.{Value}
-use Rattle.bst_meaning.specs.declared.value.Value.TheVariants.{Int as IntValue, Str as StrValue, Missing as MissingValue, Func as FuncValue}
+use Rattle.bst_meaning.specs.Operands.{is_positive, is_zero}
+use Rattle.bst_meaning.specs.declared.value.Value.TheVariants.{Int as IntValue, Str as StrValue}
 use Rattle.sym_state.specs.declared.hint.Hint.{Hint}
 use Rattle.sym_state.specs.declared.state.State.{State}
-use Rattle.sym_state.specs.declared.symbol.Fact.{Fact}
-use Rattle.sym_state.specs.declared.symbol.Fact.TheVariants.{Is, Int as IntFact, Text as TextFact, Call, Block, Blank, Nonblank, Wellformed}
+use Rattle.sym_state.specs.declared.symbol.Fact.TheVariants.{Text as TextFact}
 use Rattle.sym_state.specs.declared.symbol.Kinds.{Kinds}
 use Rattle.sym_state.specs.declared.symbol.Kinds.TheVariants.{Int, Str, Missing, Optional, Func, Any}
 use Rattle.sym_state.specs.declared.symbol.Sym.{Sym}
-use Rattle.sym_state.specs.Cases.{Cases, Split, Two, answer, answer_of, at_least_rows, both, empty, empty_cases, equal, equal_by, equal_decided, equal_rows, greater, integer_cases, integers_decided, is_equal, is_greater, is_less, less, less_rows, missing, missing_cases, passed, passed_both, text_cases, texts_decided}
-use Rattle.sym_state.specs.Decided.{emptiness_said, exact_integer, exact_text, first_said, known_kind, text_said}
+use Rattle.sym_state.specs.Cases.{Cases, answer, answer_of, at_least_rows, equal, equal_by, equal_rows, greater, integer_cases, integers_decided, is_equal, is_greater, is_less, less, less_rows, passed, passed_both, text_cases, texts_decided}
+use Rattle.sym_state.specs.Decided.{exact_integer, exact_text, known_kind}
 use Rattle.sym_state.specs.Demands.{fails, is_of_kind}
-use Rattle.sym_state.specs.Facts.{FactHolds, emptiness, has_kind, subject}
+use Rattle.sym_state.specs.Facts.{FactHolds, has_kind}
 use Rattle.sym_state.specs.References.{exceeds}
-use Rattle.sym_state.specs.Symbols.{Valuation, integer_of, numbers}
+use Rattle.sym_state.specs.Symbols.{integer_of, numbers}
 use Rattle.sym_state.specs.WellMade.{WellMade, size}
 use Rattle.sym_state.proofs.Consequences.{same_bytes}
 use Rattle.sym_state.proofs.Exact.{exact_bytes, exact_short}
-use Rattle.sym_state.proofs.Deciding.{emptiness_fact, exact_integer_is, exact_text_is, from_facts, same_number}
+use Rattle.sym_state.proofs.Deciding.{exact_integer_is, exact_text_is, same_number}
 use Rattle.sym_state.proofs.KnownKinds.{integer_is, known_kind_holds, of_kind_holds, string_is}
-use Rattle.sym_state.proofs.Pushing.{value_list, without}
+use Rattle.sym_state.proofs.Pushing.{without}
 use Rattle.sym_state.proofs.Resulting.{Fits, both_fit, exceeds_fits, nothing_fits, one_fits, row_fits, rows_fit}
 use Rattle.sym_state.proofs.Saying.{exceeds_holds}
 use Rattle.sym_state.specs.declared.demand.DemandKind.TheVariants.{WrongKind}
 use Rattle.sym_state.proofs.Frames.{facts_joined}
-use Rattle.refinements.proofs.Taking.{AtSpot, Field, Found, Integers, Pair, Spot, at_one, at_two, both_found, decided_found, field_cases, integers_cases, one_below, pair_cases, second_below, taken_one, taken_two, weighed_found}
+use Rattle.refinements.proofs.Taking.{AtSpot, Found, Spot, at_two, both_found, decided_found, integers_cases, one_below, pair_cases, second_below, taken_two, weighed_found}
 
 -- rows on two integers hold
 pub above_zero : (z : ℤ) → is_positive z ≡ true → pos 1 ≤ℤ z
@@ -101,14 +92,16 @@ equal_hold p a b x y known e =
     )
 
 -- rows on two symbols fit
-pub exceeding : (style : Style) (next : ℕ) (a b : Sym) (n : ℤ) → a.0 < next → b.0 < next → size n ≤ 2 ^ 45 → Fits style next [] (exceeds (ValueOf a.0) (ValueOf b.0) n ∷ [])
+pub exceeding : (style : Style) (next : ℕ) (a b : Sym) (n : ℤ) → a.0 < next → b.0 < next → size n ≤ 2 ^ 45
+    → Fits style next [] (exceeds (ValueOf a.0) (ValueOf b.0) n ∷ [])
 exceeding style next a b n lower upper few =
     row_fits style next (exceeds (ValueOf a.0) (ValueOf b.0) n) (exceeds_fits next (ValueOf a.0) (ValueOf b.0) n lower upper few)
 
 pub equal_fit : (style : Style) (next : ℕ) (a b : Sym) → a.0 < next → b.0 < next → Fits style next [] (equal_rows a b)
 equal_fit style next a b lower upper =
     rows_fit style next (exceeds (ValueOf a.0) (ValueOf b.0) (pos 0)) (exceeds (ValueOf b.0) (ValueOf a.0) (pos 0))
-    (exceeds_fits next (ValueOf a.0) (ValueOf b.0) (pos 0) lower upper (omega arith)) (exceeds_fits next (ValueOf b.0) (ValueOf a.0) (pos 0) upper lower (omega arith))
+    (exceeds_fits next (ValueOf a.0) (ValueOf b.0) (pos 0) lower upper (omega arith))
+    (exceeds_fits next (ValueOf b.0) (ValueOf a.0) (pos 0) upper lower (omega arith))
 
 -- what decides a test of integers is what the machine gives
 integers_sure : (p : Spot) (test : ℤ → ℤ → Bool) (reflexive : Bool) (a b : Sym) (x y : ℤ) (t : Bool) → ((n : ℤ) → test n n ≡ reflexive) → Known p a b x y

@@ -1,6 +1,6 @@
 -- Each state that the cases of a test give is well made.
-use Rattle.std.proofs.Common.{◌≡◌, ℕ, ◌<◌, ◌≤◌, Bool, true, false, cond, List, [], ◌∷◌, ◌++◌, reverse, Option, None, Some, Result, Ok, Err, refl, sym, ap, subst, ◌∙◌, arith}
-use Rattle.std.specs.Prelude.{ℤ, pos, negsuc}
+use Rattle.std.proofs.Common.{◌≡◌, ◌<◌, Bool, true, false, cond, List, [], ◌∷◌, ◌++◌, reverse, Option, None, Some, Ok, Err, subst, arith}
+use Rattle.std.specs.Prelude.{ℤ, pos}
 use Rattle.std.specs.List.{All}
 use Rattle.std.proofs.lemmas.List.Elements.{All-append, All-cons, All-nil, All-same, All-tail}
 use Rattle.lin_facts.specs.declared.row.Row.{Row}
@@ -19,10 +19,10 @@ use Rattle.sym_state.specs.declared.symbol.Kinds.TheVariants.{Int, Str, Missing,
 use Rattle.sym_state.specs.declared.symbol.Sym.{Sym}
 use Rattle.sym_state.specs.declared.test.Test.{Test}
 use Rattle.sym_state.specs.declared.test.Test.TheVariants.{Empty, Missing as IsMissing, Equal, Less, Greater, Above}
-use Rattle.sym_state.specs.Cases.{Cases, IsTestOf, above_cases, absurdity, at_least_rows, both, decided, empty, empty_cases, equal, equal_by, equal_decided, equal_rows, greater, greater_decided, integer_cases, less, less_decided, less_rows, missing, missing_cases, not_positive_rows, passed, passed_both, positive_rows, split_of, text_cases, texts_decided, weighed, weighed_both, with_case, with_truth}
+use Rattle.sym_state.specs.Cases.{Cases, IsTestOf, above_cases, absurdity, at_least_rows, both, decided, empty_cases, equal_by, equal_decided, equal_rows, greater_decided, integer_cases, less, less_decided, less_rows, missing_cases, not_positive_rows, passed, passed_both, positive_rows, split_of, text_cases, texts_decided, weighed, weighed_both, with_case, with_truth}
 use Rattle.sym_state.specs.Decided.{emptiness_said, exact_integer, exact_text, first_said, known_kind}
 use Rattle.sym_state.specs.Demands.{fails, is_of_kind}
-use Rattle.sym_state.specs.References.{at_least, at_most, exceeds, shows}
+use Rattle.sym_state.specs.References.{at_least, at_most, shows}
 use Rattle.sym_state.specs.WellMade.{WellMade}
 use Rattle.sym_state.proofs.Pushing.{tops_below, without}
 use Rattle.sym_state.proofs.Resulting.{Fits, at_least_fits, at_most_fits, both_fit, nothing_fits, one_fits, row_fits}

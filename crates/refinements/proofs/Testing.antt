@@ -1,49 +1,26 @@
 -- Of the cases of each test, one covers what the machine does.
-use Rattle.std.proofs.Common.{◌≡◌, ℕ, ◌<◌, ◌≤◌, ◌^◌, Bool, true, false, cond, List, [], ◌∷◌, ◌++◌, length, reverse, Option, None, Some, Result, Ok, Err, refl, sym, ap, subst, ◌∙◌, arith, nat_eq}
-use Rattle.std.specs.Prelude.{ℤ, pos, negsuc, ◌+ℤ◌, ◌-ℤ◌, ◌≤ℤ◌, is_none}
-use Rattle.std.specs.List.{All, AllByRecursion}
-use Rattle.std.specs.Option.{option_or}
-use Rattle.std.specs.Cmp.Lexicographic.{pointwise}
-use Rattle.std.proofs.lemmas.Bool.{leb-true}
-use Rattle.std.proofs.lemmas.Bool.Decides.{nat_tests}
-use Rattle.std.proofs.lemmas.Int.{ints}
-use Rattle.std.proofs.lemmas.List.Elements.{All-append, All-cons, All-head, All-nil, All-tail}
-use Rattle.lin_facts.specs.Rows.{Holds}
-use Rattle.lin_facts.specs.declared.row.Part.{Part}
-use Rattle.lin_facts.specs.declared.row.Row.{Row}
-use Rattle.lin_facts.specs.declared.row.Term.{Term}
-use Rattle.lin_facts.specs.declared.row.Term.TheVariants.{Value as ValueOf}
-use Rattle.name_table.specs.declared.builtin.Builtin.{Builtin}
-use Rattle.name_table.specs.declared.style.Style.{Style}
+use Rattle.std.proofs.Common.{◌≡◌, Bool, true, false, List, [], ◌∷◌, ◌++◌, reverse, Option, None, Some, Ok, refl, ap, ◌∙◌}
 use Rattle.name_table.specs.declared.builtin.Builtin.TheVariants as op
 use Rattle.text_ops.specs.Blank.{blank}
 use Rattle.bst_meaning.specs.Builtins.{Context, built_in}
 use Rattle.bst_meaning.specs.Effect.{pushed}
 use Rattle.bst_meaning.specs.Machine.{context_of}
-use Rattle.bst_meaning.specs.Operands.{is_positive, is_zero, truth}
+use Rattle.bst_meaning.specs.Operands.{truth}
 use Rattle.bst_meaning.specs.declared.value.Value.{Value}
 use Rattle.bst_meaning.specs.declared.value.Value.TheVariants.{Int as IntValue, Str as StrValue, Missing as MissingValue, Func as FuncValue}
 use Rattle.sym_state.specs.declared.hint.Hint.{Hint}
-use Rattle.sym_state.specs.declared.state.State.{State}
-use Rattle.sym_state.specs.declared.symbol.Fact.{Fact}
-use Rattle.sym_state.specs.declared.symbol.Fact.TheVariants.{Is, Int as IntFact, Text as TextFact, Call, Block, Blank, Nonblank, Wellformed}
+use Rattle.sym_state.specs.declared.symbol.Fact.TheVariants.{Is, Blank, Nonblank}
 use Rattle.sym_state.specs.declared.symbol.Kinds.{Kinds}
 use Rattle.sym_state.specs.declared.symbol.Kinds.TheVariants.{Int, Str, Missing, Optional, Func, Any}
 use Rattle.sym_state.specs.declared.symbol.Sym.{Sym}
-use Rattle.sym_state.specs.Cases.{Cases, Split, Two, answer, answer_of, at_least_rows, both, empty, empty_cases, equal, equal_by, equal_decided, equal_rows, greater, integer_cases, integers_decided, is_equal, is_greater, is_less, less, less_rows, missing, missing_cases, passed, passed_both, text_cases, texts_decided}
-use Rattle.sym_state.specs.Decided.{emptiness_said, exact_integer, exact_text, first_said, known_kind, text_said}
-use Rattle.sym_state.specs.Demands.{is_of_kind}
-use Rattle.sym_state.specs.Facts.{FactHolds, emptiness, has_kind, subject}
-use Rattle.sym_state.specs.References.{exceeds}
-use Rattle.sym_state.specs.Symbols.{Valuation, integer_of, numbers}
-use Rattle.sym_state.specs.WellMade.{HasShortText, IsBounded, IsOfStyle, IsTermBelow}
-use Rattle.sym_state.proofs.Consequences.{same_bytes}
-use Rattle.sym_state.proofs.Deciding.{emptiness_fact, exact_integer_is, exact_text_is, from_facts, same_number}
-use Rattle.sym_state.proofs.KnownKinds.{integer_is, known_kind_holds, of_kind_holds, string_is}
+use Rattle.sym_state.specs.Cases.{Cases, both, empty, empty_cases, missing, missing_cases}
+use Rattle.sym_state.specs.Decided.{emptiness_said, first_said, known_kind}
+use Rattle.sym_state.specs.Facts.{emptiness, has_kind}
+use Rattle.sym_state.proofs.Deciding.{emptiness_fact, from_facts}
+use Rattle.sym_state.proofs.KnownKinds.{known_kind_holds, of_kind_holds}
 use Rattle.sym_state.proofs.Pushing.{value_list, without}
 use Rattle.sym_state.proofs.Resulting.{both_fit, one_fits}
-use Rattle.sym_state.proofs.Saying.{exceeds_holds}
-use Rattle.refinements.proofs.Taking.{AtSpot, Field, Found, Integers, Pair, Spot, at_one, at_two, both_found, decided_found, field_cases, integers_cases, one_below, pair_cases, second_below, taken_one, taken_two, weighed_found}
+use Rattle.refinements.proofs.Taking.{Found, Spot, at_one, both_found, decided_found, field_cases, one_below, taken_one}
 
 -- `empty$`
 machine_empty : (context : Context) (value : Value) (b : Bool) (stack : List Value) → emptiness value ≡ Some b

@@ -324,7 +324,8 @@ all_facts P alloc style admits pieces whole at_entry renamed is nonblank wellfor
     let seated : List Bind = seats (bound_by on) (all_symbols pieces) (names_in_play style at_entry) in
     All-append P (flat_map (λ piece. piece.facts) on) (flat_map (λ b. own_facts admits (kind_of style b.name) b) seated)
     (each_part P (λ piece. piece.facts) (λ piece. All P piece.facts) (all_symbols pieces) 0 pieces
-    (λ k piece few h. All-map P (fact_renamed (raised k)) piece.facts (All-weaker P (λ f. P (fact_renamed (raised k) f)) (λ f g. renamed k f g) piece.facts h)) (omega arith) all)
+    (λ k piece few h. All-map P (fact_renamed (raised k)) piece.facts
+    (All-weaker P (λ f. P (fact_renamed (raised k) f)) (λ f g. renamed k f g) piece.facts h)) (omega arith) all)
     (each_given P (λ b. own_facts admits (kind_of style b.name) b) (λ b. Unit {0}) seated
     (λ b h. own_facts_are P admits (kind_of style b.name) b (is b.sym) (nonblank b.sym) (wellformed b.sym)) (λ k d less. tt))
 

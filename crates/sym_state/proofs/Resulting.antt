@@ -51,8 +51,8 @@ pub record Fits (style : Style) (next : ℕ) (more : List Fact) (shown : List Ro
 pub nothing_fits : (style : Style) (next : ℕ) → Fits style next [] []
 nothing_fits style next = record { facts = All-nil (FactFits style next); rows = All-nil (RowFits next) }
 
-pub one_fits : (style : Style) (next : ℕ) (fact : Fact) → subject fact < next → IsOfStyle style fact → HasSmallInteger fact → HasByteText fact → HasShortText fact
-    → Fits style next (fact ∷ []) []
+pub one_fits : (style : Style) (next : ℕ) (fact : Fact) → subject fact < next → IsOfStyle style fact → HasSmallInteger fact
+    → HasByteText fact → HasShortText fact → Fits style next (fact ∷ []) []
 one_fits style next fact below of_style integer bytes short = record {
   facts = All-cons (FactFits style next) fact [] (record { below = below; of_style = of_style; integer = integer; bytes = bytes; short = short })
       (All-nil (FactFits style next));
@@ -96,13 +96,17 @@ more_made style state n facts rows made more fits = record {
   facts = All-append (λ (fact : Fact). subject fact < n) state.facts facts
       (All-weaker (λ (fact : Fact). subject fact < state.next) (λ (fact : Fact). subject fact < n) (λ fact h. omega arith) state.facts made.facts)
       (All-weaker (FactFits style n) (λ (fact : Fact). subject fact < n) (λ fact h. h.below) facts fits.facts);
-  rows = All-append (RowBelow n) state.rows rows (All-weaker (RowBelow state.next) (RowBelow n) (λ row h. row_raised state.next n row more h) state.rows made.rows)
+  rows = All-append (RowBelow n) state.rows rows
+      (All-weaker (RowBelow state.next) (RowBelow n) (λ row h. row_raised state.next n row more h) state.rows made.rows)
       (All-weaker (RowFits n) (RowBelow n) (λ row h. h.below) rows fits.rows);
   binds_vars = made.binds_vars;
   binds_fields = made.binds_fields;
-  of_style = All-append (IsOfStyle style) state.facts facts made.of_style (All-weaker (FactFits style n) (IsOfStyle style) (λ fact h. h.of_style) facts fits.facts);
-  integers = All-append HasSmallInteger state.facts facts made.integers (All-weaker (FactFits style n) HasSmallInteger (λ fact h. h.integer) facts fits.facts);
-  bytes = All-append HasByteText state.facts facts made.bytes (All-weaker (FactFits style n) HasByteText (λ fact h. h.bytes) facts fits.facts);
+  of_style = All-append (IsOfStyle style) state.facts facts made.of_style
+      (All-weaker (FactFits style n) (IsOfStyle style) (λ fact h. h.of_style) facts fits.facts);
+  integers = All-append HasSmallInteger state.facts facts made.integers
+      (All-weaker (FactFits style n) HasSmallInteger (λ fact h. h.integer) facts fits.facts);
+  bytes = All-append HasByteText state.facts facts made.bytes
+      (All-weaker (FactFits style n) HasByteText (λ fact h. h.bytes) facts fits.facts);
   bounds = record {
     facts = All-append HasShortText state.facts facts made.bounds.facts (All-weaker (FactFits style n) HasShortText (λ fact h. h.short) facts fits.facts);
     rows = All-append IsBounded state.rows rows made.bounds.rows (All-weaker (RowFits n) IsBounded (λ row h. h.bounded) rows fits.rows);

@@ -5,4 +5,5 @@ use Rattle.builtin_effects.proofs.effect.effect.Goals as goal
 pub returns-clause-kept : goal.returns-clause-kept
 returns-clause-kept c = λ made.
     let limits = c.limits_are_small.ensures in
-    effects_keep c.args.style.now c.args.cond.now c.args.state.now c.args.op _ _ (record { key = limits.key; preamble = limits.preamble }) made c.in_ok-after.ensures
+    effects_keep c.args.style.now c.args.cond.now c.args.state.now c.args.op _ _
+    (record { key = limits.key; preamble = limits.preamble }) made c.in_ok-after.ensures
