@@ -11,6 +11,7 @@ pub mod FormattedBytes
 pub mod Fronts
 pub mod Integers
 pub mod Inverting
+pub mod Keeping
 pub mod MovesCover
 pub mod OperandValues
 pub mod Rebinding

@@ -1,11 +1,11 @@
 //! The effect of a built-in function.
 
-ghost use Rattle.std.specs.Prelude.{◌≡◌, ◌≢◌, ◌<◌, true, Ok, Err, OnErr, IfOk, IfErr};
+ghost use Rattle.std.specs.Prelude.{◌≡◌, ◌≢◌, ◌<◌, ◌≤◌, ◌^◌, true, Ok, Err, OnErr, IfOk, IfErr};
 ghost use Rattle.std.specs.List.{All};
 ghost use Rattle.sym_state.specs.declared.demand.EffectFault.TheVariants.{NoMemory as WantOfMemory};
 ghost use Rattle.sym_state.specs.Demands.{HasFewUses};
 ghost use Rattle.sym_state.specs.Effects.{effect_of, is_plain};
-ghost use Rattle.sym_state.specs.WellMade.{HasBounds};
+ghost use Rattle.sym_state.specs.WellMade.{HasBounds, WellMade};
 ghost use Rattle.builtin_effects.specs.Given.{Gives};
 
 use crate::assign::assign;
@@ -35,12 +35,20 @@ pub fn effect(
     ensures ok { IfOk result (λ after. effect_of style.now cond.now state.now op hints.old ≡ Ok (record { state = after; hints = hints.new })) }
     ensures fault { IfErr result (λ fault. fault ≢ WantOfMemory → effect_of style.now cond.now state.now op hints.old ≡ Err fault) }
     ensures cursor { OnErr result (hints.new ≡ hints.old) }
+    ensures kept { IfOk result (λ after. WellMade style.now state.now → WellMade style.now after) }
 {
+    limits_are_small(cond.key, cond.preamble);
     let mut left = Hints::new(hints.rest());
     let after = effect_by(style, state, cond, op, &mut left)?;
     *hints = left;
     Ok(after)
 }
+
+/// The limits of a condition are within the bounds of rows.
+fn limits_are_small(key: u32, preamble: u32)
+    ensures key { key ≤ 2 ^ 45 }
+    ensures preamble { preamble ≤ 2 ^ 45 }
+{}
 
 /// The same, with a cursor that may have moved after a fault.
 fn effect_by(

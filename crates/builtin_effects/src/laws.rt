@@ -1,4 +1,4 @@
-//! What the effects of the built-in functions cover.
+//! What the effects of the built-in functions cover and keep.
 
 ghost use Rattle.std.specs.Prelude.{◌≡◌, List, Ok};
 ghost use Rattle.bv_base.specs.declared.place.Place.{Place};
@@ -15,7 +15,7 @@ ghost use Rattle.sym_state.specs.Demands.{After};
 ghost use Rattle.sym_state.specs.Effects.{effect_of};
 ghost use Rattle.sym_state.specs.Stands.{Stands};
 ghost use Rattle.sym_state.specs.Symbols.{Valuation};
-ghost use Rattle.sym_state.specs.WellMade.{WellMade};
+ghost use Rattle.sym_state.specs.WellMade.{HasSmallLimits, WellMade};
 
 /// Where a well-made state stands for a configuration and a built-in function has an effect on it, the function gives no
 /// fault, and the state after the effect stands for the configuration after the function.
@@ -23,4 +23,11 @@ pub fn effects_cover()
     ensures { (style : Style) (admits : Cond) (list : EntryList) (v : Valuation) (state : State) (c : Config) (below : List Value) (place : Place)
         (op : Builtin) (hints : List Hint) (after : After) → WellMade style state → Stands style admits list v state c below
         → effect_of style admits state op hints ≡ Ok after → Covers style admits list v state c below place op after.state }
+{}
+
+/// Where a built-in function has an effect on a well-made state, the state after it is well made, whatever hints it took.
+/// The condition's limits on keys and preambles become constants of rows, so they have to be within the bounds of rows.
+pub fn effects_keep()
+    ensures { (style : Style) (admits : Cond) (state : State) (op : Builtin) (hints : List Hint) (after : After) → HasSmallLimits admits
+        → WellMade style state → effect_of style admits state op hints ≡ Ok after → WellMade style after.state }
 {}

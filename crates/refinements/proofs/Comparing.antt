@@ -1,51 +1,42 @@
 -- Of the cases of each test on two operands, one covers what the machine does.
-use Rattle.std.proofs.Common.{◌≡◌, ℕ, zero, suc, ◌<◌, ◌≤◌, ◌^◌, Bool, true, false, cond, List, [], ◌∷◌, ◌++◌, length, reverse, Option, None, Some, Result, Ok, Err, refl, sym, ap, subst, ◌∙◌, arith, nat_eq, nat_le, ◌&&◌}
-use Rattle.std.specs.Prelude.{ℤ, pos, negsuc, ◌+ℤ◌, ◌-ℤ◌, ◌≤ℤ◌, is_none}
-use Rattle.std.specs.List.{All, AllByRecursion}
-use Rattle.std.specs.Option.{option_or}
+use Rattle.std.proofs.Common.{◌≡◌, ℕ, ◌<◌, ◌≤◌, ◌^◌, Bool, true, false, cond, List, [], ◌∷◌, reverse, Option, None, Some, Ok, Err, refl, sym, ap, subst, ◌∙◌, arith, nat_eq, nat_le, ◌&&◌}
+use Rattle.std.specs.Prelude.{ℤ, pos, negsuc, ◌-ℤ◌, ◌≤ℤ◌}
+use Rattle.std.specs.List.{AllByRecursion}
 use Rattle.std.specs.Cmp.Lexicographic.{pointwise}
 use Rattle.std.proofs.lemmas.Bool.{leb-true}
 use Rattle.std.proofs.lemmas.Bool.Decides.{nat_tests}
 use Rattle.std.proofs.lemmas.Int.{ints}
-use Rattle.std.proofs.lemmas.List.Elements.{All-append, All-cons, All-head, All-nil, All-tail}
 use Rattle.lin_facts.specs.Rows.{Holds}
-use Rattle.lin_facts.specs.declared.row.Part.{Part}
 use Rattle.lin_facts.specs.declared.row.Row.{Row}
-use Rattle.lin_facts.specs.declared.row.Term.{Term}
 use Rattle.lin_facts.specs.declared.row.Term.TheVariants.{Value as ValueOf}
 use Rattle.name_table.specs.declared.builtin.Builtin.{Builtin}
 use Rattle.name_table.specs.declared.style.Style.{Style}
 use Rattle.name_table.specs.declared.builtin.Builtin.TheVariants as op
-use Rattle.text_ops.specs.Blank.{blank}
-use Rattle.bst_meaning.specs.Builtins.{Context, built_in}
-use Rattle.bst_meaning.specs.Effect.{pushed}
-use Rattle.bst_meaning.specs.Operands.{is_positive, is_zero, truth}
-use Rattle.bst_meaning.specs.declared.value.Value.{Value}
-use Rattle.bst_meaning.specs.declared.value.Value.TheVariants.{Int as IntValue, Str as StrValue, Missing as MissingValue, Func as FuncValue}
+use Rattle.bst_meaning.specs.Operands.{is_positive, is_zero}
+use Rattle.bst_meaning.specs.declared.value.Value.TheVariants.{Int as IntValue, Str as StrValue}
 use Rattle.sym_state.specs.declared.hint.Hint.{Hint}
 use Rattle.sym_state.specs.declared.state.State.{State}
-use Rattle.sym_state.specs.declared.symbol.Fact.{Fact}
-use Rattle.sym_state.specs.declared.symbol.Fact.TheVariants.{Is, Int as IntFact, Text as TextFact, Call, Block, Blank, Nonblank, Wellformed}
+use Rattle.sym_state.specs.declared.symbol.Fact.TheVariants.{Text as TextFact}
 use Rattle.sym_state.specs.declared.symbol.Kinds.{Kinds}
 use Rattle.sym_state.specs.declared.symbol.Kinds.TheVariants.{Int, Str, Missing, Optional, Func, Any}
 use Rattle.sym_state.specs.declared.symbol.Sym.{Sym}
-use Rattle.sym_state.specs.Cases.{Cases, Split, Two, answer, answer_of, at_least_rows, both, empty, empty_cases, equal, equal_by, equal_decided, equal_rows, greater, integer_cases, integers_decided, is_equal, is_greater, is_less, less, less_rows, missing, missing_cases, passed, passed_both, text_cases, texts_decided}
-use Rattle.sym_state.specs.Decided.{emptiness_said, exact_integer, exact_text, first_said, known_kind, text_said}
+use Rattle.sym_state.specs.Cases.{Cases, answer, answer_of, at_least_rows, equal, equal_by, equal_rows, greater, integer_cases, integers_decided, is_equal, is_greater, is_less, less, less_rows, passed, passed_both, text_cases, texts_decided}
+use Rattle.sym_state.specs.Decided.{exact_integer, exact_text, known_kind}
 use Rattle.sym_state.specs.Demands.{fails, is_of_kind}
-use Rattle.sym_state.specs.Facts.{FactHolds, emptiness, has_kind, subject}
+use Rattle.sym_state.specs.Facts.{FactHolds, has_kind}
 use Rattle.sym_state.specs.References.{exceeds}
-use Rattle.sym_state.specs.Symbols.{Valuation, integer_of, numbers}
-use Rattle.sym_state.specs.WellMade.{HasShortText, IsBounded, IsOfStyle, IsTermBelow, WellMade}
+use Rattle.sym_state.specs.Symbols.{integer_of, numbers}
+use Rattle.sym_state.specs.WellMade.{WellMade, size}
 use Rattle.sym_state.proofs.Consequences.{same_bytes}
-use Rattle.sym_state.proofs.Deciding.{emptiness_fact, exact_integer_is, exact_text_is, from_facts, same_number}
+use Rattle.sym_state.proofs.Exact.{exact_bytes, exact_short}
+use Rattle.sym_state.proofs.Deciding.{exact_integer_is, exact_text_is, same_number}
 use Rattle.sym_state.proofs.KnownKinds.{integer_is, known_kind_holds, of_kind_holds, string_is}
-use Rattle.sym_state.proofs.Pushing.{value_list, without}
+use Rattle.sym_state.proofs.Pushing.{without}
+use Rattle.sym_state.proofs.Resulting.{Fits, both_fit, exceeds_fits, nothing_fits, one_fits, row_fits, rows_fit}
 use Rattle.sym_state.proofs.Saying.{exceeds_holds}
 use Rattle.sym_state.specs.declared.demand.DemandKind.TheVariants.{WrongKind}
 use Rattle.sym_state.proofs.Frames.{facts_joined}
-use Rattle.refinements.proofs.Testing.{both_fit, one_fits}
-use Rattle.refinements.proofs.Fitting.{Fits, RowBelow, nothing_fits}
-use Rattle.refinements.proofs.Taking.{AtSpot, Field, Found, Integers, Pair, Spot, at_one, at_two, both_found, decided_found, field_cases, integers_cases, one_below, pair_cases, second_below, taken_one, taken_two, weighed_found}
+use Rattle.refinements.proofs.Taking.{AtSpot, Found, Spot, at_two, both_found, decided_found, integers_cases, one_below, pair_cases, second_below, taken_two, weighed_found}
 
 -- rows on two integers hold
 pub above_zero : (z : ℤ) → is_positive z ≡ true → pos 1 ≤ℤ z
@@ -101,37 +92,16 @@ equal_hold p a b x y known e =
     )
 
 -- rows on two symbols fit
-pub exceeds_below : (next : ℕ) (a b : Sym) (n : ℤ) → a.0 < next → b.0 < next → RowBelow next (exceeds (ValueOf a.0) (ValueOf b.0) n)
-exceeds_below next a b n lower upper =
-    let first : Part = record { coefficient = pos 1; term = ValueOf a.0 } in
-    let second : Part = record { coefficient = negsuc 0; term = ValueOf b.0 } in
-    All-cons (λ (part : Part). IsTermBelow next part.term) first (second ∷ []) lower
-    (All-cons (λ (part : Part). IsTermBelow next part.term) second [] upper (All-nil (λ (part : Part). IsTermBelow next part.term)))
+pub exceeding : (style : Style) (next : ℕ) (a b : Sym) (n : ℤ) → a.0 < next → b.0 < next → size n ≤ 2 ^ 45
+    → Fits style next [] (exceeds (ValueOf a.0) (ValueOf b.0) n ∷ [])
+exceeding style next a b n lower upper few =
+    row_fits style next (exceeds (ValueOf a.0) (ValueOf b.0) n) (exceeds_fits next (ValueOf a.0) (ValueOf b.0) n lower upper few)
 
-pub bounded_none : (a b : ℕ) → IsBounded (exceeds (ValueOf a) (ValueOf b) (pos 0))
-bounded_none a b = record { parts = omega arith; constant = record { low = omega (arith, ints); high = omega (arith, ints) }; coefficients = omega arith }
-
-pub bounded_one : (a b : ℕ) → IsBounded (exceeds (ValueOf a) (ValueOf b) (pos 1))
-bounded_one a b = record { parts = omega arith; constant = record { low = omega (arith, ints); high = omega (arith, ints) }; coefficients = omega arith }
-
-pub row_fits : (style : Style) (next : ℕ) (row : Row) → RowBelow next row → IsBounded row → Fits style next [] (row ∷ [])
-row_fits style next row below bounded = record {
-  facts = All-nil (λ fact. subject fact < next);
-  of_style = All-nil (IsOfStyle style);
-  short = All-nil HasShortText;
-  rows = All-cons (RowBelow next) row [] below (All-nil (RowBelow next));
-  bounded = All-cons IsBounded row [] bounded (All-nil IsBounded);
-}
-
-pub rows_fit : (style : Style) (next : ℕ) (first second : Row) → RowBelow next first → IsBounded first → RowBelow next second → IsBounded second
-    → Fits style next [] (first ∷ (second ∷ []))
-rows_fit style next first second below bounded others fine = record {
-  facts = All-nil (λ fact. subject fact < next);
-  of_style = All-nil (IsOfStyle style);
-  short = All-nil HasShortText;
-  rows = All-cons (RowBelow next) first (second ∷ []) below (All-cons (RowBelow next) second [] others (All-nil (RowBelow next)));
-  bounded = All-cons IsBounded first (second ∷ []) bounded (All-cons IsBounded second [] fine (All-nil IsBounded));
-}
+pub equal_fit : (style : Style) (next : ℕ) (a b : Sym) → a.0 < next → b.0 < next → Fits style next [] (equal_rows a b)
+equal_fit style next a b lower upper =
+    rows_fit style next (exceeds (ValueOf a.0) (ValueOf b.0) (pos 0)) (exceeds (ValueOf b.0) (ValueOf a.0) (pos 0))
+    (exceeds_fits next (ValueOf a.0) (ValueOf b.0) (pos 0) lower upper (omega arith))
+    (exceeds_fits next (ValueOf b.0) (ValueOf a.0) (pos 0) upper lower (omega arith))
 
 -- what decides a test of integers is what the machine gives
 integers_sure : (p : Spot) (test : ℤ → ℤ → Bool) (reflexive : Bool) (a b : Sym) (x y : ℤ) (t : Bool) → ((n : ℤ) → test n n ≡ reflexive) → Known p a b x y
@@ -197,8 +167,7 @@ less_found p hints cases e =
     let values = values_of_two p a b f.lower_kind f.upper_kind in
     integers_found p op.Less f.pair.rest is_less false a b values.x values.y (less_rows a b) (at_least_rows a b) hints cases values.known never_less
     (at_two p op.Less a b f.pair.rest (IntValue values.x) (IntValue values.y) (is_less values.x values.y) f.pair.tops values.known.lower values.known.upper refl)
-    (row_fits p.style p.state.next (exceeds (ValueOf b.0) (ValueOf a.0) (pos 1)) (exceeds_below p.state.next b a (pos 1) upper lower) (bounded_one b.0 a.0))
-    (row_fits p.style p.state.next (exceeds (ValueOf a.0) (ValueOf b.0) (pos 0)) (exceeds_below p.state.next a b (pos 0) lower upper) (bounded_none a.0 b.0))
+    (exceeding p.style p.state.next b a (pos 1) upper lower (omega arith)) (exceeding p.style p.state.next a b (pos 0) lower upper (omega arith))
     (less_hold p a b values.x values.y values.known) (at_least_hold p a b values.x values.y values.known) f.pair.given
 
 turned : (p : Spot) (a b : Sym) (x y : ℤ) → Known p a b x y → Known p b a y x
@@ -216,8 +185,7 @@ greater_found p hints cases e =
     let values = values_of_two p a b f.lower_kind f.upper_kind in
     integers_found p op.Greater f.pair.rest is_greater false a b values.x values.y (less_rows b a) (at_least_rows b a) hints cases values.known never_less
     (at_two p op.Greater a b f.pair.rest (IntValue values.x) (IntValue values.y) (is_greater values.x values.y) f.pair.tops values.known.lower values.known.upper refl)
-    (row_fits p.style p.state.next (exceeds (ValueOf a.0) (ValueOf b.0) (pos 1)) (exceeds_below p.state.next a b (pos 1) lower upper) (bounded_one a.0 b.0))
-    (row_fits p.style p.state.next (exceeds (ValueOf b.0) (ValueOf a.0) (pos 0)) (exceeds_below p.state.next b a (pos 0) upper lower) (bounded_none b.0 a.0))
+    (exceeding p.style p.state.next a b (pos 1) lower upper (omega arith)) (exceeding p.style p.state.next b a (pos 0) upper lower (omega arith))
     (less_hold p b a values.y values.x (turned p a b values.x values.y values.known))
     (at_least_hold p b a values.y values.x (turned p a b values.x values.y values.known)) f.pair.given
 
@@ -234,9 +202,7 @@ equal_integers_found p a b rest hints cases tops lower_kind upper_kind e =
     let known : Known p a b one.0 two.0 = record { lower = one.1; upper = two.1 } in
     integers_found p op.Equal rest is_equal true a b one.0 two.0 (equal_rows a b) [] hints cases known always_equal
     (at_two p op.Equal a b rest (IntValue one.0) (IntValue two.0) (is_equal one.0 two.0) tops one.1 two.1 refl)
-    (rows_fit p.style p.state.next (exceeds (ValueOf a.0) (ValueOf b.0) (pos 0)) (exceeds (ValueOf b.0) (ValueOf a.0) (pos 0))
-    (exceeds_below p.state.next a b (pos 0) lower upper) (bounded_none a.0 b.0) (exceeds_below p.state.next b a (pos 0) upper lower) (bounded_none b.0 a.0))
-    (nothing_fits p.style p.state.next)
+    (equal_fit p.style p.state.next a b lower upper) (nothing_fits p.style p.state.next)
     (equal_hold p a b one.0 two.0 known) (λ unequal. tt) e
 
 -- `=` of two strings
@@ -276,30 +242,7 @@ texts_sure p a b x y t known e =
           ] refl found
     ] refl e
 
--- an exact text is one of a fact
-short_said : (fact : Fact) (text : List ℕ) → HasShortText fact → text_said fact ≡ Some text → length text ≤ 2 ^ 45
-short_said (TextFact s other) text h e = let same : other ≡ text = cc in subst (λ (t : List ℕ). length t ≤ 2 ^ 45) same h
-short_said (Is s k) text h e = absurd (cc)
-short_said (IntFact s k) text h e = absurd (cc)
-short_said (Call s k) text h e = absurd (cc)
-short_said (Block s k) text h e = absurd (cc)
-short_said (Blank s) text h e = absurd (cc)
-short_said (Nonblank s) text h e = absurd (cc)
-short_said (Wellformed s) text h e = absurd (cc)
-
-short_exact : (facts : List Fact) (s : ℕ) (text : List ℕ) → All HasShortText facts → exact_text facts s ≡ Some text → length text ≤ 2 ^ 45
-short_exact [] s text all e = absurd (cc)
-short_exact (fact ∷ facts) s text all e =
-    let later = short_exact facts s text (All-tail HasShortText fact facts all) in
-    let first = short_said fact text (All-head HasShortText fact facts all) in
-    elim (nat_eq (subject fact) s) as (λ (t : Bool). cond t (option_or (text_said fact) (exact_text facts s)) (exact_text facts s) ≡ Some text → length text ≤ 2 ^ 45) [
-      | true ↦ λ found. elim (text_said fact) as (λ (o : Option (List ℕ)). text_said fact ≡ o → option_or o (exact_text facts s) ≡ Some text → length text ≤ 2 ^ 45) [
-        | Some other ↦ λ is some. first (is ∙ some)
-        | None ↦ λ is some. later some
-      ] refl found
-      | false ↦ λ found. later found
-    ] e
-
+-- a text that passes to another symbol
 passed_holds : (p : Spot) (a b : Sym) → p.v.value a.0 ≡ p.v.value b.0 → AllByRecursion (FactHolds p.style p.v) (passed (exact_text p.state.facts a.0) b)
 passed_holds p a b same =
     elim (exact_text p.state.facts a.0) as (λ (o : Option (List ℕ)). exact_text p.state.facts a.0 ≡ o → AllByRecursion (FactHolds p.style p.v) (passed o b)) [
@@ -312,7 +255,8 @@ pub passed_fits : (style : Style) (state : State) (a b : Sym) → WellMade style
 passed_fits style state a b made less =
     elim (exact_text state.facts a.0) as (λ (o : Option (List ℕ)). exact_text state.facts a.0 ≡ o → Fits style state.next (passed o b) []) [
       | None ↦ λ is. nothing_fits style state.next
-      | Some text ↦ λ is. one_fits style state.next (TextFact b text) less tt (short_exact state.facts a.0 text made.bounds.facts is)
+      | Some text ↦ λ is. one_fits style state.next (TextFact b text) less tt tt
+          (exact_bytes state.facts a.0 text made.bytes is) (exact_short state.facts a.0 text made.bounds.facts is)
     ] refl
 
 equal_texts_found : (p : Spot) (a b : Sym) (rest : List Sym) (hints : List Hint) (cases : Cases) → reverse p.state.stack ≡ b ∷ (a ∷ rest)
@@ -330,7 +274,8 @@ equal_texts_found p a b rest hints cases tops lower_kind upper_kind e =
       | Some t ↦ λ is found. decided_found p op.Equal rest (pointwise nat_eq one.0 two.0) t hints cases at (texts_sure p a b one.0 two.0 t known is) found
       | None ↦ λ is found.
           both_found p op.Equal rest (pointwise nat_eq one.0 two.0) (passed_both p.state.facts a b) [] hints cases at
-          (both_fit p.style p.state.next (passed (exact_text p.state.facts a.0) b) (passed (exact_text p.state.facts b.0) a) (passed_fits p.style p.state a b p.made upper) (passed_fits p.style p.state b a p.made lower))
+          (both_fit p.style p.state.next (passed (exact_text p.state.facts a.0) b) (passed (exact_text p.state.facts b.0) a) [] []
+          (passed_fits p.style p.state a b p.made upper) (passed_fits p.style p.state b a p.made lower))
           (nothing_fits p.style p.state.next)
           (λ same.
           let values : p.v.value a.0 ≡ p.v.value b.0 = one.1 ∙ ap (λ (bytes : List ℕ). StrValue bytes) (same_bytes one.0 two.0 same) ∙ sym two.1 in

@@ -1,6 +1,5 @@
 -- Which of the cases covers what the machine does.
-use Rattle.std.proofs.Common.{◌≡◌, ℕ, ◌<◌, ◌≤◌, Bool, true, false, cond, List, [], ◌∷◌, ◌++◌, Option, None, Some, Result, Ok, Err, refl, sym, ap, subst, ◌∙◌, inl, inr, arith}
-use Rattle.std.specs.Prelude.{ℤ, pos, negsuc}
+use Rattle.std.proofs.Common.{◌≡◌, ℕ, ◌<◌, Bool, true, false, List, [], ◌∷◌, ◌++◌, Ok, Err, refl, sym, ap, subst, ◌∙◌, inl, inr, arith}
 use Rattle.std.specs.List.{All, AllByRecursion}
 use Rattle.std.proofs.lemmas.Int.{ints}
 use Rattle.bv_base.specs.declared.place.Place.{Place}
@@ -17,7 +16,6 @@ use Rattle.bst_meaning.specs.Config.{Config, Event}
 use Rattle.bst_meaning.specs.Effect.{left, pushed}
 use Rattle.bst_meaning.specs.Machine.{context_of}
 use Rattle.bst_meaning.specs.Operands.{truth}
-use Rattle.sym_state.specs.declared.demand.EffectFault.{EffectFault}
 use Rattle.sym_state.specs.declared.hint.Hint.{Hint}
 use Rattle.sym_state.specs.declared.hint.Hint.TheVariants.{Apply, Walk, Loop, Case, Plain, Keep, Drop, Step}
 use Rattle.sym_state.specs.declared.proof.Proof.{Proof}
@@ -26,7 +24,7 @@ use Rattle.sym_state.specs.declared.symbol.Fact.{Fact}
 use Rattle.sym_state.specs.declared.symbol.Fact.TheVariants.{Int as IntFact}
 use Rattle.sym_state.specs.declared.symbol.Kinds.TheVariants.{Int}
 use Rattle.sym_state.specs.declared.symbol.Sym.{Sym}
-use Rattle.sym_state.specs.Cases.{Cases, Split, absurdity, before, both, decided, followed_by, given, number_of, weighed, weighed_both, with_case, with_truth}
+use Rattle.sym_state.specs.Cases.{Cases, Split, absurdity, before, both, decided, followed_by, number_of, weighed, weighed_both, with_case, with_truth}
 use Rattle.sym_state.specs.Covers.{Covers}
 use Rattle.sym_state.specs.Facts.{FactHolds, has_kind}
 use Rattle.sym_state.specs.References.{shows}
@@ -36,9 +34,10 @@ use Rattle.sym_state.specs.Symbols.{Valuation, IsValue, numbers}
 use Rattle.sym_state.specs.WellMade.{WellMade}
 use Rattle.sym_state.proofs.Frames.{next_agrees, next_is, with_next}
 use Rattle.sym_state.proofs.Pushing.{pushed as stands_pushed, value_list, with_stack, without}
+use Rattle.sym_state.proofs.Resulting.{Fits}
 use Rattle.sym_state.proofs.Shown.{shown_holds}
-use Rattle.refinements.specs.Covered.{IsAmong, OneCovers}
-use Rattle.refinements.proofs.Fitting.{Fits, case_made, case_stands}
+use Rattle.refinements.specs.Covered.{IsAmong}
+use Rattle.refinements.proofs.Fitting.{case_made, case_stands}
 
 -- a row that never holds isn't shown in a state that is satisfied
 not_shown : {X : Type 0} (style : Style) (admits : Cond) (v : Valuation) (state : State) (proof : Proof) → Satisfies style admits v state

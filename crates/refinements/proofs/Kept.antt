@@ -1,10 +1,8 @@
 -- Each state that the cases of a test give is well made.
-use Rattle.std.proofs.Common.{◌≡◌, ℕ, ◌<◌, ◌≤◌, Bool, true, false, cond, List, [], ◌∷◌, ◌++◌, reverse, Option, None, Some, Result, Ok, Err, refl, sym, ap, subst, ◌∙◌, arith}
-use Rattle.std.specs.Prelude.{ℤ, pos, negsuc}
+use Rattle.std.proofs.Common.{◌≡◌, ◌<◌, Bool, true, false, cond, List, [], ◌∷◌, ◌++◌, reverse, Option, None, Some, Ok, Err, subst, arith}
+use Rattle.std.specs.Prelude.{ℤ, pos}
 use Rattle.std.specs.List.{All}
-use Rattle.std.proofs.lemmas.Int.{ints}
 use Rattle.std.proofs.lemmas.List.Elements.{All-append, All-cons, All-nil, All-same, All-tail}
-use Rattle.lin_facts.specs.declared.row.Part.{Part}
 use Rattle.lin_facts.specs.declared.row.Row.{Row}
 use Rattle.lin_facts.specs.declared.row.Term.TheVariants.{Value as ValueOf}
 use Rattle.name_table.specs.declared.style.Style.{Style}
@@ -21,17 +19,17 @@ use Rattle.sym_state.specs.declared.symbol.Kinds.TheVariants.{Int, Str, Missing,
 use Rattle.sym_state.specs.declared.symbol.Sym.{Sym}
 use Rattle.sym_state.specs.declared.test.Test.{Test}
 use Rattle.sym_state.specs.declared.test.Test.TheVariants.{Empty, Missing as IsMissing, Equal, Less, Greater, Above}
-use Rattle.sym_state.specs.Cases.{Cases, IsTestOf, above_cases, absurdity, at_least_rows, both, decided, empty, empty_cases, equal, equal_by, equal_decided, equal_rows, greater, greater_decided, integer_cases, less, less_decided, less_rows, missing, missing_cases, not_positive_rows, passed, passed_both, positive_rows, split_of, text_cases, texts_decided, weighed, weighed_both, with_case, with_truth}
+use Rattle.sym_state.specs.Cases.{Cases, IsTestOf, above_cases, absurdity, at_least_rows, both, decided, empty_cases, equal_by, equal_decided, equal_rows, greater_decided, integer_cases, less, less_decided, less_rows, missing_cases, not_positive_rows, passed, passed_both, positive_rows, split_of, text_cases, texts_decided, weighed, weighed_both, with_case, with_truth}
 use Rattle.sym_state.specs.Decided.{emptiness_said, exact_integer, exact_text, first_said, known_kind}
 use Rattle.sym_state.specs.Demands.{fails, is_of_kind}
-use Rattle.sym_state.specs.References.{at_least, at_most, exceeds, shows}
-use Rattle.sym_state.specs.WellMade.{IsBounded, IsTermBelow, WellMade}
+use Rattle.sym_state.specs.References.{at_least, at_most, shows}
+use Rattle.sym_state.specs.WellMade.{WellMade}
 use Rattle.sym_state.proofs.Pushing.{tops_below, without}
-use Rattle.refinements.proofs.Comparing.{bounded_none, bounded_one, exceeds_below, passed_fits, row_fits, rows_fit}
+use Rattle.sym_state.proofs.Resulting.{Fits, at_least_fits, at_most_fits, both_fit, nothing_fits, one_fits, row_fits}
+use Rattle.refinements.proofs.Comparing.{equal_fit, exceeding, passed_fits}
 use Rattle.refinements.proofs.Covering.{both_weighed}
-use Rattle.refinements.proofs.Fitting.{Fits, RowBelow, case_made, nothing_fits, truth_made}
+use Rattle.refinements.proofs.Fitting.{case_made, truth_made}
 use Rattle.refinements.proofs.Taking.{field_cases, integers_cases, one_below, pair_cases, second_below, taken_one, taken_two}
-use Rattle.refinements.proofs.Testing.{both_fit, one_fits}
 
 abbrev AreMade : Style → Cases → Type 0
 AreMade style cases = All (WellMade style) cases.states
@@ -109,15 +107,15 @@ empty_kept style state a rest (Some t) hints cases made tops e = decided_made st
 empty_kept style state a rest None hints cases made tops e =
     let less = one_below style state a rest made tops in
     both_made style state rest (Blank a ∷ []) (Is a Str ∷ (Nonblank a ∷ [])) hints cases made (one_rest style state a rest made tops)
-    (one_fits style state.next (Blank a) less tt tt)
-    (both_fit style state.next (Is a Str ∷ []) (Nonblank a ∷ []) (one_fits style state.next (Is a Str) less tt tt) (one_fits style state.next (Nonblank a) less tt tt)) e
+    (one_fits style state.next (Blank a) less tt tt tt tt)
+    (both_fit style state.next (Is a Str ∷ []) (Nonblank a ∷ []) [] [] (one_fits style state.next (Is a Str) less tt tt tt tt) (one_fits style state.next (Nonblank a) less tt tt tt tt)) e
 
 missing_both : (style : Style) (state : State) (a : Sym) (rest : List Sym) (hints : List Hint) (cases : Cases) → WellMade style state
     → reverse state.stack ≡ a ∷ rest → both (Is a Missing ∷ []) (Is a Str ∷ []) (without rest state) hints ≡ Ok cases → AreMade style cases
 missing_both style state a rest hints cases made tops e =
     let less = one_below style state a rest made tops in
     both_made style state rest (Is a Missing ∷ []) (Is a Str ∷ []) hints cases made (one_rest style state a rest made tops)
-    (one_fits style state.next (Is a Missing) less tt tt) (one_fits style state.next (Is a Str) less tt tt) e
+    (one_fits style state.next (Is a Missing) less tt tt tt tt) (one_fits style state.next (Is a Str) less tt tt tt tt) e
 
 missing_kept : (style : Style) (state : State) (a : Sym) (rest : List Sym) (kind : Kinds) (hints : List Hint) (cases : Cases) → WellMade style state
     → reverse state.stack ≡ a ∷ rest → missing_cases kind (taken_one a rest state) hints ≡ Ok cases → AreMade style cases
@@ -133,19 +131,9 @@ texts_kept : (style : Style) (state : State) (a b : Sym) (rest : List Sym) (o : 
 texts_kept style state a b rest (Some t) hints cases made tops e = decided_made style state rest t hints cases made (two_rest style state a b rest made tops) e
 texts_kept style state a b rest None hints cases made tops e =
     both_made style state rest (passed_both state.facts a b) [] hints cases made (two_rest style state a b rest made tops)
-    (both_fit style state.next (passed (exact_text state.facts a.0) b) (passed (exact_text state.facts b.0) a)
+    (both_fit style state.next (passed (exact_text state.facts a.0) b) (passed (exact_text state.facts b.0) a) [] []
     (passed_fits style state a b made (one_below style state b (a ∷ rest) made tops)) (passed_fits style state b a made (second_below style state a b rest made tops)))
     (nothing_fits style state.next) e
-
--- the rows of two operands fit
-exceeding : (style : Style) (state : State) (a b : Sym) (n : ℤ) → a.0 < state.next → b.0 < state.next → IsBounded (exceeds (ValueOf a.0) (ValueOf b.0) n)
-    → Fits style state.next [] (exceeds (ValueOf a.0) (ValueOf b.0) n ∷ [])
-exceeding style state a b n lower upper bounded = row_fits style state.next (exceeds (ValueOf a.0) (ValueOf b.0) n) (exceeds_below state.next a b n lower upper) bounded
-
-equal_fit : (style : Style) (state : State) (a b : Sym) → a.0 < state.next → b.0 < state.next → Fits style state.next [] (equal_rows a b)
-equal_fit style state a b lower upper =
-    rows_fit style state.next (exceeds (ValueOf a.0) (ValueOf b.0) (pos 0)) (exceeds (ValueOf b.0) (ValueOf a.0) (pos 0))
-    (exceeds_below state.next a b (pos 0) lower upper) (bounded_none a.0 b.0) (exceeds_below state.next b a (pos 0) upper lower) (bounded_none b.0 a.0)
 
 equal_kept : (style : Style) (admits : Cond) (state : State) (a b : Sym) (rest : List Sym) (kind : Kinds) (hints : List Hint) (cases : Cases) → WellMade style state
     → reverse state.stack ≡ b ∷ (a ∷ rest) → equal_by admits state kind (taken_two a b rest state) hints ≡ Ok cases → AreMade style cases
@@ -153,7 +141,7 @@ equal_kept style admits state a b rest Int hints cases made tops e =
     elim (is_of_kind state Int a) as (λ (t : Bool). cond t (integer_cases admits (equal_decided state.facts a b) (equal_rows a b) [] (without rest state) hints) (Err (fails WrongKind 2)) ≡ Ok cases
     → AreMade style cases) [
       | true ↦ λ found. integers_made style admits state rest (equal_decided state.facts a b) (equal_rows a b) [] hints cases made (two_rest style state a b rest made tops)
-          (equal_fit style state a b (second_below style state a b rest made tops) (one_below style state b (a ∷ rest) made tops)) (nothing_fits style state.next) found
+          (equal_fit style state.next a b (second_below style state a b rest made tops) (one_below style state b (a ∷ rest) made tops)) (nothing_fits style state.next) found
       | false ↦ λ found. absurd (cc)
     ] e
 equal_kept style admits state a b rest Str hints cases made tops e =
@@ -170,17 +158,11 @@ equal_kept style admits state a b rest Any hints cases made tops e = absurd (cc)
 -- the rows of a sign fit
 positive_fits : (style : Style) (state : State) (s : Sym) → s.0 < state.next → Fits style state.next [] (positive_rows s)
 positive_fits style state s less =
-    let part : Part = record { coefficient = pos 1; term = ValueOf s.0 } in
-    row_fits style state.next (at_least (ValueOf s.0) (pos 1))
-    (All-cons (λ (p : Part). IsTermBelow state.next p.term) part [] less (All-nil (λ (p : Part). IsTermBelow state.next p.term)))
-    (record { parts = omega arith; constant = record { low = omega (arith, ints); high = omega (arith, ints) }; coefficients = omega arith })
+    row_fits style state.next (at_least (ValueOf s.0) (pos 1)) (at_least_fits state.next (ValueOf s.0) (pos 1) less (omega arith))
 
 not_positive_fits : (style : Style) (state : State) (s : Sym) → s.0 < state.next → Fits style state.next [] (not_positive_rows s)
 not_positive_fits style state s less =
-    let part : Part = record { coefficient = negsuc 0; term = ValueOf s.0 } in
-    row_fits style state.next (at_most (ValueOf s.0) (pos 0))
-    (All-cons (λ (p : Part). IsTermBelow state.next p.term) part [] less (All-nil (λ (p : Part). IsTermBelow state.next p.term)))
-    (record { parts = omega arith; constant = record { low = omega (arith, ints); high = omega (arith, ints) }; coefficients = omega arith })
+    row_fits style state.next (at_most (ValueOf s.0) (pos 0)) (at_most_fits state.next (ValueOf s.0) (pos 0) less (omega arith))
 
 above_kept : (style : Style) (admits : Cond) (state : State) (s : Sym) (o : Option ℤ) (hints : List Hint) (cases : Cases) → WellMade style state → s.0 < state.next
     → above_cases admits state s o hints ≡ Ok cases → AreMade style cases
@@ -212,8 +194,8 @@ split_made style admits state Less hints cases made is e =
     let lower = second_below style state a b f.pair.rest made f.pair.tops in
     let upper = one_below style state b (a ∷ f.pair.rest) made f.pair.tops in
     integers_made style admits state f.pair.rest (less_decided state.facts a b) (less_rows a b) (at_least_rows a b) hints cases made
-    (two_rest style state a b f.pair.rest made f.pair.tops) (exceeding style state b a (pos 1) upper lower (bounded_one b.0 a.0))
-    (exceeding style state a b (pos 0) lower upper (bounded_none a.0 b.0)) f.pair.given
+    (two_rest style state a b f.pair.rest made f.pair.tops) (exceeding style state.next b a (pos 1) upper lower (omega arith))
+    (exceeding style state.next a b (pos 0) lower upper (omega arith)) f.pair.given
 split_made style admits state Greater hints cases made is e =
     let f = integers_cases state (λ two. integer_cases admits (greater_decided state.facts two.lower two.upper)
     (less_rows two.upper two.lower) (at_least_rows two.upper two.lower) two.rest hints) cases e in
@@ -222,6 +204,6 @@ split_made style admits state Greater hints cases made is e =
     let lower = second_below style state a b f.pair.rest made f.pair.tops in
     let upper = one_below style state b (a ∷ f.pair.rest) made f.pair.tops in
     integers_made style admits state f.pair.rest (greater_decided state.facts a b) (less_rows b a) (at_least_rows b a) hints cases made
-    (two_rest style state a b f.pair.rest made f.pair.tops) (exceeding style state a b (pos 1) lower upper (bounded_one a.0 b.0))
-    (exceeding style state b a (pos 0) upper lower (bounded_none b.0 a.0)) f.pair.given
+    (two_rest style state a b f.pair.rest made f.pair.tops) (exceeding style state.next a b (pos 1) lower upper (omega arith))
+    (exceeding style state.next b a (pos 0) upper lower (omega arith)) f.pair.given
 split_made style admits state (Above s) hints cases made is e = above_kept style admits state s (exact_integer state.facts s.0) hints cases made is e

@@ -1,7 +1,6 @@
 -- The operands of a test that has cases, and where its state stands.
-use Rattle.std.proofs.Common.{◌≡◌, ℕ, ◌<◌, ◌≤◌, Bool, true, false, cond, List, [], ◌∷◌, ◌++◌, reverse, Option, None, Some, Result, Ok, Err, refl, sym, ap, subst, ◌∙◌, arith}
-use Rattle.std.specs.Prelude.{ℤ, pos, negsuc}
-use Rattle.std.specs.List.{All, AllByRecursion}
+use Rattle.std.proofs.Common.{◌≡◌, ◌<◌, Bool, true, false, cond, List, [], ◌∷◌, ◌++◌, reverse, Ok, Err, refl, ap, subst, ◌∙◌}
+use Rattle.std.specs.List.{AllByRecursion}
 use Rattle.std.proofs.lemmas.List.Elements.{All-head, All-tail}
 use Rattle.bv_base.specs.declared.place.Place.{Place}
 use Rattle.lin_facts.specs.Rows.{Holds}
@@ -17,7 +16,6 @@ use Rattle.bst_meaning.specs.Effect.{pushed}
 use Rattle.bst_meaning.specs.Machine.{context_of}
 use Rattle.bst_meaning.specs.Operands.{truth}
 use Rattle.sym_state.specs.declared.demand.DemandKind.TheVariants.{WrongKind}
-use Rattle.sym_state.specs.declared.demand.EffectFault.{EffectFault}
 use Rattle.sym_state.specs.declared.hint.Hint.{Hint}
 use Rattle.sym_state.specs.declared.state.State.{State}
 use Rattle.sym_state.specs.declared.symbol.Fact.{Fact}
@@ -26,13 +24,13 @@ use Rattle.sym_state.specs.declared.symbol.Sym.{Sym}
 use Rattle.sym_state.specs.Cases.{Cases, One, Split, Two, both, decided, field_met, field_of, integers_met, integers_of, one_of, split_by, two_of, weighed_both, with_case, with_truth}
 use Rattle.sym_state.specs.Demands.{fails, is_of_kind}
 use Rattle.sym_state.specs.Facts.{FactHolds}
-use Rattle.sym_state.specs.Stands.{Satisfies, Stands}
+use Rattle.sym_state.specs.Stands.{Stands}
 use Rattle.sym_state.specs.Symbols.{Valuation, numbers}
 use Rattle.sym_state.specs.WellMade.{WellMade}
 use Rattle.sym_state.proofs.Pushing.{stack_of_tops, tops_below, value_list, without}
-use Rattle.refinements.specs.Covered.{IsAmong, OneCovers}
+use Rattle.sym_state.proofs.Resulting.{Fits}
+use Rattle.refinements.specs.Covered.{OneCovers}
 use Rattle.refinements.proofs.Covering.{At, answer_covers, decided_covers, decided_is, first_is, first_kept, second_is, second_kept}
-use Rattle.refinements.proofs.Fitting.{Fits}
 
 -- a state that stands for a configuration at a place
 pub record Spot : Type 0 where

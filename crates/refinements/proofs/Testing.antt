@@ -1,69 +1,26 @@
 -- Of the cases of each test, one covers what the machine does.
-use Rattle.std.proofs.Common.{◌≡◌, ℕ, ◌<◌, ◌≤◌, ◌^◌, Bool, true, false, cond, List, [], ◌∷◌, ◌++◌, length, reverse, Option, None, Some, Result, Ok, Err, refl, sym, ap, subst, ◌∙◌, arith, nat_eq}
-use Rattle.std.specs.Prelude.{ℤ, pos, negsuc, ◌+ℤ◌, ◌-ℤ◌, ◌≤ℤ◌, is_none}
-use Rattle.std.specs.List.{All, AllByRecursion}
-use Rattle.std.specs.Option.{option_or}
-use Rattle.std.specs.Cmp.Lexicographic.{pointwise}
-use Rattle.std.proofs.lemmas.Bool.{leb-true}
-use Rattle.std.proofs.lemmas.Bool.Decides.{nat_tests}
-use Rattle.std.proofs.lemmas.Int.{ints}
-use Rattle.std.proofs.lemmas.List.Elements.{All-append, All-cons, All-head, All-nil, All-tail}
-use Rattle.lin_facts.specs.Rows.{Holds}
-use Rattle.lin_facts.specs.declared.row.Part.{Part}
-use Rattle.lin_facts.specs.declared.row.Row.{Row}
-use Rattle.lin_facts.specs.declared.row.Term.{Term}
-use Rattle.lin_facts.specs.declared.row.Term.TheVariants.{Value as ValueOf}
-use Rattle.name_table.specs.declared.builtin.Builtin.{Builtin}
-use Rattle.name_table.specs.declared.style.Style.{Style}
+use Rattle.std.proofs.Common.{◌≡◌, Bool, true, false, List, [], ◌∷◌, ◌++◌, reverse, Option, None, Some, Ok, refl, ap, ◌∙◌}
 use Rattle.name_table.specs.declared.builtin.Builtin.TheVariants as op
 use Rattle.text_ops.specs.Blank.{blank}
 use Rattle.bst_meaning.specs.Builtins.{Context, built_in}
 use Rattle.bst_meaning.specs.Effect.{pushed}
 use Rattle.bst_meaning.specs.Machine.{context_of}
-use Rattle.bst_meaning.specs.Operands.{is_positive, is_zero, truth}
+use Rattle.bst_meaning.specs.Operands.{truth}
 use Rattle.bst_meaning.specs.declared.value.Value.{Value}
 use Rattle.bst_meaning.specs.declared.value.Value.TheVariants.{Int as IntValue, Str as StrValue, Missing as MissingValue, Func as FuncValue}
 use Rattle.sym_state.specs.declared.hint.Hint.{Hint}
-use Rattle.sym_state.specs.declared.state.State.{State}
-use Rattle.sym_state.specs.declared.symbol.Fact.{Fact}
-use Rattle.sym_state.specs.declared.symbol.Fact.TheVariants.{Is, Int as IntFact, Text as TextFact, Call, Block, Blank, Nonblank, Wellformed}
+use Rattle.sym_state.specs.declared.symbol.Fact.TheVariants.{Is, Blank, Nonblank}
 use Rattle.sym_state.specs.declared.symbol.Kinds.{Kinds}
 use Rattle.sym_state.specs.declared.symbol.Kinds.TheVariants.{Int, Str, Missing, Optional, Func, Any}
 use Rattle.sym_state.specs.declared.symbol.Sym.{Sym}
-use Rattle.sym_state.specs.Cases.{Cases, Split, Two, answer, answer_of, at_least_rows, both, empty, empty_cases, equal, equal_by, equal_decided, equal_rows, greater, integer_cases, integers_decided, is_equal, is_greater, is_less, less, less_rows, missing, missing_cases, passed, passed_both, text_cases, texts_decided}
-use Rattle.sym_state.specs.Decided.{emptiness_said, exact_integer, exact_text, first_said, known_kind, text_said}
-use Rattle.sym_state.specs.Demands.{is_of_kind}
-use Rattle.sym_state.specs.Facts.{FactHolds, emptiness, has_kind, subject}
-use Rattle.sym_state.specs.References.{exceeds}
-use Rattle.sym_state.specs.Symbols.{Valuation, integer_of, numbers}
-use Rattle.sym_state.specs.WellMade.{HasShortText, IsBounded, IsOfStyle, IsTermBelow}
-use Rattle.sym_state.proofs.Consequences.{same_bytes}
-use Rattle.sym_state.proofs.Deciding.{emptiness_fact, exact_integer_is, exact_text_is, from_facts, same_number}
-use Rattle.sym_state.proofs.KnownKinds.{integer_is, known_kind_holds, of_kind_holds, string_is}
+use Rattle.sym_state.specs.Cases.{Cases, both, empty, empty_cases, missing, missing_cases}
+use Rattle.sym_state.specs.Decided.{emptiness_said, first_said, known_kind}
+use Rattle.sym_state.specs.Facts.{emptiness, has_kind}
+use Rattle.sym_state.proofs.Deciding.{emptiness_fact, from_facts}
+use Rattle.sym_state.proofs.KnownKinds.{known_kind_holds, of_kind_holds}
 use Rattle.sym_state.proofs.Pushing.{value_list, without}
-use Rattle.sym_state.proofs.Saying.{exceeds_holds}
-use Rattle.refinements.proofs.Fitting.{Fits, RowBelow, nothing_fits}
-use Rattle.refinements.proofs.Taking.{AtSpot, Field, Found, Integers, Pair, Spot, at_one, at_two, both_found, decided_found, field_cases, integers_cases, one_below, pair_cases, second_below, taken_one, taken_two, weighed_found}
-
--- facts on an operand fit
-pub one_fits : (style : Style) (next : ℕ) (fact : Fact) → subject fact < next → IsOfStyle style fact → HasShortText fact → Fits style next (fact ∷ []) []
-one_fits style next fact below of_style short = record {
-  facts = All-cons (λ f. subject f < next) fact [] below (All-nil (λ f. subject f < next));
-  of_style = All-cons (IsOfStyle style) fact [] of_style (All-nil (IsOfStyle style));
-  short = All-cons HasShortText fact [] short (All-nil HasShortText);
-  rows = All-nil (RowBelow next);
-  bounded = All-nil IsBounded;
-}
-
-pub both_fit : (style : Style) (next : ℕ) (first second : List Fact) → Fits style next first [] → Fits style next second []
-    → Fits style next (first ++ second) []
-both_fit style next first second f s = record {
-  facts = All-append (λ fact. subject fact < next) first second f.facts s.facts;
-  of_style = All-append (IsOfStyle style) first second f.of_style s.of_style;
-  short = All-append HasShortText first second f.short s.short;
-  rows = All-nil (RowBelow next);
-  bounded = All-nil IsBounded;
-}
+use Rattle.sym_state.proofs.Resulting.{both_fit, one_fits}
+use Rattle.refinements.proofs.Taking.{Found, Spot, at_one, both_found, decided_found, field_cases, one_below, taken_one}
 
 -- `empty$`
 machine_empty : (context : Context) (value : Value) (b : Bool) (stack : List Value) → emptiness value ≡ Some b
@@ -96,8 +53,8 @@ empty_undecided p a rest hints cases b tops is e =
     let less = one_below p.style p.state a rest p.made tops in
     both_found p op.Empty rest b (Blank a ∷ []) (Is a Str ∷ (Nonblank a ∷ [])) hints cases
     (at_one p op.Empty a rest b tops (machine_empty (context_of p.style p.c) (p.v.value a.0) b (value_list p.v rest ++ p.below) is))
-    (one_fits p.style p.state.next (Blank a) less tt tt)
-    (both_fit p.style p.state.next (Is a Str ∷ []) (Nonblank a ∷ []) (one_fits p.style p.state.next (Is a Str) less tt tt) (one_fits p.style p.state.next (Nonblank a) less tt tt))
+    (one_fits p.style p.state.next (Blank a) less tt tt tt tt)
+    (both_fit p.style p.state.next (Is a Str ∷ []) (Nonblank a ∷ []) [] [] (one_fits p.style p.state.next (Is a Str) less tt tt tt tt) (one_fits p.style p.state.next (Nonblank a) less tt tt tt tt))
     (λ t. (is ∙ ap (λ (x : Bool). Some x) t, tt))
     (λ t. (not_empty_string (p.v.value a.0) (is ∙ ap (λ (x : Bool). Some x) t), (is ∙ ap (λ (x : Bool). Some x) t, tt)))
     e
@@ -160,7 +117,7 @@ missing_undecided p a rest hints cases tops kind e =
     let less = one_below p.style p.state a rest p.made tops in
     both_found p op.Missing rest (is_missing (p.v.value a.0)) (Is a Missing ∷ []) (Is a Str ∷ []) hints cases
     (at_one p op.Missing a rest (is_missing (p.v.value a.0)) tops (machine_missing (context_of p.style p.c) (p.v.value a.0) (value_list p.v rest ++ p.below) kind))
-    (one_fits p.style p.state.next (Is a Missing) less tt tt) (one_fits p.style p.state.next (Is a Str) less tt tt)
+    (one_fits p.style p.state.next (Is a Missing) less tt tt tt tt) (one_fits p.style p.state.next (Is a Str) less tt tt tt tt)
     (λ t. (one_missing (p.v.value a.0) t, tt)) (λ t. (one_string (p.v.value a.0) kind t, tt)) e
 
 missing_decided : (p : Spot) (a : Sym) (rest : List Sym) (hints : List Hint) (cases : Cases) (kind : Kinds) → reverse p.state.stack ≡ a ∷ rest

@@ -56,5 +56,7 @@ bind_kept style name new state vars fields v f made below = record {
   binds_vars = ap (λ (bs : List Bind). map (λ b. b.name) bs) v ∙ names_rebound name new state.vars ∙ made.binds_vars;
   binds_fields = ap (λ (bs : List Bind). map (λ b. b.name) bs) f ∙ names_rebound name new state.fields ∙ made.binds_fields;
   of_style = made.of_style;
+  integers = made.integers;
+  bytes = made.bytes;
   bounds = record { facts = made.bounds.facts; rows = made.bounds.rows };
 }

@@ -5,6 +5,7 @@ pub mod Consequences
 pub mod Counting
 pub mod Deciding
 pub mod Entailed
+pub mod Exact
 pub mod Making
 pub mod Numbering
 pub mod Opened
@@ -18,3 +19,4 @@ pub mod Sums
 pub mod Frames
 pub mod KnownKinds
 pub mod Pushing
+pub mod Resulting

@@ -30,7 +30,7 @@ use Rattle.sym_state.specs.Facts.{subject}
 use Rattle.sym_state.specs.References.{at_most}
 use Rattle.sym_state.specs.Renaming.{bind_renamed, fact_renamed, piece_renamed, row_renamed, sym_renamed, term_renamed}
 use Rattle.sym_state.specs.Starting.{IsFit, IsNumbered, all_symbols, bound_by, field_kind, has_kind, is_nonblank, most_names, name_facts, name_rows, names_in_play, numbered_on, own_facts, own_rows, raised, seat, seats, started, symbols_of, unbound}
-use Rattle.sym_state.specs.WellMade.{HasShortText, IsBounded, IsOfStyle, IsTermBelow, WellMade, ids_from, is_field, is_variable, size, takes_part}
+use Rattle.sym_state.specs.WellMade.{HasByteText, HasShortText, HasSmallInteger, IsBounded, IsOfStyle, IsTermBelow, WellMade, ids_from, is_field, is_variable, size, takes_part}
 use Rattle.sym_state.proofs.Numbering.{fields_below, stack_below, vars_below}
 
 -- what holds of a part of each of the pieces that are numbered on holds of all parts together
@@ -103,6 +103,26 @@ short_renamed k (Block s x) h = tt
 short_renamed k (Blank s) h = tt
 short_renamed k (Nonblank s) h = tt
 short_renamed k (Wellformed s) h = tt
+
+small_renamed : (k : ℕ) (fact : Fact) → HasSmallInteger fact → HasSmallInteger (fact_renamed (raised k) fact)
+small_renamed k (Int s x) h = h
+small_renamed k (Is s x) h = tt
+small_renamed k (Text s x) h = tt
+small_renamed k (Call s x) h = tt
+small_renamed k (Block s x) h = tt
+small_renamed k (Blank s) h = tt
+small_renamed k (Nonblank s) h = tt
+small_renamed k (Wellformed s) h = tt
+
+bytes_renamed : (k : ℕ) (fact : Fact) → HasByteText fact → HasByteText (fact_renamed (raised k) fact)
+bytes_renamed k (Text s x) h = h
+bytes_renamed k (Is s x) h = tt
+bytes_renamed k (Int s x) h = tt
+bytes_renamed k (Call s x) h = tt
+bytes_renamed k (Block s x) h = tt
+bytes_renamed k (Blank s) h = tt
+bytes_renamed k (Nonblank s) h = tt
+bytes_renamed k (Wellformed s) h = tt
 
 style_renamed : (style : Style) (k : ℕ) (fact : Fact) → IsOfStyle style fact → IsOfStyle style (fact_renamed (raised k) fact)
 style_renamed style k (Call s x) h = h
@@ -294,6 +314,21 @@ rows_below pieces numbered =
     each_part (RowBelow (all_symbols pieces)) (λ piece. piece.rows) IsNumbered (all_symbols pieces) 0 pieces
     (λ k piece few h. raised_rows (all_symbols pieces) k piece few h) (omega arith) numbered
 
+-- what holds of each fact of the pieces, whatever its symbol, and of the facts that are given of their own, holds of all
+all_facts : (P : Fact → Type 0) (alloc : Global) (style : Style) (admits : Cond) (pieces : List Piece) (whole at_entry : Bool)
+    → ((k : ℕ) (fact : Fact) → P fact → P (fact_renamed (raised k) fact)) → ((s : Sym) (kind : Kinds) → P (Is s kind))
+    → ((s : Sym) → P (Nonblank s)) → ((s : Sym) → P (Wellformed s)) → All (λ piece. All P piece.facts) pieces
+    → All P (started alloc style admits pieces whole at_entry).facts
+all_facts P alloc style admits pieces whole at_entry renamed is nonblank wellformed all =
+    let on = numbered_on 0 pieces in
+    let seated : List Bind = seats (bound_by on) (all_symbols pieces) (names_in_play style at_entry) in
+    All-append P (flat_map (λ piece. piece.facts) on) (flat_map (λ b. own_facts admits (kind_of style b.name) b) seated)
+    (each_part P (λ piece. piece.facts) (λ piece. All P piece.facts) (all_symbols pieces) 0 pieces
+    (λ k piece few h. All-map P (fact_renamed (raised k)) piece.facts
+    (All-weaker P (λ f. P (fact_renamed (raised k) f)) (λ f g. renamed k f g) piece.facts h)) (omega arith) all)
+    (each_given P (λ b. own_facts admits (kind_of style b.name) b) (λ b. Unit {0}) seated
+    (λ b h. own_facts_are P admits (kind_of style b.name) b (is b.sym) (nonblank b.sym) (wellformed b.sym)) (λ k d less. tt))
+
 -- the texts and rows of the pieces are within their bounds, and those that are given of their own
 pub started_made : (alloc : Global) (style : Style) (admits : Cond) (pieces : List Piece) (whole at_entry : Bool)
     → All IsNumbered pieces → All (IsFit style) pieces → All IsBounded (started alloc style admits pieces whole at_entry).rows
@@ -321,17 +356,15 @@ started_made alloc style admits pieces whole at_entry numbered fit bounded =
           (each_given (RowBelow n) (λ b. own_rows admits (kind_of style b.name) b) (λ b. b.sym.0 < n) seated (λ b h. own_rows_below n admits (kind_of style b.name) b h) below);
       binds_vars = seated_names style at_entry (is_variable at_entry) (bound_by on) first (λ k e. (either_false (is_variable at_entry k) (is_field at_entry k) e).0);
       binds_fields = seated_names style at_entry (is_field at_entry) (bound_by on) first (λ k e. (either_false (is_variable at_entry k) (is_field at_entry k) e).1);
-      of_style = All-append (IsOfStyle style) _ _
-          (each_part (IsOfStyle style) (λ piece. piece.facts) (IsFit style) first 0 pieces
-          (λ k piece few h. All-map (IsOfStyle style) (fact_renamed (raised k)) piece.facts (All-weaker (IsOfStyle style) (λ f. IsOfStyle style (fact_renamed (raised k) f)) (λ f g. style_renamed style k f g) piece.facts h.of_style)) (omega arith) fit)
-          (each_given (IsOfStyle style) (λ b. own_facts admits (kind_of style b.name) b) (λ b. b.sym.0 < n) seated
-          (λ b h. own_facts_are (IsOfStyle style) admits (kind_of style b.name) b (λ k. tt) tt tt) below);
+      of_style = all_facts (IsOfStyle style) alloc style admits pieces whole at_entry (style_renamed style) (λ b k. tt) (λ b. tt) (λ b. tt)
+          (All-weaker (IsFit style) (λ piece. All (IsOfStyle style) piece.facts) (λ piece h. h.of_style) pieces fit);
+      integers = all_facts HasSmallInteger alloc style admits pieces whole at_entry small_renamed (λ b k. tt) (λ b. tt) (λ b. tt)
+          (All-weaker (IsFit style) (λ piece. All HasSmallInteger piece.facts) (λ piece h. h.integers) pieces fit);
+      bytes = all_facts HasByteText alloc style admits pieces whole at_entry bytes_renamed (λ b k. tt) (λ b. tt) (λ b. tt)
+          (All-weaker (IsFit style) (λ piece. All HasByteText piece.facts) (λ piece h. h.bytes) pieces fit);
       bounds = record {
-        facts = All-append HasShortText _ _
-            (each_part HasShortText (λ piece. piece.facts) (IsFit style) first 0 pieces
-            (λ k piece few h. All-map HasShortText (fact_renamed (raised k)) piece.facts (All-weaker HasShortText (λ f. HasShortText (fact_renamed (raised k) f)) (λ f g. short_renamed k f g) piece.facts h.texts)) (omega arith) fit)
-            (each_given HasShortText (λ b. own_facts admits (kind_of style b.name) b) (λ b. b.sym.0 < n) seated
-            (λ b h. own_facts_are HasShortText admits (kind_of style b.name) b (λ k. tt) tt tt) below);
+        facts = all_facts HasShortText alloc style admits pieces whole at_entry short_renamed (λ b k. tt) (λ b. tt) (λ b. tt)
+            (All-weaker (IsFit style) (λ piece. All HasShortText piece.facts) (λ piece h. h.texts) pieces fit);
         rows = bounded;
       };
     }

@@ -1,5 +1,5 @@
 -- States that stand after values are taken from the literal stack and put on it.
-use Rattle.std.proofs.Common.{◌≡◌, ℕ, zero, suc, ◌<◌, ◌≤◌, ◌+◌, Bool, true, false, cond, nat_eq, List, [], ◌∷◌, ◌++◌, append_assoc, map, reverse, Option, None, Some, refl, sym, ap, subst, ◌∙◌, arith}
+use Rattle.std.proofs.Common.{◌≡◌, ℕ, ◌<◌, Bool, true, false, cond, nat_eq, List, [], ◌∷◌, ◌++◌, map, reverse, Option, None, Some, refl, sym, ap, ◌∙◌}
 use Rattle.std.specs.List.{All, AllByRecursion}
 use Rattle.std.proofs.lemmas.List.{reverse-append, reverse-reverse}
 use Rattle.std.proofs.lemmas.List.Elements.{All-append, All-cons, All-head, All-nil, All-same, All-tail}
@@ -21,19 +21,18 @@ use Rattle.sym_state.specs.declared.symbol.Kinds.{Kinds}
 use Rattle.sym_state.specs.declared.symbol.Kinds.TheVariants.{Int, Str, Missing, Optional, Func, Any}
 use Rattle.sym_state.specs.declared.state.State.{State}
 use Rattle.sym_state.specs.Changes.{kind_facts}
-use Rattle.sym_state.specs.Covers.{Agrees}
 use Rattle.sym_state.specs.Facts.{FactHolds, has_kind}
-use Rattle.sym_state.specs.Results.{next_of, with_result, with_symbol, with_top}
+use Rattle.sym_state.specs.Results.{next_of, with_result, with_symbol}
 use Rattle.sym_state.specs.Stands.{HasList, IsBound, IsVisiting, Satisfies, Stands, value_by, values_of}
 use Rattle.sym_state.specs.Symbols.{Valuation, IsValue, numbers}
 use Rattle.sym_state.specs.WellMade.{WellMade}
-use Rattle.sym_state.proofs.Frames.{agrees_self, binds_agree, facts_agree, facts_joined, list_agrees, next_agrees, next_is, rows_agree, rows_joined, with_next}
+use Rattle.sym_state.proofs.Frames.{binds_agree, facts_agree, facts_joined, list_agrees, next_agrees, next_is, rows_agree, rows_joined, with_next}
 
 -- the values of symbols, in their order
 abbrev pub value_list : Valuation → List Sym → List Value
 value_list v syms = map (λ s. v.value s.0) syms
 
-all_reversed : (next : ℕ) (xs : List Sym) → All (λ s. s.0 < next) xs → All (λ s. s.0 < next) (reverse xs)
+pub all_reversed : (next : ℕ) (xs : List Sym) → All (λ s. s.0 < next) xs → All (λ s. s.0 < next) (reverse xs)
 all_reversed next [] all = All-nil (λ s. s.0 < next)
 all_reversed next (x ∷ xs) all =
     All-same (λ s. s.0 < next) (reverse (x ∷ xs)) (reverse xs ++ x ∷ []) (reverse-append (x ∷ []) xs)

@@ -23,7 +23,7 @@ use Rattle.sym_state.specs.Changes.{symbol_at}
 use Rattle.sym_state.specs.Facts.{subject}
 use Rattle.sym_state.specs.References.{at_most}
 use Rattle.sym_state.specs.Renaming.{piece_renamed}
-use Rattle.sym_state.specs.WellMade.{HasShortText, IsBounded, IsOfStyle, IsTermBelow, is_variable, is_field, takes_part, ids_from}
+use Rattle.sym_state.specs.WellMade.{HasByteText, HasShortText, HasSmallInteger, IsBounded, IsOfStyle, IsTermBelow, is_variable, is_field, takes_part, ids_from}
 
 -- one more than the greatest symbol
 abbrev pub symbol_count : List Sym → ℕ
@@ -46,9 +46,11 @@ pub record IsNumbered (piece : Piece) : Type 0 where
   pub facts : All (λ fact. subject fact < symbols_of piece) piece.facts
   pub rows : All (λ row. All (λ part. IsTermBelow (symbols_of piece) part.term) row.parts) piece.rows
 
--- the names and blocks of a piece's facts are the style's, and its texts and rows are within their bounds
+-- the names, blocks, integers and texts of a piece's facts are those of values, and its texts and rows are within their bounds
 pub record IsFit (style : Style) (piece : Piece) : Type 0 where
   pub of_style : All (IsOfStyle style) piece.facts
+  pub integers : All HasSmallInteger piece.facts
+  pub bytes : All HasByteText piece.facts
   pub texts : All HasShortText piece.facts
   pub rows : All IsBounded piece.rows
 

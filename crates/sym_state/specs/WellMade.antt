@@ -11,8 +11,11 @@ use Rattle.name_table.specs.declared.names.Kind.{Kind}
 use Rattle.name_table.specs.declared.names.Kind.TheVariants.{Field, IntEntry, StrEntry, IntGlobal, StrGlobal}
 use Rattle.name_table.specs.declared.style.BodyId.{BodyId}
 use Rattle.name_table.specs.declared.style.Style.{Style}
+use Rattle.bst_meaning.specs.declared.condition.Cond.{Cond}
+use Rattle.bst_meaning.specs.Entries.{IsByteList}
+use Rattle.bst_meaning.specs.Operands.{has_32_bits}
 use Rattle.sym_state.specs.declared.symbol.Fact.{Fact}
-use Rattle.sym_state.specs.declared.symbol.Fact.TheVariants.{Text as TextFact, Call, Block}
+use Rattle.sym_state.specs.declared.symbol.Fact.TheVariants.{Int as IntFact, Text as TextFact, Call, Block}
 use Rattle.sym_state.specs.declared.state.State.{State}
 use Rattle.sym_state.specs.Facts.{subject}
 
@@ -58,10 +61,25 @@ pub record IsBounded (row : Row) : Type 0 where
   pub constant : IsWithin (2 ^ 45) row.constant
   pub coefficients : sum_by (λ part. size part.coefficient) row.parts ≤ 2 ^ 45
 
+-- the limits of a condition that effects take as constants of rows
+pub record HasSmallLimits (cond : Cond) : Type 0 where
+  pub key : cond.key ≤ 2 ^ 45
+  pub preamble : cond.preamble ≤ 2 ^ 45
+
 -- a text of a fact has at most 2^45 bytes
 abbrev pub HasShortText : Fact → Type 0
 HasShortText (TextFact s text) = length text ≤ 2 ^ 45
 HasShortText _ = Unit {0}
+
+-- the integer of a fact has 32 bits
+abbrev pub HasSmallInteger : Fact → Type 0
+HasSmallInteger (IntFact s n) = has_32_bits n ≡ true
+HasSmallInteger _ = Unit {0}
+
+-- the text of a fact is of bytes
+abbrev pub HasByteText : Fact → Type 0
+HasByteText (TextFact s text) = IsByteList text
+HasByteText _ = Unit {0}
 
 -- a name or a block of a fact is the style's
 abbrev pub IsOfStyle : Style → Fact → Type 0
@@ -74,8 +92,8 @@ pub record HasBounds (state : State) : Type 0 where
   pub facts : All HasShortText state.facts
   pub rows : All IsBounded state.rows
 
--- each symbol is one of the state's, it binds each variable and field that has a value, in the order of ids, and its
--- facts and rows are within their bounds
+-- each symbol is one of the state's, it binds each variable and field that has a value, in the order of ids, the names,
+-- blocks, integers and texts of its facts are those of values, and its texts and rows are within their bounds
 pub record WellMade (style : Style) (state : State) : Type 0 where
   pub stack : All (λ s. s.0 < state.next) state.stack
   pub vars : All (λ bind. bind.sym.0 < state.next) state.vars
@@ -85,4 +103,6 @@ pub record WellMade (style : Style) (state : State) : Type 0 where
   pub binds_vars : map (λ bind. bind.name) state.vars ≡ ids_from (is_variable state.at_entry) 0 style.names
   pub binds_fields : map (λ bind. bind.name) state.fields ≡ ids_from (is_field state.at_entry) 0 style.names
   pub of_style : All (IsOfStyle style) state.facts
+  pub integers : All HasSmallInteger state.facts
+  pub bytes : All HasByteText state.facts
   pub bounds : HasBounds state
