@@ -36,7 +36,8 @@ use Rattle.sym_state.proofs.Resulting.{Fits, both_fit, exceeds_fits, nothing_fit
 use Rattle.sym_state.proofs.Saying.{exceeds_holds}
 use Rattle.sym_state.specs.declared.demand.DemandKind.TheVariants.{WrongKind}
 use Rattle.sym_state.proofs.Frames.{facts_joined}
-use Rattle.refinements.proofs.Taking.{AtSpot, Found, Spot, at_two, both_found, decided_found, integers_cases, one_below, pair_cases, second_below, taken_two, weighed_found}
+use Rattle.sym_state.proofs.Spots.{Spot}
+use Rattle.refinements.proofs.Taking.{AtSpot, Found, at_two, both_found, decided_found, integers_cases, one_below, pair_cases, second_below, taken_two, weighed_found}
 
 -- rows on two integers hold
 pub above_zero : (z : ℤ) → is_positive z ≡ true → pos 1 ≤ℤ z

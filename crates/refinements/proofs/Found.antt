@@ -6,9 +6,10 @@ use Rattle.sym_state.specs.declared.hint.Hint.{Hint}
 use Rattle.sym_state.specs.declared.test.Test.{Test}
 use Rattle.sym_state.specs.declared.test.Test.TheVariants.{Empty, Missing, Equal, Less, Greater, Above}
 use Rattle.sym_state.specs.Cases.{Cases, split_of}
+use Rattle.sym_state.proofs.Spots.{Spot}
 use Rattle.refinements.specs.Covered.{function_of}
 use Rattle.refinements.proofs.Comparing.{equal_found, greater_found, less_found}
-use Rattle.refinements.proofs.Taking.{Found, Spot}
+use Rattle.refinements.proofs.Taking.{Found}
 use Rattle.refinements.proofs.Testing.{empty_found, missing_found}
 
 pub test_found : (p : Spot) (test : Test) (op : Builtin) (hints : List Hint) (cases : Cases) → function_of test ≡ Some op

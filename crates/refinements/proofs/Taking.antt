@@ -29,21 +29,9 @@ use Rattle.sym_state.specs.Symbols.{Valuation, numbers}
 use Rattle.sym_state.specs.WellMade.{WellMade}
 use Rattle.sym_state.proofs.Pushing.{stack_of_tops, tops_below, value_list, without}
 use Rattle.sym_state.proofs.Resulting.{Fits}
+use Rattle.sym_state.proofs.Spots.{Spot}
 use Rattle.refinements.specs.Covered.{OneCovers}
 use Rattle.refinements.proofs.Covering.{At, answer_covers, decided_covers, decided_is, first_is, first_kept, second_is, second_kept}
-
--- a state that stands for a configuration at a place
-pub record Spot : Type 0 where
-  pub style : Style
-  pub admits : Cond
-  pub list : EntryList
-  pub v : Valuation
-  pub state : State
-  pub c : Config
-  pub below : List Value
-  pub place : Place
-  pub made : WellMade style state
-  pub stands : Stands style admits list v state c below
 
 abbrev pub Found : Spot → Builtin → Cases → Type 0
 Found p op cases = OneCovers p.style p.admits p.list p.v p.state p.c p.below p.place op cases.states

@@ -20,7 +20,8 @@ use Rattle.sym_state.proofs.Deciding.{emptiness_fact, from_facts}
 use Rattle.sym_state.proofs.KnownKinds.{known_kind_holds, of_kind_holds}
 use Rattle.sym_state.proofs.Pushing.{value_list, without}
 use Rattle.sym_state.proofs.Resulting.{both_fit, one_fits}
-use Rattle.refinements.proofs.Taking.{Found, Spot, at_one, both_found, decided_found, field_cases, one_below, taken_one}
+use Rattle.sym_state.proofs.Spots.{Spot}
+use Rattle.refinements.proofs.Taking.{Found, at_one, both_found, decided_found, field_cases, one_below, taken_one}
 
 -- `empty$`
 machine_empty : (context : Context) (value : Value) (b : Bool) (stack : List Value) → emptiness value ≡ Some b
