@@ -8,7 +8,7 @@ use Rattle.name_table.specs.declared.builtin.Builtin.TheVariants as op
 use Rattle.bst_meaning.specs.declared.fault.Fault.TheVariants.{NotAscii as BeyondAscii}
 use Rattle.bst_meaning.specs.declared.value.Value.{Value}
 use Rattle.bst_meaning.specs.declared.value.Value.TheVariants.{Int as IntValue, Str as StrValue}
-use Rattle.bst_meaning.specs.Builtins.{built_in}
+use Rattle.bst_meaning.specs.Builtins.{built_in, byte_string}
 use Rattle.bst_meaning.specs.Effect.{pushed}
 use Rattle.bst_meaning.specs.Entries.{IsByteList}
 use Rattle.bst_meaning.specs.Operands.{has_32_bits}
@@ -20,7 +20,7 @@ use Rattle.sym_state.specs.declared.symbol.Fact.TheVariants.{Int as IntFact, Non
 use Rattle.sym_state.specs.declared.symbol.Kinds.TheVariants.{Int, Str}
 use Rattle.sym_state.specs.declared.symbol.Sym.{Sym}
 use Rattle.sym_state.specs.Decided.{exact_text}
-use Rattle.sym_state.specs.Demands.{After, fails, gives, two_steps}
+use Rattle.sym_state.specs.Demands.{After, Outcome, fails, gives, two_steps}
 use Rattle.sym_state.specs.Effects.{byte_number, effect_of, one_byte}
 use Rattle.sym_state.specs.Facts.{emptiness}
 use Rattle.sym_state.specs.References.{at_least, at_most}
@@ -32,7 +32,7 @@ use Rattle.sym_state.proofs.RowSums.{at_least_says, at_most_says}
 use Rattle.sym_state.proofs.Saying.{at_least_holds, at_most_holds}
 use Rattle.sym_state.proofs.Spots.{Spot}
 use Rattle.builtin_effects.proofs.ByteTexts.{numeral_bytes}
-use Rattle.builtin_effects.proofs.Covering.{CoversAt, Old, after_value, around, lower, one_given, put, row_met, term_new_length, term_new_value, value_new}
+use Rattle.builtin_effects.proofs.Covering.{CoversAt, Old, after_value, around, lower, one_given, one_then, put, row_met, term_new_length, term_new_value, value_new}
 use Rattle.builtin_effects.proofs.Inverting.{Steps, steps_ok}
 use Rattle.builtin_effects.proofs.OperandValues.{NumberOperand, TextOperand, number_operand, text_operand}
 use Rattle.builtin_effects.proofs.TextSizes.{numeral_nonblank, numeral_sizes}
@@ -120,14 +120,19 @@ is_ascii : (n : ℤ) → pos 0 ≤ℤ n → n ≤ℤ pos 127 → Ascii n
 is_ascii (pos k) low high = record { byte = k; is = refl; below = omega (arith, ints, high) }
 is_ascii (negsuc k) low high = absurd (omega (arith, ints, low))
 
-pub int_to_chr_covers : (s : Spot) (hints : List Hint) (after : After) → effect_of s.style s.admits s.state op.IntToChr hints ≡ Ok after
-    → CoversAt s op.IntToChr after.state
-int_to_chr_covers s hints after e =
+ascii_pushed : (b : ℕ) (stack : List Value) → b < 128 → byte_string (pos b) stack ≡ pushed (StrValue (b ∷ [])) stack
+ascii_pushed b stack less = ap (λ (t : Bool). cond t (pushed (StrValue (b ∷ [])) stack) (Err BeyondAscii)) (lt-ltb b 128 less)
+
+abbrev ascii_rule : Spot → List Hint → Sym → State → Outcome
+ascii_rule s hints a rest =
+    two_steps s.admits s.state (at_least (ValueOf a.0) (pos 0)) (at_most (ValueOf a.0) (pos 127)) (fails NotAscii 1) hints
+        (λ left. gives left (with_result Str [] (at_least (LengthOf rest.next) (pos 1) ∷ at_most (LengthOf rest.next) (pos 1) ∷ []) rest))
+
+ascii_put : (s : Spot) (hints : List Hint) (after : After) → NumberOperand s (ascii_rule s hints) after → CoversAt s op.IntToChr after.state
+ascii_put s hints after t =
     let r = LengthOf s.state.next in
     let first = at_least r (pos 1) in
     let second = at_most r (pos 1) in
-    let t = number_operand s (λ a rest. two_steps s.admits s.state (at_least (ValueOf a.0) (pos 0)) (at_most (ValueOf a.0) (pos 127)) (fails NotAscii 1) hints
-        (λ left. gives left (with_result Str [] (at_least (LengthOf rest.next) (pos 1) ∷ at_most (LengthOf rest.next) (pos 1) ∷ []) rest))) after e in
     let low = at_least (ValueOf t.a.0) (pos 0) in
     let high = at_most (ValueOf t.a.0) (pos 127) in
     let u = steps_ok s.admits s.state low high (fails NotAscii 1) hints
@@ -142,10 +147,14 @@ int_to_chr_covers s hints after e =
     let wr : w r ≡ pos 1 = term_new_length s value in
     let byte_is : s.v.value t.a.0 ≡ IntValue (pos b) = t.number.is ∙ ap (λ (k : ℤ). IntValue k) ascii.is in
     put s op.IntToChr t.rest Str [] (first ∷ second ∷ []) value u.left after t.others
-    (one_given s op.IntToChr t.a t.rest (IntValue (pos b)) t.tops byte_is
-    ∙ ap (λ (c : Bool). cond c (pushed value (lower s t.rest)) (Err BeyondAscii)) (lt-ltb b 128 ascii.below))
+    (one_then s op.IntToChr t.a t.rest (IntValue (pos b)) (pushed value (lower s t.rest)) t.tops byte_is
+    (ascii_pushed b (lower s t.rest) ascii.below))
     (omega (arith, ascii.below), tt) refl tt
     (at_least_holds w r (pos 1) (omega (arith, ints, wr)), (at_most_holds w r (pos 1) (omega (arith, ints, wr)), tt)) u.given
+
+pub int_to_chr_covers : (s : Spot) (hints : List Hint) (after : After) → effect_of s.style s.admits s.state op.IntToChr hints ≡ Ok after
+    → CoversAt s op.IntToChr after.state
+int_to_chr_covers s hints after e = ascii_put s hints after (number_operand s (ascii_rule s hints) after e)
 
 -- `int.to.str$`
 pub int_to_str_covers : (s : Spot) (hints : List Hint) (after : After) → effect_of s.style s.admits s.state op.IntToStr hints ≡ Ok after

@@ -12,11 +12,14 @@ use Rattle.text_ops.specs.TextLength.{text_length_of}
 use Rattle.text_ops.specs.Width.{width_of}
 use Rattle.bst_meaning.specs.declared.value.Value.{Value}
 use Rattle.bst_meaning.specs.declared.value.Value.TheVariants.{Int as IntValue, Str as StrValue}
+use Rattle.bst_meaning.specs.Effect.{pushed}
 use Rattle.bst_meaning.specs.Operands.{has_32_bits}
 use Rattle.sym_state.specs.declared.demand.DemandKind.TheVariants.{IntRange}
 use Rattle.sym_state.specs.declared.hint.Hint.{Hint}
+use Rattle.sym_state.specs.declared.state.State.{State}
 use Rattle.sym_state.specs.declared.symbol.Kinds.TheVariants.{Int}
-use Rattle.sym_state.specs.Demands.{After, fails, gives, step}
+use Rattle.sym_state.specs.declared.symbol.Sym.{Sym}
+use Rattle.sym_state.specs.Demands.{After, Outcome, fails, gives, step}
 use Rattle.sym_state.specs.Effects.{effect_of}
 use Rattle.sym_state.specs.References.{at_least, at_most, exceeds}
 use Rattle.sym_state.specs.Results.{sum_of_two, with_result}
@@ -25,21 +28,23 @@ use Rattle.sym_state.proofs.Pushing.{without}
 use Rattle.sym_state.proofs.RowSums.{at_most_says, two_holds, two_says}
 use Rattle.sym_state.proofs.Saying.{at_least_holds, exceeds_holds, minus, once}
 use Rattle.sym_state.proofs.Spots.{Spot}
-use Rattle.builtin_effects.proofs.Covering.{CoversAt, after_value, lower, one_given, put, row_met, term_new_value, term_old}
+use Rattle.builtin_effects.proofs.Covering.{CoversAt, after_value, lower, one_then, put, row_met, term_new_value, term_old}
 use Rattle.builtin_effects.proofs.Integers.{in_range}
 use Rattle.builtin_effects.proofs.Inverting.{step_ok}
-use Rattle.builtin_effects.proofs.OperandValues.{text_operand}
+use Rattle.builtin_effects.proofs.OperandValues.{TextOperand, text_operand}
 use Rattle.builtin_effects.proofs.TextSizes.{text_length_shorter, width_bounded}
 
 count_bits : (n : ℕ) → n ≤ 2147483647 → has_32_bits (pos n) ≡ true
 count_bits n few = le-leb n 2147483647 few
 
-pub num_names_covers : (s : Spot) (hints : List Hint) (after : After) → effect_of s.style s.admits s.state op.NumNames hints ≡ Ok after
-    → CoversAt s op.NumNames after.state
-num_names_covers s hints after e =
+abbrev names_rule : Spot → List Hint → Sym → State → Outcome
+names_rule s hints a rest =
+    step s.admits s.state (at_most (NamesOf a.0) (pos 2147483647)) (fails IntRange 0) hints
+        (λ left. gives left (with_result Int [] (exceeds (ValueOf rest.next) (NamesOf a.0) (pos 0) ∷ exceeds (NamesOf a.0) (ValueOf rest.next) (pos 0) ∷ []) rest))
+
+names_counted : (s : Spot) (hints : List Hint) (after : After) → TextOperand s (names_rule s hints) after → CoversAt s op.NumNames after.state
+names_counted s hints after t =
     let r = ValueOf s.state.next in
-    let t = text_operand s (λ a rest. step s.admits s.state (at_most (NamesOf a.0) (pos 2147483647)) (fails IntRange 0) hints
-        (λ left. gives left (with_result Int [] (exceeds (ValueOf rest.next) (NamesOf a.0) (pos 0) ∷ exceeds (NamesOf a.0) (ValueOf rest.next) (pos 0) ∷ []) rest))) after e in
     let names = NamesOf t.a.0 in
     let first = exceeds r names (pos 0) in
     let second = exceeds names r (pos 0) in
@@ -54,15 +59,21 @@ num_names_covers s hints after e =
     let wr : w r ≡ pos n = term_new_value s value in
     let wn : w names ≡ pos n = term_old s value names t.old ∙ count_is in
     put s op.NumNames t.rest Int [] (first ∷ second ∷ []) value u.left after t.others
-    (one_given s op.NumNames t.a t.rest (StrValue t.text.bytes) t.tops t.text.is ∙ in_range (pos n) (lower s t.rest) bits) bits refl tt
+    (one_then s op.NumNames t.a t.rest (StrValue t.text.bytes) (pushed value (lower s t.rest)) t.tops t.text.is (in_range (pos n) (lower s t.rest) bits)) bits refl tt
     (exceeds_holds w r names (pos 0) (omega (arith, ints, wr, wn)), (exceeds_holds w names r (pos 0) (omega (arith, ints, wr, wn)), tt)) u.given
 
-pub text_length_covers : (s : Spot) (hints : List Hint) (after : After) → effect_of s.style s.admits s.state op.TextLength hints ≡ Ok after
-    → CoversAt s op.TextLength after.state
-text_length_covers s hints after e =
+pub num_names_covers : (s : Spot) (hints : List Hint) (after : After) → effect_of s.style s.admits s.state op.NumNames hints ≡ Ok after
+    → CoversAt s op.NumNames after.state
+num_names_covers s hints after e = names_counted s hints after (text_operand s (names_rule s hints) after e)
+
+abbrev characters_rule : Spot → List Hint → Sym → State → Outcome
+characters_rule s hints a rest =
+    step s.admits s.state (at_most (LengthOf a.0) (pos 2147483647)) (fails IntRange 0) hints
+        (λ left. gives left (with_result Int [] (at_least (ValueOf rest.next) (pos 0) ∷ exceeds (LengthOf a.0) (ValueOf rest.next) (pos 0) ∷ []) rest))
+
+characters_counted : (s : Spot) (hints : List Hint) (after : After) → TextOperand s (characters_rule s hints) after → CoversAt s op.TextLength after.state
+characters_counted s hints after t =
     let r = ValueOf s.state.next in
-    let t = text_operand s (λ a rest. step s.admits s.state (at_most (LengthOf a.0) (pos 2147483647)) (fails IntRange 0) hints
-        (λ left. gives left (with_result Int [] (at_least (ValueOf rest.next) (pos 0) ∷ exceeds (LengthOf a.0) (ValueOf rest.next) (pos 0) ∷ []) rest))) after e in
     let bytes = LengthOf t.a.0 in
     let first = at_least r (pos 0) in
     let second = exceeds bytes r (pos 0) in
@@ -78,8 +89,12 @@ text_length_covers s hints after e =
     let wr : w r ≡ pos n = term_new_value s value in
     let wl : w bytes ≡ pos (length t.text.bytes) = term_old s value bytes t.old ∙ length_is in
     put s op.TextLength t.rest Int [] (first ∷ second ∷ []) value u.left after t.others
-    (one_given s op.TextLength t.a t.rest (StrValue t.text.bytes) t.tops t.text.is ∙ in_range (pos n) (lower s t.rest) bits) bits refl tt
+    (one_then s op.TextLength t.a t.rest (StrValue t.text.bytes) (pushed value (lower s t.rest)) t.tops t.text.is (in_range (pos n) (lower s t.rest) bits)) bits refl tt
     (at_least_holds w r (pos 0) (omega (arith, ints, wr)), (exceeds_holds w bytes r (pos 0) (omega (arith, ints, wr, wl, few)), tt)) u.given
+
+pub text_length_covers : (s : Spot) (hints : List Hint) (after : After) → effect_of s.style s.admits s.state op.TextLength hints ≡ Ok after
+    → CoversAt s op.TextLength after.state
+text_length_covers s hints after e = characters_counted s hints after (text_operand s (characters_rule s hints) after e)
 
 -- a width in units of a byte's greatest one
 scaled : (n : ℕ) → pos 1028 *ℤ pos n ≡ pos (1028 * n)
@@ -88,15 +103,16 @@ scaled n = omega (arith, ints, product_is (pos 1028) (pos n))
 scaled_back : (n : ℕ) → negsuc 1027 *ℤ pos n ≡ neg_ℤ (pos (1028 * n))
 scaled_back n = omega (arith, ints, product_is (negsuc 1027) (pos n))
 
-pub width_covers : (s : Spot) (hints : List Hint) (after : After) → effect_of s.style s.admits s.state op.Width hints ≡ Ok after
-    → CoversAt s op.Width after.state
-width_covers s hints after e =
-    let r = ValueOf s.state.next in
-    let t = text_operand s (λ a rest.
-        step s.admits s.state (sum_of_two (pos 2147483647) (negsuc 1027) (LengthOf a.0) (pos 0) (LengthOf a.0)) (fails IntRange 0) hints
+abbrev width_rule : Spot → List Hint → Sym → State → Outcome
+width_rule s hints a rest =
+    step s.admits s.state (sum_of_two (pos 2147483647) (negsuc 1027) (LengthOf a.0) (pos 0) (LengthOf a.0)) (fails IntRange 0) hints
         (λ left. gives left (with_result Int [] (
         at_least (ValueOf rest.next) (pos 0) ∷ sum_of_two (pos 0) (pos 1028) (LengthOf a.0) (negsuc 0) (ValueOf rest.next) ∷ []
-        ) rest))) after e in
+        ) rest))
+
+width_measured : (s : Spot) (hints : List Hint) (after : After) → TextOperand s (width_rule s hints) after → CoversAt s op.Width after.state
+width_measured s hints after t =
+    let r = ValueOf s.state.next in
     let bytes = LengthOf t.a.0 in
     let enough = sum_of_two (pos 2147483647) (negsuc 1027) bytes (pos 0) bytes in
     let first = at_least r (pos 0) in
@@ -117,6 +133,10 @@ width_covers s hints after e =
     let wl : w bytes ≡ pos l = term_old s value bytes t.old ∙ length_is in
     let whole : pos 1028 *ℤ w bytes ≡ pos (1028 * l) = ap (λ (k : ℤ). pos 1028 *ℤ k) wl ∙ scaled l in
     put s op.Width t.rest Int [] (first ∷ second ∷ []) value u.left after t.others
-    (one_given s op.Width t.a t.rest (StrValue t.text.bytes) t.tops t.text.is ∙ in_range (pos n) (lower s t.rest) bits) bits refl tt
+    (one_then s op.Width t.a t.rest (StrValue t.text.bytes) (pushed value (lower s t.rest)) t.tops t.text.is (in_range (pos n) (lower s t.rest) bits)) bits refl tt
     (at_least_holds w r (pos 0) (omega (arith, ints, wr)),
     (two_holds w (pos 0) (pos 1028) bytes (negsuc 0) r (omega (arith, ints, wr, whole, few, minus (w r))), tt)) u.given
+
+pub width_covers : (s : Spot) (hints : List Hint) (after : After) → effect_of s.style s.admits s.state op.Width hints ≡ Ok after
+    → CoversAt s op.Width after.state
+width_covers s hints after e = width_measured s hints after (text_operand s (width_rule s hints) after e)

@@ -8,6 +8,7 @@ use Rattle.lin_facts.specs.declared.row.Row.{Row}
 use Rattle.lin_facts.specs.declared.row.Term.{Term}
 use Rattle.lin_facts.specs.declared.row.Term.TheVariants.{Value as ValueOf, Length as LengthOf}
 use Rattle.name_table.specs.declared.builtin.Builtin.{Builtin}
+use Rattle.bst_meaning.specs.declared.fault.Fault.{Fault}
 use Rattle.bst_meaning.specs.declared.value.Value.{Value}
 use Rattle.bst_meaning.specs.Builtins.{Context, built_in}
 use Rattle.bst_meaning.specs.Config.{Config, Event}
@@ -90,6 +91,20 @@ three_given s o a b c rest x y z tops x_is y_is z_is =
       ∙ ap (λ (k : Value). z ∷ (k ∷ (s.v.value a.0 ∷ lower s rest))) y_is
       ∙ ap (λ (k : Value). z ∷ (y ∷ (k ∷ lower s rest))) x_is
     )
+
+-- the same where the machine computes further
+pub one_then : (s : Spot) (o : Builtin) (a : Sym) (rest : List Sym) (x : Value) (r : Result Effect Fault) → reverse s.state.stack ≡ a ∷ rest
+    → s.v.value a.0 ≡ x → built_in o (around s) (x ∷ lower s rest) ≡ r → built_in o (around s) s.c.stack ≡ r
+one_then s o a rest x r tops x_is e = one_given s o a rest x tops x_is ∙ e
+
+pub two_then : (s : Spot) (o : Builtin) (a b : Sym) (rest : List Sym) (x y : Value) (r : Result Effect Fault) → reverse s.state.stack ≡ b ∷ (a ∷ rest)
+    → s.v.value a.0 ≡ x → s.v.value b.0 ≡ y → built_in o (around s) (y ∷ (x ∷ lower s rest)) ≡ r → built_in o (around s) s.c.stack ≡ r
+two_then s o a b rest x y r tops x_is y_is e = two_given s o a b rest x y tops x_is y_is ∙ e
+
+pub three_then : (s : Spot) (o : Builtin) (a b c : Sym) (rest : List Sym) (x y z : Value) (r : Result Effect Fault)
+    → reverse s.state.stack ≡ c ∷ (b ∷ (a ∷ rest)) → s.v.value a.0 ≡ x → s.v.value b.0 ≡ y → s.v.value c.0 ≡ z
+    → built_in o (around s) (z ∷ (y ∷ (x ∷ lower s rest))) ≡ r → built_in o (around s) s.c.stack ≡ r
+three_then s o a b c rest x y z r tops x_is y_is z_is e = three_given s o a b c rest x y z tops x_is y_is z_is ∙ e
 
 -- an operand is of its kind
 pub kind_met : (s : Spot) (kind : Kinds) (a : Sym) → is_of_kind s.state kind a ≡ true → has_kind kind (s.v.value a.0) ≡ true

@@ -38,7 +38,7 @@ use Rattle.sym_state.proofs.RowSums.{three_holds}
 use Rattle.sym_state.proofs.Saying.{exceeds_holds, minus, once}
 use Rattle.sym_state.proofs.Spots.{Spot}
 use Rattle.builtin_effects.proofs.ByteTexts.{bytes_joined, case_changed_bytes, purified_bytes, text_prefix_bytes, with_period_bytes}
-use Rattle.builtin_effects.proofs.Covering.{CoversAt, Old, after_value, around, first_old, lower, one_given, others_old, put, term_new_length, term_old, tops_old, two_given, value_new}
+use Rattle.builtin_effects.proofs.Covering.{CoversAt, Old, after_value, around, first_old, lower, one_given, others_old, put, term_new_length, term_old, tops_old, two_given, two_then, value_new}
 use Rattle.builtin_effects.proofs.Inverting.{demand_ok, two_ok}
 use Rattle.builtin_effects.proofs.OperandValues.{IsNumber, IsText, number_met, text_met, text_operand}
 use Rattle.builtin_effects.proofs.TextSizes.{case_changed_shorter, joined_nonblank, joined_nonblank_behind, purified_shorter, with_period_longer, with_period_nonblank, with_period_shorter}
@@ -184,6 +184,10 @@ has_mode (Some text) e =
       | None ↦ λ says found. absurd (cc)
     ] refl e
 
+changed_in : (found : Option Case) (mode : Case) (bytes : List ℕ) (stack : List Value) → found ≡ Some mode
+    → change_case_in found bytes stack ≡ pushed (StrValue (case_changed mode bytes)) stack
+changed_in found mode bytes stack e = ap (λ (o : Option Case). change_case_in o bytes stack) e
+
 pub change_case_covers : (s : Spot) (hints : List Hint) (after : After) → effect_of s.style s.admits s.state op.ChangeCase hints ≡ Ok after
     → CoversAt s op.ChangeCase after.state
 change_case_covers s hints after e =
@@ -194,8 +198,8 @@ change_case_covers s hints after e =
     let mode_is = exact_text_is s.style s.v t.b.0 s.state.facts m.text s.stands.satisfied.facts m.is in
     shorter_put s op.ChangeCase t.a t.rest x (case_changed m.mode x) hints after t.a_old t.others t.first.is
     (case_changed_bytes m.mode x t.first.fine) (case_changed_shorter m.mode x)
-    (two_given s op.ChangeCase t.a t.b t.rest (StrValue x) (StrValue m.text) t.tops t.first.is mode_is
-    ∙ ap (λ (o : Option Case). change_case_in o x (lower s t.rest)) m.says) met.1
+    (two_then s op.ChangeCase t.a t.b t.rest (StrValue x) (StrValue m.text) (pushed (StrValue (case_changed m.mode x)) (lower s t.rest)) t.tops t.first.is mode_is
+    (changed_in (case_of m.text) m.mode x (lower s t.rest) m.says)) met.1
 
 -- `text.prefix$`
 pub text_prefix_covers : (s : Spot) (hints : List Hint) (after : After) → effect_of s.style s.admits s.state op.TextPrefix hints ≡ Ok after

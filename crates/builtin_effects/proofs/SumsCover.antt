@@ -29,7 +29,7 @@ use Rattle.sym_state.proofs.Pushing.{without}
 use Rattle.sym_state.proofs.RowSums.{three_holds, two_says}
 use Rattle.sym_state.proofs.Saying.{minus, once}
 use Rattle.sym_state.proofs.Spots.{Spot}
-use Rattle.builtin_effects.proofs.Covering.{CoversAt, after_value, around, first_old, kind_met, lower, others_old, put, row_met, term_new_value, term_old, tops_old, two_given, value_new}
+use Rattle.builtin_effects.proofs.Covering.{CoversAt, after_value, around, first_old, kind_met, lower, others_old, put, row_met, term_new_value, term_old, tops_old, two_then, value_new}
 use Rattle.builtin_effects.proofs.Integers.{bits_from, in_range}
 use Rattle.builtin_effects.proofs.Inverting.{demand_ok, steps_ok, two_ok}
 
@@ -138,7 +138,8 @@ sum_covers s o sign rule hints after signed machine e =
       tops = two.tops;
       lower_is = x.1;
       upper_is = y.1;
-      machine = two_given s o two.a two.b two.rest (IntValue x.0) (IntValue y.0) two.tops x.1 y.1 ∙ machine x.0 y.0 (lower s two.rest);
+      machine = two_then s o two.a two.b two.rest (IntValue x.0) (IntValue y.0) (ranged (rule x.0 y.0) (lower s two.rest)) two.tops x.1 y.1
+          (machine x.0 y.0 (lower s two.rest));
     }) under.1
 
 pub plus_covers : (s : Spot) (hints : List Hint) (after : After) → effect_of s.style s.admits s.state op.Plus hints ≡ Ok after
