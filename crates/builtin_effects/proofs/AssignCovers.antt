@@ -1,6 +1,6 @@
 -- The effect of `:=` covers the machine.
-use Rattle.std.proofs.Common.{◌≡◌, ℕ, ◌<◌, ◌≤◌, ◌⊎◌, inl, inr, Bool, true, false, cond, List, [], ◌∷◌, ◌++◌, length, take, reverse, Option, None, Some, Result, Ok, refl, sym, ap, subst, ◌∙◌, arith}
-use Rattle.std.specs.Prelude.{ℤ, pos, nat_le}
+use Rattle.std.proofs.Common.{◌≡◌, ℕ, ◌≤◌, inl, inr, Bool, true, false, cond, List, [], ◌∷◌, ◌++◌, length, take, reverse, Option, None, Some, Ok, refl, sym, ap, subst, ◌∙◌, arith}
+use Rattle.std.specs.Prelude.{pos, nat_le}
 use Rattle.std.specs.Option.{option_map}
 use Rattle.std.proofs.lemmas.Bool.{le-leb, leb-true}
 use Rattle.std.proofs.lemmas.Int.{ints}
@@ -31,7 +31,6 @@ use Rattle.sym_state.specs.Effects.{assigned_to, cut_bound, effect_of, fits_exac
 use Rattle.sym_state.specs.Effects as rule
 use Rattle.sym_state.specs.References.{at_most}
 use Rattle.sym_state.specs.Results.{next_of, with_symbol}
-use Rattle.sym_state.specs.Stands.{value_by}
 use Rattle.sym_state.specs.Symbols.{Valuation, length_of, numbers}
 use Rattle.sym_state.specs.WellMade.{is_field, is_variable}
 use Rattle.sym_state.proofs.Deciding.{exact_text_is}
@@ -41,9 +40,9 @@ use Rattle.sym_state.proofs.Pushing.{moved, value_same, with_stack, without}
 use Rattle.sym_state.proofs.RowSums.{at_most_says}
 use Rattle.sym_state.proofs.Saying.{at_most_holds}
 use Rattle.sym_state.proofs.Spots.{Spot}
-use Rattle.builtin_effects.proofs.Assigned.{Assigned, HasValue, assigned, rebound_stands, variable_bound}
+use Rattle.builtin_effects.proofs.Assigned.{Assigned, assigned, rebound_stands, variable_bound}
 use Rattle.builtin_effects.proofs.ByteTexts.{bytes_taken}
-use Rattle.builtin_effects.proofs.Covering.{CoversAt, Old, after_value, around, lower, others_old, row_met, term_new_length, tops_old, two_given, unseen, value_new}
+use Rattle.builtin_effects.proofs.Covering.{CoversAt, after_value, around, lower, others_old, row_met, term_new_length, tops_old, two_given, unseen, value_new}
 use Rattle.builtin_effects.proofs.EntryCovers.{entry_given}
 use Rattle.builtin_effects.proofs.Inverting.{choice_ok, demand_ok, gives_is, two_ok}
 use Rattle.builtin_effects.proofs.OperandValues.{IsText, number_met, text_met}
@@ -120,7 +119,7 @@ new_bound s name kind a f rest bytes y size logged hints after g is fine few mac
     let old = others_old s a rest (others_old s f (a ∷ rest) (tops_old s (f ∷ (a ∷ rest)) g.tops)) in
     let there = assigned_there s name kind a f rest value logged g in
     let stands = unseen s rest Str [] rows value (s.c.events ++ []) (s.c.log ++ logged) old fine refl tt
-        (at_most_holds (numbers w) r (pos size) (omega (arith, ints, wr, few)), tt) in
+    (at_most_holds (numbers w) r (pos size) (omega (arith, ints, wr, few)), tt) in
     subst (λ (x : State). CoversAt s op.Assign x) (gives_is hints state after e) (record {
       effect = assigning s rest name value logged;
       gives = machine_assigns s name kind a f rest (StrValue bytes) g is ∙ machine;

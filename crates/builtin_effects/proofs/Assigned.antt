@@ -1,8 +1,7 @@
 -- A configuration in which a variable has a new value, and where a state with another binding stands for it.
-use Rattle.std.proofs.Common.{◌≡◌, ℕ, ◌+◌, ◌<◌, Bool, true, false, cond, nat_eq, List, [], ◌∷◌, ◌++◌, length, map, Option, None, Some, refl, sym, ap, subst, ◌∙◌, arith}
+use Rattle.std.proofs.Common.{◌≡◌, ℕ, ◌+◌, Bool, true, false, cond, nat_eq, List, map, Option, None, Some, refl, sym, ap, subst, ◌∙◌, arith}
 use Rattle.std.proofs.Math.ListN.{set}
 use Rattle.std.specs.Prelude.{IsPermutation, slice_get}
-use Rattle.std.specs.List.{AllByRecursion}
 use Rattle.std.specs.Option.{option_and_then, option_map, option_map_or}
 use Rattle.name_table.specs.declared.names.Kind.{Kind}
 use Rattle.name_table.specs.declared.names.Kind.TheVariants.{Builtin as BuiltinKind, Wizard, Field, IntEntry, StrEntry, IntGlobal, StrGlobal}
@@ -20,7 +19,7 @@ use Rattle.sym_state.specs.Stands.{IsVisiting, Stands, value_by}
 use Rattle.sym_state.specs.Symbols.{Valuation}
 use Rattle.sym_state.specs.WellMade.{is_variable}
 use Rattle.sym_state.proofs.Spots.{Spot}
-use Rattle.builtin_effects.proofs.Rebinding.{Found, Kept, Unique, bound_at, rebound_bound, set_element, set_length, set_seen, variable_kept, variable_new}
+use Rattle.builtin_effects.proofs.Rebinding.{Kept, Unique, bound_at, rebound_bound, set_element, set_length, set_seen, variable_kept, variable_new}
 
 -- one variable has a new value, and everything else that a state speaks of is as it was
 pub record Assigned (style : Style) (name : NameId) (value : Value) (c after : Config) : Type 0 where
@@ -187,7 +186,7 @@ pub record HasValue (s : Spot) (name : NameId) (kind : Kind) : Type 0 where
 pub variable_bound : (s : Spot) (name : NameId) (kind : Kind) → kind_of s.style name ≡ Some kind → is_variable s.state.at_entry kind ≡ true → HasValue s name kind
 variable_bound s name kind is variable =
     let found = bound_at (λ b. value_by (kind_of s.style b.name) b.name s.c ≡ Some (s.v.value b.sym.0)) (is_variable s.state.at_entry) 0 name.0 s.style.names kind
-        s.state.vars is variable s.made.binds_vars s.stands.vars in
+    s.state.vars is variable s.made.binds_vars s.stands.vars in
     let from_zero : 0 + name.0 ≡ name.0 = omega arith in
     let named : found.bind.name ≡ name = ap (λ (n : ℕ). let id : NameId = record { 0 = n } in id) (found.named ∙ from_zero) in record {
       value = s.v.value found.bind.sym.0;

@@ -1,5 +1,5 @@
 -- The effects of `chr.to.int$`, `int.to.chr$` and `int.to.str$` cover the machine.
-use Rattle.std.proofs.Common.{◌≡◌, ℕ, ◌<◌, ◌≤◌, Bool, true, false, cond, nat_lt, List, [], ◌∷◌, length, reverse, Option, None, Some, Result, Ok, Err, refl, sym, ap, subst, ◌∙◌, lt-ltb, arith}
+use Rattle.std.proofs.Common.{◌≡◌, ℕ, ◌<◌, Bool, true, cond, List, [], ◌∷◌, length, reverse, Option, None, Some, Ok, Err, refl, sym, ap, subst, ◌∙◌, lt-ltb, arith}
 use Rattle.std.specs.Prelude.{ℤ, pos, negsuc, ◌≤ℤ◌}
 use Rattle.std.proofs.lemmas.Bool.{le-leb}
 use Rattle.std.proofs.lemmas.Int.{ints}
@@ -33,8 +33,8 @@ use Rattle.sym_state.proofs.Saying.{at_least_holds, at_most_holds}
 use Rattle.sym_state.proofs.Spots.{Spot}
 use Rattle.builtin_effects.proofs.ByteTexts.{numeral_bytes}
 use Rattle.builtin_effects.proofs.Covering.{CoversAt, Old, after_value, around, lower, one_given, one_then, put, row_met, term_new_length, term_new_value, value_new}
-use Rattle.builtin_effects.proofs.Inverting.{Steps, steps_ok}
-use Rattle.builtin_effects.proofs.OperandValues.{NumberOperand, TextOperand, number_operand, text_operand}
+use Rattle.builtin_effects.proofs.Inverting.{steps_ok}
+use Rattle.builtin_effects.proofs.OperandValues.{NumberOperand, number_operand, text_operand}
 use Rattle.builtin_effects.proofs.TextSizes.{numeral_nonblank, numeral_sizes}
 
 -- a text of one byte
@@ -85,7 +85,7 @@ shown_byte s a rest bytes hints after tops others is fine e =
     let first = at_least r (pos 0) in
     let second = at_most r (pos 255) in
     let t = steps_ok s.admits s.state low high (fails NotOneByte 1) hints
-        (λ left. gives left (with_result Int [] (first ∷ second ∷ []) (without rest s.state))) after e in
+    (λ left. gives left (with_result Int [] (first ∷ second ∷ []) (without rest s.state))) after e in
     let length_is : numbers s.v (LengthOf a.0) ≡ pos (length bytes) = ap length_of is in
     let least = at_least_says (numbers s.v) (LengthOf a.0) (pos 1) (row_met s t.one low t.first_shown) in
     let most = at_most_says (numbers s.v) (LengthOf a.0) (pos 1) (row_met s t.other high t.second_shown) in
@@ -126,7 +126,7 @@ ascii_pushed b stack less = ap (λ (t : Bool). cond t (pushed (StrValue (b ∷ [
 abbrev ascii_rule : Spot → List Hint → Sym → State → Outcome
 ascii_rule s hints a rest =
     two_steps s.admits s.state (at_least (ValueOf a.0) (pos 0)) (at_most (ValueOf a.0) (pos 127)) (fails NotAscii 1) hints
-        (λ left. gives left (with_result Str [] (at_least (LengthOf rest.next) (pos 1) ∷ at_most (LengthOf rest.next) (pos 1) ∷ []) rest))
+    (λ left. gives left (with_result Str [] (at_least (LengthOf rest.next) (pos 1) ∷ at_most (LengthOf rest.next) (pos 1) ∷ []) rest))
 
 ascii_put : (s : Spot) (hints : List Hint) (after : After) → NumberOperand s (ascii_rule s hints) after → CoversAt s op.IntToChr after.state
 ascii_put s hints after t =
@@ -136,7 +136,7 @@ ascii_put s hints after t =
     let low = at_least (ValueOf t.a.0) (pos 0) in
     let high = at_most (ValueOf t.a.0) (pos 127) in
     let u = steps_ok s.admits s.state low high (fails NotAscii 1) hints
-        (λ left. gives left (with_result Str [] (first ∷ second ∷ []) (without t.rest s.state))) after t.given in
+    (λ left. gives left (with_result Str [] (first ∷ second ∷ []) (without t.rest s.state))) after t.given in
     let number_is : numbers s.v (ValueOf t.a.0) ≡ t.number.n = ap integer_of t.number.is in
     let least = at_least_says (numbers s.v) (ValueOf t.a.0) (pos 0) (row_met s u.one low u.first_shown) in
     let most = at_most_says (numbers s.v) (ValueOf t.a.0) (pos 127) (row_met s u.other high u.second_shown) in
@@ -164,8 +164,8 @@ int_to_str_covers s hints after e =
     let first = at_least r (pos 1) in
     let second = at_most r (pos 11) in
     let t = number_operand s (λ a rest.
-        gives hints (with_result Str (Nonblank (next_of rest) ∷ []) (at_least (LengthOf rest.next) (pos 1) ∷ at_most (LengthOf rest.next) (pos 11) ∷ []) rest))
-        after e in
+    gives hints (with_result Str (Nonblank (next_of rest) ∷ []) (at_least (LengthOf rest.next) (pos 1) ∷ at_most (LengthOf rest.next) (pos 11) ∷ []) rest))
+    after e in
     let n : ℤ = t.number.n in
     let value : Value = StrValue (numeral n) in
     let w = numbers (after_value s value) in

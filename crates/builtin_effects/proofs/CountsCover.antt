@@ -1,5 +1,5 @@
 -- The effects of `num.names$`, `text.length$` and `width$` cover the machine.
-use Rattle.std.proofs.Common.{◌≡◌, ℕ, ◌≤◌, ◌*◌, true, List, [], ◌∷◌, length, reverse, Result, Ok, refl, ap, ◌∙◌, arith}
+use Rattle.std.proofs.Common.{◌≡◌, ℕ, ◌≤◌, ◌*◌, true, List, [], ◌∷◌, length, Ok, refl, ap, ◌∙◌, arith}
 use Rattle.std.specs.Prelude.{ℤ, pos, negsuc, neg_ℤ, ◌*ℤ◌}
 use Rattle.std.proofs.lemmas.Bool.{le-leb}
 use Rattle.std.proofs.lemmas.Int.{ints}
@@ -26,7 +26,7 @@ use Rattle.sym_state.specs.Results.{sum_of_two, with_result}
 use Rattle.sym_state.specs.Symbols.{length_of, name_count_of, numbers}
 use Rattle.sym_state.proofs.Pushing.{without}
 use Rattle.sym_state.proofs.RowSums.{at_most_says, two_holds, two_says}
-use Rattle.sym_state.proofs.Saying.{at_least_holds, exceeds_holds, minus, once}
+use Rattle.sym_state.proofs.Saying.{at_least_holds, exceeds_holds, minus}
 use Rattle.sym_state.proofs.Spots.{Spot}
 use Rattle.builtin_effects.proofs.Covering.{CoversAt, after_value, lower, one_then, put, row_met, term_new_value, term_old}
 use Rattle.builtin_effects.proofs.Integers.{in_range}
@@ -40,7 +40,7 @@ count_bits n few = le-leb n 2147483647 few
 abbrev names_rule : Spot → List Hint → Sym → State → Outcome
 names_rule s hints a rest =
     step s.admits s.state (at_most (NamesOf a.0) (pos 2147483647)) (fails IntRange 0) hints
-        (λ left. gives left (with_result Int [] (exceeds (ValueOf rest.next) (NamesOf a.0) (pos 0) ∷ exceeds (NamesOf a.0) (ValueOf rest.next) (pos 0) ∷ []) rest))
+    (λ left. gives left (with_result Int [] (exceeds (ValueOf rest.next) (NamesOf a.0) (pos 0) ∷ exceeds (NamesOf a.0) (ValueOf rest.next) (pos 0) ∷ []) rest))
 
 names_counted : (s : Spot) (hints : List Hint) (after : After) → TextOperand s (names_rule s hints) after → CoversAt s op.NumNames after.state
 names_counted s hints after t =
@@ -49,7 +49,7 @@ names_counted s hints after t =
     let first = exceeds r names (pos 0) in
     let second = exceeds names r (pos 0) in
     let u = step_ok s.admits s.state (at_most names (pos 2147483647)) (fails IntRange 0) hints
-        (λ left. gives left (with_result Int [] (first ∷ second ∷ []) (without t.rest s.state))) after t.given in
+    (λ left. gives left (with_result Int [] (first ∷ second ∷ []) (without t.rest s.state))) after t.given in
     let n : ℕ = length (names_of t.text.bytes) in
     let count_is : numbers s.v names ≡ pos n = ap name_count_of t.text.is in
     let most = at_most_says (numbers s.v) names (pos 2147483647) (row_met s u.proof (at_most names (pos 2147483647)) u.shown) in
@@ -69,7 +69,7 @@ num_names_covers s hints after e = names_counted s hints after (text_operand s (
 abbrev characters_rule : Spot → List Hint → Sym → State → Outcome
 characters_rule s hints a rest =
     step s.admits s.state (at_most (LengthOf a.0) (pos 2147483647)) (fails IntRange 0) hints
-        (λ left. gives left (with_result Int [] (at_least (ValueOf rest.next) (pos 0) ∷ exceeds (LengthOf a.0) (ValueOf rest.next) (pos 0) ∷ []) rest))
+    (λ left. gives left (with_result Int [] (at_least (ValueOf rest.next) (pos 0) ∷ exceeds (LengthOf a.0) (ValueOf rest.next) (pos 0) ∷ []) rest))
 
 characters_counted : (s : Spot) (hints : List Hint) (after : After) → TextOperand s (characters_rule s hints) after → CoversAt s op.TextLength after.state
 characters_counted s hints after t =
@@ -78,7 +78,7 @@ characters_counted s hints after t =
     let first = at_least r (pos 0) in
     let second = exceeds bytes r (pos 0) in
     let u = step_ok s.admits s.state (at_most bytes (pos 2147483647)) (fails IntRange 0) hints
-        (λ left. gives left (with_result Int [] (first ∷ second ∷ []) (without t.rest s.state))) after t.given in
+    (λ left. gives left (with_result Int [] (first ∷ second ∷ []) (without t.rest s.state))) after t.given in
     let n : ℕ = text_length_of t.text.bytes in
     let few = text_length_shorter t.text.bytes in
     let length_is : numbers s.v bytes ≡ pos (length t.text.bytes) = ap length_of t.text.is in
@@ -106,9 +106,9 @@ scaled_back n = omega (arith, ints, product_is (negsuc 1027) (pos n))
 abbrev width_rule : Spot → List Hint → Sym → State → Outcome
 width_rule s hints a rest =
     step s.admits s.state (sum_of_two (pos 2147483647) (negsuc 1027) (LengthOf a.0) (pos 0) (LengthOf a.0)) (fails IntRange 0) hints
-        (λ left. gives left (with_result Int [] (
-        at_least (ValueOf rest.next) (pos 0) ∷ sum_of_two (pos 0) (pos 1028) (LengthOf a.0) (negsuc 0) (ValueOf rest.next) ∷ []
-        ) rest))
+    (λ left. gives left (with_result Int [] (
+    at_least (ValueOf rest.next) (pos 0) ∷ sum_of_two (pos 0) (pos 1028) (LengthOf a.0) (negsuc 0) (ValueOf rest.next) ∷ []
+    ) rest))
 
 width_measured : (s : Spot) (hints : List Hint) (after : After) → TextOperand s (width_rule s hints) after → CoversAt s op.Width after.state
 width_measured s hints after t =
@@ -118,7 +118,7 @@ width_measured s hints after t =
     let first = at_least r (pos 0) in
     let second = sum_of_two (pos 0) (pos 1028) bytes (negsuc 0) r in
     let u = step_ok s.admits s.state enough (fails IntRange 0) hints
-        (λ left. gives left (with_result Int [] (first ∷ second ∷ []) (without t.rest s.state))) after t.given in
+    (λ left. gives left (with_result Int [] (first ∷ second ∷ []) (without t.rest s.state))) after t.given in
     let n : ℕ = width_of t.text.bytes in
     let l : ℕ = length t.text.bytes in
     let few = width_bounded t.text.bytes in
@@ -133,9 +133,10 @@ width_measured s hints after t =
     let wl : w bytes ≡ pos l = term_old s value bytes t.old ∙ length_is in
     let whole : pos 1028 *ℤ w bytes ≡ pos (1028 * l) = ap (λ (k : ℤ). pos 1028 *ℤ k) wl ∙ scaled l in
     put s op.Width t.rest Int [] (first ∷ second ∷ []) value u.left after t.others
-    (one_then s op.Width t.a t.rest (StrValue t.text.bytes) (pushed value (lower s t.rest)) t.tops t.text.is (in_range (pos n) (lower s t.rest) bits)) bits refl tt
-    (at_least_holds w r (pos 0) (omega (arith, ints, wr)),
-    (two_holds w (pos 0) (pos 1028) bytes (negsuc 0) r (omega (arith, ints, wr, whole, few, minus (w r))), tt)) u.given
+    (one_then s op.Width t.a t.rest (StrValue t.text.bytes) (pushed value (lower s t.rest)) t.tops t.text.is (in_range (pos n) (lower s t.rest) bits)) bits refl tt (
+      at_least_holds w r (pos 0) (omega (arith, ints, wr)),
+      (two_holds w (pos 0) (pos 1028) bytes (negsuc 0) r (omega (arith, ints, wr, whole, few, minus (w r))), tt),
+    ) u.given
 
 pub width_covers : (s : Spot) (hints : List Hint) (after : After) → effect_of s.style s.admits s.state op.Width hints ≡ Ok after
     → CoversAt s op.Width after.state

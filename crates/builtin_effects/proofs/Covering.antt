@@ -1,5 +1,5 @@
 -- What covers the machine: a new value on top of what is left, and symbols that are only moved.
-use Rattle.std.proofs.Common.{◌≡◌, ℕ, ◌<◌, true, List, [], ◌∷◌, ◌++◌, reverse, Option, None, Result, Ok, refl, sym, ap, subst, ◌∙◌}
+use Rattle.std.proofs.Common.{◌≡◌, ℕ, ◌<◌, true, List, [], ◌∷◌, ◌++◌, reverse, Result, Ok, refl, sym, ap, subst, ◌∙◌}
 use Rattle.std.specs.List.{All, AllByRecursion}
 use Rattle.std.proofs.lemmas.List.{reverse-reverse}
 use Rattle.std.proofs.lemmas.List.Elements.{All-head, All-tail}
@@ -11,7 +11,7 @@ use Rattle.name_table.specs.declared.builtin.Builtin.{Builtin}
 use Rattle.bst_meaning.specs.declared.fault.Fault.{Fault}
 use Rattle.bst_meaning.specs.declared.value.Value.{Value}
 use Rattle.bst_meaning.specs.Builtins.{Context, built_in}
-use Rattle.bst_meaning.specs.Config.{Config, Event}
+use Rattle.bst_meaning.specs.Config.{Event}
 use Rattle.bst_meaning.specs.Effect.{Effect, left, pushed}
 use Rattle.bst_meaning.specs.Machine.{context_of}
 use Rattle.sym_state.specs.declared.hint.Hint.{Hint}
@@ -19,7 +19,6 @@ use Rattle.sym_state.specs.declared.proof.Proof.{Proof}
 use Rattle.sym_state.specs.declared.state.State.{State}
 use Rattle.sym_state.specs.declared.symbol.Fact.{Fact}
 use Rattle.sym_state.specs.declared.symbol.Kinds.{Kinds}
-use Rattle.sym_state.specs.declared.symbol.Kinds.TheVariants.{Int, Str}
 use Rattle.sym_state.specs.declared.symbol.Sym.{Sym}
 use Rattle.sym_state.specs.Covers.{Covers}
 use Rattle.sym_state.specs.Demands.{After, gives, is_of_kind}
@@ -78,7 +77,7 @@ pub two_given : (s : Spot) (o : Builtin) (a b : Sym) (rest : List Sym) (x y : Va
     → s.v.value a.0 ≡ x → s.v.value b.0 ≡ y → built_in o (around s) s.c.stack ≡ built_in o (around s) (y ∷ (x ∷ lower s rest))
 two_given s o a b rest x y tops x_is y_is =
     ap (λ (l : List Value). built_in o (around s) l) (
-      machine_tops s (b ∷ (a ∷ rest)) tops ∙ ap (λ (k : Value). k ∷ (s.v.value a.0 ∷ lower s rest)) y_is ∙ ap (λ (k : Value). y ∷ (k ∷ lower s rest)) x_is
+    machine_tops s (b ∷ (a ∷ rest)) tops ∙ ap (λ (k : Value). k ∷ (s.v.value a.0 ∷ lower s rest)) y_is ∙ ap (λ (k : Value). y ∷ (k ∷ lower s rest)) x_is
     )
 
 pub three_given : (s : Spot) (o : Builtin) (a b c : Sym) (rest : List Sym) (x y z : Value) → reverse s.state.stack ≡ c ∷ (b ∷ (a ∷ rest))
@@ -86,10 +85,10 @@ pub three_given : (s : Spot) (o : Builtin) (a b c : Sym) (rest : List Sym) (x y 
     → built_in o (around s) s.c.stack ≡ built_in o (around s) (z ∷ (y ∷ (x ∷ lower s rest)))
 three_given s o a b c rest x y z tops x_is y_is z_is =
     ap (λ (l : List Value). built_in o (around s) l) (
-      machine_tops s (c ∷ (b ∷ (a ∷ rest))) tops
-      ∙ ap (λ (k : Value). k ∷ (s.v.value b.0 ∷ (s.v.value a.0 ∷ lower s rest))) z_is
-      ∙ ap (λ (k : Value). z ∷ (k ∷ (s.v.value a.0 ∷ lower s rest))) y_is
-      ∙ ap (λ (k : Value). z ∷ (y ∷ (k ∷ lower s rest))) x_is
+    machine_tops s (c ∷ (b ∷ (a ∷ rest))) tops
+    ∙ ap (λ (k : Value). k ∷ (s.v.value b.0 ∷ (s.v.value a.0 ∷ lower s rest))) z_is
+    ∙ ap (λ (k : Value). z ∷ (k ∷ (s.v.value a.0 ∷ lower s rest))) y_is
+    ∙ ap (λ (k : Value). z ∷ (y ∷ (k ∷ lower s rest))) x_is
     )
 
 -- the same where the machine computes further

@@ -1,5 +1,5 @@
 -- The effect of each plain built-in function covers the machine.
-use Rattle.std.proofs.Common.{◌≡◌, List, Result, Ok}
+use Rattle.std.proofs.Common.{◌≡◌, List, Ok}
 use Rattle.name_table.specs.declared.builtin.Builtin.{Builtin}
 use Rattle.name_table.specs.declared.builtin.Builtin.TheVariants as op
 use Rattle.sym_state.specs.declared.hint.Hint.{Hint}

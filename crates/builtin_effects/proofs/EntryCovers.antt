@@ -1,6 +1,6 @@
 -- The effects that give something of the entry, of the database or a constant cover the machine.
-use Rattle.std.proofs.Common.{◌≡◌, ℕ, ◌≤◌, ◌<◌, ◌⊎◌, true, List, [], ◌∷◌, length, map, Option, None, Some, Result, Ok, is_none, refl, sym, ap, subst, ◌∙◌, arith, cond, Bool, false}
-use Rattle.std.specs.Prelude.{pos, codes, slice_get, IsPermutation}
+use Rattle.std.proofs.Common.{◌≡◌, ℕ, ◌≤◌, true, List, [], ◌∷◌, length, map, Option, None, Some, Ok, is_none, refl, ap, subst, ◌∙◌, arith, cond, Bool, false}
+use Rattle.std.specs.Prelude.{pos, codes, slice_get}
 use Rattle.std.specs.List.{All, AllByRecursion}
 use Rattle.std.specs.Option.{option_and_then, option_map}
 use Rattle.std.proofs.lemmas.Int.{ints}
@@ -10,14 +10,13 @@ use Rattle.std.proofs.lemmas.Option.{get_or_from_slice_get, slice_get-map, slice
 use Rattle.lin_facts.specs.declared.row.Term.TheVariants.{Length as LengthOf}
 use Rattle.name_table.specs.declared.builtin.Builtin.{Builtin}
 use Rattle.name_table.specs.declared.builtin.Builtin.TheVariants as op
-use Rattle.name_table.specs.declared.style.Style.{Style}
 use Rattle.name_table.specs.TypeTarget.{type_function}
 use Rattle.bst_meaning.specs.declared.entry.Entry.{Entry}
 use Rattle.bst_meaning.specs.declared.value.Value.{Value}
 use Rattle.bst_meaning.specs.declared.value.Value.TheVariants.{Str as StrValue}
 use Rattle.bst_meaning.specs.Builtins.{at_entry, built_in, type_name}
 use Rattle.bst_meaning.specs.Condition.{EntryMeets}
-use Rattle.bst_meaning.specs.Config.{Config, EntryState}
+use Rattle.bst_meaning.specs.Config.{EntryState}
 use Rattle.bst_meaning.specs.Effect.{pushed}
 use Rattle.bst_meaning.specs.Entries.{EntryFits, IsByteList}
 use Rattle.bst_meaning.specs.Machine.{visited_entry, visited_index}

@@ -1,6 +1,6 @@
 -- The effect of `format.name$` covers the machine.
-use Rattle.std.proofs.Common.{◌≡◌, ℕ, ◌<◌, true, List, [], ◌∷◌, length, reverse, Option, None, Some, Result, Ok, Err, refl, sym, ap, subst, ◌∙◌, arith}
-use Rattle.std.specs.Prelude.{ℤ, pos, ◌≤ℤ◌}
+use Rattle.std.proofs.Common.{◌≡◌, ℕ, true, List, [], ◌∷◌, length, reverse, Option, None, Some, Result, Ok, refl, sym, ap, subst, ◌∙◌, arith}
+use Rattle.std.specs.Prelude.{pos}
 use Rattle.std.proofs.lemmas.Int.{ints}
 use Rattle.lin_facts.specs.Rows.{Holds}
 use Rattle.lin_facts.specs.declared.row.Term.TheVariants.{Names as NamesOf, Value as ValueOf}
@@ -64,7 +64,7 @@ formatted_put s n i p rest left after tops text number pattern low high formed k
     let most = exceeds_says (numbers s.v) (NamesOf n.0) (ValueOf i.0) (pos 0) high in
     let good : names_ok text.bytes ≡ true = subst (λ (x : Value). has_good_names x ≡ true) text.is formed in
     let given = formatted_ok text.bytes number.n pattern.bytes (omega (arith, ints, least, number_is)) (omega (arith, ints, most, number_is, names_are)) good
-        (has_pattern s p pattern.bytes pattern.is known) in
+    (has_pattern s p pattern.bytes pattern.is known) in
     put s op.FormatName rest Str [] [] (StrValue given.0) left after
     (others_old s n rest (others_old s i (n ∷ rest) (others_old s p (i ∷ (n ∷ rest)) (tops_old s (p ∷ (i ∷ (n ∷ rest))) tops))))
     (three_then s op.FormatName n i p rest (StrValue text.bytes) (IntValue number.n) (StrValue pattern.bytes) (pushed (StrValue given.0) (lower s rest))

@@ -1,5 +1,5 @@
 -- Integers of 32 bits, and what the machine pushes of them.
-use Rattle.std.proofs.Common.{◌≡◌, Bool, true, cond, List, Result, Err, ap, arith}
+use Rattle.std.proofs.Common.{◌≡◌, Bool, true, cond, List, Err, ap, arith}
 use Rattle.std.specs.Prelude.{ℤ, pos, negsuc, ◌≤ℤ◌}
 use Rattle.std.proofs.lemmas.Bool.{le-leb}
 use Rattle.std.proofs.lemmas.Int.{ints}

@@ -1,8 +1,6 @@
 -- What holds where a rule on operands, demands and hints gives a state.
-use Rattle.std.proofs.Common.{◌≡◌, ℕ, ◌⊎◌, inl, inr, Bool, true, false, cond, List, [], ◌∷◌, reverse, Result, Ok, Err, refl, ap}
-use Rattle.lin_facts.specs.Rows.{Holds}
+use Rattle.std.proofs.Common.{◌≡◌, ℕ, ◌⊎◌, inl, inr, Bool, true, false, cond, List, [], ◌∷◌, reverse, Ok, Err, refl, ap}
 use Rattle.lin_facts.specs.declared.row.Row.{Row}
-use Rattle.name_table.specs.declared.style.Style.{Style}
 use Rattle.bst_meaning.specs.declared.condition.Cond.{Cond}
 use Rattle.sym_state.specs.declared.demand.DemandKind.{DemandKind}
 use Rattle.sym_state.specs.declared.demand.EffectFault.{EffectFault}
@@ -12,7 +10,7 @@ use Rattle.sym_state.specs.declared.hint.Hint.TheVariants.{Apply, Walk, Loop, Ca
 use Rattle.sym_state.specs.declared.proof.Proof.{Proof}
 use Rattle.sym_state.specs.declared.state.State.{State}
 use Rattle.sym_state.specs.declared.symbol.Sym.{Sym}
-use Rattle.sym_state.specs.Demands.{After, Outcome, choice, demand, gives, one_of, one_operand, step, three_of, three_operands, two_of, two_operands, two_steps, unmet}
+use Rattle.sym_state.specs.Demands.{After, Outcome, choice, demand, gives, one_of, one_operand, step, three_of, three_operands, two_of, two_operands, two_steps}
 use Rattle.sym_state.specs.References.{shows}
 use Rattle.sym_state.proofs.Pushing.{without}
 

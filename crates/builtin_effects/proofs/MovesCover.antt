@@ -1,5 +1,5 @@
 -- The effects that move symbols, and write or log something, cover the machine.
-use Rattle.std.proofs.Common.{◌≡◌, ℕ, List, [], ◌∷◌, ◌++◌, map, reverse, Result, Ok, refl, sym, ap, ◌∙◌}
+use Rattle.std.proofs.Common.{◌≡◌, ℕ, List, [], ◌∷◌, ◌++◌, map, reverse, Ok, refl, sym, ap, ◌∙◌}
 use Rattle.std.proofs.lemmas.List.{reverse-append, reverse-reverse}
 use Rattle.name_table.specs.declared.builtin.Builtin.TheVariants as op
 use Rattle.bst_meaning.specs.declared.value.Value.{Value}
@@ -9,16 +9,15 @@ use Rattle.bst_meaning.specs.Config.{EndedLine, Event, Wrote}
 use Rattle.bst_meaning.specs.Effect.{left}
 use Rattle.sym_state.specs.declared.demand.DemandKind.TheVariants.{WholeStack, WrongKind}
 use Rattle.sym_state.specs.declared.hint.Hint.{Hint}
-use Rattle.sym_state.specs.declared.state.State.{State}
 use Rattle.sym_state.specs.declared.symbol.Kinds.TheVariants.{Str}
 use Rattle.sym_state.specs.declared.symbol.Sym.{Sym}
-use Rattle.sym_state.specs.Demands.{After, Outcome, gives, is_of_kind, of_kind}
+use Rattle.sym_state.specs.Demands.{After, gives, is_of_kind, of_kind}
 use Rattle.sym_state.specs.Effects.{effect_of}
 use Rattle.sym_state.specs.Results.{with_top}
 use Rattle.sym_state.proofs.KnownKinds.{string_is}
 use Rattle.sym_state.proofs.Pushing.{without}
 use Rattle.sym_state.proofs.Spots.{Spot}
-use Rattle.builtin_effects.proofs.Covering.{CoversAt, kind_met, lower, machine_gives, machine_tops, shift}
+use Rattle.builtin_effects.proofs.Covering.{CoversAt, kind_met, lower, machine_gives, shift}
 use Rattle.builtin_effects.proofs.Inverting.{demand_ok, one_ok, two_ok}
 
 on_top : (rest : List Sym) (a : Sym) → reverse (reverse rest ++ a ∷ []) ≡ a ∷ rest

@@ -1,5 +1,5 @@
 -- Operands that are known to be strings or integers, with their values.
-use Rattle.std.proofs.Common.{◌≡◌, ℕ, ◌<◌, true, List, [], ◌∷◌, reverse, Result, Ok, subst, sym}
+use Rattle.std.proofs.Common.{◌≡◌, ℕ, ◌<◌, true, List, ◌∷◌, reverse, Ok, subst}
 use Rattle.std.specs.Prelude.{ℤ}
 use Rattle.bst_meaning.specs.declared.value.Value.{Value}
 use Rattle.bst_meaning.specs.declared.value.Value.TheVariants.{Int as IntValue, Str as StrValue}

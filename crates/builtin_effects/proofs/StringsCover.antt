@@ -1,8 +1,7 @@
 -- The effects that give strings of strings cover the machine.
-use Rattle.std.proofs.Common.{◌≡◌, ℕ, ◌<◌, ◌≤◌, ◌⊎◌, inl, inr, Bool, true, false, ◌||◌, List, [], ◌∷◌, ◌++◌, length, reverse, Option, None, Some, Result, Ok, refl, sym, ap, subst, ◌∙◌, arith}
-use Rattle.std.specs.Prelude.{ℤ, pos, negsuc, is_some}
+use Rattle.std.proofs.Common.{◌≡◌, ℕ, ◌<◌, ◌≤◌, ◌⊎◌, inl, inr, Bool, true, false, ◌||◌, List, [], ◌∷◌, ◌++◌, length, reverse, Option, None, Some, Ok, refl, sym, ap, ◌∙◌, arith}
+use Rattle.std.specs.Prelude.{pos, negsuc, is_some}
 use Rattle.std.specs.List.{AllByRecursion}
-use Rattle.std.specs.Option.{option_map_or}
 use Rattle.std.proofs.lemmas.Int.{ints}
 use Rattle.std.proofs.lemmas.List.{length-append}
 use Rattle.lin_facts.specs.declared.row.Term.TheVariants.{Length as LengthOf}
@@ -22,7 +21,6 @@ use Rattle.bst_meaning.specs.Entries.{IsByteList}
 use Rattle.sym_state.specs.declared.demand.DemandKind.TheVariants.{BadCase, WrongKind}
 use Rattle.sym_state.specs.declared.hint.Hint.{Hint}
 use Rattle.sym_state.specs.declared.state.State.{State}
-use Rattle.sym_state.specs.declared.symbol.Fact.{Fact}
 use Rattle.sym_state.specs.declared.symbol.Kinds.TheVariants.{Int, Str}
 use Rattle.sym_state.specs.declared.symbol.Sym.{Sym}
 use Rattle.sym_state.specs.Decided.{exact_text, is_known_nonblank}
@@ -40,7 +38,7 @@ use Rattle.sym_state.proofs.Spots.{Spot}
 use Rattle.builtin_effects.proofs.ByteTexts.{bytes_joined, case_changed_bytes, purified_bytes, text_prefix_bytes, with_period_bytes}
 use Rattle.builtin_effects.proofs.Covering.{CoversAt, Old, after_value, around, first_old, lower, one_given, others_old, put, term_new_length, term_old, tops_old, two_given, two_then, value_new}
 use Rattle.builtin_effects.proofs.Inverting.{demand_ok, two_ok}
-use Rattle.builtin_effects.proofs.OperandValues.{IsNumber, IsText, number_met, text_met, text_operand}
+use Rattle.builtin_effects.proofs.OperandValues.{IsText, number_met, text_met, text_operand}
 use Rattle.builtin_effects.proofs.TextSizes.{case_changed_shorter, joined_nonblank, joined_nonblank_behind, purified_shorter, with_period_longer, with_period_nonblank, with_period_shorter}
 
 -- a string is known to be nonblank
@@ -100,8 +98,8 @@ join_covers s hints after e =
     let r = LengthOf s.state.next in
     let known = λ (a b : Sym). is_known_nonblank s.state.facts a.0 || is_known_nonblank s.state.facts b.0 in
     let t = two_texts s (λ a b rest. gives hints (with_result Str (nonblank_where (known a b) (next_of rest))
-        (sum_of_three (pos 0) (pos 1) (LengthOf rest.next) (negsuc 0) (LengthOf a.0) (negsuc 0) (LengthOf b.0)
-        ∷ sum_of_three (pos 0) (negsuc 0) (LengthOf rest.next) (pos 1) (LengthOf a.0) (pos 1) (LengthOf b.0) ∷ []) rest)) after e in
+    (sum_of_three (pos 0) (pos 1) (LengthOf rest.next) (negsuc 0) (LengthOf a.0) (negsuc 0) (LengthOf b.0)
+    ∷ sum_of_three (pos 0) (negsuc 0) (LengthOf rest.next) (pos 1) (LengthOf a.0) (pos 1) (LengthOf b.0) ∷ []) rest)) after e in
     let la = LengthOf t.a.0 in
     let lb = LengthOf t.b.0 in
     let first = sum_of_three (pos 0) (pos 1) r (negsuc 0) la (negsuc 0) lb in
@@ -131,7 +129,7 @@ pub add_period_covers : (s : Spot) (hints : List Hint) (after : After) → effec
 add_period_covers s hints after e =
     let r = LengthOf s.state.next in
     let t = text_operand s (λ a rest. gives hints (with_result Str (nonblank_where (is_known_nonblank s.state.facts a.0) (next_of rest))
-        (exceeds (LengthOf rest.next) (LengthOf a.0) (pos 0) ∷ exceeds (LengthOf a.0) (LengthOf rest.next) (negsuc 0) ∷ []) rest)) after e in
+    (exceeds (LengthOf rest.next) (LengthOf a.0) (pos 0) ∷ exceeds (LengthOf a.0) (LengthOf rest.next) (negsuc 0) ∷ []) rest)) after e in
     let la = LengthOf t.a.0 in
     let x : List ℕ = t.text.bytes in
     let known : Bool = is_known_nonblank s.state.facts t.a.0 in

@@ -1,5 +1,5 @@
 -- The effect of `substring$` covers the machine.
-use Rattle.std.proofs.Common.{◌≡◌, ℕ, ◌+◌, ◌-◌, ◌<◌, ◌≤◌, ◌⊎◌, inl, inr, Bool, true, ◌&&◌, List, [], ◌∷◌, length, reverse, Option, None, Some, Result, Ok, refl, sym, ap, subst, ◌∙◌, arith}
+use Rattle.std.proofs.Common.{◌≡◌, ℕ, ◌+◌, ◌-◌, ◌<◌, ◌≤◌, ◌⊎◌, inl, inr, true, ◌&&◌, List, [], ◌∷◌, length, Option, None, Some, Ok, refl, sym, ap, subst, ◌∙◌, arith}
 use Rattle.std.specs.Prelude.{ℤ, pos, negsuc}
 use Rattle.std.specs.List.{AllByRecursion}
 use Rattle.std.proofs.lemmas.Bool.{and_parts}
@@ -30,7 +30,7 @@ use Rattle.sym_state.proofs.Saying.{at_least_holds, at_most_holds, exceeds_holds
 use Rattle.sym_state.proofs.Spots.{Spot}
 use Rattle.builtin_effects.proofs.ByteTexts.{substring_bytes}
 use Rattle.builtin_effects.proofs.Covering.{CoversAt, Old, after_value, around, first_old, lower, others_old, put, row_met, term_new_length, term_old, three_given, tops_old}
-use Rattle.builtin_effects.proofs.Inverting.{Ruled, Stepped, choice_ok, demand_ok, three_ok}
+use Rattle.builtin_effects.proofs.Inverting.{choice_ok, demand_ok, three_ok}
 use Rattle.builtin_effects.proofs.OperandValues.{IsText, number_met, text_met}
 use Rattle.builtin_effects.proofs.TextSizes.{substring_few, substring_known, substring_none, substring_shorter}
 
@@ -134,9 +134,10 @@ loosely_cut s a b c rest hints after g e =
     let wa : w (LengthOf a.0) ≡ pos (length g.text.bytes) = term_old s value (LengthOf a.0) g.old ∙ ap length_of g.text.is in
     let few = substring_shorter g.text.bytes g.start g.count in
     put s op.Substring rest Str [] (exceeds (LengthOf a.0) r (pos 0) ∷ at_most_known len (next_of s.state)) value hints after g.others g.machine
-    (substring_bytes g.text.bytes g.start g.count g.text.fine) refl tt
-    (exceeds_holds w (LengthOf a.0) r (pos 0) (omega (arith, ints, wr, wa, few)),
-    known_holds s g.text.bytes g.start g.count len (known_or_not s c g.count g.count_is)) e
+    (substring_bytes g.text.bytes g.start g.count g.text.fine) refl tt (
+      exceeds_holds w (LengthOf a.0) r (pos 0) (omega (arith, ints, wr, wa, few)),
+      known_holds s g.text.bytes g.start g.count len (known_or_not s c g.count g.count_is),
+    ) e
 
 either_cut : (s : Spot) (a b c : Sym) (rest : List Sym) (hints : List Hint) (after : After) → Cutting s a b c rest
     → substring_of s.admits s.state a (exact_integer s.state.facts b.0) (exact_integer s.state.facts c.0) (without rest s.state) hints ≡ Ok after

@@ -1,17 +1,13 @@
 -- The effects of `+` and `-` cover the machine.
-use Rattle.std.proofs.Common.{◌≡◌, ℕ, ◌<◌, ◌≤◌, Bool, true, false, cond, List, [], ◌∷◌, reverse, Option, None, Some, Result, Ok, Err, refl, sym, ap, subst, ◌∙◌, arith}
-use Rattle.std.specs.Prelude.{ℤ, pos, negsuc, neg_ℤ, ◌+ℤ◌, ◌-ℤ◌, ◌*ℤ◌, ◌≤ℤ◌}
+use Rattle.std.proofs.Common.{◌≡◌, true, List, [], ◌∷◌, reverse, Option, None, Some, Ok, refl, sym, ap, ◌∙◌, arith}
+use Rattle.std.specs.Prelude.{ℤ, pos, negsuc, neg_ℤ, ◌+ℤ◌, ◌-ℤ◌, ◌*ℤ◌}
 use Rattle.std.proofs.lemmas.Int.{ints}
-use borrow.Author.Differences.{product_is}
-use Rattle.lin_facts.specs.Rows.{Holds}
 use Rattle.lin_facts.specs.declared.row.Term.TheVariants.{Value as ValueOf}
 use Rattle.name_table.specs.declared.builtin.Builtin.{Builtin}
 use Rattle.name_table.specs.declared.builtin.Builtin.TheVariants as op
-use Rattle.bst_meaning.specs.declared.fault.Fault.TheVariants.{IntRange as OutOfRange}
 use Rattle.bst_meaning.specs.declared.value.Value.{Value}
 use Rattle.bst_meaning.specs.declared.value.Value.TheVariants.{Int as IntValue}
 use Rattle.bst_meaning.specs.Builtins.{built_in}
-use Rattle.bst_meaning.specs.Effect.{left, pushed}
 use Rattle.bst_meaning.specs.Operands.{has_32_bits, ranged}
 use Rattle.sym_state.specs.declared.demand.DemandKind.TheVariants.{IntRange, WrongKind}
 use Rattle.sym_state.specs.declared.hint.Hint.{Hint}
@@ -74,7 +70,7 @@ inexact_covers s o sign rule a b rest hints after signed g e =
     let first = sum_of_three (pos 0) (pos 1) r (negsuc 0) ra (neg_ℤ sign) rb in
     let second = sum_of_three (pos 0) (negsuc 0) r (pos 1) ra sign rb in
     let t = steps_ok s.admits s.state low high (fails IntRange 0) hints
-        (λ left. gives left (with_result Int [] (first ∷ second ∷ []) (without rest s.state))) after e in
+    (λ left. gives left (with_result Int [] (first ∷ second ∷ []) (without rest s.state))) after e in
     let old = tops_old s (b ∷ (a ∷ rest)) g.tops in
     let b_old = first_old s b (a ∷ rest) old in
     let a_old = first_old s a rest (others_old s b (a ∷ rest) old) in

@@ -1,5 +1,5 @@
 -- Of the cases of a built-in function's test, one covers what the machine does.
-use Rattle.std.proofs.Common.{◌≡◌, List, Option, None, Some, Result, Ok, subst}
+use Rattle.std.proofs.Common.{◌≡◌, List, Some, Ok, subst}
 use Rattle.name_table.specs.declared.builtin.Builtin.{Builtin}
 use Rattle.name_table.specs.declared.builtin.Builtin.TheVariants as builtin
 use Rattle.sym_state.specs.declared.hint.Hint.{Hint}

@@ -1,10 +1,8 @@
 -- Of the cases of whether an integer is above 0, one stands where the state stands.
-use Rattle.std.proofs.Common.{◌≡◌, ℕ, zero, suc, ◌≤◌, ◌<◌, Bool, true, false, cond, List, [], ◌∷◌, ◌++◌, Option, None, Some, Result, Ok, Err, refl, sym, ap, subst, ◌∙◌, inl, arith}
-use Rattle.std.specs.Prelude.{ℤ, pos, negsuc, ◌≤ℤ◌}
-use Rattle.std.specs.List.{AllByRecursion}
+use Rattle.std.proofs.Common.{◌≡◌, Bool, true, false, cond, List, [], ◌∷◌, Option, None, Some, Ok, refl, sym, ap, subst, inl, arith}
+use Rattle.std.specs.Prelude.{ℤ, pos, ◌≤ℤ◌}
 use Rattle.std.specs.Option.{option_map_or}
 use Rattle.std.proofs.lemmas.Int.{ints}
-use Rattle.lin_facts.specs.Rows.{Holds}
 use Rattle.lin_facts.specs.declared.row.Term.TheVariants.{Value as ValueOf}
 use Rattle.name_table.specs.declared.style.Style.{Style}
 use Rattle.bst_meaning.specs.declared.condition.Cond.{Cond}
@@ -21,7 +19,7 @@ use Rattle.sym_state.specs.Decided.{exact_integer}
 use Rattle.sym_state.specs.Stands.{Stands}
 use Rattle.sym_state.specs.Symbols.{Valuation, integer_of, numbers}
 use Rattle.sym_state.proofs.Saying.{at_least_holds, at_most_holds}
-use Rattle.refinements.specs.Covered.{IsAmong, OneStands, above_case}
+use Rattle.refinements.specs.Covered.{IsAmong, OneStands}
 use Rattle.refinements.proofs.Comparing.{above_zero, not_above}
 use Rattle.refinements.proofs.Covering.{first_kept, second_kept}
 use Rattle.refinements.proofs.Fitting.{case_stands}

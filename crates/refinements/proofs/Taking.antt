@@ -2,16 +2,12 @@
 use Rattle.std.proofs.Common.{◌≡◌, ◌<◌, Bool, true, false, cond, List, [], ◌∷◌, ◌++◌, reverse, Ok, Err, refl, ap, subst, ◌∙◌}
 use Rattle.std.specs.List.{AllByRecursion}
 use Rattle.std.proofs.lemmas.List.Elements.{All-head, All-tail}
-use Rattle.bv_base.specs.declared.place.Place.{Place}
 use Rattle.lin_facts.specs.Rows.{Holds}
 use Rattle.lin_facts.specs.declared.row.Row.{Row}
 use Rattle.name_table.specs.declared.builtin.Builtin.{Builtin}
 use Rattle.name_table.specs.declared.style.Style.{Style}
-use Rattle.bst_meaning.specs.declared.condition.Cond.{Cond}
-use Rattle.bst_meaning.specs.declared.entry.EntryList.{EntryList}
 use Rattle.bst_meaning.specs.declared.value.Value.{Value}
 use Rattle.bst_meaning.specs.Builtins.{built_in}
-use Rattle.bst_meaning.specs.Config.{Config}
 use Rattle.bst_meaning.specs.Effect.{pushed}
 use Rattle.bst_meaning.specs.Machine.{context_of}
 use Rattle.bst_meaning.specs.Operands.{truth}
@@ -24,8 +20,7 @@ use Rattle.sym_state.specs.declared.symbol.Sym.{Sym}
 use Rattle.sym_state.specs.Cases.{Cases, One, Split, Two, both, decided, field_met, field_of, integers_met, integers_of, one_of, split_by, two_of, weighed_both, with_case, with_truth}
 use Rattle.sym_state.specs.Demands.{fails, is_of_kind}
 use Rattle.sym_state.specs.Facts.{FactHolds}
-use Rattle.sym_state.specs.Stands.{Stands}
-use Rattle.sym_state.specs.Symbols.{Valuation, numbers}
+use Rattle.sym_state.specs.Symbols.{numbers}
 use Rattle.sym_state.specs.WellMade.{WellMade}
 use Rattle.sym_state.proofs.Pushing.{stack_of_tops, tops_below, value_list, without}
 use Rattle.sym_state.proofs.Resulting.{Fits}

@@ -1,32 +1,25 @@
 -- What a state says stays where an assignment agrees with another, and a new symbol is added.
-use Rattle.std.proofs.Common.{◌≡◌, ℕ, zero, suc, ◌<◌, ◌≤◌, ◌+◌, Bool, true, false, cond, nat_eq, List, [], ◌∷◌, ◌++◌, append_assoc, map, reverse, Option, None, Some, refl, sym, ap, subst, ◌∙◌, arith}
-use Rattle.std.specs.Prelude.{ℤ, ◌+ℤ◌, ◌*ℤ◌, ◌≤ℤ◌, pos, length, IsPermutation}
+use Rattle.std.proofs.Common.{◌≡◌, ℕ, ◌<◌, Bool, true, false, cond, nat_eq, List, [], ◌∷◌, ◌++◌, map, Some, refl, sym, ap, subst, ◌∙◌, arith}
+use Rattle.std.specs.Prelude.{ℤ, ◌+ℤ◌, ◌*ℤ◌, ◌≤ℤ◌, pos}
 use Rattle.std.specs.List.{All, AllByRecursion}
 use Rattle.std.proofs.lemmas.Bool.Decides.{nat_tests}
 use Rattle.std.proofs.lemmas.List.Elements.{All-head, All-tail}
-use Rattle.lin_facts.specs.Rows.{Holds, sum_of, value_of}
+use Rattle.lin_facts.specs.Rows.{Holds, sum_of}
 use Rattle.lin_facts.specs.declared.row.Part.{Part}
 use Rattle.lin_facts.specs.declared.row.Row.{Row}
 use Rattle.lin_facts.specs.declared.row.Term.{Term}
 use Rattle.lin_facts.specs.declared.row.Term.TheVariants.{Value as ValueOf, Length as LengthOf, Names as NamesOf, Pos, Count}
 use Rattle.name_table.specs.declared.style.Style.{Style}
-use Rattle.bst_meaning.specs.declared.condition.Cond.{Cond}
-use Rattle.bst_meaning.specs.declared.entry.EntryList.{EntryList}
 use Rattle.bst_meaning.specs.declared.value.Value.{Value}
-use Rattle.bst_meaning.specs.Config.{Config, Event}
-use Rattle.bst_meaning.specs.StyleParts.{kind_of}
+use Rattle.bst_meaning.specs.Config.{Config}
 use Rattle.sym_state.specs.declared.symbol.Sym.{Sym}
 use Rattle.sym_state.specs.declared.symbol.Bind.{Bind}
 use Rattle.sym_state.specs.declared.symbol.Fact.{Fact}
-use Rattle.sym_state.specs.declared.symbol.Kinds.{Kinds}
-use Rattle.sym_state.specs.declared.state.State.{State}
-use Rattle.sym_state.specs.Changes.{kind_facts}
 use Rattle.sym_state.specs.Covers.{Agrees}
-use Rattle.sym_state.specs.Facts.{FactHolds, Says, has_kind, subject}
-use Rattle.sym_state.specs.Results.{next_of, with_result, with_symbol, with_top}
-use Rattle.sym_state.specs.Stands.{HasList, IsBound, IsVisiting, Satisfies, Stands, value_by, values_of}
-use Rattle.sym_state.specs.Symbols.{Valuation, IsValue, integer_of, length_of, name_count_of, numbers}
-use Rattle.sym_state.specs.WellMade.{IsTermBelow, WellMade}
+use Rattle.sym_state.specs.Facts.{FactHolds, Says, subject}
+use Rattle.sym_state.specs.Stands.{IsBound}
+use Rattle.sym_state.specs.Symbols.{Valuation, integer_of, length_of, name_count_of, numbers}
+use Rattle.sym_state.specs.WellMade.{IsTermBelow}
 
 -- with one symbol more, which has this value
 abbrev pub with_next : ℕ → Value → Valuation → Valuation

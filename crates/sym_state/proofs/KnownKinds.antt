@@ -1,5 +1,5 @@
 -- The kind that is known of a symbol is that of its value, and so are an exact function and the results of demands.
-use Rattle.std.proofs.Common.{◌≡◌, ℕ, Bool, true, false, cond, refl, sym, ap, subst, ◌∙◌, List, [], ◌∷◌, nat_eq, Option, None, Some, ◌&&◌}
+use Rattle.std.proofs.Common.{◌≡◌, ℕ, Bool, true, false, cond, refl, ap, subst, ◌∙◌, List, nat_eq, Option, None, Some, ◌&&◌}
 use Rattle.std.specs.Prelude.{ℤ}
 use Rattle.std.specs.List.{AllByRecursion, list_any}
 use Rattle.std.specs.Option.{unwrap_or}
@@ -15,7 +15,7 @@ use Rattle.sym_state.specs.declared.symbol.Kinds.{Kinds}
 use Rattle.sym_state.specs.declared.symbol.Kinds.TheVariants.{Int as IntKind, Str, Missing, Optional, Func, Any}
 use Rattle.sym_state.specs.Symbols.{Valuation}
 use Rattle.sym_state.specs.Facts.{subject, Says, FactHolds, has_kind}
-use Rattle.sym_state.specs.Decided.{Function, ByName, ByNumber, exact_function, first_said, function_said, includes, kind_said, known_kind, single}
+use Rattle.sym_state.specs.Decided.{ByName, exact_function, first_said, function_said, includes, kind_said, known_kind, single}
 use Rattle.sym_state.proofs.Consequences.{kind_holds, some_gives, widened}
 use Rattle.sym_state.proofs.Deciding.{from_facts}
 

@@ -1,7 +1,6 @@
 -- The cases of a test on a state (docs/EFFECTS.md, "Cases"): that of 1 or of a number above 0 first, then that of 0. A test that is
 -- decided has one case. Each case of an undecided test on integers takes a hint: it is kept, or dropped where it can't come about.
-use Rattle.std.specs.Prelude.{ℕ, ◌<◌, ◌≤◌, ℤ, pos, negsuc, ◌-ℤ◌, Bool, true, false, ◌&&◌, ◌||◌, not, nat_eq, if◌then◌else◌, List, [], ◌∷◌, ◌++◌, length, reverse, Option, None, Some, Result, Ok, Err, is_some, is_none}
-use Rattle.std.specs.Option.{option_map_or}
+use Rattle.std.specs.Prelude.{ℕ, ◌<◌, ℤ, pos, negsuc, ◌-ℤ◌, Bool, true, false, ◌&&◌, nat_eq, if◌then◌else◌, List, [], ◌∷◌, ◌++◌, reverse, Option, None, Some, Result, Ok, Err}
 use Rattle.std.specs.Cmp.Lexicographic.{pointwise}
 use Rattle.lin_facts.specs.declared.row.Row.{Row}
 use Rattle.lin_facts.specs.declared.row.Term.TheVariants.{Value}
@@ -12,7 +11,7 @@ use Rattle.sym_state.specs.declared.demand.DemandKind.TheVariants.{EmptyPop, Wro
 use Rattle.sym_state.specs.declared.demand.EffectFault.{EffectFault}
 use Rattle.sym_state.specs.declared.demand.EffectFault.TheVariants.{NotEntailed, HintsShort, WrongHint}
 use Rattle.sym_state.specs.declared.hint.Hint.{Hint}
-use Rattle.sym_state.specs.declared.hint.Hint.TheVariants.{Keep, Drop, Step}
+use Rattle.sym_state.specs.declared.hint.Hint.TheVariants.{Keep, Drop}
 use Rattle.sym_state.specs.declared.state.State.{State}
 use Rattle.sym_state.specs.declared.symbol.Sym.{Sym}
 use Rattle.sym_state.specs.declared.test.Test.{Test}
@@ -25,7 +24,7 @@ use Rattle.sym_state.specs.Decided.{emptiness_said, exact_integer, exact_text, f
 use Rattle.sym_state.specs.Demands.{fails, is_of_kind}
 pub use Rattle.sym_state.specs.Demands.{HasFewUses}
 use Rattle.sym_state.specs.References.{at_least, at_most, exceeds, shows}
-use Rattle.sym_state.specs.Results.{next_of, row, with_result, sum_of_two}
+use Rattle.sym_state.specs.Results.{next_of, row, with_result}
 
 -- the states of the cases that are kept, and the hints that are left
 pub record Cases : Type 0 where

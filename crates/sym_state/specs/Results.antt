@@ -1,5 +1,5 @@
 -- New symbols of results, with their facts and rows (docs/EFFECTS.md, "Results").
-use Rattle.std.specs.Prelude.{ℕ, ◌+◌, ℤ, pos, negsuc, neg_ℤ, ◌+ℤ◌, Bool, true, false, if◌then◌else◌, List, [], ◌∷◌, ◌++◌}
+use Rattle.std.specs.Prelude.{◌+◌, ℤ, pos, ◌+ℤ◌, if◌then◌else◌, List, [], ◌∷◌, ◌++◌}
 use Rattle.std.specs.Ordering.{int_eq}
 use Rattle.lin_facts.specs.Rows.{same_term}
 use Rattle.lin_facts.specs.declared.row.Part.{Part}

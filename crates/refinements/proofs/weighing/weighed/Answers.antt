@@ -1,5 +1,4 @@
 -- The hints that are left were there before.
-use Rattle.std.specs.List.{All}
 use Rattle.std.proofs.lemmas.List.Elements.{All-rest}
 use Rattle.sym_state.specs.Cases.{HasFewUses}
 use Rattle.refinements.proofs.weighing.weighed.Goals as goal
