@@ -1,2 +1,3 @@
+pub mod FormattedBytes
 pub mod Fronts
 pub mod Uses
