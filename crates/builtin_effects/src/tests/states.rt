@@ -173,20 +173,28 @@ fn rows(alloc: Global, known: &[(u32, Known)]) -> Result<Vec<Row>, NoMemory>
 {
     let mut rows = Vec::new(alloc);
     for (s, said) in known {
-        match *said {
-            Known::Value(constant, times) => {
-                rows.push(row(alloc, constant, times, Term::Value(*s))?)?;
-            }
-            Known::Length(constant, times) => {
-                rows.push(row(alloc, constant, times, Term::Length(*s))?)?;
-            }
-            _ => {}
+        if let Some(row) = row(alloc, *s, *said)? {
+            rows.push(row)?;
         }
     }
     Ok(rows)
 }
 
-fn row(alloc: Global, constant: i32, times: i32, term: Term) -> Result<Row, NoMemory>
+fn row(alloc: Global, s: u32, known: Known) -> Result<Option<Row>, NoMemory>
+    ensures { IfOk result (λ row. IfSome row IsBounded) }
+{
+    match known {
+        Known::Value(constant, times) => {
+            Ok(Some(row_of(alloc, constant, times, Term::Value(s))?))
+        }
+        Known::Length(constant, times) => {
+            Ok(Some(row_of(alloc, constant, times, Term::Length(s))?))
+        }
+        _ => Ok(None),
+    }
+}
+
+fn row_of(alloc: Global, constant: i32, times: i32, term: Term) -> Result<Row, NoMemory>
     ensures { IfOk result IsBounded }
 {
     let parts = [Part {
