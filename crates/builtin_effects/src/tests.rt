@@ -13,14 +13,14 @@ mod states;
 
 use crate::effect::effect;
 use crate::tests::hints::{
-    EXACT_HIGH, EXACT_LOW, FEW_NAMES, Given, HALF_ROW_1, LENGTH_LOW, LESS_HIGH, LESS_LOW, NOTHING,
-    NUMBER_HIGH, NUMBER_LOW, ROW_0, ROW_1, SOME_BYTE, SUM_HIGH, SUM_LOW, TEXT_HIGH, TEXT_LOW,
+    BOTH_ROWS, EXACT_HIGH, EXACT_LOW, FEW_NAMES, Given, HALF_ROW_1, LENGTH_LOW, LESS_HIGH,
+    LESS_LOW, NOTHING, NUMBER, ROW_0, ROW_1, SOME_BYTE, SUM_HIGH, SUM_LOW, TEXT_HIGH, TEXT_LOW,
     TWICE_ROW_0, WIDE_ROW_0, hints,
 };
 use crate::tests::lines::line_of;
 use crate::tests::states::{
-    ENTRY_INTEGER, ENTRY_MAX, GLOBAL_STRING, INT, Known, LAST, SORT_KEY, STR, Setting, condition,
-    state, style,
+    AT_LEAST_0, BELOW_128, ENTRY_INTEGER, ENTRY_MAX, GLOBAL_STRING, INT, Known, LAST, ONE_MORE,
+    SORT_KEY, STR, Setting, condition, state, style,
 };
 use bv_base::memory::NoMemory;
 use name_table::builtin::Builtin;
@@ -53,17 +53,20 @@ macro_rules! on {
 }
 
 /// Built-in functions that take or give integers.
-const INTEGERS: [Example; 11] = [
+const INTEGERS: [Example; 14] = [
     on!([3, 0, 1], [(0, Known::Int(5)), (1, Known::Int(7))], Plus, [] => "3 10; next 11; is 10 Int; int 10 12"),
     on!([3, 0, 1], [(0, Known::Int(5)), (1, Known::Int(7))], Minus, [] => "3 10; next 11; is 10 Int; int 10 -2"),
+    on!([3, 0, 1], [(0, Known::Int(2147483646)), (1, Known::Int(1))], Plus, [] => "3 10; next 11; is 10 Int; int 10 2147483647"),
+    on!([3, 0, 1], [(0, Known::Int(-2147483647)), (1, Known::Int(1))], Minus, [] => "3 10; next 11; is 10 Int; int 10 -2147483648"),
     on!([3, 0, 1], [(0, Known::Int(0)), (1, INT)], Plus, [SUM_LOW, SUM_HIGH] => "3 10; next 11; is 10 Int; 0 -1v0 -1v1 1v10; 0 1v0 1v1 -1v10"),
     on!([3, 0, 1], [(0, INT), (1, Known::Int(0))], Minus, [LESS_LOW, LESS_HIGH] => "3 10; next 11; is 10 Int; 0 -1v0 1v1 1v10; 0 1v0 -1v1 -1v10"),
-    on!([3, 0], [(0, INT), (0, Known::Value(0, 1)), (0, Known::Value(255, -2))], IntToChr, [ROW_0, HALF_ROW_1] => "3 10; next 11; is 10 Str; -1 1l10; 1 -1l10"),
+    on!([3, 0], [(0, INT), (0, AT_LEAST_0), (0, BELOW_128)], IntToChr, [ROW_0, HALF_ROW_1] => "3 10; next 11; is 10 Str; -1 1l10; 1 -1l10"),
     on!([3, 0], [(0, INT)], IntToStr, [] => "3 10; next 11; is 10 Str; nonblank 10; -1 1l10; 11 -1l10"),
     on!([3, 0], [(0, Known::Text(b"\xc3"))], ChrToInt, [] => "3 10; next 11; is 10 Int; int 10 195"),
     on!([3, 0], [(0, Known::Nonblank), (0, Known::Length(1, -1))], ChrToInt, [SOME_BYTE, ROW_0] => "3 10; next 11; is 10 Int; 0 1v10; 255 -1v10"),
-    on!([3, 0], [(0, STR), (0, Known::Length(100, -1))], NumNames, [FEW_NAMES] => "3 10; next 11; is 10 Int; 0 -1n0 1v10; 0 1n0 -1v10"),
-    on!([3, 0], [(0, STR), (0, Known::Length(100, -1))], TextLength, [ROW_0] => "3 10; next 11; is 10 Int; 0 1v10; 0 1l0 -1v10"),
+    on!([3, 0], [(0, STR), (0, Known::Length(2147483647, -1))], NumNames, [FEW_NAMES] => "3 10; next 11; is 10 Int; 0 -1n0 1v10; 0 1n0 -1v10"),
+    on!([3, 0], [(0, STR), (0, Known::Length(2147483647, -1))], TextLength, [ROW_0] => "3 10; next 11; is 10 Int; 0 1v10; 0 1l0 -1v10"),
+    on!([3, 0], [(0, STR), (0, Known::Length(2147483647, -1028))], Width, [ROW_0] => "3 10; next 11; is 10 Int; 0 1v10; 0 1028l0 -1v10"),
     on!([3, 0], [(0, STR), (0, Known::Length(100, -1))], Width, [WIDE_ROW_0] => "3 10; next 11; is 10 Int; 0 1v10; 0 1028l0 -1v10"),
 ];
 
@@ -76,7 +79,7 @@ fn effects_on_integers(rt: HostRuntime) -> Result<(), Fail> {
 /// Built-in functions that take and give strings.
 const STRINGS: [Example; 14] = [
     on!([3, 0, 1], [(0, STR), (1, STR)], Join, [] => "3 10; next 11; is 10 Str; 0 -1l0 -1l1 1l10; 0 1l0 1l1 -1l10"),
-    on!([3, 0, 1], [(0, Known::Text(b"u")), (1, STR), (1, Known::Blank)], Join, [] => "3 10; next 11; is 10 Str; nonblank 10; 0 -1l0 -1l1 1l10; 0 1l0 1l1 -1l10"),
+    on!([3, 0, 1], [(0, Known::Text(b"u")), (1, Known::Text(b" "))], Join, [] => "3 10; next 11; is 10 Str; nonblank 10; 0 -1l0 -1l1 1l10; 0 1l0 1l1 -1l10"),
     on!([3, 0, 1], [(0, Known::Text(b" ")), (1, Known::Nonblank)], Join, [] => "3 10; next 11; is 10 Str; nonblank 10; 0 -1l0 -1l1 1l10; 0 1l0 1l1 -1l10"),
     on!([3, 0], [(0, STR)], AddPeriod, [] => "3 10; next 11; is 10 Str; 0 -1l0 1l10; 1 1l0 -1l10"),
     on!([3, 0], [(0, Known::Nonblank)], AddPeriod, [] => "3 10; next 11; is 10 Str; nonblank 10; 0 -1l0 1l10; 1 1l0 -1l10"),
@@ -84,7 +87,7 @@ const STRINGS: [Example; 14] = [
     on!([3, 0, 1], [(0, STR), (1, Known::Text(b"t"))], ChangeCase, [] => "3 10; next 11; is 10 Str; 0 1l0 -1l10"),
     on!([3, 0, 1], [(0, Known::Nonblank), (1, Known::Text(b"U"))], ChangeCase, [] => "3 10; next 11; is 10 Str; 0 1l0 -1l10"),
     on!([3, 0, 1], [(0, STR), (1, INT)], TextPrefix, [] => "3 10; next 11; is 10 Str"),
-    on!([3, 0, 1, 2], [(0, Known::Nonblank), (0, Known::Wellformed), (1, Known::Int(1)), (2, LAST)], FormatName, [NUMBER_LOW, NUMBER_HIGH] => "3 10; next 11; is 10 Str"),
+    on!([3, 0, 1, 2], [(0, Known::Nonblank), (0, Known::Wellformed), (1, Known::Int(1)), (2, LAST)], FormatName, NUMBER => "3 10; next 11; is 10 Str"),
     on!([3, 0, 1, 2], [(0, STR), (1, INT), (2, INT)], Substring, [Given::Plain] => "3 10; next 11; is 10 Str; 0 1l0 -1l10"),
     on!([3, 0, 1, 2], [(0, STR), (1, INT), (2, Known::Int(3))], Substring, [Given::Plain] => "3 10; next 11; is 10 Str; 0 1l0 -1l10; 3 -1l10"),
     on!([3, 0, 1, 2], [(0, STR), (1, INT), (2, Known::Int(-1))], Substring, [Given::Plain] => "3 10; next 11; is 10 Str; 0 1l0 -1l10; 0 -1l10"),
@@ -98,7 +101,7 @@ fn effects_on_strings(rt: HostRuntime) -> Result<(), Fail> {
 }
 
 /// Built-in functions that move values, push what they find, or bind names.
-const MOVES: [Example; 20] = [
+const MOVES: [Example; 21] = [
     on!([3, 0, 1], [(0, INT), (1, STR)], Duplicate, [] => "3 0 1 1"),
     on!([3, 0, 1], [(0, INT), (1, STR)], Swap, [] => "3 1 0"),
     on!([3, 0, 1], [(0, INT), (1, STR)], Pop, [] => "3 0"),
@@ -117,6 +120,7 @@ const MOVES: [Example; 20] = [
     on!([3, 0, 1], [(0, Known::Text(b"ab")), (1, GLOBAL_STRING)], Assign, [] => "3; 41=0"),
     on!([3, 0, 1], [(0, STR), (0, Known::Length(20000, -1)), (1, GLOBAL_STRING)], Assign, [ROW_0] => "3; 41=0"),
     on!([3, 0, 1], [(0, STR), (0, Known::Length(20000, -1)), (1, GLOBAL_STRING)], Assign, [Given::Plain] => "3; next 11; is 10 Str; 20000 -1l10; 41=10"),
+    on!([3, 0, 1], [(0, STR), (0, Known::Length(250, -1)), (1, SORT_KEY)], Assign, [ROW_0] => "3; 38=0"),
     on!([3, 0, 1], [(0, Known::Letters(250)), (1, SORT_KEY)], Assign, [] => "3; 38=0"),
     on!([3, 0, 1], [(0, Known::Letters(251)), (1, SORT_KEY)], Assign, [Given::Plain] => "3; next 11; is 10 Str; 250 -1l10; 38=10"),
 ];
@@ -128,19 +132,34 @@ fn effects_on_stacks_and_variables(rt: HostRuntime) -> Result<(), Fail> {
 }
 
 /// Demands that aren't met.
-const DEMANDS: [Example; 45] = [
+const DEMANDS: [Example; 65] = [
     on!([], [], Pop, [] => "EmptyPop 1"),
     on!([], [], Join, [] => "EmptyPop 1"),
+    on!([], [], Duplicate, [] => "EmptyPop 1"),
+    on!([], [], Swap, [] => "EmptyPop 1"),
+    on!([], [], Write, [] => "EmptyPop 1"),
+    on!([], [], Width, [] => "EmptyPop 1"),
     on!([], [], Substring, [] => "EmptyPop 1"),
     on!([0], [(0, STR)], Plus, [] => "EmptyPop 2"),
+    on!([0], [(0, STR)], Swap, [] => "EmptyPop 2"),
     on!([0], [(0, STR)], FormatName, [] => "EmptyPop 2"),
     on!([0, 1], [(0, STR), (1, STR)], FormatName, [] => "EmptyPop 3"),
     on!([0], [(0, STR)], IntToStr, [] => "WrongKind 1"),
+    on!([0], [(0, STR)], IntToChr, [] => "WrongKind 1"),
+    on!([0], [(0, INT)], ChrToInt, [] => "WrongKind 1"),
+    on!([0], [(0, INT)], AddPeriod, [] => "WrongKind 1"),
+    on!([0], [(0, INT)], Purify, [] => "WrongKind 1"),
+    on!([0], [(0, INT)], NumNames, [] => "WrongKind 1"),
+    on!([0], [(0, INT)], TextLength, [] => "WrongKind 1"),
+    on!([0], [(0, INT)], Width, [] => "WrongKind 1"),
+    on!([0], [(0, Known::Of(Kinds::Optional))], Write, [] => "WrongKind 1"),
+    on!([0], [(0, Known::Of(Kinds::Missing))], Warning, [] => "WrongKind 1"),
     on!([0, 1], [(0, STR), (1, INT)], Join, [] => "WrongKind 1"),
     on!([0, 1], [(0, STR), (1, INT)], Plus, [] => "WrongKind 2"),
     on!([0, 1], [(0, STR), (1, STR)], Minus, [] => "WrongKind 1"),
     on!([0, 1], [(0, INT), (1, STR)], ChangeCase, [] => "WrongKind 2"),
     on!([0, 1], [(0, STR), (1, STR)], TextPrefix, [] => "WrongKind 1"),
+    on!([0, 1], [(0, INT), (1, INT)], TextPrefix, [] => "WrongKind 2"),
     on!([0, 1, 2], [(0, INT), (1, STR), (2, INT)], FormatName, [] => "WrongKind 1"),
     on!([0, 1, 2], [(0, INT), (1, INT), (2, STR)], FormatName, [] => "WrongKind 3"),
     on!([0, 1, 2], [(0, INT), (1, STR), (2, INT)], Substring, [] => "WrongKind 2"),
@@ -164,16 +183,21 @@ const DEMANDS: [Example; 45] = [
     on!([0], [(0, Known::Text(b"ab"))], ChrToInt, [TEXT_LOW, TEXT_HIGH] => "NotOneByte 1"),
     on!([0], [(0, Known::Int(-1))], IntToChr, [EXACT_LOW, EXACT_HIGH] => "NotAscii 1"),
     on!([0], [(0, Known::Int(128))], IntToChr, [EXACT_LOW, EXACT_HIGH] => "NotAscii 1"),
-    on!([0, 1, 2], [(0, Known::Nonblank), (1, Known::Int(0)), (2, STR)], FormatName, [NUMBER_LOW, NUMBER_HIGH] => "BadNameIndex 2"),
-    on!([0, 1, 2], [(0, Known::Nonblank), (1, Known::Int(2)), (2, STR)], FormatName, [NUMBER_LOW, NUMBER_HIGH] => "BadNameIndex 2"),
-    on!([0, 1, 2], [(0, Known::Nonblank), (1, Known::Int(1)), (2, STR)], FormatName, [NUMBER_LOW, NUMBER_HIGH] => "BadName 3"),
-    on!([0, 1, 2], [(0, Known::Text(b"a,")), (1, Known::Int(1)), (2, STR)], FormatName, [NUMBER_LOW, NUMBER_HIGH] => "BadName 3"),
-    on!([0, 1, 2], [(0, Known::Text(b"a")), (1, Known::Int(1)), (2, STR)], FormatName, [NUMBER_LOW, NUMBER_HIGH] => "BadPattern 1"),
-    on!([0, 1, 2], [(0, Known::Text(b"a")), (1, Known::Int(1)), (2, Known::Text(b"{fv}"))], FormatName, [NUMBER_LOW, NUMBER_HIGH] => "BadPattern 1"),
+    on!([0, 1, 2], [(0, Known::Nonblank), (1, Known::Int(0)), (2, STR)], FormatName, NUMBER => "BadNameIndex 2"),
+    on!([0, 1, 2], [(0, Known::Nonblank), (1, Known::Int(2)), (2, STR)], FormatName, NUMBER => "BadNameIndex 2"),
+    on!([0, 1, 2], [(0, Known::Nonblank), (1, Known::Int(1)), (2, STR)], FormatName, NUMBER => "BadName 3"),
+    on!([0, 1, 2], [(0, Known::Text(b"a,")), (1, Known::Int(1)), (2, STR)], FormatName, NUMBER => "BadName 3"),
+    on!([0, 1, 2], [(0, Known::Text(b"a")), (1, Known::Int(1)), (2, STR)], FormatName, NUMBER => "BadPattern 1"),
+    on!([0, 1, 2], [(0, Known::Text(b"a")), (1, Known::Int(1)), (2, Known::Text(b"{fv}"))], FormatName, NUMBER => "BadPattern 1"),
     on!([0, 1], [(0, Known::Int(2147483647)), (1, Known::Int(1))], Plus, [] => "IntRange 0"),
     on!([0, 1], [(0, Known::Int(-2147483648)), (1, Known::Int(1))], Minus, [] => "IntRange 0"),
-    on!([0], [(0, STR)], NumNames, [LENGTH_LOW] => "IntRange 0"),
-    on!([0], [(0, STR)], TextLength, [LENGTH_LOW] => "IntRange 0"),
+    on!([0, 1], [(0, Known::Int(-1)), (1, INT)], Plus, [SUM_LOW, SUM_HIGH] => "IntRange 0"),
+    on!([0, 1], [(0, Known::Int(1)), (1, INT)], Plus, [SUM_LOW, SUM_HIGH] => "IntRange 0"),
+    on!([0, 1], [(0, INT), (1, Known::Int(1))], Minus, [LESS_LOW, LESS_HIGH] => "IntRange 0"),
+    on!([0, 1], [(0, INT), (1, Known::Int(-1))], Minus, [LESS_LOW, LESS_HIGH] => "IntRange 0"),
+    on!([0], [(0, STR), (0, Known::Names(2147483647, -1)), (0, ONE_MORE)], NumNames, [BOTH_ROWS] => "IntRange 0"),
+    on!([0], [(0, STR), (0, Known::Length(2147483647, -1)), (0, ONE_MORE)], TextLength, [BOTH_ROWS] => "IntRange 0"),
+    on!([0], [(0, STR), (0, Known::Length(2147483647, -1028)), (0, ONE_MORE)], Width, [BOTH_ROWS] => "IntRange 0"),
     on!([0], [(0, Known::Text(b"ab"))], Width, [TEXT_HIGH] => "IntRange 0"),
 ];
 
@@ -186,7 +210,7 @@ const DEMANDS_OF_AN_ENTRY: [Example; 4] = [
 ];
 
 /// Where more may lie on the stack.
-const DEMANDS_OF_A_WHOLE_STACK: [Example; 1] = [on!([0], [(0, STR)], Stack, [] => "WholeStack 0")];
+const DEMAND_OF_A_WHOLE_STACK: [Example; 1] = [on!([0], [(0, STR)], Stack, [] => "WholeStack 0")];
 
 #[test]
 fn demands_that_are_not_met(rt: HostRuntime) -> Result<(), Fail> {
@@ -196,13 +220,13 @@ fn demands_that_are_not_met(rt: HostRuntime) -> Result<(), Fail> {
         &rt,
         rt.alloc(),
         Setting::TopOfStack,
-        &DEMANDS_OF_A_WHOLE_STACK,
+        &DEMAND_OF_A_WHOLE_STACK,
     )?;
     Ok(())
 }
 
 /// Hints that don't serve, and hints that are left.
-const HINTS: [Example; 28] = [
+const HINTS: [Example; 29] = [
     on!([0, 1], [(0, Known::Int(0)), (1, INT)], Plus, [] => "HintsShort"),
     on!([0, 1], [(0, Known::Int(0)), (1, INT)], Plus, [SUM_LOW] => "HintsShort"),
     on!([0, 1], [(0, Known::Int(0)), (1, INT)], Plus, [SUM_HIGH, SUM_LOW] => "IntRange 0"),
@@ -219,7 +243,8 @@ const HINTS: [Example; 28] = [
     on!([0, 1], [(0, STR), (1, GLOBAL_STRING)], Assign, [] => "HintsShort"),
     on!([0, 1], [(0, STR), (1, GLOBAL_STRING)], Assign, [Given::Keep, Given::Plain] => "WrongHint"),
     on!([0, 1], [(0, STR), (1, GLOBAL_STRING)], Assign, [Given::Drop, Given::Plain] => "WrongHint"),
-    on!([0, 1], [(0, STR), (1, GLOBAL_STRING)], Assign, [LENGTH_LOW, Given::Plain] => "NotEntailed(0)"),
+    on!([0, 1], [(0, STR), (0, Known::Length(20001, -1)), (1, GLOBAL_STRING)], Assign, [ROW_0, Given::Plain] => "NotEntailed(0)"),
+    on!([0, 1], [(0, STR), (0, Known::Length(251, -1)), (1, SORT_KEY)], Assign, [ROW_0, Given::Plain] => "NotEntailed(0)"),
     on!([0, 1], [(0, STR), (1, GLOBAL_STRING)], Assign, [Given::Plain, Given::Plain] => "empty; next 11; is 10 Str; 20000 -1l10; 41=10; 1 left"),
     on!([0, 1], [(0, Known::Text(b"ab")), (1, GLOBAL_STRING)], Assign, [Given::Plain] => "empty; 41=0; 1 left"),
     on!([0, 1, 2], [(0, Known::Text(b"abc")), (1, Known::Int(2)), (2, Known::Int(3))], Substring, [] => "HintsShort"),
@@ -242,7 +267,7 @@ fn hints_that_do_not_serve(rt: HostRuntime) -> Result<(), Fail> {
 
 /// One symbol in two operands, in a variable too, and with facts of which the first decides.
 const SYMBOLS: [Example; 24] = [
-    on!([3, 0, 0], [(0, INT), (0, Known::Value(0, 1)), (0, Known::Value(255, -2))], Plus, [TWICE_ROW_0, ROW_1] => "3 10; next 11; is 10 Int; 0 -2v0 1v10; 0 2v0 -1v10"),
+    on!([3, 0, 0], [(0, INT), (0, AT_LEAST_0), (0, BELOW_128)], Plus, [TWICE_ROW_0, ROW_1] => "3 10; next 11; is 10 Int; 0 -2v0 1v10; 0 2v0 -1v10"),
     on!([3, 0, 0], [(0, INT)], Minus, [NOTHING, NOTHING] => "3 10; next 11; is 10 Int; 0 1v10; 0 -1v10"),
     on!([3, 0, 0], [(0, Known::Text(b"u"))], Join, [] => "3 10; next 11; is 10 Str; nonblank 10; 0 -2l0 1l10; 0 2l0 -1l10"),
     on!([3, 0, 0], [(0, Known::Text(b"u"))], ChangeCase, [] => "3 10; next 11; is 10 Str; 0 1l0 -1l10"),
@@ -250,7 +275,7 @@ const SYMBOLS: [Example; 24] = [
     on!([3, 0, 0], [(0, INT)], Duplicate, [] => "3 0 0 0"),
     on!([3, 0, 0], [(0, INT)], Pop, [] => "3 0"),
     on!([3, 0, 1, 1], [(0, Known::Text(b"abc")), (1, Known::Int(2))], Substring, [TEXT_LOW] => "3 10; next 11; is 10 Str; -2 1l10; 2 -1l10"),
-    on!([3, 0, 1, 0], [(0, LAST), (1, Known::Int(1))], FormatName, [NUMBER_LOW, NUMBER_HIGH] => "3 10; next 11; is 10 Str"),
+    on!([3, 0, 1, 0], [(0, LAST), (1, Known::Int(1))], FormatName, NUMBER => "3 10; next 11; is 10 Str"),
     on!([3, 1, 1], [(1, ENTRY_MAX)], Assign, [] => "WrongKind 2"),
     // Symbols 4, 5 and 7 are the values of `sort.key$`, `entry.max$` and the global string.
     on!([3, 7], [(7, STR)], AddPeriod, [] => "3 10; next 11; is 10 Str; 0 -1l7 1l10; 1 1l7 -1l10"),
@@ -267,7 +292,7 @@ const SYMBOLS: [Example; 24] = [
     on!([3, 0], [(0, Known::Text(b"bc")), (0, Known::Text(b"a"))], ChrToInt, [] => "HintsShort"),
     on!([3, 0, 1], [(0, INT), (1, ENTRY_MAX), (1, ENTRY_INTEGER)], Assign, [] => "3; 39=0"),
     on!([3, 0, 1], [(0, INT), (1, Known::Block(0)), (1, ENTRY_MAX)], Assign, [] => "NotVariable 1"),
-    on!([3, 0, 1, 2], [(0, Known::Text(b"a,")), (0, Known::Wellformed), (1, Known::Int(1)), (2, LAST)], FormatName, [NUMBER_LOW, NUMBER_HIGH] => "3 10; next 11; is 10 Str"),
+    on!([3, 0, 1, 2], [(0, Known::Text(b"a,")), (0, Known::Wellformed), (1, Known::Int(1)), (2, LAST)], FormatName, NUMBER => "3 10; next 11; is 10 Str"),
 ];
 
 #[test]
@@ -285,7 +310,8 @@ fn compare(
 ) -> Result<(), NoMemory> {
     for example in examples {
         let line = line(rt, alloc, setting, *example)?;
-        assert_eq!(rt; line.as_str(), example.want);
+        let (stack, op) = (example.stack, example.op);
+        assert_eq!(rt; line.as_str(), example.want, "{op:?} on {stack:?}");
     }
     Ok(())
 }

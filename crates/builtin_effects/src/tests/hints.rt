@@ -37,6 +37,8 @@ pub const WIDE_ROW_0: Given = Given::Scaled(Reference::Row(0), 1028, 1);
 
 pub const HALF_ROW_1: Given = Given::Scaled(Reference::Row(1), 1, 2);
 
+pub const BOTH_ROWS: Given = Given::ByTwo(Reference::Row(0), Reference::Row(1));
+
 /// A step by nothing.
 pub const NOTHING: Given = Given::Scaled(Reference::CountLow, 0, 1);
 
@@ -72,13 +74,14 @@ pub const LESS_HIGH: Given = Given::ByTwo(
     Reference::ExactLow(Sym(1)),
 );
 
-/// Steps to a name of symbol 0, which isn't blank, by the exact number that symbol 1 is.
-pub const NUMBER_LOW: Given = Given::By(Reference::ExactLow(Sym(1)));
-
-pub const NUMBER_HIGH: Given = Given::ByTwo(
-    Reference::NonblankNames(Sym(0)),
-    Reference::ExactHigh(Sym(1)),
-);
+/// Steps to the name of symbol 0, which isn't blank, of the exact number that symbol 1 is.
+pub const NUMBER: [Given; 2] = [
+    Given::By(Reference::ExactLow(Sym(1))),
+    Given::ByTwo(
+        Reference::NonblankNames(Sym(0)),
+        Reference::ExactHigh(Sym(1)),
+    ),
+];
 
 pub fn hints(alloc: Global, given: &[Given]) -> Result<Vec<Hint>, NoMemory>
     ensures { IfOk result (λ hints. All HasFewUses hints.items) }

@@ -15,7 +15,7 @@ use std::alloc::Global;
 use sym_state::state::State;
 use sym_state::symbol::{Bind, Fact, Kinds, Sym};
 
-/// What is known of a symbol: a fact, or a row of a constant and so many times its value or its length.
+/// What is known of a symbol: a fact, or a row of a constant and so many times its value, its length or its names.
 #[derive(Clone, Copy)]
 pub enum Known {
     Of(Kinds),
@@ -30,11 +30,20 @@ pub enum Known {
     Wellformed,
     Value(i32, i32),
     Length(i32, i32),
+    Names(i32, i32),
 }
 
 pub const INT: Known = Known::Of(Kinds::Int);
 
 pub const STR: Known = Known::Of(Kinds::Str);
+
+pub const AT_LEAST_0: Known = Known::Value(0, 1);
+
+/// Twice the value is at most 255.
+pub const BELOW_128: Known = Known::Value(255, -2);
+
+/// The row that says 1 >= 0.
+pub const ONE_MORE: Known = Known::Value(1, 0);
 
 /// A pattern of last names.
 pub const LAST: Known = Known::Text(b"{ll}");
@@ -157,7 +166,7 @@ fn fact(alloc: Global, sym: Sym, known: Known) -> Result<Option<Fact>, NoMemory>
         Known::Blank => Fact::Blank(sym),
         Known::Nonblank => Fact::Nonblank(sym),
         Known::Wellformed => Fact::Wellformed(sym),
-        Known::Value(_, _) | Known::Length(_, _) => return Ok(None),
+        Known::Value(_, _) | Known::Length(_, _) | Known::Names(_, _) => return Ok(None),
     }))
 }
 
@@ -189,6 +198,9 @@ fn row(alloc: Global, s: u32, known: Known) -> Result<Option<Row>, NoMemory>
         }
         Known::Length(constant, times) => {
             Ok(Some(row_of(alloc, constant, times, Term::Length(s))?))
+        }
+        Known::Names(constant, times) => {
+            Ok(Some(row_of(alloc, constant, times, Term::Names(s))?))
         }
         _ => Ok(None),
     }
