@@ -53,7 +53,7 @@ macro_rules! on {
 }
 
 /// Built-in functions that take or give integers.
-const INTEGERS: [Example; 14] = [
+static INTEGERS: [Example; 14] = [
     on!([3, 0, 1], [(0, Known::Int(5)), (1, Known::Int(7))], Plus, [] => "3 10; next 11; is 10 Int; int 10 12"),
     on!([3, 0, 1], [(0, Known::Int(5)), (1, Known::Int(7))], Minus, [] => "3 10; next 11; is 10 Int; int 10 -2"),
     on!([3, 0, 1], [(0, Known::Int(2147483646)), (1, Known::Int(1))], Plus, [] => "3 10; next 11; is 10 Int; int 10 2147483647"),
@@ -77,7 +77,7 @@ fn effects_on_integers(rt: HostRuntime) -> Result<(), Fail> {
 }
 
 /// Built-in functions that take and give strings.
-const STRINGS: [Example; 14] = [
+static STRINGS: [Example; 18] = [
     on!([3, 0, 1], [(0, STR), (1, STR)], Join, [] => "3 10; next 11; is 10 Str; 0 -1l0 -1l1 1l10; 0 1l0 1l1 -1l10"),
     on!([3, 0, 1], [(0, Known::Text(b"u")), (1, Known::Text(b" "))], Join, [] => "3 10; next 11; is 10 Str; nonblank 10; 0 -1l0 -1l1 1l10; 0 1l0 1l1 -1l10"),
     on!([3, 0, 1], [(0, Known::Text(b" ")), (1, Known::Nonblank)], Join, [] => "3 10; next 11; is 10 Str; nonblank 10; 0 -1l0 -1l1 1l10; 0 1l0 1l1 -1l10"),
@@ -85,6 +85,10 @@ const STRINGS: [Example; 14] = [
     on!([3, 0], [(0, Known::Nonblank)], AddPeriod, [] => "3 10; next 11; is 10 Str; nonblank 10; 0 -1l0 1l10; 1 1l0 -1l10"),
     on!([3, 0], [(0, Known::Nonblank)], Purify, [] => "3 10; next 11; is 10 Str; 0 1l0 -1l10"),
     on!([3, 0, 1], [(0, STR), (1, Known::Text(b"t"))], ChangeCase, [] => "3 10; next 11; is 10 Str; 0 1l0 -1l10"),
+    on!([3, 0, 1], [(0, STR), (1, Known::Text(b"l"))], ChangeCase, [] => "3 10; next 11; is 10 Str; 0 1l0 -1l10"),
+    on!([3, 0, 1], [(0, STR), (1, Known::Text(b"u"))], ChangeCase, [] => "3 10; next 11; is 10 Str; 0 1l0 -1l10"),
+    on!([3, 0, 1], [(0, STR), (1, Known::Text(b"T"))], ChangeCase, [] => "3 10; next 11; is 10 Str; 0 1l0 -1l10"),
+    on!([3, 0, 1], [(0, STR), (1, Known::Text(b"L"))], ChangeCase, [] => "3 10; next 11; is 10 Str; 0 1l0 -1l10"),
     on!([3, 0, 1], [(0, Known::Nonblank), (1, Known::Text(b"U"))], ChangeCase, [] => "3 10; next 11; is 10 Str; 0 1l0 -1l10"),
     on!([3, 0, 1], [(0, STR), (1, INT)], TextPrefix, [] => "3 10; next 11; is 10 Str"),
     on!([3, 0, 1, 2], [(0, Known::Nonblank), (0, Known::Wellformed), (1, Known::Int(1)), (2, LAST)], FormatName, NUMBER => "3 10; next 11; is 10 Str"),
@@ -101,7 +105,7 @@ fn effects_on_strings(rt: HostRuntime) -> Result<(), Fail> {
 }
 
 /// Built-in functions that move values, push what they find, or bind names.
-const MOVES: [Example; 21] = [
+static MOVES: [Example; 21] = [
     on!([3, 0, 1], [(0, INT), (1, STR)], Duplicate, [] => "3 0 1 1"),
     on!([3, 0, 1], [(0, INT), (1, STR)], Swap, [] => "3 1 0"),
     on!([3, 0, 1], [(0, INT), (1, STR)], Pop, [] => "3 0"),
@@ -132,7 +136,7 @@ fn effects_on_stacks_and_variables(rt: HostRuntime) -> Result<(), Fail> {
 }
 
 /// Demands that aren't met.
-const DEMANDS: [Example; 65] = [
+static DEMANDS: [Example; 65] = [
     on!([], [], Pop, [] => "EmptyPop 1"),
     on!([], [], Join, [] => "EmptyPop 1"),
     on!([], [], Duplicate, [] => "EmptyPop 1"),
@@ -202,7 +206,7 @@ const DEMANDS: [Example; 65] = [
 ];
 
 /// Where no entry is visited.
-const DEMANDS_OF_AN_ENTRY: [Example; 4] = [
+static DEMANDS_OF_AN_ENTRY: [Example; 4] = [
     on!([], [], Cite, [] => "NoEntry 0"),
     on!([], [], TypeName, [] => "NoEntry 0"),
     on!([0, 1], [(0, INT), (1, SORT_KEY)], Assign, [] => "NoEntry 0"),
@@ -210,7 +214,7 @@ const DEMANDS_OF_AN_ENTRY: [Example; 4] = [
 ];
 
 /// Where more may lie on the stack.
-const DEMAND_OF_A_WHOLE_STACK: [Example; 1] = [on!([0], [(0, STR)], Stack, [] => "WholeStack 0")];
+static DEMAND_OF_A_WHOLE_STACK: [Example; 1] = [on!([0], [(0, STR)], Stack, [] => "WholeStack 0")];
 
 #[test]
 fn demands_that_are_not_met(rt: HostRuntime) -> Result<(), Fail> {
@@ -226,7 +230,7 @@ fn demands_that_are_not_met(rt: HostRuntime) -> Result<(), Fail> {
 }
 
 /// Hints that don't serve, and hints that are left.
-const HINTS: [Example; 29] = [
+static HINTS: [Example; 29] = [
     on!([0, 1], [(0, Known::Int(0)), (1, INT)], Plus, [] => "HintsShort"),
     on!([0, 1], [(0, Known::Int(0)), (1, INT)], Plus, [SUM_LOW] => "HintsShort"),
     on!([0, 1], [(0, Known::Int(0)), (1, INT)], Plus, [SUM_HIGH, SUM_LOW] => "IntRange 0"),
@@ -266,7 +270,7 @@ fn hints_that_do_not_serve(rt: HostRuntime) -> Result<(), Fail> {
 }
 
 /// One symbol in two operands, in a variable too, and with facts of which the first decides.
-const SYMBOLS: [Example; 24] = [
+static SYMBOLS: [Example; 24] = [
     on!([3, 0, 0], [(0, INT), (0, AT_LEAST_0), (0, BELOW_128)], Plus, [TWICE_ROW_0, ROW_1] => "3 10; next 11; is 10 Int; 0 -2v0 1v10; 0 2v0 -1v10"),
     on!([3, 0, 0], [(0, INT)], Minus, [NOTHING, NOTHING] => "3 10; next 11; is 10 Int; 0 1v10; 0 -1v10"),
     on!([3, 0, 0], [(0, Known::Text(b"u"))], Join, [] => "3 10; next 11; is 10 Str; nonblank 10; 0 -2l0 1l10; 0 2l0 -1l10"),
