@@ -40,6 +40,7 @@ struct Example {
     want: &'static str,
 }
 
+/// An example as a row of a table.
 macro_rules! on {
     ($stack:expr, $known:expr, $op:ident, $hints:expr => $want:literal) => {
         Example {
@@ -152,7 +153,7 @@ static DEMANDS: [Example; 65] = [
     on!([0], [(0, STR)], IntToChr, [] => "WrongKind 1"),
     on!([0], [(0, INT)], ChrToInt, [] => "WrongKind 1"),
     on!([0], [(0, INT)], AddPeriod, [] => "WrongKind 1"),
-    on!([0], [(0, INT)], Purify, [] => "WrongKind 1"),
+    on!([0], [], Purify, [] => "WrongKind 1"),
     on!([0], [(0, INT)], NumNames, [] => "WrongKind 1"),
     on!([0], [(0, INT)], TextLength, [] => "WrongKind 1"),
     on!([0], [(0, INT)], Width, [] => "WrongKind 1"),
