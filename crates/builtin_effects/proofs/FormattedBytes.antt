@@ -16,22 +16,9 @@ use Rattle.name_split.specs.Parts.{parts_of}
 use Rattle.name_split.specs.Patterns.{before_run, letter_runs, pattern_ok}
 use Rattle.name_split.specs.Spans.{slice}
 use Rattle.name_split.specs.Tokens.{tokens_of}
+use Rattle.builtin_effects.proofs.ByteTexts.{bytes_joined, bytes_taken, bytes_dropped}
 
--- parts of a string of bytes, and one behind another, are strings of bytes
-bytes_joined : (xs ys : List ℕ) → IsByteList xs → IsByteList ys → IsByteList (xs ++ ys)
-bytes_joined [] ys h k = k
-bytes_joined (x ∷ xs) ys h k = (h.0, bytes_joined xs ys h.1 k)
-
-bytes_taken : (n : ℕ) (xs : List ℕ) → IsByteList xs → IsByteList (take n xs)
-bytes_taken zero xs h = tt
-bytes_taken (suc n) [] h = tt
-bytes_taken (suc n) (x ∷ xs) h = (h.0, bytes_taken n xs h.1)
-
-bytes_dropped : (n : ℕ) (xs : List ℕ) → IsByteList xs → IsByteList (drop n xs)
-bytes_dropped zero xs h = h
-bytes_dropped (suc n) [] h = tt
-bytes_dropped (suc n) (x ∷ xs) h = bytes_dropped n xs h.1
-
+-- a choice of two strings of bytes, a byte and a slice of one
 bytes_chosen : (t : Bool) (xs ys : List ℕ) → IsByteList xs → IsByteList ys → IsByteList (cond t xs ys)
 bytes_chosen true xs ys h k = h
 bytes_chosen false xs ys h k = k

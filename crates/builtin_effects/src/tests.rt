@@ -1,184 +1,352 @@
-//! Effects, worked out by hand from the tables of docs/EFFECTS.md.
+//! Effects, worked out by hand from the tables of docs/EFFECTS.md. An example has a stack, what is known of symbols, a
+//! built-in function, hints, and one line of what comes of it. The line is the stack, and then what isn't as it was: the
+//! next symbol, new facts, new rows (a constant, and terms as `-1l0` for -1 times the length of symbol 0, those of older
+//! symbols first), names that are bound anew, and how many hints are left, where any are. Or it is the fault, and how many
+//! hints are left, where it took any.
 
-ghost use Rattle.std.specs.Prelude.{◌≡◌, ◌+◌, ◌<◌, true, IfOk};
-ghost use Rattle.sym_state.specs.Effects.{is_plain};
-ghost use Rattle.sym_state.specs.WellMade.{HasBounds};
+ghost use Rattle.std.specs.Prelude.{◌≡◌};
+ghost use Rattle.sym_state.specs.Effects as rule;
+
+mod hints;
+mod lines;
+mod states;
 
 use crate::effect::effect;
-use bst_meaning::condition::Cond;
+use crate::tests::hints::{
+    BOTH_ROWS, EXACT_HIGH, EXACT_LOW, FEW_NAMES, Given, HALF_ROW_1, LENGTH_LOW, LESS_HIGH,
+    LESS_LOW, NOTHING, NUMBER, ROW_0, ROW_1, SOME_BYTE, SUM_HIGH, SUM_LOW, TEXT_HIGH, TEXT_LOW,
+    TWICE_ROW_0, WIDE_ROW_0, hints,
+};
+use crate::tests::lines::line_of;
+use crate::tests::states::{
+    AT_LEAST_0, BELOW_128, ENTRY_INTEGER, ENTRY_MAX, GLOBAL_STRING, INT, Known, LAST, ONE_MORE,
+    SORT_KEY, STR, Setting, condition, state, style,
+};
 use bv_base::memory::NoMemory;
-use bv_base::seq::Seq;
-use lin_facts::row::{Row, Term};
 use name_table::builtin::Builtin;
-use name_table::names::Names;
-use name_table::style::Style;
 use std::alloc::Global;
 use std::process::Abort;
-use sym_state::demand::{Demand, DemandKind, EffectFault};
+use std::test::Fail;
 use sym_state::hint::Hints;
-use sym_state::state::State;
-use sym_state::symbol::{Kinds, Sym};
+use sym_state::symbol::Kinds;
 
-#[test]
-fn operands_that_are_not_there(rt: HostRuntime) -> Result<(), NoMemory> {
-    let none = empty(rt.alloc(), false);
-    refused(&rt, &none, Builtin::Pop, DemandKind::EmptyPop, 1)?;
-    refused(&rt, &none, Builtin::Join, DemandKind::EmptyPop, 1)?;
-    refused(&rt, &none, Builtin::Cite, DemandKind::NoEntry, 0)?;
-    refused(&rt, &none, Builtin::TypeName, DemandKind::NoEntry, 0)?;
-    refused(&rt, &none, Builtin::Stack, DemandKind::WholeStack, 0)?;
-    let one = with(empty(rt.alloc(), true), Kinds::Str)?;
-    refused(&rt, &one, Builtin::Join, DemandKind::EmptyPop, 2)?;
-    refused(&rt, &one, Builtin::IntToStr, DemandKind::WrongKind, 1)?;
-    refused(&rt, &one, Builtin::FormatName, DemandKind::EmptyPop, 2)?;
-    let two = with(one, Kinds::Str)?;
-    refused(&rt, &two, Builtin::FormatName, DemandKind::EmptyPop, 3)?;
-    refused(&rt, &two, Builtin::TextPrefix, DemandKind::WrongKind, 1)?;
-    refused(&rt, &two, Builtin::ChangeCase, DemandKind::BadCase, 1)?;
-    refused(&rt, &two, Builtin::Assign, DemandKind::WrongKind, 1)
-}
-
-#[test]
-fn a_joined_string(rt: HostRuntime) -> Result<(), NoMemory> {
-    let one = with(empty(rt.alloc(), true), Kinds::Str)?;
-    let two = with(one, Kinds::Str)?;
-    let after = given(&rt, &two, Builtin::Join)?;
-    assert!(rt; after.stack.as_slice() == [Sym(2)].as_slice());
-    assert_eq!(rt; after.facts.as_slice().len(), 3);
-    match after.rows.as_slice() {
-        [lower, upper] => {
-            row_is(&rt, lower, 0, &[(1, 2), (-1, 0), (-1, 1)]);
-            row_is(&rt, upper, 0, &[(-1, 2), (1, 0), (1, 1)]);
-        }
-        _ => panic!(rt; "two rows are wanted"),
-    }
-    Ok(())
-}
-
-#[test]
-fn values_that_are_only_moved(rt: HostRuntime) -> Result<(), NoMemory> {
-    let one = with(empty(rt.alloc(), true), Kinds::Str)?;
-    let two = with(one, Kinds::Int)?;
-    let swapped = given(&rt, &two, Builtin::Swap)?;
-    assert!(rt; swapped.stack.as_slice() == [Sym(1), Sym(0)].as_slice());
-    let twice = given(&rt, &two, Builtin::Duplicate)?;
-    assert!(rt; twice.stack.as_slice() == [Sym(0), Sym(1), Sym(1)].as_slice());
-    let popped = given(&rt, &two, Builtin::Pop)?;
-    assert!(rt; popped.stack.as_slice() == [Sym(0)].as_slice());
-    let logged = given(&rt, &two, Builtin::Stack)?;
-    assert_eq!(rt; logged.stack.as_slice().len(), 0);
-    assert_eq!(rt; logged.next, 2);
-    Ok(())
-}
-
-#[test]
-fn hints_that_are_wanted(rt: HostRuntime) -> Result<(), NoMemory> {
-    let one = with(empty(rt.alloc(), true), Kinds::Int)?;
-    faults(&rt, &one, Builtin::IntToChr, EffectFault::HintsShort)?;
-    let two = with(one, Kinds::Int)?;
-    faults(&rt, &two, Builtin::Plus, EffectFault::HintsShort)
-}
-
-fn refused(
-    rt: &impl Abort,
-    state: &State,
+/// An example.
+#[derive(Clone, Copy)]
+struct Example {
+    stack: &'static [u32],
+    known: &'static [(u32, Known)],
     op: Builtin,
-    kind: DemandKind,
-    operand: u8,
-) -> Result<(), NoMemory>
-    requires bounds { HasBounds state.now }
-    requires next { state.now.next < 100 }
-    requires plain { is_plain op ≡ true }
-{
-    faults(rt, state, op, EffectFault::Demand(Demand { kind, operand }))
+    hints: &'static [Given],
+    want: &'static str,
 }
 
-fn faults(rt: &impl Abort, state: &State, op: Builtin, want: EffectFault) -> Result<(), NoMemory>
-    requires bounds { HasBounds state.now }
-    requires next { state.now.next < 100 }
-    requires plain { is_plain op ≡ true }
-{
-    let style = style(state.alloc)?;
-    let cond = condition(state.alloc);
-    let mut hints = Hints::new(&[]);
-    match effect(&style, state, &cond, op, &mut hints) {
-        Ok(_) => panic!(rt; "a fault is wanted"),
-        Err(fault) => assert_eq!(rt; fault, want),
+/// An example as a row of a table.
+macro_rules! on {
+    ($stack:expr, $known:expr, $op:ident, $hints:expr => $want:literal) => {
+        Example {
+            stack: &$stack,
+            known: &$known,
+            op: Builtin::$op,
+            hints: &$hints,
+            want: $want,
+        }
+    };
+}
+
+/// Built-in functions that take or give integers.
+static INTEGERS: [Example; 14] = [
+    on!([3, 0, 1], [(0, Known::Int(5)), (1, Known::Int(7))], Plus, [] => "3 10; next 11; is 10 Int; int 10 12"),
+    on!([3, 0, 1], [(0, Known::Int(5)), (1, Known::Int(7))], Minus, [] => "3 10; next 11; is 10 Int; int 10 -2"),
+    on!([3, 0, 1], [(0, Known::Int(2147483646)), (1, Known::Int(1))], Plus, [] => "3 10; next 11; is 10 Int; int 10 2147483647"),
+    on!([3, 0, 1], [(0, Known::Int(-2147483647)), (1, Known::Int(1))], Minus, [] => "3 10; next 11; is 10 Int; int 10 -2147483648"),
+    on!([3, 0, 1], [(0, Known::Int(0)), (1, INT)], Plus, [SUM_LOW, SUM_HIGH] => "3 10; next 11; is 10 Int; 0 -1v0 -1v1 1v10; 0 1v0 1v1 -1v10"),
+    on!([3, 0, 1], [(0, INT), (1, Known::Int(0))], Minus, [LESS_LOW, LESS_HIGH] => "3 10; next 11; is 10 Int; 0 -1v0 1v1 1v10; 0 1v0 -1v1 -1v10"),
+    on!([3, 0], [(0, INT), (0, AT_LEAST_0), (0, BELOW_128)], IntToChr, [ROW_0, HALF_ROW_1] => "3 10; next 11; is 10 Str; -1 1l10; 1 -1l10"),
+    on!([3, 0], [(0, INT)], IntToStr, [] => "3 10; next 11; is 10 Str; nonblank 10; -1 1l10; 11 -1l10"),
+    on!([3, 0], [(0, Known::Text(b"\xc3"))], ChrToInt, [] => "3 10; next 11; is 10 Int; int 10 195"),
+    on!([3, 0], [(0, Known::Nonblank), (0, Known::Length(1, -1))], ChrToInt, [SOME_BYTE, ROW_0] => "3 10; next 11; is 10 Int; 0 1v10; 255 -1v10"),
+    on!([3, 0], [(0, STR), (0, Known::Length(2147483647, -1))], NumNames, [FEW_NAMES] => "3 10; next 11; is 10 Int; 0 -1n0 1v10; 0 1n0 -1v10"),
+    on!([3, 0], [(0, STR), (0, Known::Length(2147483647, -1))], TextLength, [ROW_0] => "3 10; next 11; is 10 Int; 0 1v10; 0 1l0 -1v10"),
+    on!([3, 0], [(0, STR), (0, Known::Length(2147483647, -1028))], Width, [ROW_0] => "3 10; next 11; is 10 Int; 0 1v10; 0 1028l0 -1v10"),
+    on!([3, 0], [(0, STR), (0, Known::Length(100, -1))], Width, [WIDE_ROW_0] => "3 10; next 11; is 10 Int; 0 1v10; 0 1028l0 -1v10"),
+];
+
+#[test]
+fn effects_on_integers(rt: HostRuntime) -> Result<(), Fail> {
+    compare(&rt, rt.alloc(), Setting::Entry, &INTEGERS)?;
+    Ok(())
+}
+
+/// Built-in functions that take and give strings.
+static STRINGS: [Example; 18] = [
+    on!([3, 0, 1], [(0, STR), (1, STR)], Join, [] => "3 10; next 11; is 10 Str; 0 -1l0 -1l1 1l10; 0 1l0 1l1 -1l10"),
+    on!([3, 0, 1], [(0, Known::Text(b"u")), (1, Known::Text(b" "))], Join, [] => "3 10; next 11; is 10 Str; nonblank 10; 0 -1l0 -1l1 1l10; 0 1l0 1l1 -1l10"),
+    on!([3, 0, 1], [(0, Known::Text(b" ")), (1, Known::Nonblank)], Join, [] => "3 10; next 11; is 10 Str; nonblank 10; 0 -1l0 -1l1 1l10; 0 1l0 1l1 -1l10"),
+    on!([3, 0], [(0, STR)], AddPeriod, [] => "3 10; next 11; is 10 Str; 0 -1l0 1l10; 1 1l0 -1l10"),
+    on!([3, 0], [(0, Known::Nonblank)], AddPeriod, [] => "3 10; next 11; is 10 Str; nonblank 10; 0 -1l0 1l10; 1 1l0 -1l10"),
+    on!([3, 0], [(0, Known::Nonblank)], Purify, [] => "3 10; next 11; is 10 Str; 0 1l0 -1l10"),
+    on!([3, 0, 1], [(0, STR), (1, Known::Text(b"t"))], ChangeCase, [] => "3 10; next 11; is 10 Str; 0 1l0 -1l10"),
+    on!([3, 0, 1], [(0, STR), (1, Known::Text(b"l"))], ChangeCase, [] => "3 10; next 11; is 10 Str; 0 1l0 -1l10"),
+    on!([3, 0, 1], [(0, STR), (1, Known::Text(b"u"))], ChangeCase, [] => "3 10; next 11; is 10 Str; 0 1l0 -1l10"),
+    on!([3, 0, 1], [(0, STR), (1, Known::Text(b"T"))], ChangeCase, [] => "3 10; next 11; is 10 Str; 0 1l0 -1l10"),
+    on!([3, 0, 1], [(0, STR), (1, Known::Text(b"L"))], ChangeCase, [] => "3 10; next 11; is 10 Str; 0 1l0 -1l10"),
+    on!([3, 0, 1], [(0, Known::Nonblank), (1, Known::Text(b"U"))], ChangeCase, [] => "3 10; next 11; is 10 Str; 0 1l0 -1l10"),
+    on!([3, 0, 1], [(0, STR), (1, INT)], TextPrefix, [] => "3 10; next 11; is 10 Str"),
+    on!([3, 0, 1, 2], [(0, Known::Nonblank), (0, Known::Wellformed), (1, Known::Int(1)), (2, LAST)], FormatName, NUMBER => "3 10; next 11; is 10 Str"),
+    on!([3, 0, 1, 2], [(0, STR), (1, INT), (2, INT)], Substring, [Given::Plain] => "3 10; next 11; is 10 Str; 0 1l0 -1l10"),
+    on!([3, 0, 1, 2], [(0, STR), (1, INT), (2, Known::Int(3))], Substring, [Given::Plain] => "3 10; next 11; is 10 Str; 0 1l0 -1l10; 3 -1l10"),
+    on!([3, 0, 1, 2], [(0, STR), (1, INT), (2, Known::Int(-1))], Substring, [Given::Plain] => "3 10; next 11; is 10 Str; 0 1l0 -1l10; 0 -1l10"),
+    on!([3, 0, 1, 2], [(0, Known::Text(b"abcd")), (1, Known::Int(-2)), (2, Known::Int(3))], Substring, [TEXT_LOW] => "3 10; next 11; is 10 Str; -3 1l10; 3 -1l10"),
+];
+
+#[test]
+fn effects_on_strings(rt: HostRuntime) -> Result<(), Fail> {
+    compare(&rt, rt.alloc(), Setting::Entry, &STRINGS)?;
+    Ok(())
+}
+
+/// Built-in functions that move values, push what they find, or bind names.
+static MOVES: [Example; 21] = [
+    on!([3, 0, 1], [(0, INT), (1, STR)], Duplicate, [] => "3 0 1 1"),
+    on!([3, 0, 1], [(0, INT), (1, STR)], Swap, [] => "3 1 0"),
+    on!([3, 0, 1], [(0, INT), (1, STR)], Pop, [] => "3 0"),
+    on!([3, 0, 1], [(0, INT), (1, STR)], Top, [] => "3 0"),
+    on!([3, 0, 1], [(0, INT), (1, STR)], Warning, [] => "3 0"),
+    on!([3, 0, 1], [(0, INT), (1, STR)], Write, [] => "3 0"),
+    on!([3, 0, 1], [(0, INT), (1, STR)], Newline, [] => "3 0 1"),
+    on!([3, 0, 1], [(0, INT), (1, STR)], Skip, [] => "3 0 1"),
+    on!([3, 0, 1], [(0, INT), (1, STR)], Stack, [] => "empty"),
+    on!([3, 0, 1], [(0, INT), (1, STR)], Cite, [] => "3 0 1 10; next 11; is 10 Str; 20 -1l10"),
+    on!([3, 0, 1], [(0, INT), (1, STR)], Preamble, [] => "3 0 1 10; next 11; is 10 Str; 30 -1l10"),
+    on!([3, 0, 1], [(0, INT), (1, STR)], TypeName, [] => "3 0 1 10; next 11; is 10 Str"),
+    on!([3, 0, 1], [(0, INT), (1, STR)], Quote, [] => "3 0 1 10; next 11; is 10 Str; text 10 [34]"),
+    on!([3, 0, 1], [(0, INT), (1, ENTRY_MAX)], Assign, [] => "3; 39=0"),
+    on!([3, 0, 1], [(0, INT), (1, ENTRY_INTEGER)], Assign, [] => "3; 42=0"),
+    on!([3, 0, 1], [(0, Known::Text(b"ab")), (1, GLOBAL_STRING)], Assign, [] => "3; 41=0"),
+    on!([3, 0, 1], [(0, STR), (0, Known::Length(20000, -1)), (1, GLOBAL_STRING)], Assign, [ROW_0] => "3; 41=0"),
+    on!([3, 0, 1], [(0, STR), (0, Known::Length(20000, -1)), (1, GLOBAL_STRING)], Assign, [Given::Plain] => "3; next 11; is 10 Str; 20000 -1l10; 41=10"),
+    on!([3, 0, 1], [(0, STR), (0, Known::Length(250, -1)), (1, SORT_KEY)], Assign, [ROW_0] => "3; 38=0"),
+    on!([3, 0, 1], [(0, Known::Letters(250)), (1, SORT_KEY)], Assign, [] => "3; 38=0"),
+    on!([3, 0, 1], [(0, Known::Letters(251)), (1, SORT_KEY)], Assign, [Given::Plain] => "3; next 11; is 10 Str; 250 -1l10; 38=10"),
+];
+
+#[test]
+fn effects_on_stacks_and_variables(rt: HostRuntime) -> Result<(), Fail> {
+    compare(&rt, rt.alloc(), Setting::Entry, &MOVES)?;
+    Ok(())
+}
+
+/// Demands that aren't met.
+static DEMANDS: [Example; 65] = [
+    on!([], [], Pop, [] => "EmptyPop 1"),
+    on!([], [], Join, [] => "EmptyPop 1"),
+    on!([], [], Duplicate, [] => "EmptyPop 1"),
+    on!([], [], Swap, [] => "EmptyPop 1"),
+    on!([], [], Write, [] => "EmptyPop 1"),
+    on!([], [], Width, [] => "EmptyPop 1"),
+    on!([], [], Substring, [] => "EmptyPop 1"),
+    on!([0], [(0, STR)], Plus, [] => "EmptyPop 2"),
+    on!([0], [(0, STR)], Swap, [] => "EmptyPop 2"),
+    on!([0], [(0, STR)], FormatName, [] => "EmptyPop 2"),
+    on!([0, 1], [(0, STR), (1, STR)], FormatName, [] => "EmptyPop 3"),
+    on!([0], [(0, STR)], IntToStr, [] => "WrongKind 1"),
+    on!([0], [(0, STR)], IntToChr, [] => "WrongKind 1"),
+    on!([0], [(0, INT)], ChrToInt, [] => "WrongKind 1"),
+    on!([0], [(0, INT)], AddPeriod, [] => "WrongKind 1"),
+    on!([0], [], Purify, [] => "WrongKind 1"),
+    on!([0], [(0, INT)], NumNames, [] => "WrongKind 1"),
+    on!([0], [(0, INT)], TextLength, [] => "WrongKind 1"),
+    on!([0], [(0, INT)], Width, [] => "WrongKind 1"),
+    on!([0], [(0, Known::Of(Kinds::Optional))], Write, [] => "WrongKind 1"),
+    on!([0], [(0, Known::Of(Kinds::Missing))], Warning, [] => "WrongKind 1"),
+    on!([0, 1], [(0, STR), (1, INT)], Join, [] => "WrongKind 1"),
+    on!([0, 1], [(0, STR), (1, INT)], Plus, [] => "WrongKind 2"),
+    on!([0, 1], [(0, STR), (1, STR)], Minus, [] => "WrongKind 1"),
+    on!([0, 1], [(0, INT), (1, STR)], ChangeCase, [] => "WrongKind 2"),
+    on!([0, 1], [(0, STR), (1, STR)], TextPrefix, [] => "WrongKind 1"),
+    on!([0, 1], [(0, INT), (1, INT)], TextPrefix, [] => "WrongKind 2"),
+    on!([0, 1, 2], [(0, INT), (1, STR), (2, INT)], FormatName, [] => "WrongKind 1"),
+    on!([0, 1, 2], [(0, INT), (1, INT), (2, STR)], FormatName, [] => "WrongKind 3"),
+    on!([0, 1, 2], [(0, INT), (1, STR), (2, INT)], Substring, [] => "WrongKind 2"),
+    on!([0, 1, 2], [(0, Known::Of(Kinds::Optional)), (1, INT), (2, INT)], Substring, [] => "WrongKind 3"),
+    on!([0, 1], [(0, STR), (1, STR)], Assign, [] => "WrongKind 1"),
+    on!([0, 1], [(0, STR), (1, ENTRY_MAX)], Assign, [] => "WrongKind 2"),
+    on!([0, 1], [(0, Known::Of(Kinds::Missing)), (1, GLOBAL_STRING)], Assign, [] => "WrongKind 2"),
+    on!([0, 1], [(0, STR), (1, ENTRY_INTEGER)], Assign, [] => "WrongKind 2"),
+    on!([0, 1], [(0, INT), (1, SORT_KEY)], Assign, [] => "WrongKind 2"),
+    // A function that isn't known, a block, and the names of a built-in function, a field, a function and nothing.
+    on!([0, 1], [(0, INT), (1, Known::Of(Kinds::Func))], Assign, [] => "NotVariable 1"),
+    on!([0, 1], [(0, INT), (1, Known::Block(0))], Assign, [] => "NotVariable 1"),
+    on!([0, 1], [(0, INT), (1, Known::Name(25))], Assign, [] => "NotVariable 1"),
+    on!([0, 1], [(0, STR), (1, Known::Name(37))], Assign, [] => "NotVariable 1"),
+    on!([0, 1], [(0, INT), (1, Known::Name(43))], Assign, [] => "NotVariable 1"),
+    on!([0, 1], [(0, INT), (1, Known::Name(44))], Assign, [] => "NotVariable 1"),
+    on!([0, 1], [(0, STR), (1, STR)], ChangeCase, [] => "BadCase 1"),
+    on!([0, 1], [(0, STR), (1, Known::Text(b"x"))], ChangeCase, [] => "BadCase 1"),
+    on!([0, 1], [(0, STR), (1, Known::Text(b"tu"))], ChangeCase, [] => "BadCase 1"),
+    on!([0], [(0, STR)], ChrToInt, [LENGTH_LOW] => "NotOneByte 1"),
+    on!([0], [(0, Known::Text(b"ab"))], ChrToInt, [TEXT_LOW, TEXT_HIGH] => "NotOneByte 1"),
+    on!([0], [(0, Known::Int(-1))], IntToChr, [EXACT_LOW, EXACT_HIGH] => "NotAscii 1"),
+    on!([0], [(0, Known::Int(128))], IntToChr, [EXACT_LOW, EXACT_HIGH] => "NotAscii 1"),
+    on!([0, 1, 2], [(0, Known::Nonblank), (1, Known::Int(0)), (2, STR)], FormatName, NUMBER => "BadNameIndex 2"),
+    on!([0, 1, 2], [(0, Known::Nonblank), (1, Known::Int(2)), (2, STR)], FormatName, NUMBER => "BadNameIndex 2"),
+    on!([0, 1, 2], [(0, Known::Nonblank), (1, Known::Int(1)), (2, STR)], FormatName, NUMBER => "BadName 3"),
+    on!([0, 1, 2], [(0, Known::Text(b"a,")), (1, Known::Int(1)), (2, STR)], FormatName, NUMBER => "BadName 3"),
+    on!([0, 1, 2], [(0, Known::Text(b"a")), (1, Known::Int(1)), (2, STR)], FormatName, NUMBER => "BadPattern 1"),
+    on!([0, 1, 2], [(0, Known::Text(b"a")), (1, Known::Int(1)), (2, Known::Text(b"{fv}"))], FormatName, NUMBER => "BadPattern 1"),
+    on!([0, 1], [(0, Known::Int(2147483647)), (1, Known::Int(1))], Plus, [] => "IntRange 0"),
+    on!([0, 1], [(0, Known::Int(-2147483648)), (1, Known::Int(1))], Minus, [] => "IntRange 0"),
+    on!([0, 1], [(0, Known::Int(-1)), (1, INT)], Plus, [SUM_LOW, SUM_HIGH] => "IntRange 0"),
+    on!([0, 1], [(0, Known::Int(1)), (1, INT)], Plus, [SUM_LOW, SUM_HIGH] => "IntRange 0"),
+    on!([0, 1], [(0, INT), (1, Known::Int(1))], Minus, [LESS_LOW, LESS_HIGH] => "IntRange 0"),
+    on!([0, 1], [(0, INT), (1, Known::Int(-1))], Minus, [LESS_LOW, LESS_HIGH] => "IntRange 0"),
+    on!([0], [(0, STR), (0, Known::Names(2147483647, -1)), (0, ONE_MORE)], NumNames, [BOTH_ROWS] => "IntRange 0"),
+    on!([0], [(0, STR), (0, Known::Length(2147483647, -1)), (0, ONE_MORE)], TextLength, [BOTH_ROWS] => "IntRange 0"),
+    on!([0], [(0, STR), (0, Known::Length(2147483647, -1028)), (0, ONE_MORE)], Width, [BOTH_ROWS] => "IntRange 0"),
+    on!([0], [(0, Known::Text(b"ab"))], Width, [TEXT_HIGH] => "IntRange 0"),
+];
+
+/// Where no entry is visited.
+static DEMANDS_OF_AN_ENTRY: [Example; 4] = [
+    on!([], [], Cite, [] => "NoEntry 0"),
+    on!([], [], TypeName, [] => "NoEntry 0"),
+    on!([0, 1], [(0, INT), (1, SORT_KEY)], Assign, [] => "NoEntry 0"),
+    on!([0, 1], [(0, STR), (1, ENTRY_INTEGER)], Assign, [] => "NoEntry 0"),
+];
+
+/// Where more may lie on the stack.
+static DEMAND_OF_A_WHOLE_STACK: [Example; 1] = [on!([0], [(0, STR)], Stack, [] => "WholeStack 0")];
+
+#[test]
+fn demands_that_are_not_met(rt: HostRuntime) -> Result<(), Fail> {
+    compare(&rt, rt.alloc(), Setting::Entry, &DEMANDS)?;
+    compare(&rt, rt.alloc(), Setting::NoEntry, &DEMANDS_OF_AN_ENTRY)?;
+    compare(
+        &rt,
+        rt.alloc(),
+        Setting::TopOfStack,
+        &DEMAND_OF_A_WHOLE_STACK,
+    )?;
+    Ok(())
+}
+
+/// Hints that don't serve, and hints that are left.
+static HINTS: [Example; 29] = [
+    on!([0, 1], [(0, Known::Int(0)), (1, INT)], Plus, [] => "HintsShort"),
+    on!([0, 1], [(0, Known::Int(0)), (1, INT)], Plus, [SUM_LOW] => "HintsShort"),
+    on!([0, 1], [(0, Known::Int(0)), (1, INT)], Plus, [SUM_HIGH, SUM_LOW] => "IntRange 0"),
+    on!([0, 1], [(0, Known::Int(0)), (1, INT)], Plus, [SUM_LOW, SUM_LOW] => "IntRange 0"),
+    on!([0, 1], [(0, Known::Int(0)), (1, INT)], Plus, [SUM_LOW, Given::Plain] => "WrongHint"),
+    on!([0, 1], [(0, Known::Int(0)), (1, INT)], Plus, [Given::Apply, SUM_LOW, SUM_HIGH] => "WrongHint"),
+    on!([0, 1], [(0, Known::Int(0)), (1, INT)], Plus, [Given::Walk, SUM_LOW, SUM_HIGH] => "WrongHint"),
+    on!([0, 1], [(0, Known::Int(0)), (1, INT)], Plus, [Given::Loop, SUM_LOW, SUM_HIGH] => "WrongHint"),
+    on!([0, 1], [(0, Known::Int(0)), (1, INT)], Plus, [Given::Case, SUM_LOW, SUM_HIGH] => "WrongHint"),
+    on!([0, 1], [(0, Known::Int(0)), (1, INT)], Plus, [Given::Plain, SUM_LOW, SUM_HIGH] => "WrongHint"),
+    on!([0, 1], [(0, Known::Int(0)), (1, INT)], Plus, [Given::Keep, SUM_LOW, SUM_HIGH] => "WrongHint"),
+    on!([0, 1], [(0, Known::Int(0)), (1, INT)], Plus, [Given::Drop, SUM_LOW, SUM_HIGH] => "WrongHint"),
+    on!([0, 1], [(0, Known::Int(0)), (1, INT)], Plus, [SUM_LOW, SUM_HIGH, Given::Walk] => "10; next 11; is 10 Int; 0 -1v0 -1v1 1v10; 0 1v0 1v1 -1v10; 1 left"),
+    on!([0, 1], [(0, STR), (1, GLOBAL_STRING)], Assign, [] => "HintsShort"),
+    on!([0, 1], [(0, STR), (1, GLOBAL_STRING)], Assign, [Given::Keep, Given::Plain] => "WrongHint"),
+    on!([0, 1], [(0, STR), (1, GLOBAL_STRING)], Assign, [Given::Drop, Given::Plain] => "WrongHint"),
+    on!([0, 1], [(0, STR), (0, Known::Length(20001, -1)), (1, GLOBAL_STRING)], Assign, [ROW_0, Given::Plain] => "NotEntailed(0)"),
+    on!([0, 1], [(0, STR), (0, Known::Length(251, -1)), (1, SORT_KEY)], Assign, [ROW_0, Given::Plain] => "NotEntailed(0)"),
+    on!([0, 1], [(0, STR), (1, GLOBAL_STRING)], Assign, [Given::Plain, Given::Plain] => "empty; next 11; is 10 Str; 20000 -1l10; 41=10; 1 left"),
+    on!([0, 1], [(0, Known::Text(b"ab")), (1, GLOBAL_STRING)], Assign, [Given::Plain] => "empty; 41=0; 1 left"),
+    on!([0, 1, 2], [(0, Known::Text(b"abc")), (1, Known::Int(2)), (2, Known::Int(3))], Substring, [] => "HintsShort"),
+    on!([0, 1, 2], [(0, Known::Text(b"abc")), (1, Known::Int(2)), (2, Known::Int(3))], Substring, [Given::Walk, Given::Plain] => "WrongHint"),
+    on!([0, 1, 2], [(0, Known::Text(b"abc")), (1, Known::Int(2)), (2, Known::Int(3))], Substring, [TEXT_LOW, Given::Plain] => "NotEntailed(0)"),
+    // The start or the length isn't known, the start is 0, or the length is.
+    on!([0, 1, 2], [(0, Known::Text(b"abc")), (1, INT), (2, Known::Int(3))], Substring, [TEXT_LOW, Given::Plain] => "WrongHint"),
+    on!([0, 1, 2], [(0, Known::Text(b"abc")), (1, Known::Int(1)), (2, INT)], Substring, [TEXT_LOW, Given::Plain] => "WrongHint"),
+    on!([0, 1, 2], [(0, Known::Text(b"abc")), (1, Known::Int(0)), (2, Known::Int(3))], Substring, [TEXT_LOW, Given::Plain] => "WrongHint"),
+    on!([0, 1, 2], [(0, Known::Text(b"abc")), (1, Known::Int(1)), (2, Known::Int(0))], Substring, [TEXT_LOW, Given::Plain] => "WrongHint"),
+    on!([0], [(0, INT)], TextLength, [Given::Plain] => "WrongKind 1"),
+    on!([0], [(0, INT)], Duplicate, [Given::Walk] => "0 0; 1 left"),
+];
+
+#[test]
+fn hints_that_do_not_serve(rt: HostRuntime) -> Result<(), Fail> {
+    compare(&rt, rt.alloc(), Setting::Entry, &HINTS)?;
+    Ok(())
+}
+
+/// One symbol in two operands, in a variable too, and with facts of which the first decides.
+static SYMBOLS: [Example; 24] = [
+    on!([3, 0, 0], [(0, INT), (0, AT_LEAST_0), (0, BELOW_128)], Plus, [TWICE_ROW_0, ROW_1] => "3 10; next 11; is 10 Int; 0 -2v0 1v10; 0 2v0 -1v10"),
+    on!([3, 0, 0], [(0, INT)], Minus, [NOTHING, NOTHING] => "3 10; next 11; is 10 Int; 0 1v10; 0 -1v10"),
+    on!([3, 0, 0], [(0, Known::Text(b"u"))], Join, [] => "3 10; next 11; is 10 Str; nonblank 10; 0 -2l0 1l10; 0 2l0 -1l10"),
+    on!([3, 0, 0], [(0, Known::Text(b"u"))], ChangeCase, [] => "3 10; next 11; is 10 Str; 0 1l0 -1l10"),
+    on!([3, 0, 0], [(0, INT)], Swap, [] => "3 0 0"),
+    on!([3, 0, 0], [(0, INT)], Duplicate, [] => "3 0 0 0"),
+    on!([3, 0, 0], [(0, INT)], Pop, [] => "3 0"),
+    on!([3, 0, 1, 1], [(0, Known::Text(b"abc")), (1, Known::Int(2))], Substring, [TEXT_LOW] => "3 10; next 11; is 10 Str; -2 1l10; 2 -1l10"),
+    on!([3, 0, 1, 0], [(0, LAST), (1, Known::Int(1))], FormatName, NUMBER => "3 10; next 11; is 10 Str"),
+    on!([3, 1, 1], [(1, ENTRY_MAX)], Assign, [] => "WrongKind 2"),
+    // Symbols 4, 5 and 7 are the values of `sort.key$`, `entry.max$` and the global string.
+    on!([3, 7], [(7, STR)], AddPeriod, [] => "3 10; next 11; is 10 Str; 0 -1l7 1l10; 1 1l7 -1l10"),
+    on!([4, 4, 1], [(4, STR), (1, SORT_KEY)], Assign, [Given::Plain] => "4; next 11; is 10 Str; 250 -1l10; 38=10"),
+    on!([3, 5, 1], [(5, INT), (1, ENTRY_MAX)], Assign, [] => "3"),
+    on!([3, 5, 1], [(5, INT), (1, ENTRY_INTEGER)], Assign, [] => "3; 42=5"),
+    // Facts that can't all hold.
+    on!([3, 0, 1], [(0, Known::Int(5)), (0, Known::Int(6)), (1, Known::Int(1))], Plus, [] => "3 10; next 11; is 10 Int; int 10 6"),
+    on!([3, 0], [(0, STR), (0, Known::Int(5))], IntToStr, [] => "WrongKind 1"),
+    on!([3, 0], [(0, Known::Of(Kinds::Optional)), (0, INT), (0, STR)], IntToStr, [] => "3 10; next 11; is 10 Str; nonblank 10; -1 1l10; 11 -1l10"),
+    on!([3, 0], [(0, Known::Nonblank), (0, Known::Blank)], AddPeriod, [] => "3 10; next 11; is 10 Str; nonblank 10; 0 -1l0 1l10; 1 1l0 -1l10"),
+    on!([3, 0], [(0, Known::Blank), (0, Known::Nonblank)], AddPeriod, [] => "3 10; next 11; is 10 Str; 0 -1l0 1l10; 1 1l0 -1l10"),
+    on!([3, 0], [(0, Known::Text(b"a")), (0, Known::Text(b"bc"))], ChrToInt, [] => "3 10; next 11; is 10 Int; int 10 97"),
+    on!([3, 0], [(0, Known::Text(b"bc")), (0, Known::Text(b"a"))], ChrToInt, [] => "HintsShort"),
+    on!([3, 0, 1], [(0, INT), (1, ENTRY_MAX), (1, ENTRY_INTEGER)], Assign, [] => "3; 39=0"),
+    on!([3, 0, 1], [(0, INT), (1, Known::Block(0)), (1, ENTRY_MAX)], Assign, [] => "NotVariable 1"),
+    on!([3, 0, 1, 2], [(0, Known::Text(b"a,")), (0, Known::Wellformed), (1, Known::Int(1)), (2, LAST)], FormatName, NUMBER => "3 10; next 11; is 10 Str"),
+];
+
+#[test]
+fn one_symbol_in_two_places(rt: HostRuntime) -> Result<(), Fail> {
+    compare(&rt, rt.alloc(), Setting::Entry, &SYMBOLS)?;
+    Ok(())
+}
+
+/// Whether what comes of each example is what is wanted.
+fn compare(
+    rt: &impl Abort,
+    alloc: Global,
+    setting: Setting,
+    examples: &[Example],
+) -> Result<(), NoMemory> {
+    for example in examples {
+        let line = line(rt, alloc, setting, *example)?;
+        let (stack, op) = (example.stack, example.op);
+        assert_eq!(rt; line.as_str(), example.want, "{op:?} on {stack:?}");
     }
     Ok(())
 }
 
-fn given(rt: &impl Abort, state: &State, op: Builtin) -> Result<State, NoMemory>
-    requires bounds { HasBounds state.now }
-    requires next { state.now.next < 100 }
-    requires plain { is_plain op ≡ true }
+/// What comes of an example.
+fn line(
+    rt: &impl Abort,
+    alloc: Global,
+    setting: Setting,
+    example: Example,
+) -> Result<String, NoMemory> {
+    let style = style(alloc)?;
+    let cond = condition(alloc);
+    let state = state(alloc, setting, example.stack, example.known)?;
+    let list = hints(alloc, example.hints)?;
+    let mut left = Hints::new(list.as_slice());
+    let op = example.op;
+    assert!(rt; is_plain(op));
+    let answer = effect(&style, &state, &cond, op, &mut left);
+    line_of(&state, answer, example.hints.len(), left.rest().len())
+}
+
+/// Whether a built-in function has an effect.
+fn is_plain(op: Builtin) -> bool
+    ensures { result ≡ rule.is_plain op }
 {
-    let style = style(state.alloc)?;
-    let cond = condition(state.alloc);
-    let mut hints = Hints::new(&[]);
-    match effect(&style, state, &cond, op, &mut hints) {
-        Ok(after) => Ok(after),
-        Err(_) => panic!(rt; "a state is wanted"),
-    }
-}
-
-fn row_is(rt: &impl Abort, row: &Row, constant: i64, parts: &[(i64, u32)]) {
-    assert_eq!(rt; row.constant, constant);
-    assert_eq!(rt; row.parts.as_slice().len(), parts.len());
-    for (part, want) in row.parts.as_slice().iter().zip(parts) {
-        assert_eq!(rt; part.coefficient, want.0);
-        assert_eq!(rt; part.term, Term::Length(want.1));
-    }
-}
-
-fn empty(alloc: Global, whole: bool) -> State
-    ensures bounds { HasBounds result }
-    ensures next { result.next ≡ 0 }
-{
-    State {
-        alloc,
-        stack: Seq::new(alloc),
-        whole,
-        at_entry: false,
-        vars: Seq::new(alloc),
-        fields: Seq::new(alloc),
-        facts: Seq::new(alloc),
-        rows: Seq::new(alloc),
-        next: 0,
-    }
-}
-
-fn with(state: State, kind: Kinds) -> Result<State, NoMemory>
-    requires bounds { HasBounds state }
-    requires next { state.next < 99 }
-    ensures bounds { IfOk result HasBounds }
-    ensures next { IfOk result (λ after. after.next ≡ state.next + 1) }
-{
-    let mut after = state;
-    let s = after.fresh(kind)?;
-    after.push(s)?;
-    Ok(after)
-}
-
-fn style(alloc: Global) -> Result<Style, NoMemory> {
-    Ok(Style {
-        names: Names::opening(alloc)?,
-        commands: Seq::new(alloc),
-        bodies: Seq::new(alloc),
-        texts: Seq::new(alloc),
-        macros: Seq::new(alloc),
-    })
-}
-
-fn condition(alloc: Global) -> Cond {
-    Cond {
-        entries: 10,
-        key: 20,
-        preamble: 30,
-        length: 40,
-        names: Seq::new(alloc),
-        nonblank: Seq::new(alloc),
-        types: Seq::new(alloc),
-        other: true,
+    match op {
+        Builtin::Equal | Builtin::Greater | Builtin::Less | Builtin::Empty | Builtin::Missing =>
+            false,
+        Builtin::CallType | Builtin::IfElse | Builtin::WhileDo => false,
+        _ => true,
     }
 }
