@@ -1,3 +1,4 @@
+pub mod FileNames
 pub mod Items
 pub mod Keys
 pub mod Lines

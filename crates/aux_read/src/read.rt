@@ -1,6 +1,7 @@
 //! The reader of `.aux` files.
 
 ghost use Rattle.std.specs.Prelude.{◌≡◌, ◌≢◌, ◌≤◌, length, Ok, Err, IfOk, IfErr};
+ghost use Rattle.aux_read.specs.FileNames.{GivesFileNames};
 ghost use Rattle.aux_read.specs.Keys.{HaveKeys};
 ghost use Rattle.aux_read.specs.Reading.{aux_of};
 ghost use Rattle.aux_read.specs.declared.fault.AuxFault.TheVariants.{NoMemory as WantOfMemory};
@@ -14,11 +15,13 @@ use std::alloc::Global;
 
 /// Reads an `.aux` file of at most 16777216 bytes, or gives the fault of the first line that is at fault.
 ///
-/// Each key that is cited has a byte and no white space. Each byte is read a fixed number of times.
+/// Each key that is cited has a byte and no white space, and each name of a file is UTF-8. Each byte is read a fixed
+/// number of times.
 pub fn read(alloc: Global, source: &[u8]) -> Result<Aux, AuxFault>
     requires { length source.now ≤ 16777216 }
     ensures ok { IfOk result (λ aux. aux_of source.now ≡ Ok aux) }
     ensures keys { IfOk result (λ aux. HaveKeys aux.items) }
+    ensures names { IfOk result GivesFileNames }
     ensures fault { IfErr result (λ fault. fault ≢ WantOfMemory → aux_of source.now ≡ Err fault) }
 {
     let aux = read_lines(alloc, source)?;

@@ -3,7 +3,6 @@ use Rattle.std.proofs.Common.{◌≡◌, ℕ, List, ◌++◌, Result, ◌∙◌,
 use Rattle.std.specs.Prelude.{IfOk}
 use Rattle.bv_base.specs.declared.memory.NoMemory.{NoMemory}
 use Rattle.name_table.specs.declared.style.Style.{Style}
-use Rattle.aux_read.specs.declared.aux.AuxItem.{AuxItem}
 use Rattle.bst_meaning.specs.declared.entry.EntryList.{EntryList}
 use Rattle.bst_meaning.specs.Config.{Config, opening}
 use Rattle.bst_meaning.specs.Machine.{steps, run}
@@ -35,10 +34,10 @@ outcome_at count result log turn reading reading' joining joining' c c' whole e 
     (subst (λ (l : List ℕ). IfOk result (λ o. IsOutcome o (answered count l turn c))) whole h))))
 
 -- the joined entries are those of the sources
-pub joined_outcome : (count : ℕ) (sources : Sources) (items : List AuxItem) (found : Joined) (result : Result Outcome NoMemory)
-    → found ≡ joined sources.style items sources.database → items ≡ sources.items
-    → IfOk result (λ o. IsOutcome o (run_joined count sources found))
+pub joined_outcome : (count : ℕ) (sources : Sources) (reading reading' : List (List ℕ)) (found : Joined) (result : Result Outcome NoMemory)
+    → found ≡ joined sources.style sources.items sources.database → reading' ≡ reading → reading ≡ sources.database.warnings
+    → IfOk result (λ o. IsOutcome o (run_joined count sources.style reading' found))
     → IfOk result (λ o. IsOutcome o (run_over count sources))
-joined_outcome count sources items found result is same h =
-    subst (λ (x : List AuxItem). IfOk result (λ o. IsOutcome o (run_joined count sources (joined sources.style x sources.database)))) same
-    (subst (λ (j : Joined). IfOk result (λ o. IsOutcome o (run_joined count sources j))) is h)
+joined_outcome count sources reading reading' found result is same warned h =
+    subst (λ (j : Joined). IfOk result (λ o. IsOutcome o (run_joined count sources.style sources.database.warnings j))) is
+    (subst (λ (r : List (List ℕ)). IfOk result (λ o. IsOutcome o (run_joined count sources.style r found))) (same ∙ warned) h)

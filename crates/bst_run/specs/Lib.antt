@@ -8,6 +8,7 @@ pub mod Stops
 pub mod Files
 pub mod Forms
 pub mod Requests
+pub mod FileNames
 pub mod AuxChain
 pub mod Sources
 pub mod Ran

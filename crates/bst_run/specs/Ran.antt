@@ -4,6 +4,7 @@ use Rattle.std.specs.List.{flat_map}
 use Rattle.bv_base.specs.Outside.{Listing}
 use Rattle.bv_base.specs.declared.status.Status.{Status}
 use Rattle.bv_base.specs.declared.status.Status.TheVariants as status
+use Rattle.name_table.specs.declared.style.Style.{Style}
 use Rattle.bst_meaning.specs.Config.{Config}
 use Rattle.bst_meaning.specs.Lines.{lines_of}
 use Rattle.bst_meaning.specs.Machine.{run}
@@ -40,12 +41,12 @@ answer_at steps reading joining c =
     answered steps (ended_lines reading ++ (ended_lines joining ++ ended_lines c.log)) (turn_of c) c
 
 -- the first steps of a style over the joined entries
-abbrev pub run_joined : ℕ → Sources → Joined → Answer
-run_joined steps sources found =
-    answer_at steps sources.database.warnings found.warnings (run sources.style found.list steps)
+abbrev pub run_joined : ℕ → Style → List (List ℕ) → Joined → Answer
+run_joined steps style reading found = answer_at steps reading found.warnings (run style found.list steps)
 
 abbrev pub run_over : ℕ → Sources → Answer
-run_over steps sources = run_joined steps sources (joined sources.style sources.items sources.database)
+run_over steps sources =
+    run_joined steps sources.style sources.database.warnings (joined sources.style sources.items sources.database)
 
 abbrev pub run_from : ℕ → Result Sources Answer → Answer
 run_from steps (Ok sources) = run_over steps sources

@@ -1,10 +1,12 @@
 //! The `.aux` file of a run and its inputs.
 
 ghost use Rattle.std.specs.Prelude.{◌≡◌, ◌≤◌, length, IfOk, IfErr};
+ghost use Rattle.aux_read.specs.FileNames.{GivesFileNames, IsFileName};
 ghost use Rattle.aux_read.specs.Keys.{HaveKeys};
 ghost use Rattle.bib_read.specs.Stops.{after_bytes, first_place};
 ghost use Rattle.entry_list.specs.Keys.{AreCitations};
 ghost use Rattle.bst_run.specs.AuxChain as chain;
+ghost use Rattle.bst_run.specs.FileNames.{NamesFiles, NeedsFiles};
 ghost use Rattle.bst_run.specs.Stops as stops;
 
 use crate::data_fault::DataFault;
@@ -15,7 +17,6 @@ use aux_read::aux::{Aux, AuxItem};
 use aux_read::fault::AuxFault;
 use aux_read::read::read;
 use bv_base::files::Files;
-use bv_base::memory::NoMemory;
 use bv_base::place::Place;
 use bv_base::text::Text;
 use std::alloc::Global;
@@ -30,6 +31,7 @@ const MOST_LEVELS: u32 = 16;
 pub fn needs_of<F: Files>(alloc: Global, files: &mut F, name: &str) -> Result<Needs, Stop>
     ensures gives { stops.Gives (F.told files.old) (λ told. chain.needs_of told name.now) result }
     ensures cited { IfOk result (λ needs. AreCitations needs.items) }
+    ensures named { IfOk result NeedsFiles }
     ensures cause { IfErr result (λ stop. stops.HasCause stop (F.begun files.new) (F.faults files.old) (F.faults files.new)) }
     ensures told { F.told files.new ≡ F.told files.old }
     ensures count { F.faults files.old ≤ F.faults files.new }
@@ -48,6 +50,7 @@ fn needs_after<F: Files>(
     requires { length text.now ≤ 16777216 }
     ensures gives { stops.Gives (F.told files.old) (λ told. chain.needs_after told name.now text.now) result }
     ensures cited { IfOk result (λ needs. AreCitations needs.items) }
+    ensures named { IfOk result NeedsFiles }
     ensures cause { IfErr result (λ stop. stops.HasCause stop (F.begun files.new) (F.faults files.old) (F.faults files.new)) }
     ensures told { F.told files.new ≡ F.told files.old }
     ensures count { F.faults files.old ≤ F.faults files.new }
@@ -76,9 +79,12 @@ fn take_aux<F: Files>(
 ) -> Result<Requests, Stop>
     requires before { AreCitations before.items }
     requires keys { HaveKeys aux.items }
+    requires named_before { NamesFiles before }
+    requires named { GivesFileNames aux }
     ensures gives { stops.Gives (F.told files.old) (λ told.
         chain.take_aux levels (chain.take_input levels told) name.now before aux) result }
     ensures cited { IfOk result (λ requests. AreCitations requests.items) }
+    ensures named { IfOk result NamesFiles }
     ensures cause { IfErr result (λ stop. stops.HasCause stop (F.begun files.new) (F.faults files.old) (F.faults files.new)) }
     ensures told { F.told files.new ≡ F.told files.old }
     ensures count { F.faults files.old ≤ F.faults files.new }
@@ -112,9 +118,12 @@ fn take_input<F: Files>(
     name: &Text,
     before: Requests,
 ) -> Result<Requests, Stop>
-    requires { AreCitations before.items }
+    requires before { AreCitations before.items }
+    requires named_before { NamesFiles before }
+    requires named { IsFileName name.now }
     ensures gives { stops.Gives (F.told files.old) (λ told. chain.take_input levels told name.now before) result }
     ensures cited { IfOk result (λ requests. AreCitations requests.items) }
+    ensures named { IfOk result NamesFiles }
     ensures cause { IfErr result (λ stop. stops.HasCause stop (F.begun files.new) (F.faults files.old) (F.faults files.new)) }
     ensures told { F.told files.new ≡ F.told files.old }
     ensures count { F.faults files.old ≤ F.faults files.new }
@@ -122,7 +131,7 @@ fn take_input<F: Files>(
     if levels == 0 {
         return Ok(before);
     }
-    let name = text_of(name)?;
+    let name = text_of(name);
     let aux = aux_file(alloc, files, name)?;
     take_aux(alloc, files, levels - 1, name, before, aux)
 }
@@ -131,6 +140,7 @@ fn take_input<F: Files>(
 fn aux_file<F: Files>(alloc: Global, files: &mut F, name: &str) -> Result<Aux, Stop>
     ensures gives { stops.Gives (F.told files.old) (λ told. chain.aux_file told name.now) result }
     ensures keys { IfOk result (λ aux. HaveKeys aux.items) }
+    ensures named { IfOk result GivesFileNames }
     ensures cause { IfErr result (λ stop. stops.HasCause stop (F.begun files.new) (F.faults files.old) (F.faults files.new)) }
     ensures told { F.told files.new ≡ F.told files.old }
     ensures count { F.faults files.old ≤ F.faults files.new }
@@ -139,13 +149,14 @@ fn aux_file<F: Files>(alloc: Global, files: &mut F, name: &str) -> Result<Aux, S
     aux_from(alloc, name, text.as_slice())
 }
 
-/// The name of a file as text. The readers take no name that isn't UTF-8.
-pub fn text_of(name: &Text) -> Result<&str, NoMemory>
-    ensures { IfOk result (λ text. text.now ≡ name.now) }
+/// The name of a file as text.
+pub fn text_of(name: &Text) -> &str
+    requires { IsFileName name.now }
+    ensures { result.now ≡ name.now }
 {
     match str::from_utf8(name.as_slice()) {
-        Ok(text) => Ok(text),
-        Err(_) => Err(NoMemory),
+        Ok(text) => text,
+        Err(_) => unreachable!(),
     }
 }
 
@@ -154,6 +165,7 @@ fn aux_from(alloc: Global, name: &str, text: &[u8]) -> Result<Aux, Stop>
     requires { length text.now ≤ 16777216 }
     ensures decides { stops.Decides (chain.aux_in name.now text.now) result }
     ensures keys { IfOk result (λ aux. HaveKeys aux.items) }
+    ensures named { IfOk result GivesFileNames }
     ensures inside { IfErr result stops.IsInside }
 {
     match read(alloc, text) {
@@ -165,9 +177,11 @@ fn aux_from(alloc: Global, name: &str, text: &[u8]) -> Result<Aux, Stop>
 
 /// What all the files ask for, where they name a style and databases. Else the first file is at fault at its end.
 fn complete(alloc: Global, name: &str, text: &[u8], requests: Requests) -> Result<Needs, Stop>
-    requires { length text.now ≤ 16777216 }
+    requires short { length text.now ≤ 16777216 }
+    requires named { NamesFiles requests }
     ensures decides { stops.Decides (chain.complete name.now text.now requests) result }
     ensures same { IfOk result (λ needs. needs.items ≡ requests.items) }
+    ensures named { IfOk result NeedsFiles }
     ensures inside { IfErr result stops.IsInside }
 {
     let Requests {

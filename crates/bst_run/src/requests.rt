@@ -1,6 +1,8 @@
 //! What `.aux` files ask for together.
 
-ghost use Rattle.std.specs.Prelude.{◌≡◌};
+ghost use Rattle.std.specs.Prelude.{◌≡◌, IfSome};
+ghost use Rattle.aux_read.specs.FileNames.{AreFileNames, IsFileName};
+ghost use Rattle.bst_run.specs.FileNames.{NamesFiles};
 ghost use Rattle.bst_run.specs.Requests as requests;
 
 use crate::data_fault::DataFault;
@@ -35,7 +37,8 @@ pub struct Needs {
 impl Requests {
     /// Before the first file.
     pub fn nothing(alloc: Global) -> Requests
-        ensures { result ≡ requests.nothing }
+        ensures nothing { result ≡ requests.nothing }
+        ensures named { NamesFiles result }
     {
         Requests {
             items: Seq::new(alloc),
@@ -47,7 +50,8 @@ impl Requests {
 
 /// The requests with the style that a file names, where none was named before.
 pub fn first_style(before: Option<Text>, found: Option<Text>) -> Option<Text>
-    ensures { result ≡ requests.first_style before found }
+    ensures first { result ≡ requests.first_style before found }
+    ensures named { IfSome before IsFileName → IfSome found IsFileName → IfSome result IsFileName }
 {
     match before {
         Some(style) => Some(style),
@@ -57,7 +61,8 @@ pub fn first_style(before: Option<Text>, found: Option<Text>) -> Option<Text>
 
 /// The databases that were named before, or else those of a file.
 pub fn first_databases(before: Seq<Text>, found: Seq<Text>) -> Seq<Text>
-    ensures { result ≡ requests.first_databases before found }
+    ensures first { result ≡ requests.first_databases before found }
+    ensures named { AreFileNames before → AreFileNames found → AreFileNames result }
 {
     match before.as_slice() {
         [] => found,

@@ -3,6 +3,7 @@
 ghost use Rattle.std.specs.Prelude.{◌≡◌, ◌++◌, IfOk, IfErr, IfSome, OnOk};
 ghost use Rattle.bib_read.specs.Additions.{AreKeyed};
 ghost use Rattle.bst_step.specs.Machine.{configuration};
+ghost use Rattle.entry_list.specs.Joining.{joined};
 ghost use Rattle.entry_list.specs.Keys.{AreCitations};
 ghost use Rattle.bst_run.specs.Ran as rule;
 ghost use Rattle.bst_run.specs.Stops as stops;
@@ -10,12 +11,16 @@ ghost use Rattle.bst_run.specs.Stops as stops;
 use crate::report::{budget_line, fault_line};
 use crate::sources::{Sources, sources_of};
 use crate::stop::Stop;
+use aux_read::aux::AuxItem;
+use bib_read::database::Database;
 use bst_step::machine::{Machine, Turn};
 use bv_base::files::Files;
 use bv_base::memory::NoMemory;
+use bv_base::seq::Seq;
 use bv_base::text::Text;
 use entry_list::join::join;
 use entry_list::joined::Joined;
+use name_table::style::Style;
 use std::alloc::Global;
 
 /// How the first steps of a run end.
@@ -46,42 +51,56 @@ pub fn run<F: Files>(alloc: Global, files: &mut F, aux: &str, steps: u32) -> Res
     ensures cause { IfErr result (λ stop. stops.HasCause stop (F.begun files.new) (F.faults files.old) (F.faults files.new)) }
 {
     let sources = sources_of(alloc, files, aux)?;
-    Ok(run_over(alloc, &sources, steps)?)
+    Ok(run_over(alloc, sources, steps)?)
 }
 
 /// Joins the citations and the databases, and takes the first steps of the style over them.
-fn run_over(alloc: Global, sources: &Sources, steps: u32) -> Result<Outcome, NoMemory>
-    requires cited { AreCitations sources.now.items }
-    requires keyed { AreKeyed sources.now.database.entries }
-    ensures { IfOk result (λ outcome. rule.IsOutcome outcome (rule.run_over steps sources.now)) }
+fn run_over(alloc: Global, sources: Sources, steps: u32) -> Result<Outcome, NoMemory>
+    requires cited { AreCitations sources.items }
+    requires keyed { AreKeyed sources.database.entries }
+    ensures { IfOk result (λ outcome. rule.IsOutcome outcome (rule.run_over steps sources)) }
 {
-    let found = join(
-        alloc,
-        &sources.style,
-        sources.items.as_slice(),
-        &sources.database,
-    )?;
-    run_joined(alloc, sources, steps, found)
+    let Sources {
+        style,
+        items,
+        database,
+    } = sources;
+    let (found, reading) = join_all(alloc, &style, items, database)?;
+    run_joined(alloc, &style, reading.as_slice(), steps, found)
+}
+
+/// The joined entries, and the warnings of the databases. What was read of the databases ends here, so that no run
+/// holds it.
+fn join_all(
+    alloc: Global,
+    style: &Style,
+    items: Seq<AuxItem>,
+    database: Database,
+) -> Result<(Joined, Seq<Text>), NoMemory>
+    requires cited { AreCitations items }
+    requires keyed { AreKeyed database.entries }
+    ensures found { IfOk result (λ both. both.0 ≡ joined style.now items database) }
+    ensures reading { IfOk result (λ both. both.1 ≡ database.warnings) }
+{
+    let found = join(alloc, style, items.as_slice(), &database)?;
+    let Database { warnings, .. } = database;
+    Ok((found, warnings))
 }
 
 /// Takes the first steps of the style over the joined entries.
 fn run_joined(
     alloc: Global,
-    sources: &Sources,
+    style: &Style,
+    reading: &[Text],
     steps: u32,
     found: Joined,
 ) -> Result<Outcome, NoMemory>
-    ensures { IfOk result (λ outcome. rule.IsOutcome outcome (rule.run_joined steps sources.now found)) }
+    ensures { IfOk result (λ outcome. rule.IsOutcome outcome (rule.run_joined steps style.now reading.now found)) }
 {
     let Joined { list, warnings } = found;
-    let mut machine = Machine::new(alloc, &sources.style, list)?;
+    let mut machine = Machine::new(alloc, style, list)?;
     let turn = machine.run(u64::from(steps))?;
-    let log = whole_log(
-        alloc,
-        sources.database.warnings.as_slice(),
-        warnings.as_slice(),
-        &machine,
-    )?;
+    let log = whole_log(alloc, reading, warnings.as_slice(), &machine)?;
     outcome_of(alloc, &machine, turn, steps, log)
 }
 

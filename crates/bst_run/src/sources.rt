@@ -1,9 +1,11 @@
 //! All that a run reads.
 
 ghost use Rattle.std.specs.Prelude.{◌≡◌, ◌≤◌, length, IfOk, IfErr};
+ghost use Rattle.aux_read.specs.FileNames.{AreFileNames, IsFileName};
 ghost use Rattle.bib_read.specs.Additions.{AreKeyed};
 ghost use Rattle.bib_read.specs.Reading.{database_of};
 ghost use Rattle.entry_list.specs.Keys.{AreCitations};
+ghost use Rattle.bst_run.specs.FileNames.{NeedsFiles};
 ghost use Rattle.bst_run.specs.Sources as rule;
 ghost use Rattle.bst_run.specs.Stops as stops;
 
@@ -45,6 +47,7 @@ pub fn sources_of<F: Files>(alloc: Global, files: &mut F, name: &str) -> Result<
 
 /// Reads the style, and then the databases.
 fn sources_for<F: Files>(alloc: Global, files: &mut F, needs: Needs) -> Result<Sources, Stop>
+    requires { NeedsFiles needs }
     ensures gives { stops.Gives (F.told files.old) (λ told. rule.sources_for told needs) result }
     ensures same { IfOk result (λ sources. sources.items ≡ needs.items) }
     ensures keyed { IfOk result (λ sources. AreKeyed sources.database.entries) }
@@ -67,12 +70,13 @@ fn sources_for<F: Files>(alloc: Global, files: &mut F, needs: Needs) -> Result<S
 
 /// The style of this name.
 fn style_named<F: Files>(alloc: Global, files: &mut F, name: &Text) -> Result<Style, Stop>
+    requires { IsFileName name.now }
     ensures gives { stops.Gives (F.told files.old) (λ told. rule.style_named told name.now) result }
     ensures cause { IfErr result (λ stop. stops.HasCause stop (F.begun files.new) (F.faults files.old) (F.faults files.new)) }
     ensures told { F.told files.new ≡ F.told files.old }
     ensures count { F.faults files.old ≤ F.faults files.new }
 {
-    let name = with_ending(alloc, text_of(name)?, ".bst")?;
+    let name = with_ending(alloc, text_of(name), ".bst")?;
     let text = file_of(alloc, files, name.as_str(), MOST_BYTES)?;
     style_from(alloc, text.as_slice())
 }
@@ -84,7 +88,8 @@ fn databases_in<F: Files>(
     names: &[Text],
     before: Database,
 ) -> Result<Database, Stop>
-    requires { AreKeyed before.entries }
+    requires keyed { AreKeyed before.entries }
+    requires named { AreFileNames names.now }
     ensures gives { stops.Gives (F.told files.old) (λ told. rule.databases_in told names.now before) result }
     ensures keyed { IfOk result (λ database. AreKeyed database.entries) }
     ensures cause { IfErr result (λ stop. stops.HasCause stop (F.begun files.new) (F.faults files.old) (F.faults files.new)) }
@@ -103,14 +108,15 @@ fn database_named<F: Files>(
     name: &Text,
     before: &Database,
 ) -> Result<Database, Stop>
-    requires { AreKeyed before.now.entries }
+    requires keyed { AreKeyed before.now.entries }
+    requires named { IsFileName name.now }
     ensures gives { stops.Gives (F.told files.old) (λ told. rule.database_named told name.now before.now) result }
     ensures keyed { IfOk result (λ database. AreKeyed database.entries) }
     ensures cause { IfErr result (λ stop. stops.HasCause stop (F.begun files.new) (F.faults files.old) (F.faults files.new)) }
     ensures told { F.told files.new ≡ F.told files.old }
     ensures count { F.faults files.old ≤ F.faults files.new }
 {
-    let name = with_ending(alloc, text_of(name)?, ".bib")?;
+    let name = with_ending(alloc, text_of(name), ".bib")?;
     let text = file_of(alloc, files, name.as_str(), MOST_DATA_BYTES)?;
     database_from(alloc, name.as_str(), text.as_slice(), before)
 }

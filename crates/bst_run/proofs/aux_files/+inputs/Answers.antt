@@ -7,14 +7,14 @@ use Rattle.bst_run.proofs.aux_files.+inputs.Goals as goal
 pub take_input-returns-in_err-aux-clause-gives : goal.take_input-returns-in_err-aux-clause-gives
 take_input-returns-in_err-aux-clause-gives g t c =
     let some : 0 < c.args.levels = omega arith in
-    let p = err_from_is_err_and c.from_residual-in_err-aux.result c.from_residual-in_err-aux.ensures.1 in
+    let p = err_from_is_err_and c.from_residual.result c.from_residual.ensures.1 in
     rw (p.1, p.2)
-    (input_unread (g.F.Files.told c.args.files.now) c.args.levels c.args.name.now c.in_ok-name.name.now c.args.before c.in_err-aux.field-0.0 _
-    some c.in_ok-name.ensures c.in_err-aux.ensures.gives refl)
+    (input_unread (g.F.Files.told c.args.files.now) c.args.levels c.args.name.now c.text_of-name.result.now c.args.before c.in_err-aux.field-0.0 _
+    some c.text_of-name.ensures c.in_err-aux.ensures.gives refl)
 
 -- the input is read, and taken
 pub take_input-returns-clause-gives : goal.take_input-returns-clause-gives
 take_input-returns-clause-gives g t c =
     let some : 0 < c.args.levels = omega arith in
-    input_taken (g.F.Files.told c.args.files.now) _ c.args.levels c.args.name.now c.in_ok-name.name.now c.args.before c.in_ok-aux.aux c.take_aux.result
-    some c.in_ok-aux.ensures.told c.in_ok-name.ensures c.in_ok-aux.ensures.gives c.take_aux.ensures.gives
+    input_taken (g.F.Files.told c.args.files.now) _ c.args.levels c.args.name.now c.text_of-name.result.now c.args.before c.in_ok-aux.aux c.take_aux.result
+    some c.in_ok-aux.ensures.told c.text_of-name.ensures c.in_ok-aux.ensures.gives c.take_aux.ensures.gives

@@ -1,7 +1,9 @@
 use Rattle.std.proofs.Common.{◌≡◌, ◌+◌, ◌*◌, ◌≤◌}
 use Rattle.std.specs.Vec.Iter.{into_iter_items}
+use Rattle.aux_read.specs.FileNames.{HaveFileNames}
 use Rattle.aux_read.specs.Keys.{HaveKeys}
 use Rattle.entry_list.specs.Keys.{AreCitations}
+use Rattle.bst_run.specs.FileNames.{NamesFiles}
 use Rattle.bst_run.proofs.ChainLemmas.{AreLeft}
 use Rattle.bst_run.proofs.aux_files.+inputs.Given as goal
 
@@ -19,4 +21,6 @@ invariant-take_aux-loop-item g l = record {
   left : AreLeft (g.F.Files.told l.initial.files) l.levels l.fn.before l.fn.aux (into_iter_items l.item-iterator) l.requests;
   cited : AreCitations l.requests.items;
   keys : HaveKeys (into_iter_items l.item-iterator);
+  named : NamesFiles l.requests;
+  inputs : HaveFileNames (into_iter_items l.item-iterator);
 }

@@ -19,11 +19,11 @@ returns-in_err-requests-clause-gives g c =
     let p = err_from_is_err_and c.from_residual-in_err-requests.result c.from_residual-in_err-requests.ensures.1 in
     rw (p.1, p.2)
     (first_stopped (g.F.Files.told c.args.files.now) 16 c.args.name.now c.args.text.now c.nothing.result c.in_ok-aux.aux c.in_err-requests.field-0.0 _
-    c.nothing.ensures c.in_ok-aux.ensures.decides c.in_err-requests.ensures.gives refl)
+    c.nothing.ensures.nothing c.in_ok-aux.ensures.decides c.in_err-requests.ensures.gives refl)
 
 -- all are taken
 pub returns-clause-gives : goal.returns-clause-gives
 unfolding needs_after
 returns-clause-gives g c =
     first_taken (g.F.Files.told c.args.files.now) 16 c.args.name.now c.args.text.now c.nothing.result c.in_ok-requests.requests c.in_ok-aux.aux c.complete.result
-    c.nothing.ensures c.in_ok-aux.ensures.decides c.in_ok-requests.ensures.gives c.complete.ensures.decides
+    c.nothing.ensures.nothing c.in_ok-aux.ensures.decides c.in_ok-requests.ensures.gives c.complete.ensures.decides

@@ -1,3 +1,4 @@
+use Rattle.std.proofs.Common.{refl}
 use Rattle.bst_run.proofs.RunnerLemmas.{outcome_at, ran_is}
 use Rattle.bst_step.specs.Machine.{configuration, style_of}
 use Rattle.bst_run.proofs.runner.run_joined.Goals as goal
@@ -5,9 +6,9 @@ use Rattle.bst_run.proofs.runner.run_joined.Goals as goal
 pub returns : goal.returns
 returns c =
     outcome_at c.args.steps c.outcome_of.result c.in_ok-log.log.items c.in_ok-turn.turn
-    c.args.sources.now.database.warnings c.as_slice.result.now c.args.found.warnings c.as_slice-2.result.now
+    c.args.reading.now c.args.reading.now c.args.found.warnings c.as_slice.result.now
     (configuration c.run.new.self) _
-    c.in_ok-log.ensures c.as_slice.ensures c.as_slice-2.ensures c.in_ok-turn.ensures.turn
-    (ran_is (style_of c.in_ok-machine.machine) c.args.sources.now.style c.from.result c.args.steps (configuration c.in_ok-machine.machine) (configuration c.run.new.self) c.args.found.list
+    c.in_ok-log.ensures refl c.as_slice.ensures c.in_ok-turn.ensures.turn
+    (ran_is (style_of c.in_ok-machine.machine) c.args.style.now c.from.result c.args.steps (configuration c.in_ok-machine.machine) (configuration c.run.new.self) c.args.found.list
     c.in_ok-turn.ensures.moved c.in_ok-machine.ensures.style c.from.ensures c.in_ok-machine.ensures.opening)
     c.outcome_of.ensures

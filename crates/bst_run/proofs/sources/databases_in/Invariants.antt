@@ -1,5 +1,6 @@
 use Rattle.std.proofs.Common.{◌≡◌, ◌≤◌, drop}
 use Rattle.std.specs.Prelude.{IfSome}
+use Rattle.aux_read.specs.FileNames.{AreFileNames}
 use Rattle.bib_read.specs.Additions.{AreKeyed}
 use Rattle.bst_run.specs.Sources as rule
 use Rattle.bst_run.proofs.sources.databases_in.Given as goal
@@ -12,4 +13,5 @@ invariant-loop-name g l = record {
   rest : IfSome (g.F.Files.told l.initial.files) (λ told.
       rule.databases_in told (drop l.name-index l.names) l.database ≡ rule.databases_in told l.names l.fn.before);
   keyed : AreKeyed l.database.entries;
+  named : AreFileNames (drop l.name-index l.names);
 }
