@@ -132,7 +132,7 @@ fn values_of(
         ≡ fields.values_of declared.now entry.now (option_map (λ e. e.now) parent.entry) keeps) }
     ensures bytes { IfOk result (AllByRecursion (λ f. ForSome f.value IsByteList)) }
 {
-    let mut found = Seq::new(alloc);
+    let mut found = Seq::from_vec(Vec::with_capacity(alloc, declared.len())?);
     for field in declared {
         found.push(FieldValue {
             name: field.id,
