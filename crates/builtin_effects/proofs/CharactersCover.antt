@@ -1,7 +1,6 @@
 -- The effects of `chr.to.int$`, `int.to.chr$` and `int.to.str$` cover the machine.
 use Rattle.std.proofs.Common.{◌≡◌, ℕ, ◌<◌, Bool, true, cond, List, [], ◌∷◌, length, reverse, Option, None, Some, Ok, Err, refl, sym, ap, subst, ◌∙◌, lt-ltb, arith}
 use Rattle.std.specs.Prelude.{ℤ, pos, negsuc, ◌≤ℤ◌}
-use Rattle.std.proofs.lemmas.Bool.{le-leb}
 use Rattle.std.proofs.lemmas.Int.{ints}
 use Rattle.lin_facts.specs.declared.row.Term.TheVariants.{Value as ValueOf, Length as LengthOf}
 use Rattle.name_table.specs.declared.builtin.Builtin.TheVariants as op
@@ -33,6 +32,7 @@ use Rattle.sym_state.proofs.Saying.{at_least_holds, at_most_holds}
 use Rattle.sym_state.proofs.Spots.{Spot}
 use Rattle.builtin_effects.proofs.ByteTexts.{numeral_bytes}
 use Rattle.builtin_effects.proofs.Covering.{CoversAt, Old, after_value, around, lower, one_given, one_then, put, row_met, term_new_length, term_new_value, value_new}
+use Rattle.builtin_effects.proofs.Integers.{number_bits}
 use Rattle.builtin_effects.proofs.Inverting.{steps_ok}
 use Rattle.builtin_effects.proofs.OperandValues.{NumberOperand, number_operand, text_operand}
 use Rattle.builtin_effects.proofs.TextSizes.{numeral_nonblank, numeral_sizes}
@@ -54,7 +54,7 @@ one_byte_is (Some (c ∷ (d ∷ bytes))) b e = absurd (cc)
 one_byte_is None b e = absurd (cc)
 
 byte_bits : (b : ℕ) → b < 256 → has_32_bits (pos b) ≡ true
-byte_bits b less = le-leb b 2147483647 (omega (arith, less))
+byte_bits b less = number_bits b (omega (arith, less))
 
 -- `chr.to.int$` of a string whose one byte is b
 one_byte_pushed : (s : Spot) (a : Sym) (rest : List Sym) (b : ℕ) → reverse s.state.stack ≡ a ∷ rest → s.v.value a.0 ≡ StrValue (b ∷ [])

@@ -1,7 +1,6 @@
 -- The effects of `num.names$`, `text.length$` and `width$` cover the machine.
-use Rattle.std.proofs.Common.{◌≡◌, ℕ, ◌≤◌, ◌*◌, true, List, [], ◌∷◌, length, Ok, refl, ap, ◌∙◌, arith}
+use Rattle.std.proofs.Common.{◌≡◌, ℕ, ◌*◌, List, [], ◌∷◌, length, Ok, refl, ap, ◌∙◌, arith}
 use Rattle.std.specs.Prelude.{ℤ, pos, negsuc, neg_ℤ, ◌*ℤ◌}
-use Rattle.std.proofs.lemmas.Bool.{le-leb}
 use Rattle.std.proofs.lemmas.Int.{ints}
 use borrow.Author.Differences.{product_is}
 use Rattle.lin_facts.specs.declared.row.Term.TheVariants.{Value as ValueOf, Length as LengthOf, Names as NamesOf}
@@ -13,7 +12,6 @@ use Rattle.text_ops.specs.Width.{width_of}
 use Rattle.bst_meaning.specs.declared.value.Value.{Value}
 use Rattle.bst_meaning.specs.declared.value.Value.TheVariants.{Int as IntValue, Str as StrValue}
 use Rattle.bst_meaning.specs.Effect.{pushed}
-use Rattle.bst_meaning.specs.Operands.{has_32_bits}
 use Rattle.sym_state.specs.declared.demand.DemandKind.TheVariants.{IntRange}
 use Rattle.sym_state.specs.declared.hint.Hint.{Hint}
 use Rattle.sym_state.specs.declared.state.State.{State}
@@ -29,13 +27,10 @@ use Rattle.sym_state.proofs.RowSums.{at_most_says, two_holds, two_says}
 use Rattle.sym_state.proofs.Saying.{at_least_holds, exceeds_holds, minus}
 use Rattle.sym_state.proofs.Spots.{Spot}
 use Rattle.builtin_effects.proofs.Covering.{CoversAt, after_value, lower, one_then, put, row_met, term_new_value, term_old}
-use Rattle.builtin_effects.proofs.Integers.{in_range}
+use Rattle.builtin_effects.proofs.Integers.{in_range, number_bits}
 use Rattle.builtin_effects.proofs.Inverting.{step_ok}
 use Rattle.builtin_effects.proofs.OperandValues.{TextOperand, text_operand}
 use Rattle.builtin_effects.proofs.TextSizes.{text_length_shorter, width_bounded}
-
-count_bits : (n : ℕ) → n ≤ 2147483647 → has_32_bits (pos n) ≡ true
-count_bits n few = le-leb n 2147483647 few
 
 abbrev names_rule : Spot → List Hint → Sym → State → Outcome
 names_rule s hints a rest =
@@ -53,7 +48,7 @@ names_counted s hints after t =
     let n : ℕ = length (names_of t.text.bytes) in
     let count_is : numbers s.v names ≡ pos n = ap name_count_of t.text.is in
     let most = at_most_says (numbers s.v) names (pos 2147483647) (row_met s u.proof (at_most names (pos 2147483647)) u.shown) in
-    let bits = count_bits n (omega (arith, ints, most, count_is)) in
+    let bits = number_bits n (omega (arith, ints, most, count_is)) in
     let value : Value = IntValue (pos n) in
     let w = numbers (after_value s value) in
     let wr : w r ≡ pos n = term_new_value s value in
@@ -83,7 +78,7 @@ characters_counted s hints after t =
     let few = text_length_shorter t.text.bytes in
     let length_is : numbers s.v bytes ≡ pos (length t.text.bytes) = ap length_of t.text.is in
     let most = at_most_says (numbers s.v) bytes (pos 2147483647) (row_met s u.proof (at_most bytes (pos 2147483647)) u.shown) in
-    let bits = count_bits n (omega (arith, ints, most, length_is, few)) in
+    let bits = number_bits n (omega (arith, ints, most, length_is, few)) in
     let value : Value = IntValue (pos n) in
     let w = numbers (after_value s value) in
     let wr : w r ≡ pos n = term_new_value s value in
@@ -126,7 +121,7 @@ width_measured s hints after t =
     let wide : negsuc 1027 *ℤ numbers s.v bytes ≡ neg_ℤ (pos (1028 * l)) = ap (λ (k : ℤ). negsuc 1027 *ℤ k) length_is ∙ scaled_back l in
     let none = zero_mul (numbers s.v bytes) in
     let most = two_says (numbers s.v) (pos 2147483647) (negsuc 1027) bytes (pos 0) bytes (row_met s u.proof enough u.shown) in
-    let bits = count_bits n (omega (arith, ints, most, wide, none, few)) in
+    let bits = number_bits n (omega (arith, ints, most, wide, none, few)) in
     let value : Value = IntValue (pos n) in
     let w = numbers (after_value s value) in
     let wr : w r ≡ pos n = term_new_value s value in

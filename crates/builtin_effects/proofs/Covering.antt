@@ -62,12 +62,12 @@ others_old s a rest old = All-tail (λ x. x.0 < s.state.next) a rest old
 pub machine_tops : (s : Spot) (tops : List Sym) → reverse s.state.stack ≡ tops → s.c.stack ≡ lower s tops
 machine_tops s tops e = stack_of_tops s.style s.admits s.list s.v s.state s.c s.below tops s.stands e
 
--- what the machine gives of the values of the operands
+-- what the machine gives of values of which the topmost are those of the symbols on top
 pub machine_gives : (s : Spot) (o : Builtin) (tops : List Sym) (values : List Value) (effect : Effect) → reverse s.state.stack ≡ tops
     → lower s tops ≡ values → built_in o (around s) values ≡ Ok effect → built_in o (around s) s.c.stack ≡ Ok effect
 machine_gives s o tops values effect e is gives = ap (λ (l : List Value). built_in o (around s) l) (machine_tops s tops e ∙ is) ∙ gives
 
--- what it is given of one operand, of two and of three, by their values
+-- what the machine gives of one operand, of two and of three, by their values
 pub one_given : (s : Spot) (o : Builtin) (a : Sym) (rest : List Sym) (x : Value) → reverse s.state.stack ≡ a ∷ rest → s.v.value a.0 ≡ x
     → built_in o (around s) s.c.stack ≡ built_in o (around s) (x ∷ lower s rest)
 one_given s o a rest x tops x_is =

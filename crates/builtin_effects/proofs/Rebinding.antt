@@ -3,6 +3,7 @@ use Rattle.std.proofs.Common.{◌≡◌, ℕ, zero, suc, ◌+◌, ◌<◌, Bool,
 use Rattle.std.proofs.Math.ListN.{set}
 use Rattle.std.specs.Prelude.{slice_get}
 use Rattle.std.specs.List.{AllByRecursion}
+use Rattle.std.proofs.lemmas.Bool.{eq-eqb}
 use Rattle.std.proofs.lemmas.Bool.Decides.{nat_tests}
 use Rattle.name_table.specs.declared.names.Kind.{Kind}
 use Rattle.name_table.specs.declared.names.NameId.{NameId}
@@ -20,9 +21,6 @@ use Rattle.sym_state.specs.Symbols.{Valuation}
 use Rattle.sym_state.specs.WellMade.{ids_from}
 use Rattle.sym_state.proofs.Deciding.{same_number}
 
-same_self : (n : ℕ) → nat_eq n n ≡ true
-same_self n = grind (arith, nat_tests)
-
 -- the value of a variable after an assignment to it, and to another
 pub variable_new : (new : Variable) (variables : List Variable) (old : Value) → value_at new.name.0 variables ≡ Some old
     → value_at new.name.0 (with_variable new variables) ≡ Some new.value
@@ -31,7 +29,7 @@ variable_new new (first ∷ variables) old e =
     let id : ℕ = new.name.0 in
     elim (nat_eq first.name.0 id) as (λ (t : Bool). nat_eq first.name.0 id ≡ t → cond t (Some first.value) (value_at id variables) ≡ Some old
     → value_at id (cond t (new ∷ variables) (first ∷ with_variable new variables)) ≡ Some new.value) [
-      | true ↦ λ is found. ap (λ (t : Bool). cond t (Some new.value) (value_at id variables)) (same_self id)
+      | true ↦ λ is found. ap (λ (t : Bool). cond t (Some new.value) (value_at id variables)) (eq-eqb id id refl)
       | false ↦ λ is found.
           ap (λ (t : Bool). cond t (Some first.value) (value_at id (with_variable new variables))) is ∙ variable_new new variables old found
     ] refl e

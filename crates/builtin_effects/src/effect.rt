@@ -37,6 +37,7 @@ pub fn effect(
     ensures cursor { OnErr result (hints.new ≡ hints.old) }
     ensures kept { IfOk result (λ after. WellMade style.now state.now → WellMade style.now after) }
 {
+    // For the proof of `kept`, which has no range of a field behind a reference: nothing is done.
     limits_are_small(cond.key, cond.preamble);
     let mut left = Hints::new(hints.rest());
     let after = effect_by(style, state, cond, op, &mut left)?;
