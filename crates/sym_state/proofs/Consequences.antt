@@ -1,9 +1,9 @@
 -- Where one fact gives another, the other holds of each value of which the one holds.
-use Rattle.std.proofs.Common.{◌≡◌, ℕ, Bool, true, false, cond, ap, sym, ◌∙◌, subst, refl, List, [], ◌∷◌, nat_eq, Option, None, Some, not, ◌&&◌, ◌||◌}
+use Rattle.std.proofs.Common.{◌≡◌, ℕ, Bool, true, false, ap, sym, ◌∙◌, subst, refl, List, [], ◌∷◌, nat_eq, Option, None, Some, not, ◌&&◌, ◌||◌}
 use Rattle.std.specs.Prelude.{ℤ}
 use Rattle.std.specs.List.{AllByRecursion, list_any, list_all}
 use Rattle.bv_base.specs.Bytes.{is_white}
-use Rattle.std.specs.Option.{option_map_or, unwrap_or}
+use Rattle.std.specs.Option.{option_map_or}
 use Rattle.std.specs.Ordering.{int_eq}
 use Rattle.std.specs.Cmp.Lexicographic.{pointwise}
 use Rattle.std.proofs.lemmas.Bool.{and_parts}
@@ -19,9 +19,9 @@ use Rattle.sym_state.specs.declared.symbol.Fact.{Fact}
 use Rattle.sym_state.specs.declared.symbol.Fact.TheVariants.{Is, Int, Text, Call, Block, Blank, Nonblank, Wellformed}
 use Rattle.sym_state.specs.Symbols.{Valuation}
 use Rattle.sym_state.specs.Facts.{subject, Says, FactHolds, emptiness, has_kind, has_good_names, IsBlock}
-use Rattle.sym_state.specs.Decided.{kind_said, integer_said, text_said, name_said, block_said, emptiness_said, wellformed_said, is_nameless, includes, gives, says_nothing, is_known, first_said, known_kind, single}
+use Rattle.sym_state.specs.Decided.{kind_said, integer_said, text_said, name_said, block_said, emptiness_said, wellformed_said, is_nameless, includes, gives, says_nothing, is_known}
 use Rattle.sym_state.proofs.BlankNames.{blank_names}
-use Rattle.sym_state.proofs.Deciding.{from_facts, integer_fact, text_fact, emptiness_fact, same_number}
+use Rattle.sym_state.proofs.Deciding.{integer_fact, text_fact, emptiness_fact, same_number}
 
 optional_of : (value : Value) (b : Bool) → emptiness value ≡ Some b → has_kind Optional value ≡ true
 optional_of (StrValue bytes) b e = refl
@@ -201,40 +201,3 @@ known_holds style v s facts wanted all e =
       | true ↦ λ nothing found. nothing_said style (v.value s) wanted nothing
       | false ↦ λ nothing found. some_gives style v s facts wanted all found
     ] refl e
-
--- a symbol that is said to be a string or a missing field is one
-optional_holds : (style : Style) (v : Valuation) (s : ℕ) (facts : List Fact) → AllByRecursion (FactHolds style v) facts
-    → list_any (λ fact. nat_eq (subject fact) s && includes Optional (kind_said fact)) facts ≡ true → has_kind Optional (v.value s) ≡ true
-optional_holds style v s [] all e = absurd (cc)
-optional_holds style v s (fact ∷ facts) all e =
-    elim (nat_eq (subject fact) s && includes Optional (kind_said fact)) as (λ (t : Bool). (nat_eq (subject fact) s && includes Optional (kind_said fact)) ≡ t
-    → (t || list_any (λ other. nat_eq (subject other) s && includes Optional (kind_said other)) facts) ≡ true → has_kind Optional (v.value s) ≡ true) [
-      | true ↦ λ here found.
-          let both = and_parts (nat_eq (subject fact) s) (includes Optional (kind_said fact)) here in
-          widened Optional (kind_said fact) (v.value s) both.1
-          (kind_holds style (v.value s) fact (subst (λ (n : ℕ). Says style fact (v.value n)) (same_number (subject fact) s both.0) all.0))
-      | false ↦ λ here found. optional_holds style v s facts all.1 found
-    ] refl e
-
-single_is : (kind known : Kinds) → single kind ≡ Some known → kind ≡ known
-single_is IntKind known e = cc
-single_is Str known e = cc
-single_is Missing known e = cc
-single_is Func known e = cc
-single_is Optional known e = absurd (cc)
-single_is Any known e = absurd (cc)
-
--- a value is of the kind that the facts on its symbol decide
-pub known_kind_holds : (style : Style) (v : Valuation) (facts : List Fact) (s : ℕ) → AllByRecursion (FactHolds style v) facts → has_kind (known_kind facts s) (v.value s) ≡ true
-known_kind_holds style v facts s all =
-    let said : Fact → Option Kinds = λ fact. single (kind_said fact) in
-    let optional : Bool = list_any (λ fact. nat_eq (subject fact) s && includes Optional (kind_said fact)) facts in
-    elim (first_said said s facts) as (λ (o : Option Kinds). first_said said s facts ≡ o → has_kind (unwrap_or o (cond optional Optional Any)) (v.value s) ≡ true) [
-      | Some kind ↦ λ is.
-          let source = from_facts said style v s facts kind all is in
-          subst (λ (k : Kinds). has_kind k (v.value s) ≡ true) (single_is (kind_said source.fact) kind source.says) (kind_holds style (v.value s) source.fact source.holds)
-      | None ↦ λ is. elim optional as (λ (t : Bool). optional ≡ t → has_kind (cond t Optional Any) (v.value s) ≡ true) [
-        | true ↦ λ found. optional_holds style v s facts all found
-        | false ↦ λ found. refl
-      ] refl
-    ] refl
