@@ -1,3 +1,4 @@
+pub mod Answers
 pub mod Bytes
 pub mod HostView
 pub mod Keys
@@ -5,4 +6,6 @@ pub mod Levels
 pub mod Memory
 pub mod MemoryView
 pub mod Outside
+pub mod Places
+pub mod Runs
 pub mod Status
