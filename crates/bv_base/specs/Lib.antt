@@ -1,5 +1,6 @@
 pub mod Bytes
 pub mod HostView
+pub mod KeySets
 pub mod Keys
 pub mod Levels
 pub mod Memory

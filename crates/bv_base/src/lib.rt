@@ -6,6 +6,7 @@ pub mod bytes;
 pub mod files;
 pub mod host_files;
 pub mod host_sink;
+pub mod key_set;
 pub mod mem_files;
 pub mod mem_sink;
 pub mod memory;
