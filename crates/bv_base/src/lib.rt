@@ -1,11 +1,12 @@
 //! What every crate of Volutecress stands on: places in a text, statuses, lists and byte strings that contracts
-//! read as lists, the classes of bytes of the style language, and the files and sinks of a run.
+//! read as lists, sets of keys, the classes and runs of bytes of the style language, limits, and the files and sinks of a run.
 #![tactic(auto)]
 
 pub mod bytes;
 pub mod files;
 pub mod host_files;
 pub mod host_sink;
+pub mod key_set;
 pub mod limits;
 pub mod mem_files;
 pub mod mem_sink;
