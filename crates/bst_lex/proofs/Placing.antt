@@ -8,7 +8,8 @@ use Rattle.bst_lex.specs.declared.lexeme.LexFault.TheVariants.{NoEndQuote, BadIn
 use Rattle.bst_lex.specs.Grammar.{IsFault, IsInteger, IsText, NoneOf, Spells, is_line_end, spaces}
 use Rattle.bst_lex.specs.Lexemes.{Seen}
 use Rattle.bst_lex.specs.Pieces.{ends_clean, ends_digits, ends_inside}
-use Rattle.bst_lex.specs.PlaceLaws.{BeginsLine, StandsIn, line_ends, place_of}
+use Rattle.bst_lex.specs.Fault.{place_of}
+use Rattle.bst_lex.specs.PlaceLaws.{BeginsLine, StandsIn, line_ends}
 use Rattle.bst_lex.specs.Places.{after_byte, after_bytes, along, first_place, place_at}
 use Rattle.bst_lex.proofs.Ordering.{left_after, place_after}
 

@@ -1,3 +1,4 @@
+pub mod Fault
 pub mod Grammar
 pub mod Lexemes
 pub mod Lexer

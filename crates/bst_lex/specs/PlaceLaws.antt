@@ -1,8 +1,6 @@
 -- What places count, and where faults stand (docs/LANGUAGE.md, "Places").
 use Rattle.std.specs.Prelude.{◌≡◌, ℕ, ◌≤◌, suc, true, List, [], ◌∷◌, length, if◌then◌else◌}
 use Rattle.bv_base.specs.declared.place.Place.{Place}
-use Rattle.bst_lex.specs.declared.lexeme.LexFault.{LexFault}
-use Rattle.bst_lex.specs.declared.lexeme.LexFault.TheVariants.{NoEndQuote, BadInteger, StuffAfterToken, IllegalByte, IntegerRange}
 use Rattle.bst_lex.specs.Grammar.{is_line_end}
 use Rattle.bst_lex.specs.Places.{place_at}
 
@@ -16,14 +14,6 @@ abbrev pub BeginsLine : List ℕ → Type 0
 BeginsLine [] = Unit {0}
 BeginsLine (b ∷ []) = is_line_end b ≡ true
 BeginsLine (b ∷ c ∷ bytes) = BeginsLine (c ∷ bytes)
-
--- the place of a fault
-abbrev pub place_of : LexFault → Place
-place_of (NoEndQuote place) = place
-place_of (BadInteger place) = place
-place_of (StuffAfterToken place) = place
-place_of (IllegalByte place) = place
-place_of (IntegerRange place) = place
 
 -- the place of a byte of the source, or of its end
 abbrev pub StandsIn : List ℕ → Place → Type 0

@@ -1,10 +1,11 @@
 //! What holds of the lexemes of every text.
 
 ghost use Rattle.std.specs.Prelude.{◌≡◌, ◌+◌, ◌++◌, ◌↔◌, ℕ, List, Option, IfSome, length, take};
+ghost use Rattle.bst_lex.specs.Fault.{place_of};
 ghost use Rattle.bst_lex.specs.Grammar.{NoneOf, Spells, is_line_end};
 ghost use Rattle.bst_lex.specs.Lexemes.{Seen, lexed};
 ghost use Rattle.bst_lex.specs.Order.{InOrder};
-ghost use Rattle.bst_lex.specs.PlaceLaws.{BeginsLine, StandsIn, line_ends, place_of};
+ghost use Rattle.bst_lex.specs.PlaceLaws.{BeginsLine, StandsIn, line_ends};
 ghost use Rattle.bst_lex.specs.Places.{first_place, place_at};
 ghost use Rattle.bst_lex.specs.declared.lexeme.LexFault.{LexFault};
 

@@ -1,6 +1,7 @@
 //! What a lexeme is, and what is wrong where a text has none.
 
 ghost use Rattle.std.specs.Prelude.{◌≡◌};
+ghost use Rattle.bst_lex.specs.Fault as fault;
 
 use bv_base::place::Place;
 use thiserror::Error;
@@ -53,6 +54,34 @@ pub enum LexFault {
     /// An integer outside -2147483648 to 2147483647. It stands at the `#`.
     #[error("integer out of range at {0:?}")]
     IntegerRange(Place),
+}
+
+impl LexFault {
+    /// The name of the fault, as answers tell it.
+    pub fn name(&self) -> &'static str
+        ensures { result.now ≡ fault.name_of self.now }
+    {
+        match self {
+            LexFault::NoEndQuote(_) => "NoEndQuote",
+            LexFault::BadInteger(_) => "BadInteger",
+            LexFault::StuffAfterToken(_) => "StuffAfterToken",
+            LexFault::IllegalByte(_) => "IllegalByte",
+            LexFault::IntegerRange(_) => "IntegerRange",
+        }
+    }
+
+    /// The place of the fault.
+    pub fn place(&self) -> Place
+        ensures { result ≡ fault.place_of self.now }
+    {
+        match self {
+            LexFault::NoEndQuote(place)
+            | LexFault::BadInteger(place)
+            | LexFault::StuffAfterToken(place)
+            | LexFault::IllegalByte(place)
+            | LexFault::IntegerRange(place) => *place,
+        }
+    }
 }
 
 /// How far a lexeme reaches, in bytes, and what it is.

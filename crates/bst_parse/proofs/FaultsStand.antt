@@ -13,7 +13,8 @@ use Rattle.bst_lex.specs.declared.lexeme.Shape.{Shape}
 use Rattle.bst_lex.specs.declared.lexeme.Shape.TheVariants.{OpenBrace, CloseBrace, Integer, Text, Quoted, Name}
 use Rattle.bst_lex.specs.Lexemes.{Seen, lexed}
 use Rattle.bst_lex.specs.Order.{InOrder, IsNext}
-use Rattle.bst_lex.specs.PlaceLaws.{StandsIn, place_of}
+use Rattle.bst_lex.specs.Fault.{place_of}
+use Rattle.bst_lex.specs.PlaceLaws.{StandsIn}
 use Rattle.bst_lex.specs.Grammar.{NoneOf, IsLexeme, Spells, is_line_end}
 use Rattle.bst_lex.specs.Pieces.{ends_clean}
 use Rattle.bst_lex.specs.Places.{along, after_byte, after_bytes, first_place}
@@ -28,7 +29,7 @@ use Rattle.bst_parse.specs.declared.grammar.Word.{Word}
 use Rattle.bst_parse.specs.declared.grammar.Word.TheVariants.{Entry, Execute, Function, Integers, Iterate, Macro, Read, Reverse, Sort, Strings}
 use Rattle.bst_parse.specs.Bodies.{innermost, next_body}
 use Rattle.bst_parse.specs.Commands.{word_of}
-use Rattle.bst_parse.specs.FaultPlaces.{IsFaultOf}
+use Rattle.bst_parse.specs.Fault.{IsFaultOf}
 use Rattle.bst_parse.specs.Names.{has_macro}
 use Rattle.bst_parse.specs.Parts.{take_open, take_close, definable, defined, define, take_names, take_function_name, called, take_target, take_macro_name, take_macro_text, take_body, pass, take_part}
 use Rattle.bst_parse.specs.Progress.{Progress, then_do}

@@ -15,7 +15,8 @@ use Rattle.name_table.specs.declared.style.Token.{Token}
 use Rattle.name_table.specs.declared.style.Token.TheVariants.{Int, Str, Quote, Block, Call}
 use Rattle.name_table.specs.declared.style.TokenAt.{TokenAt}
 use Rattle.name_table.specs.Names.{id_of, same_name, kind_at, later}
-use Rattle.name_table.specs.Sound.{Each, opening_names, IsDeclared, AreApart, block_of, IsTokenSound, IsCommandSound, is_callable, AreNumbered}
+use Rattle.name_table.specs.Opening.{opening_names}
+use Rattle.name_table.specs.Sound.{Each, IsDeclared, AreApart, block_of, IsTokenSound, IsCommandSound, is_callable, AreNumbered}
 use Rattle.bst_parse.specs.declared.grammar.Part.{Part}
 use Rattle.bst_parse.specs.declared.grammar.Part.TheVariants.{Names, FunctionName, Body as BodyPart}
 use Rattle.bst_parse.specs.Bodies.{next_body, token_added, block_count, counted, function_begun, block_begun}

@@ -7,7 +7,8 @@ use Rattle.name_table.specs.declared.names.Kind.TheVariants.{Builtin, Wizard, Fi
 use Rattle.name_table.specs.declared.style.Body.{Body}
 use Rattle.name_table.specs.declared.style.Style.{Style}
 use Rattle.name_table.specs.Names.{same_name}
-use Rattle.name_table.specs.Sound.{Each, opening_names, AreApart, IsKindSound, IsSound}
+use Rattle.name_table.specs.Opening.{opening_names}
+use Rattle.name_table.specs.Sound.{Each, AreApart, IsKindSound, IsSound}
 use Rattle.bst_lex.specs.declared.lexeme.LexFault.{LexFault}
 use Rattle.bst_lex.specs.Lexemes.{Seen, lexed}
 use Rattle.bst_lex.specs.Places.{first_place}

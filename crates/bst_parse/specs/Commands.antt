@@ -1,11 +1,10 @@
 -- The commands and their parts (docs/LANGUAGE.md, "Commands").
-use Rattle.std.specs.Prelude.{ℕ, List, [], ◌∷◌, Option, None, Some, if◌then◌else◌, map}
+use Rattle.std.specs.Prelude.{ℕ, List, [], ◌∷◌, Option, None, Some, if◌then◌else◌, codes}
 use Rattle.name_table.specs.declared.names.Kind.TheVariants.{Field, IntEntry, StrEntry, IntGlobal, StrGlobal}
 use Rattle.name_table.specs.declared.names.NameId.{NameId}
 use Rattle.name_table.specs.declared.style.Command.{Command}
 use Rattle.name_table.specs.declared.style.Command.TheVariants as command
 use Rattle.name_table.specs.Names.{same_name}
-use Rattle.bst_parse.specs.declared.grammar.TheConstants.{WORDS}
 use Rattle.bst_parse.specs.declared.grammar.Word.{Word}
 use Rattle.bst_parse.specs.declared.grammar.Word.TheVariants.{Entry, Execute, Function, Integers, Iterate, Macro, Read, Reverse, Sort, Strings}
 use Rattle.bst_parse.specs.declared.grammar.Caller.{Caller}
@@ -18,8 +17,24 @@ abbrev pub word_among : List ℕ → List (List ℕ × Word) → Option Word
 word_among name [] = None
 word_among name (first ∷ rest) = if same_name name first.0 then Some first.1 else word_among name rest
 
+-- the words of the commands, in lower case
+abbrev pub command_words : List (List ℕ × Word)
+command_words =
+    (codes "entry", Entry)
+    ∷ (codes "execute", Execute)
+    ∷ (codes "function", Function)
+    ∷ (codes "integers", Integers)
+    ∷ (codes "iterate", Iterate)
+    ∷ (codes "macro", Macro)
+    ∷ (codes "read", Read)
+    ∷ (codes "reverse", Reverse)
+    ∷ (codes "sort", Sort)
+    ∷ (codes "strings", Strings)
+    ∷ []
+
+-- the command that a lowered name begins
 abbrev pub word_of : List ℕ → Option Word
-word_of name = word_among name (map (λ word. (word.0.now, word.1)) WORDS)
+word_of name = word_among name command_words
 
 -- the parts that follow a command's word
 abbrev pub parts_of : Word → List Part

@@ -1,6 +1,6 @@
 pub mod Bodies
 pub mod Commands
-pub mod FaultPlaces
+pub mod Fault
 pub mod Grammar
 pub mod Names
 pub mod Parts

@@ -1,9 +1,9 @@
 -- The style that some bytes are, or their first fault (docs/LANGUAGE.md, "Faults of styles").
-use Rattle.std.specs.Prelude.{ℕ, Bool, false, ◌&&◌, nat_eq, if◌then◌else◌, List, [], ◌∷◌, length, map, Option, None, Some, Result, Ok, Err}
+use Rattle.std.specs.Prelude.{ℕ, Bool, false, ◌&&◌, nat_eq, if◌then◌else◌, List, [], ◌∷◌, length, Option, None, Some, Result, Ok, Err}
 use Rattle.bv_base.specs.declared.place.Place.{Place}
-use Rattle.name_table.specs.declared.opening.TheConstants.{OPENING}
 use Rattle.name_table.specs.declared.style.BodyId.{BodyId}
 use Rattle.name_table.specs.declared.style.Style.{Style}
+use Rattle.name_table.specs.Opening.{opening_names}
 use Rattle.bst_lex.specs.declared.lexeme.LexFault.{LexFault}
 use Rattle.bst_lex.specs.Lexemes.{Seen, Reading, lexed}
 use Rattle.bst_lex.specs.Places.{first_place, place_at}
@@ -20,7 +20,7 @@ use Rattle.bst_parse.specs.Words.{take_word}
 abbrev pub opening_progress : Progress
 opening_progress =
     record {
-      names = map (λ entry. (entry.0.now, entry.1)) OPENING;
+      names = opening_names;
       commands = [];
       bodies = [];
       texts = [];

@@ -1,6 +1,7 @@
 //! Why some bytes aren't a style.
 
 ghost use Rattle.std.specs.Prelude.{◌≡◌};
+ghost use Rattle.bst_parse.specs.Fault as fault;
 
 use bst_lex::lexeme::{LexFault, Shape};
 use bv_base::memory::NoMemory;
@@ -60,6 +61,56 @@ pub enum StyleFault {
     /// Want of memory.
     #[error("no memory")]
     NoMemory,
+}
+
+impl StyleFault {
+    /// The name of the fault, as answers tell it. A fault of a lexeme has its own.
+    pub fn name(&self) -> &'static str
+        ensures { result.now ≡ fault.name_of self.now }
+    {
+        match self {
+            StyleFault::Lex(inner) => inner.name(),
+            StyleFault::UnknownCommand(_) => "UnknownCommand",
+            StyleFault::UnknownName(_) => "UnknownName",
+            StyleFault::SelfUse(_) => "SelfUse",
+            StyleFault::AlreadyDefined(_) => "AlreadyDefined",
+            StyleFault::SecondEntry(_) => "SecondEntry",
+            StyleFault::SecondRead(_) => "SecondRead",
+            StyleFault::ReadBeforeEntry(_) => "ReadBeforeEntry",
+            StyleFault::MacroAfterRead(_) => "MacroAfterRead",
+            StyleFault::CommandBeforeRead(_) => "CommandBeforeRead",
+            StyleFault::NotCallable(_) => "NotCallable",
+            StyleFault::Expected(_, _) => "Expected",
+            StyleFault::EndOfFile(_) => "EndOfFile",
+            StyleFault::TooDeep(_) => "TooDeep",
+            StyleFault::TooMany(_) => "TooMany",
+            StyleFault::NoMemory => "NoMemory",
+        }
+    }
+
+    /// The place of the fault. Want of memory, which no answer tells, has the first.
+    pub fn place(&self) -> Place
+        ensures { result ≡ fault.place_of self.now }
+    {
+        match self {
+            StyleFault::Lex(inner) => inner.place(),
+            StyleFault::UnknownCommand(place)
+            | StyleFault::UnknownName(place)
+            | StyleFault::SelfUse(place)
+            | StyleFault::AlreadyDefined(place)
+            | StyleFault::SecondEntry(place)
+            | StyleFault::SecondRead(place)
+            | StyleFault::ReadBeforeEntry(place)
+            | StyleFault::MacroAfterRead(place)
+            | StyleFault::CommandBeforeRead(place)
+            | StyleFault::NotCallable(place)
+            | StyleFault::Expected(place, _)
+            | StyleFault::EndOfFile(place)
+            | StyleFault::TooDeep(place)
+            | StyleFault::TooMany(place) => *place,
+            StyleFault::NoMemory => Place::START,
+        }
+    }
 }
 
 impl From<NoMemory> for StyleFault {

@@ -2,7 +2,7 @@
 
 ghost use Rattle.std.specs.Prelude.{◌≡◌, ◌↔◌, Ok, Err};
 ghost use Rattle.name_table.specs.declared.style.Style.{Style};
-ghost use Rattle.bst_parse.specs.FaultPlaces.{IsFaultOf};
+ghost use Rattle.bst_parse.specs.Fault.{IsFaultOf};
 ghost use Rattle.bst_parse.specs.Grammar.{Reads};
 ghost use Rattle.bst_parse.specs.Reading.{style_of};
 ghost use Rattle.bst_parse.specs.declared.fault.StyleFault.{StyleFault};

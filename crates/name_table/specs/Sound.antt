@@ -1,7 +1,6 @@
 -- What holds of every style that has been read (docs/LANGUAGE.md, "What is read").
 use Rattle.std.specs.Prelude.{◌≡◌, ℕ, suc, ◌<◌, ◌≤◌, Bool, true, false, List, [], ◌∷◌, ◌++◌, length, map, Option, None, Some, slice_get}
 use Rattle.std.specs.Option.{option_map}
-use Rattle.name_table.specs.declared.opening.TheConstants.{OPENING}
 use Rattle.name_table.specs.declared.names.Kind.{Kind}
 use Rattle.name_table.specs.declared.names.Kind.TheVariants.{Builtin, Wizard}
 use Rattle.name_table.specs.declared.style.Body.{Body}
@@ -12,15 +11,12 @@ use Rattle.name_table.specs.declared.style.Style.{Style}
 use Rattle.name_table.specs.declared.style.Token.{Token}
 use Rattle.name_table.specs.declared.style.Token.TheVariants.{Int, Str, Quote, Block, Call}
 use Rattle.name_table.specs.Names.{same_name, kind_at, lowered, is_definable}
+use Rattle.name_table.specs.Opening.{opening_names}
 
 -- each item of a list has a property
 abbrev pub Each : {X : Type 0} → (X → Type 0) → List X → Type 0
 Each P [] = Unit {0}
 Each P (x ∷ xs) = P x × Each P xs
-
--- the names of every style, with ids 0 to 40
-abbrev pub opening_names : List (List ℕ × Kind)
-opening_names = map (λ entry. (entry.0.now, entry.1)) OPENING
 
 -- a declared name has name bytes alone, doesn't begin with a digit, is lowered, and has at most 4194304 bytes
 pub record IsDeclared (name : List ℕ) : Type 0 where

@@ -3,6 +3,7 @@
 ghost use Rattle.std.specs.Prelude.{◌≡◌, ◌<◌, ◌≤◌, [], ◌∷◌, ◌++◌, length, map, Some, None, IfOk, OnOk, IfErr, IfSome};
 ghost use Rattle.name_table.specs.Defining.{IsCause};
 ghost use Rattle.name_table.specs.Names.{id_of, kind_at, text_at};
+ghost use Rattle.name_table.specs.Opening.{opening_names};
 
 use crate::builtin::Builtin;
 use crate::opening::OPENING;
@@ -75,7 +76,7 @@ impl Names {
     /// The names of every style: the built-in functions with ids 0 to 36, then `crossref`, `sort.key$`,
     /// `entry.max$` and `global.max$`.
     pub fn opening(alloc: Global) -> Result<Names, NoMemory>
-        ensures { IfOk result (λ names. names ≡ map (λ entry. (entry.0.now, entry.1)) OPENING) }
+        ensures { IfOk result (λ names. names ≡ opening_names) }
     {
         table_of(alloc, &OPENING)
     }
