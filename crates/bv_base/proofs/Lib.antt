@@ -1,3 +1,4 @@
 pub mod Appended
+pub mod KeyLists
 pub mod Listed
 pub mod Running

@@ -1,6 +1,7 @@
 pub mod Answers
 pub mod Bytes
 pub mod HostView
+pub mod KeySets
 pub mod Keys
 pub mod Levels
 pub mod Memory

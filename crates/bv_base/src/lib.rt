@@ -7,6 +7,7 @@ pub mod files;
 pub mod host_files;
 pub mod host_sink;
 pub mod limits;
+pub mod key_set;
 pub mod mem_files;
 pub mod mem_sink;
 pub mod memory;
