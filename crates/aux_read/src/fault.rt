@@ -1,6 +1,7 @@
 //! Why some bytes aren't an `.aux` file.
 
 ghost use Rattle.std.specs.Prelude.{◌≡◌};
+ghost use Rattle.aux_read.specs.Faults.{name_of, place_of};
 
 use bv_base::memory::NoMemory;
 use bv_base::place::Place;
@@ -32,5 +33,31 @@ impl From<NoMemory> for AuxFault {
 
     fn from(_refused: NoMemory) -> AuxFault {
         AuxFault::NoMemory
+    }
+}
+
+impl AuxFault {
+    /// The name that a last line tells.
+    pub fn name(&self) -> &'static str
+        ensures { result.now ≡ name_of self.now }
+    {
+        match self {
+            AuxFault::BadCommand(_) => "BadCommand",
+            AuxFault::SecondStyle(_) => "SecondStyle",
+            AuxFault::SecondData(_) => "SecondData",
+            AuxFault::NoMemory => "NoMemory",
+        }
+    }
+
+    /// The place of the fault. Want of memory, which no answer tells, has the first.
+    pub fn place(&self) -> Place
+        ensures { result ≡ place_of self.now }
+    {
+        match *self {
+            AuxFault::BadCommand(place)
+            | AuxFault::SecondStyle(place)
+            | AuxFault::SecondData(place) => place,
+            AuxFault::NoMemory => Place::START,
+        }
     }
 }

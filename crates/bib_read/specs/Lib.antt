@@ -1,6 +1,7 @@
 pub mod Additions
 pub mod Entering
 pub mod FaultPlaces
+pub mod Faults
 pub mod Grammar
 pub mod Meaning
 pub mod Names

@@ -1,5 +1,8 @@
 //! Why some bytes aren't a database.
 
+ghost use Rattle.std.specs.Prelude.{◌≡◌};
+ghost use Rattle.bib_read.specs.Faults.{name_of, place_of};
+
 use bv_base::place::Place;
 use thiserror::Error;
 
@@ -21,4 +24,32 @@ pub enum BibFault {
     /// Want of memory.
     #[error("no memory")]
     NoMemory,
+}
+
+impl BibFault {
+    /// The name that a last line tells.
+    pub fn name(&self) -> &'static str
+        ensures { result.now ≡ name_of self.now }
+    {
+        match self {
+            BibFault::Expected(_) => "Expected",
+            BibFault::EndOfFile(_) => "EndOfFile",
+            BibFault::Unbalanced(_) => "Unbalanced",
+            BibFault::RepeatedKey(_) => "RepeatedKey",
+            BibFault::NoMemory => "NoMemory",
+        }
+    }
+
+    /// The place of the fault. Want of memory, which no answer tells, has the first.
+    pub fn place(&self) -> Place
+        ensures { result ≡ place_of self.now }
+    {
+        match *self {
+            BibFault::Expected(place)
+            | BibFault::EndOfFile(place)
+            | BibFault::Unbalanced(place)
+            | BibFault::RepeatedKey(place) => place,
+            BibFault::NoMemory => Place::START,
+        }
+    }
 }
