@@ -1,5 +1,5 @@
 -- The list of a set of keys, and what is among it.
-use Rattle.std.proofs.Common.{◌≡◌, ℕ, Bool, true, false, ◌||◌, cond, nat_eq, List, [], ◌∷◌, ◌++◌, map, refl, ap, ◌∙◌}
+use Rattle.std.proofs.Common.{◌≡◌, ℕ, Bool, true, false, ◌||◌, cond, nat_eq, List, [], ◌∷◌, ◌++◌, map, refl, sym, ap, ◌∙◌}
 use Rattle.std.specs.Global.{Vec}
 use Rattle.std.specs.Cmp.Lexicographic.{pointwise, same_text}
 use Rattle.std.specs.List.{list_any}
@@ -52,3 +52,15 @@ has_with key keys other = by (has_key key keys) refl
     by false has =
         list_any-append (pointwise nat_eq other) keys (key ∷ [])
         ∙ or_last (has_key other keys) (pointwise nat_eq other key)
+
+-- where an item is put last in a list, and its key into the set of the list's keys, the set is still that of the keys
+pub any_added : {X : Type 0} (p : X → Bool) (xs : List X) (x : X) (keys new : List (List ℕ)) (key other : List ℕ)
+    → list_any p xs ≡ has_key other keys → p x ≡ pointwise nat_eq other key
+    → has_key other new ≡ (pointwise nat_eq other key || has_key other keys)
+    → list_any p (xs ++ x ∷ []) ≡ has_key other new
+any_added p xs x keys new key other held same added =
+    list_any-append p xs (x ∷ [])
+    ∙ ap (λ b. b || (p x || false)) held
+    ∙ ap (λ b. has_key other keys || (b || false)) same
+    ∙ or_last (has_key other keys) (pointwise nat_eq other key)
+    ∙ sym added

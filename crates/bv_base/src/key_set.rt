@@ -3,7 +3,7 @@
 ghost use Rattle.std.specs.Prelude.{◌≡◌, ℕ, ◌||◌, nat_eq, not, List, [], map, IfOk, OnOk, OnErr};
 ghost use Rattle.std.specs.Cmp.Lexicographic.{pointwise};
 ghost use Rattle.bv_base.specs.Bytes as bytes;
-ghost use Rattle.bv_base.specs.KeySets.{has_key, with_key};
+ghost use Rattle.bv_base.specs.KeySets.{has_key, has_lowered, with_key};
 
 use crate::bytes::lower;
 use crate::memory::NoMemory;
@@ -13,9 +13,10 @@ use std::marker::Model;
 
 /// Keys in a hash table, in the order in which they were put in. Contracts see their list.
 ///
-/// Keys are the same where their bytes are. Where upper and lower case are the same, keys are `lowered` first.
+/// Keys are the same where their bytes are. Where upper and lower case are the same, all keys of a set are lowered.
 #[derive(Drop)]
 pub struct KeySet {
+    alloc: Global,
     table: IndexSet<Vec<u8>>,
 }
 
@@ -33,6 +34,7 @@ impl KeySet {
         ensures { result ≡ [] }
     {
         KeySet {
+            alloc,
             table: IndexSet::new(alloc),
         }
     }
@@ -56,6 +58,26 @@ impl KeySet {
             return Err(NoMemory);
         };
         Ok(fresh)
+    }
+
+    /// Whether a key is there once it is lowered.
+    pub fn has_lowered(&self, key: &[u8]) -> Result<bool, NoMemory>
+        ensures { IfOk result (λ there. there ≡ has_lowered key.now self.now) }
+    {
+        let key = lowered(self.alloc, key)?;
+        Ok(self.has(key.as_slice()))
+    }
+
+    /// Puts a key in once it is lowered, and says whether it is new.
+    pub fn add_lowered(&mut self, key: &[u8]) -> Result<bool, NoMemory>
+        ensures fresh { IfOk result (λ fresh. fresh ≡ not (has_lowered key.now self.old)) }
+        ensures keys { OnOk result (self.new ≡ with_key (map bytes.lower key.now) self.old) }
+        ensures members { OnOk result
+            ((other : List ℕ) → has_lowered other self.new
+            ≡ (pointwise nat_eq (map bytes.lower other) (map bytes.lower key.now) || has_lowered other self.old)) }
+    {
+        let key = lowered(self.alloc, key)?;
+        self.add(key)
     }
 }
 
