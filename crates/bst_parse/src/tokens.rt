@@ -106,9 +106,7 @@ impl Parser {
     {
         let length = lexeme.text.len();
         if begins_block(source, lexeme.start as usize + length) {
-            return Err(StyleFault::Lex(LexFault::StuffAfterToken(
-                lexeme.place.along(length),
-            )));
+            return Err(StyleFault::Lex(LexFault::StuffAfterToken(lexeme.place.along(length))));
         }
         lower_into(&mut self.lowered, name)?;
         match self.names.find(self.lowered.as_slice()) {
