@@ -1,16 +1,10 @@
 -- The cursor stays within its source, at the place of the next byte.
 use Rattle.std.proofs.Common.{◌≡◌, ℕ, zero, suc, ◌+◌, ◌-◌, ◌≤◌, List, [], ◌∷◌, length, take, drop, sym, ap, ◌∙◌, arith, length-drop}
+use Rattle.std.proofs.lemmas.List.{drop-drop}
 use Rattle.std.proofs.Math.Seq.{drop-nil, take-nil}
 use Rattle.bv_base.specs.declared.place.Place.{Place}
 use Rattle.bst_lex.specs.Lexer.{Stands}
-use Rattle.bst_lex.specs.Places.{after_byte, after_bytes, first_place, place_at}
-
-pub drop_more : (start count : ℕ) (source : List ℕ) → drop count (drop start source) ≡ drop (start + count) source
-drop_more zero count source = ap (λ n. drop n source) {x = count} {y = 0 + count} (omega arith)
-drop_more (suc start) count [] = drop-nil count ∙ sym (drop-nil (suc start + count))
-drop_more (suc start) count (b ∷ source) =
-    drop_more start count source
-    ∙ ap (λ n. drop n (b ∷ source)) {x = suc (start + count)} {y = suc start + count} (omega arith)
+use Rattle.bv_base.specs.Places.{after_byte, after_bytes, first_place, place_at}
 
 pub place_more : (start count : ℕ) (source : List ℕ) (place : Place)
     → after_bytes (take count (drop start source)) (after_bytes (take start source) place)
@@ -32,7 +26,7 @@ stands_moved source start place rest count to at left h most e f g line column =
   within =
       let all : length rest ≡ length source - start = ap length h.rest_is ∙ length-drop start source in
       let before : start ≤ length source = h.within in omega arith;
-  rest_is = g ∙ ap (drop count) h.rest_is ∙ drop_more start count source ∙ ap (λ n. drop n source) (sym e);
+  rest_is = g ∙ ap (drop count) h.rest_is ∙ drop-drop count start source ∙ ap (λ n. drop n source) (sym e);
   place_is =
       f ∙ ap (λ bytes. after_bytes (take count bytes) place) h.rest_is
       ∙ ap (after_bytes (take count (drop start source))) h.place_is

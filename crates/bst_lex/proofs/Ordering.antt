@@ -1,21 +1,21 @@
 -- What the grammar spells stands in order.
 use Rattle.std.proofs.Common.{◌≡◌, ℕ, ◌+◌, ◌-◌, ◌<◌, List, [], ◌∷◌, ◌++◌, length, take, drop, Option, sym, ap, ◌∙◌, arith}
-use Rattle.std.proofs.lemmas.List.{length-drop, length-append}
+use Rattle.std.proofs.lemmas.List.{length-drop, length-append, drop-drop}
 use Rattle.std.proofs.Math.Seq.{take-append_seam, drop-append_seam}
 use Rattle.bv_base.specs.declared.place.Place.{Place}
 use Rattle.bst_lex.specs.declared.lexeme.LexFault.{LexFault}
 use Rattle.bst_lex.specs.Grammar.{spaces, Spells}
 use Rattle.bst_lex.specs.Lexemes.{Seen}
 use Rattle.bst_lex.specs.Order.{InOrder}
-use Rattle.bst_lex.specs.Places.{after_bytes, first_place, place_at}
-use Rattle.bst_lex.proofs.Moving.{drop_more, place_more}
+use Rattle.bv_base.specs.Places.{after_bytes, first_place, place_at}
+use Rattle.bst_lex.proofs.Moving.{place_more}
 use Rattle.bst_lex.proofs.Reading.{lexeme_some}
 
 -- what is left after a front of what is left
 pub left_after : (source : List ℕ) (from : ℕ) (front rest : List ℕ) → drop from source ≡ front ++ rest
     → drop (from + length front) source ≡ rest
 left_after source from front rest e =
-    sym (drop_more from (length front) source) ∙ ap (drop (length front)) e ∙ drop-append_seam front rest
+    sym (drop-drop (length front) from source) ∙ ap (drop (length front)) e ∙ drop-append_seam front rest
 
 -- the place after a front of what is left
 pub place_after : (source : List ℕ) (from : ℕ) (front rest : List ℕ) → drop from source ≡ front ++ rest

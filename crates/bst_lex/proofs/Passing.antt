@@ -5,8 +5,9 @@ use Rattle.bv_base.specs.Bytes.{is_white}
 use Rattle.bst_lex.specs.declared.lexeme.LexFault.{LexFault}
 use Rattle.bst_lex.specs.declared.lexeme.Piece.{Piece}
 use Rattle.bst_lex.specs.Lexemes.{Lexed, before, begun, lexed_after}
-use Rattle.bst_lex.specs.Pieces.{comment_length, gap_at, gap_length, piece_at, number_from}
-use Rattle.bst_lex.specs.Places.{after_byte, after_bytes}
+use Rattle.bv_base.specs.Runs.{number_from}
+use Rattle.bst_lex.specs.Pieces.{comment_length, gap_at, gap_length, piece_at}
+use Rattle.bv_base.specs.Places.{after_byte, after_bytes}
 
 -- the bytes that are passed over are gone
 pub lexed_passed : (pass start : ℕ) (place : Place) (bytes : List ℕ) → pass ≤ length bytes
@@ -153,8 +154,3 @@ fault_first start place (b ∷ bytes) fault gap is some =
     let after : ℕ → Lexed = λ pass. lexed_after pass (start + 1) (after_byte b place) bytes in
     ap (λ n. begun n (piece_at place (b ∷ bytes)) start place (b ∷ bytes) after) gap
     ∙ ap (λ p. begun 0 p start place (b ∷ bytes) after) is
-
-pub number_same : (m n : ℕ) (digits : List ℕ) → min 4294967296 m ≡ min 4294967296 n
-    → min 4294967296 (number_from m digits) ≡ min 4294967296 (number_from n digits)
-number_same m n [] h = h
-number_same m n (d ∷ digits) h = number_same (10 * m + (d - 48)) (10 * n + (d - 48)) digits (omega arith)

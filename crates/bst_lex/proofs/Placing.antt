@@ -7,10 +7,11 @@ use Rattle.bst_lex.specs.declared.lexeme.LexFault.{LexFault}
 use Rattle.bst_lex.specs.declared.lexeme.LexFault.TheVariants.{NoEndQuote, BadInteger, StuffAfterToken, IllegalByte, IntegerRange}
 use Rattle.bst_lex.specs.Grammar.{IsFault, IsInteger, IsText, NoneOf, Spells, is_line_end, spaces}
 use Rattle.bst_lex.specs.Lexemes.{Seen}
-use Rattle.bst_lex.specs.Pieces.{ends_clean, ends_digits, ends_inside}
+use Rattle.bv_base.specs.Runs.{ends_digits}
+use Rattle.bst_lex.specs.Pieces.{ends_clean, ends_inside}
 use Rattle.bst_lex.specs.Fault.{place_of}
-use Rattle.bst_lex.specs.PlaceLaws.{BeginsLine, StandsIn, line_ends}
-use Rattle.bst_lex.specs.Places.{after_byte, after_bytes, along, first_place, place_at}
+use Rattle.bst_lex.specs.PlaceLaws.{BeginsLine, line_ends}
+use Rattle.bv_base.specs.Places.{after_byte, after_bytes, along, first_place, place_at, StandsIn}
 use Rattle.bst_lex.proofs.Ordering.{left_after, place_after}
 
 -- the place after a byte, when it is known whether that is a line end
@@ -29,7 +30,7 @@ lines_after [] place = omega arith
 lines_after (b ∷ bytes) place = line_case (nat_eq b 10) (line_ends bytes) place bytes (lines_after bytes (after_byte b place))
 
 -- within a line places go along it
-along_line : (bytes : List ℕ) (place : Place) → NoneOf is_line_end bytes → after_bytes bytes place ≡ along place (length bytes)
+pub along_line : (bytes : List ℕ) (place : Place) → NoneOf is_line_end bytes → after_bytes bytes place ≡ along place (length bytes)
 along_line [] place none = ap (λ n. record { line = place.line; column = n }) {x = place.column} {y = place.column + 0} (omega arith)
 along_line (b ∷ bytes) place (here, none) =
     ap (λ v. after_bytes bytes (next v place)) here
@@ -46,7 +47,7 @@ column_begins : (front : List ℕ) → BeginsLine front → (after_bytes front f
 column_begins [] h = refl
 column_begins (b ∷ front) h = line_begins b front first_place h
 
-after_append : (first second : List ℕ) (place : Place)
+pub after_append : (first second : List ℕ) (place : Place)
     → after_bytes (first ++ second) place ≡ after_bytes second (after_bytes first place)
 after_append [] second place = refl
 after_append (b ∷ first) second place = after_append first second (after_byte b place)
@@ -62,7 +63,7 @@ columns_counted source at front line e begins none =
     ∙ ap (λ n. n + length line) (column_begins front begins)
 
 -- what ends digits, the inside of a text or a clean run passes every line end
-none_weaker : (test other : ℕ → Bool) (bytes : List ℕ) → ((b : ℕ) → test b ≡ false → other b ≡ false)
+pub none_weaker : (test other : ℕ → Bool) (bytes : List ℕ) → ((b : ℕ) → test b ≡ false → other b ≡ false)
     → NoneOf test bytes → NoneOf other bytes
 none_weaker test other [] h none = tt
 none_weaker test other (b ∷ bytes) h (here, none) = (h b here, none_weaker test other bytes h none)
@@ -77,7 +78,7 @@ digit_plain b e = grind (arith, nat_tests)
 inside_plain : (b : ℕ) → ends_inside b ≡ false → is_line_end b ≡ false
 inside_plain b e = grind (arith, nat_tests)
 
-clean_plain : (b : ℕ) → ends_clean b ≡ false → is_line_end b ≡ false
+pub clean_plain : (b : ℕ) → ends_clean b ≡ false → is_line_end b ≡ false
 clean_plain b e = grind (arith, nat_tests)
 
 integer_plain : (minus : Bool) (digits text : List ℕ) → IsInteger minus digits text → NoneOf is_line_end text

@@ -7,7 +7,8 @@ use Rattle.bst_lex.specs.declared.lexeme.LexFault.{LexFault}
 use Rattle.bst_lex.specs.declared.lexeme.Piece.{Piece}
 use Rattle.bst_lex.specs.declared.lexeme.Shape.{Shape}
 use Rattle.bst_lex.specs.declared.lexeme.Shape.TheVariants.{Quoted, Name}
-use Rattle.bst_lex.specs.Pieces.{comment_length, gap_at, piece_at, digits_at, integer_at, text_at, run_at, may_follow, number_from, length_before, first_is, ends_digits, ends_inside, ends_clean, ends_run, is_control}
+use Rattle.bv_base.specs.Runs.{number_from, length_before, ends_digits}
+use Rattle.bst_lex.specs.Pieces.{comment_length, gap_at, piece_at, digits_at, integer_at, text_at, run_at, may_follow, first_is, ends_inside, ends_clean, ends_run, is_control}
 
 -- a piece within so many bytes
 abbrev pub Reaches : ℕ → Piece → Type 0

@@ -1,6 +1,6 @@
 -- What the grammar spells is what the definition reads.
 use Rattle.std.proofs.Common.{◌≡◌, ℕ, suc, ◌+◌, ◌<◌, ◌≤◌, ◌||◌, ◌&&◌, Bool, true, false, cond, nat_eq, nat_le, not, List, [], ◌∷◌, ◌++◌, length, take, drop, Result, Ok, Err, Option, Some, None, refl, sym, ap, ◌∙◌, subst, inl, inr, arith, eqb-true}
-use Rattle.std.proofs.lemmas.Bool.{le-leb}
+use Rattle.std.proofs.lemmas.Bool.{le-leb, and_parts}
 use Rattle.std.proofs.lemmas.Bool.Decides.{nat_tests}
 use Rattle.std.proofs.lemmas.List.{length-append, append_assoc, append-nil}
 use Rattle.std.proofs.Math.Seq.{take-append_seam, drop-append_seam}
@@ -13,8 +13,9 @@ use Rattle.bst_lex.specs.declared.lexeme.Shape.{Shape}
 use Rattle.bst_lex.specs.declared.lexeme.Shape.TheVariants.{OpenBrace, CloseBrace, Integer, Text, Quoted, Name}
 use Rattle.bst_lex.specs.Grammar.{NoneOf, EndsBy, is_line_end, Space, White, Comment, spaces, IsGap, sign, greatest, begins_run, IsLexeme, IsFault, Spells}
 use Rattle.bst_lex.specs.Lexemes.{Seen, before, begun, lexed_after}
-use Rattle.bst_lex.specs.Pieces.{comment_length, digits_at, ends_clean, ends_digits, ends_inside, ends_run, first_is, gap_at, integer_at, is_control, length_before, may_follow, number_from, piece_at, ranged, run_at, signed, text_at, followed}
-use Rattle.bst_lex.specs.Places.{after_byte, after_bytes, along}
+use Rattle.bv_base.specs.Runs.{ends_digits, length_before, number_from}
+use Rattle.bst_lex.specs.Pieces.{comment_length, digits_at, ends_clean, ends_inside, ends_run, first_is, gap_at, integer_at, is_control, may_follow, piece_at, ranged, run_at, signed, text_at, followed}
+use Rattle.bv_base.specs.Places.{after_byte, after_bytes, along}
 use Rattle.bst_lex.proofs.Passing.{lexed_passed, piece_passed, fault_first}
 
 when_true : {X : Type 0} (test : Bool) (a b : X) → test ≡ true → cond test a b ≡ a
@@ -73,10 +74,6 @@ gap_read start place (Comment inside ∷ gap) rest (plain, ends, rule) =
 or_false : (x y : Bool) → (x || y) ≡ false → (x ≡ false) × (y ≡ false)
 or_false true y e = cc
 or_false false y e = (refl, e)
-
-and_true : (x y : Bool) → (x && y) ≡ true → (x ≡ true) × (y ≡ true)
-and_true true y e = (refl, e)
-and_true false y e = cc
 
 or_right : (x y : Bool) → y ≡ true → (x || y) ≡ true
 or_right true y e = refl
@@ -218,7 +215,7 @@ run_begins place b bytes run begins =
     let opens = or_false (nat_eq b 123) (nat_eq b 125 || (nat_eq b 37 || false)) white.1 in
     let closes = or_false (nat_eq b 125) (nat_eq b 37 || false) opens.1 in
     let percent = or_false (nat_eq b 37) false closes.1 in
-    let marks = and_true (not (nat_eq 35 b)) (not (nat_eq 34 b)) begins in
+    let marks = and_parts (not (nat_eq 35 b)) (not (nat_eq 34 b)) begins in
     record {
       piece_is =
           when_false (nat_eq 123 b) _ _ (eq_swap b 123 opens.0)

@@ -5,7 +5,7 @@ use Rattle.bst_lex.specs.declared.lexeme.LexFault.{LexFault}
 use Rattle.bst_lex.specs.declared.lexeme.Piece.{Piece}
 use Rattle.bst_lex.specs.Lexemes.{Lexed, Reading, Seen, before, lexed_after, reading_at}
 use Rattle.bst_lex.specs.Pieces.{gap_at, gap_length, piece_at}
-use Rattle.bst_lex.specs.Places.{after_bytes}
+use Rattle.bv_base.specs.Places.{after_bytes}
 use Rattle.bst_lex.proofs.Passing.{lexed_from, gap_passed, gap_stops, piece_passed, fault_first}
 use Rattle.bst_lex.proofs.Reaching.{Reaches, piece_reaches}
 

@@ -11,8 +11,9 @@ use Rattle.bst_lex.specs.declared.lexeme.Piece.{Piece}
 use Rattle.bst_lex.specs.declared.lexeme.Shape.TheVariants.{Text, Quoted, Name}
 use Rattle.bst_lex.specs.Grammar.{NoneOf, EndsBy, is_line_end, Space, White, Comment, spaces, IsGap, sign, greatest, IsInteger, begins_run, IsLexeme, IsFault, Spells}
 use Rattle.bst_lex.specs.Lexemes.{Lexed, lexed_after}
-use Rattle.bst_lex.specs.Pieces.{digits_at, ends_clean, ends_digits, ends_inside, ends_run, first_is, gap_at, gap_length, integer_at, is_control, length_before, may_follow, number_from, piece_at, run_at, text_at, followed}
-use Rattle.bst_lex.specs.Places.{after_bytes, along}
+use Rattle.bv_base.specs.Runs.{ends_digits, length_before, number_from}
+use Rattle.bst_lex.specs.Pieces.{digits_at, ends_clean, ends_inside, ends_run, first_is, gap_at, gap_length, integer_at, is_control, may_follow, piece_at, run_at, text_at, followed}
+use Rattle.bv_base.specs.Places.{after_bytes, along}
 use Rattle.bst_lex.proofs.Passing.{lexed_from, gap_passed, gap_stops, piece_passed, fault_first}
 use Rattle.bst_lex.proofs.Reaching.{Reaches, length_before_within, piece_reaches, runs_on}
 

@@ -8,8 +8,9 @@ use Rattle.bst_lex.specs.declared.lexeme.LexFault.TheVariants.{NoEndQuote, BadIn
 use Rattle.bst_lex.specs.declared.lexeme.Shape.{Shape}
 use Rattle.bst_lex.specs.declared.lexeme.Shape.TheVariants.{OpenBrace, CloseBrace, Integer, Text, Quoted, Name}
 use Rattle.bst_lex.specs.Lexemes.{Seen}
-use Rattle.bst_lex.specs.Pieces.{ends_clean, ends_digits, ends_inside, ends_run, first_is, is_control, may_follow, number_from, signed}
-use Rattle.bst_lex.specs.Places.{after_bytes, along}
+use Rattle.bv_base.specs.Runs.{ends_digits, number_from}
+use Rattle.bst_lex.specs.Pieces.{ends_clean, ends_inside, ends_run, first_is, is_control, may_follow, signed}
+use Rattle.bv_base.specs.Places.{after_bytes, along}
 
 -- no byte passes the test
 abbrev pub NoneOf : (ℕ → Bool) → List ℕ → Type 0
@@ -21,6 +22,7 @@ abbrev pub EndsBy : (ℕ → Bool) → List ℕ → Type 0
 EndsBy test [] = Unit {0}
 EndsBy test (b ∷ _) = test b ≡ true
 
+-- the byte that ends a line
 abbrev pub is_line_end : ℕ → Bool
 is_line_end b = nat_eq b 10
 

@@ -6,7 +6,7 @@ use Rattle.bst_lex.specs.declared.lexeme.LexFault.{LexFault}
 use Rattle.bst_lex.specs.declared.lexeme.Piece.{Piece}
 use Rattle.bst_lex.specs.declared.lexeme.Shape.{Shape}
 use Rattle.bst_lex.specs.Pieces.{gap_at, piece_at}
-use Rattle.bst_lex.specs.Places.{after_byte, first_place}
+use Rattle.bv_base.specs.Places.{after_byte, first_place}
 
 -- a lexeme, without where it lies in memory
 pub record Seen : Type 0 where
@@ -15,6 +15,7 @@ pub record Seen : Type 0 where
   pub place : Place
   pub shape : Shape
 
+-- what contracts see of a lexeme
 abbrev pub seen : Lexeme → Seen
 seen lexeme = record { text = lexeme.text.now; start = lexeme.start; place = lexeme.place; shape = lexeme.shape }
 

@@ -3,8 +3,9 @@ use Rattle.std.specs.Prelude.{◌≡◌, ℕ, ◌+◌, ◌≤◌, List, length, 
 use Rattle.bv_base.specs.declared.place.Place.{Place}
 use Rattle.bst_lex.specs.declared.lexer.Lexer.TheInside.{Inside}
 use Rattle.bst_lex.specs.Lexemes.{Reading, reading_at}
-use Rattle.bst_lex.specs.Places.{place_at}
+use Rattle.bv_base.specs.Places.{place_at}
 
+-- what is left of the source from the cursor on
 abbrev pub reading_of : Inside → Reading
 reading_of l = reading_at l.source.now l.failed l.cursor.start l.cursor.place l.cursor.rest.now
 

@@ -5,4 +5,3 @@ pub mod Lexer
 pub mod Order
 pub mod Pieces
 pub mod PlaceLaws
-pub mod Places

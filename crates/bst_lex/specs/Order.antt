@@ -2,7 +2,7 @@
 use Rattle.std.specs.Prelude.{◌≡◌, ℕ, ◌+◌, ◌-◌, ◌<◌, ◌≤◌, List, [], ◌∷◌, length, take, drop}
 use Rattle.bst_lex.specs.Grammar.{Space, spaces}
 use Rattle.bst_lex.specs.Lexemes.{Seen}
-use Rattle.bst_lex.specs.Places.{place_at}
+use Rattle.bv_base.specs.Places.{place_at}
 
 -- a lexeme is a slice of its source, at the place of its first byte; between what was read before and the lexeme
 -- stand white space and comments alone

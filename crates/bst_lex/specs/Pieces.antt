@@ -1,6 +1,6 @@
 -- How far a lexeme, white space or a comment reaches, and what is wrong with a lexeme
 -- (docs/LANGUAGE.md, "Lexemes" and "Faults of lexemes").
-use Rattle.std.specs.Prelude.{ℕ, zero, suc, ◌+◌, ◌-◌, ◌*◌, ℤ, pos, negsuc, Bool, true, false, ◌&&◌, ◌||◌, not, nat_eq, nat_le, nat_lt, if◌then◌else◌, List, [], ◌∷◌, take, drop, Result, Ok, Err, codes}
+use Rattle.std.specs.Prelude.{ℕ, zero, suc, ◌+◌, ℤ, pos, negsuc, Bool, true, false, ◌&&◌, ◌||◌, not, nat_eq, nat_le, nat_lt, if◌then◌else◌, List, [], ◌∷◌, take, drop, Result, Ok, Err, codes}
 use Rattle.bv_base.specs.Bytes.{is_among, is_white}
 use Rattle.bv_base.specs.declared.place.Place.{Place}
 use Rattle.bst_lex.specs.declared.lexeme.LexFault.{LexFault}
@@ -8,7 +8,8 @@ use Rattle.bst_lex.specs.declared.lexeme.LexFault.TheVariants.{NoEndQuote, BadIn
 use Rattle.bst_lex.specs.declared.lexeme.Piece.{Piece}
 use Rattle.bst_lex.specs.declared.lexeme.Shape.{Shape}
 use Rattle.bst_lex.specs.declared.lexeme.Shape.TheVariants.{OpenBrace, CloseBrace, Integer, Text, Quoted, Name}
-use Rattle.bst_lex.specs.Places.{along}
+use Rattle.bv_base.specs.Places.{along}
+use Rattle.bv_base.specs.Runs.{ends_digits, length_before, number_from}
 
 -- white space, `{`, `}` and `%` end a run
 abbrev pub ends_run : ℕ → Bool
@@ -22,10 +23,6 @@ is_control b = (nat_lt b 32 || nat_eq b 127) && not (is_white b)
 abbrev pub ends_clean : ℕ → Bool
 ends_clean b = ends_run b || is_control b
 
--- every byte but the digits `0` to `9`
-abbrev pub ends_digits : ℕ → Bool
-ends_digits b = not (nat_le 48 b && nat_le b 57)
-
 -- `"` and the line's end
 abbrev pub ends_inside : ℕ → Bool
 ends_inside b = is_among (34 ∷ 10 ∷ []) b
@@ -34,11 +31,6 @@ ends_inside b = is_among (34 ∷ 10 ∷ []) b
 abbrev pub first_is : (ℕ → Bool) → List ℕ → Bool
 first_is test [] = false
 first_is test (b ∷ _) = test b
-
--- how many bytes stand before the first that passes a test
-abbrev pub length_before : (ℕ → Bool) → List ℕ → ℕ
-length_before test [] = 0
-length_before test (b ∷ bytes) = if test b then 0 else suc (length_before test bytes)
 
 -- how many bytes of a comment stand before its line's end
 abbrev pub comment_length : List ℕ → ℕ
@@ -68,11 +60,7 @@ abbrev pub followed : Place → Piece → List ℕ → Result Piece LexFault
 followed place piece after =
     if may_follow after then Ok piece else Err (StuffAfterToken (along place piece.length))
 
--- the number that digits write, after the number that the digits before them write
-abbrev pub number_from : ℕ → List ℕ → ℕ
-number_from n [] = n
-number_from n (d ∷ digits) = number_from (10 * n + (d - 48)) digits
-
+-- the integer of a sign and a number, where the sign is a `-` or none
 abbrev pub signed : Bool → ℕ → ℤ
 signed true (suc n) = negsuc n
 signed true zero = pos 0

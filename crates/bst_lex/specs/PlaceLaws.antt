@@ -1,8 +1,6 @@
--- What places count, and where faults stand (docs/LANGUAGE.md, "Places").
-use Rattle.std.specs.Prelude.{◌≡◌, ℕ, ◌≤◌, suc, true, List, [], ◌∷◌, length, if◌then◌else◌}
-use Rattle.bv_base.specs.declared.place.Place.{Place}
+-- What places count (docs/LANGUAGE.md, "Places").
+use Rattle.std.specs.Prelude.{◌≡◌, ℕ, suc, true, List, [], ◌∷◌, if◌then◌else◌}
 use Rattle.bst_lex.specs.Grammar.{is_line_end}
-use Rattle.bst_lex.specs.Places.{place_at}
 
 -- how many line ends some bytes have
 abbrev pub line_ends : List ℕ → ℕ
@@ -14,7 +12,3 @@ abbrev pub BeginsLine : List ℕ → Type 0
 BeginsLine [] = Unit {0}
 BeginsLine (b ∷ []) = is_line_end b ≡ true
 BeginsLine (b ∷ c ∷ bytes) = BeginsLine (c ∷ bytes)
-
--- the place of a byte of the source, or of its end
-abbrev pub StandsIn : List ℕ → Place → Type 0
-StandsIn source place = (at : ℕ) × (at ≤ length source) × (place ≡ place_at source at)

@@ -1,7 +1,7 @@
 //! How far a source is read.
 
 ghost use Rattle.std.specs.Prelude.{◌≡◌, ◌+◌, ◌≤◌, length, take, drop};
-ghost use Rattle.bst_lex.specs.Places.{after_bytes};
+ghost use Rattle.bv_base.specs.Places.{after_bytes};
 
 use bv_base::place::Place;
 
@@ -30,28 +30,7 @@ impl<'a> Cursor<'a> {
         Cursor {
             rest,
             start: self.start + count as u32,
-            place: place_after(self.place, passed),
+            place: self.place.after(passed),
         }
     }
-}
-
-/// The place after some bytes.
-fn place_after(place: Place, bytes: &[u8]) -> Place
-    requires line { place.line + length bytes.now ≤ 4294967295 }
-    requires column { place.column + length bytes.now ≤ 4294967295 }
-    ensures place { result ≡ after_bytes bytes.now place }
-    ensures line { result.line ≤ place.line + length bytes.now }
-    ensures column { result.column ≤ place.column + length bytes.now }
-{
-    let mut line = place.line;
-    let mut column = place.column;
-    for b in bytes {
-        if *b == b'\n' {
-            line += 1;
-            column = 1;
-        } else {
-            column += 1;
-        }
-    }
-    Place { line, column }
 }

@@ -5,8 +5,8 @@ ghost use Rattle.bst_lex.specs.Fault.{place_of};
 ghost use Rattle.bst_lex.specs.Grammar.{NoneOf, Spells, is_line_end};
 ghost use Rattle.bst_lex.specs.Lexemes.{Seen, lexed};
 ghost use Rattle.bst_lex.specs.Order.{InOrder};
-ghost use Rattle.bst_lex.specs.PlaceLaws.{BeginsLine, StandsIn, line_ends};
-ghost use Rattle.bst_lex.specs.Places.{first_place, place_at};
+ghost use Rattle.bst_lex.specs.PlaceLaws.{BeginsLine, line_ends};
+ghost use Rattle.bv_base.specs.Places.{first_place, place_at, StandsIn};
 ghost use Rattle.bst_lex.specs.declared.lexeme.LexFault.{LexFault};
 
 /// The lexemes of a source, and the fault that ends them, are those that the grammar spells, and no others.

@@ -2,7 +2,7 @@
 
 ghost use Rattle.std.specs.Prelude.{◌≡◌, ◌≤◌, [], ◌∷◌, length, take, drop, Option, None, Some, MatchOption, MatchResult, IfOk, IfSome};
 ghost use Rattle.bst_lex.specs.Lexemes.{lexed, seen};
-ghost use Rattle.bst_lex.specs.Places.{place_at};
+ghost use Rattle.bv_base.specs.Places.{place_at};
 
 use crate::cursor::Cursor;
 use crate::lexeme::{LexFault, Lexeme};

@@ -2,11 +2,12 @@
 
 ghost use Rattle.std.specs.Prelude.{◌≡◌, ◌+◌, ◌≤◌, length, min, false};
 ghost use Rattle.bst_lex.specs.Pieces as pieces;
-ghost use Rattle.bst_lex.specs.Places as places;
+ghost use Rattle.bv_base.specs.Runs.{length_before};
 
 use crate::lexeme::{LexFault, Piece, Shape};
 use bv_base::bytes::is_white;
 use bv_base::place::Place;
+use bv_base::runs::{digits_length, number};
 
 /// How many bytes of white space and comments stand first.
 pub(crate) fn gap_length(bytes: &[u8]) -> usize
@@ -71,7 +72,7 @@ fn digits_at(place: Place, before: usize, minus: bool, bytes: &[u8]) -> Result<P
     if may_follow(after) {
         ranged(place, before + count, minus, number(digits))
     } else {
-        Err(LexFault::StuffAfterToken(along(place, before + count)))
+        Err(LexFault::StuffAfterToken(place.along(before + count)))
     }
 }
 
@@ -106,7 +107,7 @@ fn text_at(place: Place, after: &[u8]) -> Result<Piece, LexFault>
                     shape: Shape::Text,
                 })
             } else {
-                Err(LexFault::StuffAfterToken(along(place, length)))
+                Err(LexFault::StuffAfterToken(place.along(length)))
             }
         }
         _ => Err(LexFault::NoEndQuote(place)),
@@ -120,7 +121,7 @@ fn run_at(place: Place, shape: Shape, bytes: &[u8]) -> Result<Piece, LexFault>
 {
     let clean = clean_length(bytes);
     match bytes.split_at(clean).1 {
-        [b, ..] if is_control(*b) => Err(LexFault::IllegalByte(along(place, clean))),
+        [b, ..] if is_control(*b) => Err(LexFault::IllegalByte(place.along(clean))),
         _ => Ok(Piece {
             length: clean,
             shape,
@@ -128,33 +129,9 @@ fn run_at(place: Place, shape: Shape, bytes: &[u8]) -> Result<Piece, LexFault>
     }
 }
 
-/// The number that digits write, or 4294967296 where it is greater.
-fn number(digits: &[u8]) -> u64
-    ensures { result ≡ min 4294967296 (pieces.number_from 0 digits.now) }
-{
-    let mut value: u64 = 0;
-    for digit in digits {
-        value = (10 * value + digit.saturating_sub(b'0') as u64).min(4294967296);
-    }
-    value
-}
-
-/// How many digits stand first.
-fn digits_length(bytes: &[u8]) -> usize
-    ensures length { result ≡ pieces.length_before pieces.ends_digits bytes.now }
-    ensures within { result ≤ length bytes.now }
-{
-    for (i, b) in bytes.iter().enumerate() {
-        if !matches!(b, b'0'..=b'9') {
-            return i;
-        }
-    }
-    bytes.len()
-}
-
 /// How many bytes of a text's inside stand first.
 fn inside_length(bytes: &[u8]) -> usize
-    ensures length { result ≡ pieces.length_before pieces.ends_inside bytes.now }
+    ensures length { result ≡ length_before pieces.ends_inside bytes.now }
     ensures within { result ≤ length bytes.now }
 {
     for (i, b) in bytes.iter().enumerate() {
@@ -167,7 +144,7 @@ fn inside_length(bytes: &[u8]) -> usize
 
 /// How many bytes of a run stand before its end or its first control byte.
 fn clean_length(bytes: &[u8]) -> usize
-    ensures length { result ≡ pieces.length_before pieces.ends_clean bytes.now }
+    ensures length { result ≡ length_before pieces.ends_clean bytes.now }
     ensures within { result ≤ length bytes.now }
 {
     for (i, b) in bytes.iter().enumerate() {
@@ -200,15 +177,4 @@ fn is_control(b: u8) -> bool
     ensures { result ≡ pieces.is_control b }
 {
     (b < 32 || b == 127) && !is_white(b)
-}
-
-/// The place some bytes further on in the same line.
-fn along(place: Place, bytes: usize) -> Place
-    requires { place.column + bytes ≤ 4294967295 }
-    ensures { result ≡ places.along place bytes }
-{
-    Place {
-        line: place.line,
-        column: place.column + bytes as u32,
-    }
 }

@@ -4,7 +4,7 @@ use Rattle.name_table.specs.declared.style.Style.{Style}
 use Rattle.bst_lex.specs.declared.lexeme.LexFault.{LexFault}
 use Rattle.bst_lex.specs.Grammar.{Spells}
 use Rattle.bst_lex.specs.Lexemes.{Seen, lexed}
-use Rattle.bst_lex.specs.Places.{first_place}
+use Rattle.bv_base.specs.Places.{first_place}
 use Rattle.bst_parse.specs.Grammar.{Reads, spelled}
 use Rattle.bst_parse.specs.Reading.{opening_progress, reading, style_of}
 use Rattle.bst_parse.proofs.Completed.{completed, CommandsLeft}

@@ -2,7 +2,7 @@
 use Rattle.std.proofs.Common.{◌≡◌, ℕ, ◌+◌, ◌≤◌, Bool, true, false, cond, nat_eq, List, [], ◌∷◌, length, take, drop, ap, arith}
 use Rattle.std.proofs.lemmas.List.{length-take, length-drop}
 use Rattle.bv_base.specs.declared.place.Place.{Place}
-use Rattle.bst_lex.specs.Places.{after_byte, after_bytes, place_at}
+use Rattle.bv_base.specs.Places.{after_byte, after_bytes, place_at}
 
 next_column : (b : Bool) (line column : ℕ)
     → (cond {A = Place} b (record { line = line + 1; column = 1 }) (record { line = line; column = column + 1 })).column ≤ column + 1

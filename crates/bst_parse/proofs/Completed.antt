@@ -1,5 +1,6 @@
 -- The lexemes of a style are the spelling of commands.
 use Rattle.std.proofs.Common.{◌≡◌, ℕ, true, nat_eq, List, [], ◌∷◌, ◌++◌, append_assoc, Option, None, Some, Result, Ok, length, drop, refl, sym, ap, subst, ◌∙◌}
+use Rattle.std.proofs.lemmas.Bool.{and_parts}
 use Rattle.name_table.specs.declared.names.Kind.{Kind}
 use Rattle.name_table.specs.declared.style.BodyId.{BodyId}
 use Rattle.name_table.specs.declared.style.Style.{Style}
@@ -15,13 +16,14 @@ use Rattle.bst_parse.specs.Bodies.{innermost, next_body}
 use Rattle.bst_parse.specs.Commands.{parts_of}
 use Rattle.bst_parse.specs.Grammar.{Tokens, End, Leaf, Block, PartTree, One, Several, Braced, Tree, spelled_tokens, spelled_part, spelled_parts, spelled, is_leaf, AreTokens, IsPart, AreParts, IsCommand}
 use Rattle.bst_parse.specs.Parts.{take_open, take_close, take_names, take_function_name, take_target, take_macro_name, take_macro_text, take_body, pass, take_part}
-use Rattle.bst_parse.specs.Progress.{Progress, then_do}
+use Rattle.bv_base.specs.Answers.{then_do}
+use Rattle.bst_parse.specs.Progress.{Progress}
 use Rattle.bst_parse.specs.Reading.{take_outside, take_within, take_lexeme, is_idle, ended, reading}
 use Rattle.bst_parse.specs.Tokens.{take_token}
 use Rattle.bst_parse.specs.Words.{take_word}
 use Rattle.bst_parse.proofs.Kept.{Kept, open_kept, close_kept, define_kept, function_kept, target_kept, macro_name_kept, macro_text_kept, body_kept, block_kept, leaf_kept, word_kept}
 use Rattle.bst_parse.proofs.Rules.{ok_is, then_ok, where_ok}
-use Rattle.bst_parse.proofs.SoundStyle.{none_left, and_left, and_right}
+use Rattle.bst_parse.proofs.SoundStyle.{none_left}
 
 -- lexemes that are left, as commands
 pub record CommandsLeft (left : List Seen) : Type 0 where
@@ -221,8 +223,8 @@ ended_completes source None p style e =
     let w = where_ok (is_idle p) _ _ style e in (
       refl,
       nothing_left p.opened p.parts
-          (none_left p.opened (and_right (nat_eq (length p.parts) 0) (nat_eq (length p.opened) 0) w.0))
-          (none_left p.parts (and_left (nat_eq (length p.parts) 0) (nat_eq (length p.opened) 0) w.0)),
+          (none_left p.opened (and_parts (nat_eq (length p.parts) 0) (nat_eq (length p.opened) 0) w.0).1)
+          (none_left p.parts (and_parts (nat_eq (length p.parts) 0) (nat_eq (length p.opened) 0) w.0).0),
     )
 
 -- what is read to its end has no lexical fault, and its lexemes are those of trees

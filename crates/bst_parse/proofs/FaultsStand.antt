@@ -14,11 +14,10 @@ use Rattle.bst_lex.specs.declared.lexeme.Shape.TheVariants.{OpenBrace, CloseBrac
 use Rattle.bst_lex.specs.Lexemes.{Seen, lexed}
 use Rattle.bst_lex.specs.Order.{InOrder, IsNext}
 use Rattle.bst_lex.specs.Fault.{place_of}
-use Rattle.bst_lex.specs.PlaceLaws.{StandsIn}
 use Rattle.bst_lex.specs.Grammar.{NoneOf, IsLexeme, Spells, is_line_end}
 use Rattle.bst_lex.specs.Pieces.{ends_clean}
-use Rattle.bst_lex.specs.Places.{along, after_byte, after_bytes, first_place}
-use Rattle.std.proofs.lemmas.Bool.Decides.{nat_tests}
+use Rattle.bv_base.specs.Places.{after_bytes, along, first_place, StandsIn}
+use Rattle.bst_lex.proofs.Placing.{after_append, along_line, clean_plain, none_weaker}
 use Rattle.std.proofs.Math.Seq.{take-add}
 use Rattle.name_table.specs.Sound.{Each}
 use Rattle.bst_parse.specs.declared.fault.StyleFault.{StyleFault}
@@ -32,7 +31,8 @@ use Rattle.bst_parse.specs.Commands.{word_of}
 use Rattle.bst_parse.specs.Fault.{IsFaultOf}
 use Rattle.bst_parse.specs.Names.{has_macro}
 use Rattle.bst_parse.specs.Parts.{take_open, take_close, definable, defined, define, take_names, take_function_name, called, take_target, take_macro_name, take_macro_text, take_body, pass, take_part}
-use Rattle.bst_parse.specs.Progress.{Progress, then_do}
+use Rattle.bv_base.specs.Answers.{then_do}
+use Rattle.bst_parse.specs.Progress.{Progress}
 use Rattle.bst_parse.specs.Reading.{take_outside, take_within, take_lexeme, is_idle, ended, reading, opening_progress, style_of}
 use Rattle.bst_parse.specs.Tokens.{begins_block, is_own, not_own, used, take_token}
 use Rattle.bst_parse.specs.Words.{order_fault, begun, begin_named, take_word}
@@ -246,34 +246,10 @@ reading_placed source (l ∷ rest) fault p each h =
     placed_then source (take_lexeme source l p) (reading source rest fault) (within_placed source (innermost p.opened) l p each.0)
     (λ q. reading_placed source rest fault q each.1 h)
 
-none_more_column : (a : ℕ) → a ≡ a + 0
-none_more_column a = omega arith
-
--- the place after a text without line ends
-along_text : (bytes : List ℕ) (place : Place) → NoneOf is_line_end bytes → after_bytes bytes place ≡ along place (length bytes)
-along_text [] place h = ap (λ (c : ℕ). record place { column = c }) (none_more_column place.column)
-along_text (b ∷ bytes) place h =
-    ap (λ (t : Bool). after_bytes bytes (cond t (record { line = place.line + 1; column = 1 }) (record { line = place.line; column = place.column + 1 }))) h.0
-    ∙ along_text bytes (record { line = place.line; column = place.column + 1 }) h.1
-    ∙ ap (λ (c : ℕ). record place { column = c }) (add_next place.column (length bytes))
-  where
-    add_next : (a b : ℕ) → (a + 1) + b ≡ a + suc b
-    add_next a b = omega arith
-
-after_joined : (first second : List ℕ) (place : Place) → after_bytes (first ++ second) place ≡ after_bytes second (after_bytes first place)
-after_joined [] second place = refl
-after_joined (b ∷ first) second place = after_joined first second (after_byte b place)
-
-not_line_end : (b : ℕ) → ends_clean b ≡ false → is_line_end b ≡ false
-not_line_end b h = grind (arith, nat_tests)
-
-none_more : (bytes : List ℕ) → NoneOf ends_clean bytes → NoneOf is_line_end bytes
-none_more [] h = tt
-none_more (b ∷ bytes) h = (not_line_end b h.0, none_more bytes h.1)
-
+-- a run has no line end
 run_clean : (shape : Shape) (text rest : List ℕ) → is_run shape ≡ true → IsLexeme shape text rest → NoneOf is_line_end text
-run_clean Name text rest run h = none_more text h.3
-run_clean Quoted text rest run h = none_more text h.1
+run_clean Name text rest run h = none_weaker ends_clean is_line_end text clean_plain h.3
+run_clean Quoted text rest run h = none_weaker ends_clean is_line_end text clean_plain h.1
 run_clean OpenBrace text rest run h = absurd (cc)
 run_clean CloseBrace text rest run h = absurd (cc)
 run_clean (Integer k) text rest run h = absurd (cc)
@@ -290,9 +266,9 @@ each_stands source from start place bytes (l ∷ rest) fault order spells =
             λ run. (
               l.start + length l.text,
               next.within,
-              sym (along_text l.text l.place (run_clean l.shape l.text spells.1 run spells.6))
+              sym (along_line l.text l.place (run_clean l.shape l.text spells.1 run spells.6))
                   ∙ ap (after_bytes l.text) next.place_is
-                  ∙ sym (after_joined (take l.start source) l.text first_place)
+                  ∙ sym (after_append (take l.start source) l.text first_place)
                   ∙ ap (λ (t : List ℕ). after_bytes (take l.start source ++ t) first_place) next.slice
                   ∙ sym (ap (λ (t : List ℕ). after_bytes t first_place) (take-add l.start (length l.text) source)),
             );

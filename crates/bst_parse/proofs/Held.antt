@@ -16,7 +16,8 @@ use Rattle.bst_parse.specs.Bodies.{innermost, next_body}
 use Rattle.bst_parse.specs.Commands.{word_of, parts_of}
 use Rattle.bst_parse.specs.Grammar.{Tokens, End, Leaf, Block, PartTree, One, Several, Braced, Tree, spelled_tokens, spelled_part, spelled_parts, spelled, AreTokens, IsPart, AreParts, IsCommand, hold_tokens, hold_names, hold_part, hold_parts, hold_commands}
 use Rattle.bst_parse.specs.Parts.{take_open, take_close, take_function_name, take_target, take_macro_name, take_macro_text, take_body, pass, take_part}
-use Rattle.bst_parse.specs.Progress.{Progress, then_do}
+use Rattle.bv_base.specs.Answers.{then_do}
+use Rattle.bst_parse.specs.Progress.{Progress}
 use Rattle.bst_parse.specs.Reading.{take_outside, take_within, take_lexeme, reading}
 use Rattle.bst_parse.specs.Tokens.{take_token, begin_block}
 use Rattle.bst_parse.specs.Words.{take_word}

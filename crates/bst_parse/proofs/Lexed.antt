@@ -5,7 +5,7 @@ use Rattle.bv_base.specs.declared.place.Place.{Place}
 use Rattle.name_table.specs.Sound.{Each}
 use Rattle.bst_lex.specs.Lexemes.{Lexed, begun, lexed_after}
 use Rattle.bst_lex.specs.Pieces.{gap_at, piece_at}
-use Rattle.bst_lex.specs.Places.{after_byte}
+use Rattle.bv_base.specs.Places.{after_byte}
 
 -- at most `many` lexemes, none longer than 4194304 bytes
 pub record AreShort (many : ℕ) (found : Lexed) : Type 0 where

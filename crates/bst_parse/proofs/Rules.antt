@@ -8,7 +8,8 @@ use Rattle.bst_lex.specs.declared.lexeme.Shape.{Shape}
 use Rattle.bst_lex.specs.declared.lexeme.Shape.TheVariants.{OpenBrace, CloseBrace, Integer, Text, Quoted, Name}
 use Rattle.bst_parse.specs.declared.fault.StyleFault.{StyleFault}
 use Rattle.bst_parse.specs.Parts.{definable, defined, define}
-use Rattle.bst_parse.specs.Progress.{Progress, then_do}
+use Rattle.bv_base.specs.Answers.{then_do}
+use Rattle.bst_parse.specs.Progress.{Progress}
 
 abbrev pub ok : {A : Type 0} → A → Result A StyleFault
 ok x = Ok x

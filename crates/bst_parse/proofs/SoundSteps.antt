@@ -25,7 +25,8 @@ use Rattle.bst_parse.specs.Bodies.{next_body, innermost}
 use Rattle.bst_parse.specs.Commands.{word_of, parts_of, call_of}
 use Rattle.bst_parse.specs.Names.{has_macro}
 use Rattle.bst_parse.specs.Parts.{take_open, take_close, definable, define, take_names, next_name, take_function_name, called, take_target, take_macro_name, unmarked, take_macro_text, take_body, pass, take_part}
-use Rattle.bst_parse.specs.Progress.{Progress, then_do}
+use Rattle.bv_base.specs.Answers.{then_do}
+use Rattle.bst_parse.specs.Progress.{Progress}
 use Rattle.bst_parse.specs.Reading.{take_outside, take_within, take_lexeme}
 use Rattle.bst_parse.specs.Tokens.{begins_block, is_own, not_own, used, with_token, with_text, take_token}
 use Rattle.bst_parse.specs.Words.{order_fault, begun, begin, begin_named, take_word}

@@ -1,6 +1,6 @@
 -- A style that is read is sound.
 use Rattle.std.proofs.Common.{◌≡◌, ℕ, suc, ◌+◌, ◌≤◌, Bool, true, false, ◌&&◌, not, nat_eq, List, [], ◌∷◌, Option, None, Some, Result, Ok, Err, length, refl, sym, subst, arith}
-use Rattle.std.proofs.lemmas.Bool.{eqb-true}
+use Rattle.std.proofs.lemmas.Bool.{eqb-true, and_parts}
 use Rattle.std.specs.Result.{IfOk}
 use Rattle.name_table.specs.declared.names.Kind.{Kind}
 use Rattle.name_table.specs.declared.names.Kind.TheVariants.{Builtin, Wizard, Field, IntEntry, StrEntry, IntGlobal, StrGlobal}
@@ -11,7 +11,7 @@ use Rattle.name_table.specs.Opening.{opening_names}
 use Rattle.name_table.specs.Sound.{Each, AreApart, IsKindSound, IsSound}
 use Rattle.bst_lex.specs.declared.lexeme.LexFault.{LexFault}
 use Rattle.bst_lex.specs.Lexemes.{Seen, lexed}
-use Rattle.bst_lex.specs.Places.{first_place}
+use Rattle.bv_base.specs.Places.{first_place}
 use Rattle.bst_parse.specs.declared.fault.StyleFault.{StyleFault}
 use Rattle.bst_parse.specs.declared.grammar.Part.{Part}
 use Rattle.bst_parse.specs.Progress.{Progress}
@@ -27,14 +27,6 @@ abbrev all_pass : {X : Type 0} → (X → Bool) → List X → Bool
 all_pass test [] = true
 all_pass test (x ∷ xs) = test x && all_pass test xs
 
-pub and_left : (a b : Bool) → (a && b) ≡ true → a ≡ true
-and_left true b e = refl
-and_left false b e = e
-
-pub and_right : (a b : Bool) → (a && b) ≡ true → b ≡ true
-and_right true b e = e
-and_right false b e = absurd (cc)
-
 not_false : (b : Bool) → not b ≡ true → b ≡ false
 not_false true e = absurd (cc)
 not_false false e = refl
@@ -43,7 +35,7 @@ each_passing : {X : Type 0} (test : X → Bool) (P : X → Type 0) → ((x : X) 
     → all_pass test xs ≡ true → Each P xs
 each_passing test P f [] h = tt
 each_passing test P f (x ∷ xs) h =
-    (f x (and_left (test x) (all_pass test xs) h), each_passing test P f xs (and_right (test x) (all_pass test xs) h))
+    (f x (and_parts (test x) (all_pass test xs) h).0, each_passing test P f xs (and_parts (test x) (all_pass test xs) h).1)
 
 -- the names of every style are apart, and none is a function of the style
 abbrev apart_test : List (List ℕ × Kind) → Bool
@@ -53,8 +45,8 @@ apart_test (first ∷ rest) = all_pass (λ other. not (same_name other.0 first.0
 apart_passing : (names : List (List ℕ × Kind)) → apart_test names ≡ true → AreApart names
 apart_passing [] h = tt
 apart_passing (first ∷ rest) h = (
-  each_passing (λ (other : List ℕ × Kind). not (same_name other.0 first.0)) _ (λ (other : List ℕ × Kind) e. not_false (same_name other.0 first.0) e) rest (and_left _ (apart_test rest) h),
-  apart_passing rest (and_right (all_pass (λ (other : List ℕ × Kind). not (same_name other.0 first.0)) rest) (apart_test rest) h),
+  each_passing (λ (other : List ℕ × Kind). not (same_name other.0 first.0)) _ (λ (other : List ℕ × Kind) e. not_false (same_name other.0 first.0) e) rest (and_parts _ (apart_test rest) h).0,
+  apart_passing rest (and_parts (all_pass (λ (other : List ℕ × Kind). not (same_name other.0 first.0)) rest) (apart_test rest) h).1,
 )
 
 abbrev no_function : Kind → Bool
@@ -126,7 +118,7 @@ ended_sound source None n p style small s e =
     let whole : Style = record { names = p.names; commands = p.commands; bodies = p.bodies; texts = p.texts; macros = p.macros } in
     let w = where_ok (is_idle p) (ok whole) _ style e in
     subst IsSound (sym (ok_is whole style w.1))
-    (now_sound n p small (none_left p.parts (and_left (nat_eq (length p.parts) 0) (nat_eq (length p.opened) 0) w.0)) s)
+    (now_sound n p small (none_left p.parts (and_parts (nat_eq (length p.parts) 0) (nat_eq (length p.opened) 0) w.0).0) s)
 
 reading_sound : (source : List ℕ) (lexemes : List Seen) (fault : Option LexFault) (n : ℕ) (p : Progress) (style : Style)
     → Each (λ l. length l.text ≤ 4194304) lexemes → n + length lexemes ≤ 4194304 → Now n p

@@ -2,8 +2,7 @@
 use Rattle.std.specs.Prelude.{ℕ, List, codes}
 use Rattle.bv_base.specs.declared.place.Place.{Place}
 use Rattle.bst_lex.specs.Fault as lexical
-use Rattle.bst_lex.specs.PlaceLaws.{StandsIn}
-use Rattle.bst_lex.specs.Places.{first_place}
+use Rattle.bv_base.specs.Places.{first_place, StandsIn}
 use Rattle.bst_parse.specs.declared.fault.StyleFault.{StyleFault}
 use Rattle.bst_parse.specs.declared.fault.StyleFault.TheVariants.{Lex, UnknownCommand, UnknownName, SelfUse, AlreadyDefined, SecondEntry, SecondRead, ReadBeforeEntry, MacroAfterRead, CommandBeforeRead, NotCallable, Expected, EndOfFile, TooDeep, TooMany, NoMemory}
 

@@ -8,7 +8,7 @@ use Rattle.bst_lex.specs.declared.lexeme.Shape.{Shape}
 use Rattle.bst_lex.specs.declared.lexeme.Shape.TheVariants.{OpenBrace, CloseBrace, Text, Name}
 use Rattle.bst_lex.specs.Grammar.{Spells}
 use Rattle.bst_lex.specs.Lexemes.{Seen}
-use Rattle.bst_lex.specs.Places.{first_place, place_at}
+use Rattle.bv_base.specs.Places.{first_place, place_at}
 use Rattle.bst_parse.specs.declared.fault.StyleFault.{StyleFault}
 use Rattle.bst_parse.specs.declared.grammar.Part.{Part}
 use Rattle.bst_parse.specs.declared.grammar.Part.TheVariants.{Open, Close, Names, Target, FunctionName, Body, MacroName, MacroText}
@@ -17,7 +17,8 @@ use Rattle.bst_parse.specs.Bodies.{next_body}
 use Rattle.bst_parse.specs.Commands.{word_of, parts_of}
 use Rattle.bst_parse.specs.Names.{lowered}
 use Rattle.bst_parse.specs.Parts.{take_part}
-use Rattle.bst_parse.specs.Progress.{Progress, then_do}
+use Rattle.bv_base.specs.Answers.{then_do}
+use Rattle.bst_parse.specs.Progress.{Progress}
 use Rattle.bst_parse.specs.Reading.{complete, opening_progress}
 use Rattle.bst_parse.specs.Tokens.{begin_block, take_token}
 use Rattle.bst_parse.specs.Words.{take_word}
@@ -39,21 +40,24 @@ pub record Tree : Type 0 where
   pub word : Seen
   pub parts : List PartTree
 
--- the lexemes of tokens, of a part, of parts and of commands, in order
+-- the lexemes of tokens, in order
 abbrev pub spelled_tokens : Tokens → List Seen
 spelled_tokens End = []
 spelled_tokens (Leaf lexeme rest) = lexeme ∷ spelled_tokens rest
 spelled_tokens (Block opens inner closes rest) = opens ∷ (spelled_tokens inner ++ (closes ∷ spelled_tokens rest))
 
+-- the lexemes of a part, in order
 abbrev pub spelled_part : PartTree → List Seen
 spelled_part (One lexeme) = lexeme ∷ []
 spelled_part (Several names closes) = names ++ closes ∷ []
 spelled_part (Braced opens tokens closes) = opens ∷ (spelled_tokens tokens ++ closes ∷ [])
 
+-- the lexemes of parts, in order
 abbrev pub spelled_parts : List PartTree → List Seen
 spelled_parts [] = []
 spelled_parts (part ∷ parts) = spelled_part part ++ spelled_parts parts
 
+-- the lexemes of commands, in order
 abbrev pub spelled : List Tree → List Seen
 spelled [] = []
 spelled (tree ∷ trees) = tree.word ∷ (spelled_parts tree.parts ++ spelled trees)
@@ -83,6 +87,7 @@ IsPart MacroName (One lexeme) = lexeme.shape ≡ Name
 IsPart MacroText (One lexeme) = lexeme.shape ≡ Text
 IsPart _ _ = ⊥
 
+-- trees of these parts, one for each
 abbrev pub AreParts : List Part → List PartTree → Type 0
 AreParts [] [] = Unit {0}
 AreParts (part ∷ parts) (tree ∷ trees) = IsPart part tree × AreParts parts trees

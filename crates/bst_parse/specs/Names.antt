@@ -2,7 +2,7 @@
 use Rattle.std.specs.Prelude.{ℕ, Bool, false, ◌||◌, List, [], ◌∷◌}
 use Rattle.std.specs.Global.{Vec}
 use Rattle.name_table.specs.declared.style.Macro.{Macro}
-pub use Rattle.name_table.specs.Names.{lowered, is_digit, is_definable}
+pub use Rattle.name_table.specs.Names.{lowered, is_definable}
 use Rattle.name_table.specs.Names.{same_name}
 
 -- a macro of this name is among these

@@ -17,7 +17,8 @@ use Rattle.bst_parse.specs.declared.fault.StyleFault.TheVariants.{UnknownName, A
 use Rattle.bst_parse.specs.Bodies.{next_body, function_begun}
 use Rattle.bst_parse.specs.Commands.{call_of}
 use Rattle.bst_parse.specs.Names.{lowered, is_definable, has_macro}
-use Rattle.bst_parse.specs.Progress.{Progress, then_do}
+use Rattle.bv_base.specs.Answers.{then_do}
+use Rattle.bst_parse.specs.Progress.{Progress}
 
 -- `{`
 abbrev pub take_open : Shape → Place → Progress → Result Progress StyleFault

@@ -1,6 +1,5 @@
 -- How far the commands of a style are read.
-use Rattle.std.specs.Prelude.{◌≡◌, ◌≢◌, ℕ, Bool, List, Option, Result, Ok, Err}
-use Rattle.std.specs.Result.{MatchResult}
+use Rattle.std.specs.Prelude.{ℕ, Bool, List, Option}
 use Rattle.bv_base.specs.declared.place.Place.{Place}
 use Rattle.name_table.specs.declared.names.Kind.{Kind}
 use Rattle.name_table.specs.declared.names.NameId.{NameId}
@@ -9,8 +8,6 @@ use Rattle.name_table.specs.declared.style.BodyId.{BodyId}
 use Rattle.name_table.specs.declared.style.CommandAt.{CommandAt}
 use Rattle.name_table.specs.declared.style.Macro.{Macro}
 use Rattle.bst_parse.specs.declared.grammar.Part.{Part}
-use Rattle.bst_parse.specs.declared.fault.StyleFault.{StyleFault}
-use Rattle.bst_parse.specs.declared.fault.StyleFault.TheVariants.{NoMemory}
 
 -- the names, commands, bodies, texts and macros so far, and where the reader stands
 pub record Progress : Type 0 where
@@ -30,14 +27,3 @@ pub record Progress : Type 0 where
   pub macro_name : List ℕ
   -- the bodies whose closing braces are still to come, the innermost first
   pub opened : List BodyId
-
--- what a call answers: the value that is wanted, which is there after it, or the fault that is wanted, where memory
--- isn't wanting
-abbrev pub Answers : {A T : Type 0} → Result A StyleFault → A → Result T StyleFault → Type 0
-Answers wanted after result =
-    MatchResult result (λ _. wanted ≡ Ok after) (λ fault. fault ≢ NoMemory → wanted ≡ Err fault)
-
--- what is wanted first, and what is wanted of its value; a fault ends both
-abbrev pub then_do : {A B : Type 0} → Result A StyleFault → (A → Result B StyleFault) → Result B StyleFault
-then_do (Ok value) next = next value
-then_do (Err fault) next = Err fault

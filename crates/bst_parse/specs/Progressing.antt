@@ -2,6 +2,7 @@
 use Rattle.bst_parse.specs.declared.parser.Parser.{Parser}
 use Rattle.bst_parse.specs.Progress.{Progress}
 
+-- what the fields hold
 abbrev pub progress_of : Parser → Progress
 progress_of parser =
     record {

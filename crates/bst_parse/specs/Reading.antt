@@ -6,13 +6,14 @@ use Rattle.name_table.specs.declared.style.Style.{Style}
 use Rattle.name_table.specs.Opening.{opening_names}
 use Rattle.bst_lex.specs.declared.lexeme.LexFault.{LexFault}
 use Rattle.bst_lex.specs.Lexemes.{Seen, Reading, lexed}
-use Rattle.bst_lex.specs.Places.{first_place, place_at}
+use Rattle.bv_base.specs.Places.{first_place, place_at}
 use Rattle.bst_parse.specs.declared.grammar.Part.{Part}
 use Rattle.bst_parse.specs.declared.fault.StyleFault.{StyleFault}
 use Rattle.bst_parse.specs.declared.fault.StyleFault.TheVariants.{Lex, EndOfFile}
 use Rattle.bst_parse.specs.Bodies.{innermost}
 use Rattle.bst_parse.specs.Parts.{take_part}
-use Rattle.bst_parse.specs.Progress.{Progress, then_do}
+use Rattle.bv_base.specs.Answers.{then_do}
+use Rattle.bst_parse.specs.Progress.{Progress}
 use Rattle.bst_parse.specs.Tokens.{take_token}
 use Rattle.bst_parse.specs.Words.{take_word}
 

@@ -10,13 +10,14 @@ use Rattle.bst_lex.specs.declared.lexeme.Shape.{Shape}
 use Rattle.bst_lex.specs.declared.lexeme.Shape.TheVariants.{OpenBrace, CloseBrace, Integer, Text, Quoted, Name}
 use Rattle.bst_lex.specs.declared.lexeme.LexFault.TheVariants.{StuffAfterToken}
 use Rattle.bst_lex.specs.Lexemes.{Seen}
-use Rattle.bst_lex.specs.Places.{along}
+use Rattle.bv_base.specs.Places.{along}
 use Rattle.bst_parse.specs.declared.fault.StyleFault.{StyleFault}
 use Rattle.bst_parse.specs.declared.fault.StyleFault.TheVariants.{Lex, UnknownName, SelfUse, TooDeep, TooMany}
 use Rattle.bst_parse.specs.Bodies.{next_body, token_added, block_begun}
 use Rattle.bst_parse.specs.Names.{lowered}
 use Rattle.bst_parse.specs.Parts.{unmarked}
-use Rattle.bst_parse.specs.Progress.{Progress, then_do}
+use Rattle.bv_base.specs.Answers.{then_do}
+use Rattle.bst_parse.specs.Progress.{Progress}
 
 -- `{` stands first
 abbrev pub begins_block : List ℕ → Bool

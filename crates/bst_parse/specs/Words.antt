@@ -29,10 +29,12 @@ order_fault Function place p = None
 order_fault Integers place p = None
 order_fault Strings place p = None
 
+-- the word is that of ENTRY
 abbrev pub is_entry : Word → Bool
 is_entry Entry = true
 is_entry _ = false
 
+-- the word is that of READ
 abbrev pub is_read : Word → Bool
 is_read Read = true
 is_read _ = false

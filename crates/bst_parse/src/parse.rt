@@ -1,9 +1,9 @@
 //! The reader of styles.
 
-ghost use Rattle.std.specs.Prelude.{◌≡◌, ◌≢◌, ◌≤◌, length, Ok, Err, IfOk, IfErr};
+ghost use Rattle.std.specs.Prelude.{◌≡◌, ◌≤◌, length, Ok, IfOk, IfErr};
+ghost use Rattle.bv_base.specs.Answers.{Refuses};
 ghost use Rattle.name_table.specs.Sound.{IsSound};
 ghost use Rattle.bst_parse.specs.Reading.{style_of};
-ghost use Rattle.bst_parse.specs.declared.fault.StyleFault.TheVariants.{NoMemory as WantOfMemory};
 
 use crate::fault::StyleFault;
 use crate::parser::Parser;
@@ -17,7 +17,7 @@ use std::alloc::Global;
 pub fn parse(alloc: Global, source: &[u8]) -> Result<Style, StyleFault>
     requires { length source.now ≤ 4194304 }
     ensures ok { IfOk result (λ style. style_of source.now ≡ Ok style) }
-    ensures fault { IfErr result (λ fault. fault ≢ WantOfMemory → style_of source.now ≡ Err fault) }
+    ensures fault { IfErr result (Refuses StyleFault.NoMemory (style_of source.now)) }
     ensures sound { IfOk result IsSound }
 {
     read(alloc, source)
@@ -27,7 +27,7 @@ pub fn parse(alloc: Global, source: &[u8]) -> Result<Style, StyleFault>
 fn read(alloc: Global, source: &[u8]) -> Result<Style, StyleFault>
     requires { length source.now ≤ 4194304 }
     ensures ok { IfOk result (λ style. style_of source.now ≡ Ok style) }
-    ensures fault { IfErr result (λ fault. fault ≢ WantOfMemory → style_of source.now ≡ Err fault) }
+    ensures fault { IfErr result (Refuses StyleFault.NoMemory (style_of source.now)) }
 {
     let mut lexer = Lexer::new(source);
     let mut parser = Parser::new(alloc)?;

@@ -3,7 +3,7 @@
 ghost use Rattle.std.specs.Prelude.{◌≡◌, ◌+◌, ◌≤◌, [], ◌∷◌, length, IfOk, OnOk, MatchOption};
 ghost use Rattle.bst_lex.specs.Lexemes.{seen};
 ghost use Rattle.bst_parse.specs.Names as names;
-ghost use Rattle.bst_parse.specs.Progress.{Answers};
+ghost use Rattle.bv_base.specs.Answers.{Leaves};
 ghost use Rattle.bst_parse.specs.Progressing.{progress_of};
 ghost use Rattle.bst_parse.specs.Reading as reading;
 
@@ -75,7 +75,7 @@ impl Parser {
     /// Takes the next lexeme of a source.
     pub(crate) fn take(&mut self, source: &[u8], lexeme: &Lexeme<'_>) -> Result<(), StyleFault>
         requires { lexeme.now.place.column + length lexeme.now.text.now ≤ 4294967295 }
-        ensures { Answers (reading.take_lexeme source.now (seen lexeme.now) (progress_of self.old)) (progress_of self.new) result }
+        ensures { Leaves StyleFault.NoMemory (reading.take_lexeme source.now (seen lexeme.now) (progress_of self.old)) (progress_of self.new) result }
     {
         match self.opened.innermost() {
             Some(inside) => self.take_token(source, inside, lexeme),
@@ -85,7 +85,7 @@ impl Parser {
 
     /// Takes a lexeme outside bodies.
     fn take_outside(&mut self, lexeme: &Lexeme<'_>) -> Result<(), StyleFault>
-        ensures { Answers
+        ensures { Leaves StyleFault.NoMemory
             (reading.take_outside self.old.parts.now (seen lexeme.now) (progress_of self.old))
             (progress_of self.new)
             result }

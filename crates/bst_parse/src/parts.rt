@@ -1,11 +1,11 @@
 //! The parts of a command.
 
-ghost use Rattle.std.specs.Prelude.{◌≡◌, ◌≢◌, ◌-◌, ◌<◌, length, Ok, Err, IfOk, IfSome, MatchResult};
+ghost use Rattle.std.specs.Prelude.{◌≡◌, ◌<◌, length, IfOk, IfSome};
 ghost use Rattle.std.specs.List.{list_all};
 ghost use Rattle.bv_base.specs.Bytes.{is_name_byte};
 ghost use Rattle.bst_parse.specs.Names as names;
 ghost use Rattle.bst_parse.specs.Parts as parts;
-ghost use Rattle.bst_parse.specs.Progress.{Answers};
+ghost use Rattle.bv_base.specs.Answers.{Leaves};
 ghost use Rattle.bst_parse.specs.Progressing.{progress_of};
 
 use crate::bodies::MOST_BODIES;
@@ -27,7 +27,7 @@ impl Parser {
         rest: &'static [Part],
         lexeme: &Lexeme<'_>,
     ) -> Result<(), StyleFault>
-        ensures { Answers
+        ensures { Leaves StyleFault.NoMemory
             (parts.take_part part rest.now lexeme.now.shape lexeme.now.place lexeme.now.text.now (progress_of self.old))
             (progress_of self.new)
             result }
@@ -48,7 +48,7 @@ impl Parser {
 
     /// Takes `{`.
     fn take_open(&self, lexeme: &Lexeme<'_>) -> Result<(), StyleFault>
-        ensures { Answers
+        ensures { Leaves StyleFault.NoMemory
             (parts.take_open lexeme.now.shape lexeme.now.place (progress_of self.now))
             (progress_of self.now)
             result }
@@ -61,7 +61,7 @@ impl Parser {
 
     /// Takes `}`.
     fn take_close(&self, lexeme: &Lexeme<'_>) -> Result<(), StyleFault>
-        ensures { Answers
+        ensures { Leaves StyleFault.NoMemory
             (parts.take_close lexeme.now.shape lexeme.now.place (progress_of self.now))
             (progress_of self.now)
             result }
@@ -79,7 +79,7 @@ impl Parser {
         rest: &'static [Part],
         lexeme: &Lexeme<'_>,
     ) -> Result<(), StyleFault>
-        ensures { Answers
+        ensures { Leaves StyleFault.NoMemory
             (parts.take_names kind rest.now lexeme.now.shape lexeme.now.place lexeme.now.text.now (progress_of self.old))
             (progress_of self.new)
             result }
@@ -98,7 +98,7 @@ impl Parser {
 
     /// Takes a name that is defined.
     fn define(&mut self, kind: Kind, lexeme: &Lexeme<'_>) -> Result<NameId, StyleFault>
-        ensures answers { Answers
+        ensures answers { Leaves StyleFault.NoMemory
             (parts.define kind lexeme.now.shape lexeme.now.place lexeme.now.text.now (progress_of self.old))
             (progress_of self.new)
             result }
@@ -110,7 +110,7 @@ impl Parser {
 
     /// Takes the name of a function that is defined.
     fn take_function_name(&mut self, lexeme: &Lexeme<'_>) -> Result<(), StyleFault>
-        ensures { Answers
+        ensures { Leaves StyleFault.NoMemory
             (parts.take_function_name lexeme.now.shape lexeme.now.place lexeme.now.text.now (progress_of self.old))
             (progress_of self.new)
             result }
@@ -127,7 +127,7 @@ impl Parser {
 
     /// Takes the name of a function that a command calls.
     fn take_target(&mut self, caller: Caller, lexeme: &Lexeme<'_>) -> Result<(), StyleFault>
-        ensures { Answers
+        ensures { Leaves StyleFault.NoMemory
             (parts.take_target caller lexeme.now.shape lexeme.now.place lexeme.now.text.now (progress_of self.old))
             (progress_of self.new)
             result }
@@ -150,7 +150,7 @@ impl Parser {
         place: Place,
     ) -> Result<(), StyleFault>
         requires { IfSome found (λ id. id.0 < length self.old.names) }
-        ensures { Answers (parts.called caller found place (progress_of self.old)) (progress_of self.new) result }
+        ensures { Leaves StyleFault.NoMemory (parts.called caller found place (progress_of self.old)) (progress_of self.new) result }
     {
         let Some(id) = found else {
             return Err(StyleFault::UnknownName(place));
@@ -169,7 +169,7 @@ impl Parser {
 
     /// Takes the name of a macro.
     fn take_macro_name(&mut self, lexeme: &Lexeme<'_>) -> Result<(), StyleFault>
-        ensures { Answers
+        ensures { Leaves StyleFault.NoMemory
             (parts.take_macro_name lexeme.now.shape lexeme.now.place lexeme.now.text.now (progress_of self.old))
             (progress_of self.new)
             result }
@@ -184,7 +184,7 @@ impl Parser {
 
     /// Takes the value of a macro.
     fn take_macro_text(&mut self, lexeme: &Lexeme<'_>) -> Result<(), StyleFault>
-        ensures { Answers
+        ensures { Leaves StyleFault.NoMemory
             (parts.take_macro_text lexeme.now.shape lexeme.now.place lexeme.now.text.now (progress_of self.old))
             (progress_of self.new)
             result }
@@ -201,7 +201,7 @@ impl Parser {
 
     /// Takes the opening brace of a function's body.
     fn take_body(&mut self, lexeme: &Lexeme<'_>) -> Result<(), StyleFault>
-        ensures { Answers
+        ensures { Leaves StyleFault.NoMemory
             (parts.take_body lexeme.now.shape lexeme.now.place (progress_of self.old))
             (progress_of self.new)
             result }
@@ -223,7 +223,7 @@ impl Parser {
 
 /// The lowered name of a lexeme that may be a defined name, in a buffer.
 fn definable(lowered: &mut Vec<u8>, lexeme: &Lexeme<'_>) -> Result<(), StyleFault>
-    ensures { Answers (parts.definable lexeme.now.shape lexeme.now.place lexeme.now.text.now) lowered.new.items result }
+    ensures { Leaves StyleFault.NoMemory (parts.definable lexeme.now.shape lexeme.now.place lexeme.now.text.now) lowered.new.items result }
 {
     match lexeme.shape {
         Shape::Name if is_definable(lexeme.text) => {
@@ -253,7 +253,7 @@ fn are_name_bytes(bytes: &[u8]) -> bool
 
 /// Defines a lowered name.
 fn define_in(names: &mut Names, name: &[u8], kind: Kind, place: Place) -> Result<NameId, StyleFault>
-    ensures answers { Answers (parts.defined name.now kind place names.old) names.new result }
+    ensures answers { Leaves StyleFault.NoMemory (parts.defined name.now kind place names.old) names.new result }
     ensures id { IfOk result (λ id. id ≡ parts.next_name names.old) }
 {
     match names.define(name, kind) {

@@ -1,11 +1,10 @@
 //! The tokens of a body.
 
-ghost use Rattle.std.specs.Prelude.{◌≡◌, ◌≢◌, ◌+◌, ◌≤◌, length, drop, Ok, Err, OnOk, MatchResult};
+ghost use Rattle.std.specs.Prelude.{◌≡◌, ◌+◌, ◌≤◌, length, drop, OnOk};
 ghost use Rattle.bst_lex.specs.Lexemes.{seen};
-ghost use Rattle.bst_parse.specs.Progress.{Answers};
+ghost use Rattle.bv_base.specs.Answers.{Gives, Leaves};
 ghost use Rattle.bst_parse.specs.Progressing.{progress_of};
 ghost use Rattle.bst_parse.specs.Tokens as tokens;
-ghost use Rattle.bst_parse.specs.declared.fault.StyleFault.TheVariants.{NoMemory as WantOfMemory};
 
 use crate::bodies::MOST_BODIES;
 use crate::fault::StyleFault;
@@ -30,7 +29,7 @@ impl Parser {
         lexeme: &Lexeme<'_>,
     ) -> Result<(), StyleFault>
         requires { lexeme.now.place.column + length lexeme.now.text.now ≤ 4294967295 }
-        ensures { Answers
+        ensures { Leaves StyleFault.NoMemory
             (tokens.take_token source.now inside lexeme.now.shape (seen lexeme.now) (progress_of self.old))
             (progress_of self.new)
             result }
@@ -55,7 +54,7 @@ impl Parser {
 
     /// Begins a block in a body.
     fn begin_block(&mut self, inside: BodyId, place: Place) -> Result<(), StyleFault>
-        ensures { Answers
+        ensures { Leaves StyleFault.NoMemory
             (tokens.begin_block inside place (progress_of self.old))
             (progress_of self.new)
             result }
@@ -100,18 +99,14 @@ impl Parser {
         name: &[u8],
     ) -> Result<NameId, StyleFault>
         requires { lexeme.now.place.column + length lexeme.now.text.now ≤ 4294967295 }
-        ensures answers { MatchResult result
-            (λ id. tokens.used source.now (seen lexeme.now) name.now (progress_of self.old) ≡ Ok id)
-            (λ fault. fault ≢ WantOfMemory
-            → tokens.used source.now (seen lexeme.now) name.now (progress_of self.old) ≡ Err fault) }
+        ensures answers { Gives StyleFault.NoMemory
+            (tokens.used source.now (seen lexeme.now) name.now (progress_of self.old))
+            result }
         ensures same { progress_of self.new ≡ progress_of self.old }
     {
         let length = lexeme.text.len();
         if begins_block(source, lexeme.start as usize + length) {
-            return Err(StyleFault::Lex(LexFault::StuffAfterToken(Place {
-                line: lexeme.place.line,
-                column: lexeme.place.column + length as u32,
-            })));
+            return Err(StyleFault::Lex(LexFault::StuffAfterToken(lexeme.place.along(length))));
         }
         lower_into(&mut self.lowered, name)?;
         match self.names.find(self.lowered.as_slice()) {

@@ -1,7 +1,7 @@
 //! Where a command may begin.
 
 ghost use Rattle.std.specs.Prelude.{◌≡◌};
-ghost use Rattle.bst_parse.specs.Progress.{Answers};
+ghost use Rattle.bv_base.specs.Answers.{Leaves};
 ghost use Rattle.bst_parse.specs.Progressing.{progress_of};
 ghost use Rattle.bst_parse.specs.Words as words;
 
@@ -15,7 +15,7 @@ use name_table::style::CommandAt;
 impl Parser {
     /// Takes a lexeme where a command may begin.
     pub(crate) fn take_word(&mut self, lexeme: &Lexeme<'_>) -> Result<(), StyleFault>
-        ensures { Answers
+        ensures { Leaves StyleFault.NoMemory
             (words.take_word lexeme.now.shape lexeme.now.place lexeme.now.text.now (progress_of self.old))
             (progress_of self.new)
             result }
@@ -35,7 +35,7 @@ impl Parser {
 
     /// Begins a command.
     fn begin(&mut self, word: Word, place: Place) -> Result<(), StyleFault>
-        ensures { Answers (words.begin word place (progress_of self.old)) (progress_of self.new) result }
+        ensures { Leaves StyleFault.NoMemory (words.begin word place (progress_of self.old)) (progress_of self.new) result }
     {
         if let Some(fault) = self.order_fault(word, place) {
             return Err(fault);

@@ -2,7 +2,7 @@
 use Rattle.std.specs.Prelude.{ℕ, Bool, false, ◌+◌, ◌&&◌, nat_eq, List, [], ◌∷◌, length, drop, Option, None, Some}
 use Rattle.bv_base.specs.Levels.{inside}
 use Rattle.name_split.specs.declared.tokens.Token.{Token}
-use Rattle.name_split.specs.Formatted.{first_is}
+use Rattle.name_split.specs.Tokens.{first_is}
 
 -- a `{` with a `\` directly behind it stands first
 abbrev pub begins_word : List ℕ → Bool

@@ -1,5 +1,6 @@
 -- The commas that are seen from the left.
 use Rattle.std.proofs.Common.{◌≡◌, ℕ, ◌+◌, ◌&&◌, Bool, true, false, cond, nat_eq, List, [], ◌∷◌, refl, sym, ap, ◌∙◌, subst, arith}
+use Rattle.std.proofs.lemmas.Bool.{and_parts}
 use Rattle.std.proofs.lemmas.Bool.Decides.{nat_tests}
 use Rattle.std.specs.List.{list_all}
 use Rattle.bv_base.specs.Levels.{next_level}
@@ -53,14 +54,10 @@ end_passed false false ends comma later = refl
 no_comma : (level b : ℕ) → is_joint b ≡ true → (nat_eq level 0 && nat_eq b 44) ≡ false
 no_comma level b e = grind (arith, nat_tests)
 
-and_true : (x y : Bool) → (x && y) ≡ true → (x ≡ true) × (y ≡ true)
-and_true true y e = (refl, e)
-and_true false y e = cc
-
 all_joints : (level : ℕ) (bytes : List ℕ) → list_all is_joint bytes ≡ true → ends_in_comma level bytes ≡ false
 all_joints level [] e = refl
 all_joints level (b ∷ bytes) e =
-    let p = and_true (is_joint b) (list_all is_joint bytes) e in
+    let p = and_parts (is_joint b) (list_all is_joint bytes) e in
     ap (λ v. cond v (nat_eq level 0 && nat_eq b 44) (ends_in_comma (next_level level b) bytes)) p.1
     ∙ no_comma level b p.0
 

@@ -1,22 +1,18 @@
 -- Slices of slices.
-use Rattle.std.proofs.Common.{◌≡◌, ℕ, zero, suc, ◌+◌, ◌-◌, ◌≤◌, Bool, true, false, cond, nat_eq, min, List, [], ◌∷◌, length, take, drop, refl, sym, ap, ◌∙◌, arith}
-use Rattle.std.proofs.lemmas.List.{length-take, length-drop, drop-take}
+use Rattle.std.proofs.Common.{◌≡◌, ℕ, zero, suc, ◌+◌, ◌-◌, ◌≤◌, Bool, true, false, cond, not, nat_eq, min, List, [], ◌∷◌, length, take, drop, refl, sym, ap, ◌∙◌, arith, take-take}
+use Rattle.std.proofs.lemmas.List.{length-take, length-drop, drop-take, drop-drop}
 use Rattle.std.proofs.Math.Seq.{drop-nil}
+use Rattle.bv_base.specs.Bytes.{is_white}
+use Rattle.bv_base.specs.Runs.{is_black, length_before}
 use Rattle.name_split.specs.declared.spans.Span.{Span}
 use Rattle.name_split.specs.Spans.{slice, front, kept, trimmed}
 
-pub drop_more : (start count : ℕ) (source : List ℕ) → drop count (drop start source) ≡ drop (start + count) source
-drop_more zero count source = ap (λ n. drop n source) {x = count} {y = 0 + count} (omega arith)
-drop_more (suc start) count [] = drop-nil count ∙ sym (drop-nil (suc start + count))
-drop_more (suc start) count (b ∷ source) =
-    drop_more start count source
-    ∙ ap (λ n. drop n (b ∷ source)) {x = suc (start + count)} {y = suc start + count} (omega arith)
-
-pub take_within : (few many : ℕ) (source : List ℕ) → few ≤ many → take few (take many source) ≡ take few source
-take_within zero many source h = refl
-take_within (suc few) zero source h = absurd (omega arith)
-take_within (suc few) (suc many) [] h = refl
-take_within (suc few) (suc many) (b ∷ source) h = ap (λ xs. b ∷ xs) (take_within few many source (omega arith))
+-- the white space that stands first, by the bytes that are none
+pub white_front : (bytes : List ℕ) → length_before is_black bytes ≡ front is_white bytes
+white_front [] = refl
+white_front (b ∷ bytes) =
+    elim (is_white b) as (λ v. cond (not v) 0 (suc (length_before is_black bytes)) ≡ cond v (suc (front is_white bytes)) 0)
+    [ true ↦ ap suc (white_front bytes) | false ↦ refl ]
 
 pub front_within : {X : Type 0} (test : X → Bool) (bytes : List X) → front test bytes ≤ length bytes
 front_within test [] = omega arith
@@ -40,8 +36,8 @@ part few first count start source h =
     let rest : count ≡ first + (count - first) = omega arith in
     ap (λ n. take few (drop first (take n (drop start source)))) rest
     ∙ ap (take few) (drop-take first (count - first) (drop start source))
-    ∙ take_within few (count - first) (drop first (drop start source)) (omega arith)
-    ∙ ap (take few) (drop_more start first source)
+    ∙ take-take few (count - first) (drop first (drop start source)) (omega arith)
+    ∙ ap (take few) (drop-drop first start source)
 
 -- the slice of a trimmed stretch
 pub slice_trimmed : (test : ℕ → Bool) (text : List ℕ) (span : Span)

@@ -1,21 +1,17 @@
 -- The first run of letters in a group.
 use Rattle.std.proofs.Common.{◌≡◌, ℕ, suc, ◌-◌, ◌≤◌, ◌&&◌, Bool, true, false, cond, nat_eq, List, [], ◌∷◌, length, drop, refl, sym, ap, ◌∙◌, subst, arith, eqb-true}
 use Rattle.std.proofs.Common.{eq-eqb}
-use Rattle.std.proofs.lemmas.Bool.{ne_eqb}
+use Rattle.std.proofs.lemmas.Bool.{ne_eqb, and_parts}
 use Rattle.std.proofs.lemmas.List.{length-drop}
 use Rattle.std.proofs.lemmas.Bool.Decides.{nat_tests}
 use Rattle.bv_base.specs.Levels.{is_ascii_letter, next_level, word_letters}
 use Rattle.name_split.specs.Patterns.{are_none, before_run, begins_with_letter, group_ok, is_group_letter, letter_runs, run_ok, runs_ok, with_letter}
 
-and_true : (x y : Bool) → (x && y) ≡ true → (x ≡ true) × (y ≡ true)
-and_true true y e = (refl, e)
-and_true false y e = cc
-
 first_case : (letter : Bool) (level b : ℕ) (bytes : List ℕ) → is_group_letter level b ≡ letter
     → letter_runs (next_level level b) bytes ≡ letter_runs 1 (drop (before_run (next_level level b) bytes) bytes)
     → letter_runs level (b ∷ bytes) ≡ letter_runs 1 (drop (cond letter 0 (suc (before_run (next_level level b) bytes))) (b ∷ bytes))
 first_case true level b bytes e h =
-    ap (λ n. letter_runs n (b ∷ bytes)) (eqb-true level 1 (and_true (nat_eq level 1) (is_ascii_letter b) e).0)
+    ap (λ n. letter_runs n (b ∷ bytes)) (eqb-true level 1 (and_parts (nat_eq level 1) (is_ascii_letter b) e).0)
 first_case false level b bytes e h =
     ap (λ v. with_letter v b (begins_with_letter bytes) (letter_runs (next_level level b) bytes)) e ∙ h
 
@@ -30,7 +26,7 @@ letter_case : (letter : Bool) (level b : ℕ) (bytes : List ℕ) (count first : 
     → drop (cond letter 0 (suc count)) (b ∷ bytes) ≡ first ∷ more → is_ascii_letter first ≡ true
 letter_case true level b bytes count first more e h is =
     let same : b ≡ first = cc in
-    subst (λ x. is_ascii_letter x ≡ true) same (and_true (nat_eq level 1) (is_ascii_letter b) e).1
+    subst (λ x. is_ascii_letter x ≡ true) same (and_parts (nat_eq level 1) (is_ascii_letter b) e).1
 letter_case false level b bytes count first more e h is = h is
 
 first_letter : (level : ℕ) (bytes : List ℕ) (first : ℕ) (more : List ℕ) → drop (before_run level bytes) bytes ≡ first ∷ more

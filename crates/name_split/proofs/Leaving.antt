@@ -1,12 +1,12 @@
 -- The names that are left when one is taken.
 use Rattle.std.proofs.Common.{◌≡◌, ℕ, zero, suc, ◌+◌, ◌-◌, ◌<◌, Bool, true, false, List, [], ◌∷◌, length, take, drop, refl, sym, ap, ◌∙◌, arith}
-use Rattle.std.proofs.lemmas.List.{length-drop}
+use Rattle.std.proofs.lemmas.List.{length-drop, drop-drop}
 use Rattle.bv_base.specs.Bytes.{is_white}
 use Rattle.name_split.specs.Left.{names_from}
 use Rattle.name_split.specs.Names.{Names, between, names_of, separators, trimmed_all}
 use Rattle.name_split.specs.declared.spans.Span.{Span}
 use Rattle.name_split.specs.Spans.{slice, front, kept, trimmed}
-use Rattle.name_split.proofs.Cutting.{drop_more, slice_trimmed}
+use Rattle.name_split.proofs.Cutting.{slice_trimmed}
 
 pub take_all : (count : ℕ) (bytes : List ℕ) → count ≡ length bytes → take count bytes ≡ bytes
 take_all zero [] e = refl
@@ -49,7 +49,7 @@ name_taken text rest false start at next value is going e found n =
     sym (ap (λ (v : Names). v.left) is)
     ∙ ap (λ xs. left (separators start 0 false xs) start) (sym e)
     ∙ ap (λ s. left s start) found
-    ∙ ap (λ xs. taken ∷ left (separators (start + (at + 3)) 0 false xs) (start + at + 3)) (ap (drop (at + 3)) e ∙ drop_more start (at + 3) text)
+    ∙ ap (λ xs. taken ∷ left (separators (start + (at + 3)) 0 false xs) (start + at + 3)) (ap (drop (at + 3)) e ∙ drop-drop (at + 3) start text)
     ∙ ap (λ k. taken ∷ left (separators k 0 false (drop k text)) (start + at + 3)) {x = start + (at + 3)} {y = start + at + 3} (omega arith)
     ∙ ap (λ k. taken ∷ names_from false k text) (sym n)
 

@@ -1,13 +1,10 @@
 -- Where a separator stands, and what follows it.
 use Rattle.std.proofs.Common.{◌≡◌, ℕ, ◌+◌, ◌≤◌, ◌&&◌, Bool, true, false, cond, nat_eq, List, [], ◌∷◌, length, drop, refl, ap, ◌∙◌, arith, eqb-true}
+use Rattle.std.proofs.lemmas.Bool.{and_parts}
 use Rattle.std.proofs.lemmas.Bool.Decides.{nat_tests}
 use Rattle.bv_base.specs.Bytes.{is_white, lower}
 use Rattle.bv_base.specs.Levels.{next_level}
 use Rattle.name_split.specs.Names.{begins_and, begins_separator, separators}
-
-and_true : (x y : Bool) → (x && y) ≡ true → (x ≡ true) × (y ≡ true)
-and_true true y e = (refl, e)
-and_true false y e = cc
 
 letter_level : (b c : ℕ) → nat_eq (lower b) c ≡ true → 97 ≤ c → c ≤ 110 → next_level 0 b ≡ 0
 letter_level b c e f g = grind (arith, nat_tests)
@@ -29,9 +26,9 @@ separator_found at (a ∷ []) e = cc
 separator_found at (a ∷ n ∷ []) e = cc
 separator_found at (a ∷ n ∷ d ∷ []) e = cc
 separator_found at (a ∷ n ∷ d ∷ w ∷ bytes) e =
-    let p = and_true (nat_eq (lower a) 97 && nat_eq (lower n) 110 && nat_eq (lower d) 100) (is_white w) e in
-    let q = and_true (nat_eq (lower a) 97 && nat_eq (lower n) 110) (nat_eq (lower d) 100) p.0 in
-    let r = and_true (nat_eq (lower a) 97) (nat_eq (lower n) 110) q.0 in
+    let p = and_parts (nat_eq (lower a) 97 && nat_eq (lower n) 110 && nat_eq (lower d) 100) (is_white w) e in
+    let q = and_parts (nat_eq (lower a) 97 && nat_eq (lower n) 110) (nat_eq (lower d) 100) p.0 in
+    let r = and_parts (nat_eq (lower a) 97) (nat_eq (lower n) 110) q.0 in
     let more : List ℕ = separators (at + 1) (next_level 0 a) (is_white a) (n ∷ d ∷ w ∷ bytes) in (
       omega arith,
       ap (λ v. cond v (at ∷ more) more) e
@@ -46,8 +43,8 @@ separator_found at (a ∷ n ∷ d ∷ w ∷ bytes) e =
 pub separator_here : (at level : ℕ) (after_white : Bool) (text : List ℕ) → begins_separator level after_white text ≡ true
     → (3 ≤ length text) × (separators at level after_white text ≡ at ∷ separators (at + 3) 0 false (drop 3 text))
 separator_here at level after_white text e =
-    let p = and_true (nat_eq level 0 && after_white) (begins_and text) e in
-    let q = and_true (nat_eq level 0) after_white p.0 in
+    let p = and_parts (nat_eq level 0 && after_white) (begins_and text) e in
+    let q = and_parts (nat_eq level 0) after_white p.0 in
     let found = separator_found at text p.1 in (
       found.0,
       ap (λ n. separators at n after_white text) (eqb-true level 0 q.0)

@@ -10,5 +10,6 @@ abbrev pub all_have_parts : List ℕ → List Span → Bool
 all_have_parts text [] = true
 all_have_parts text (span ∷ spans) = is_ok (parts_of (slice text span)) && all_have_parts text spans
 
+-- each name of a text has parts
 abbrev pub names_ok : List ℕ → Bool
 names_ok text = all_have_parts text (names_of text)

@@ -6,7 +6,7 @@ use Rattle.name_split.specs.declared.spans.Span.{Span}
 use Rattle.name_split.specs.declared.parts.NameFault.{NameFault}
 use Rattle.name_split.specs.declared.tokens.Token.{Token}
 use Rattle.name_split.specs.Spans.{slice}
-use Rattle.name_split.specs.Tokens.{tokens_of}
+use Rattle.name_split.specs.Tokens.{first_is, tokens_of}
 use Rattle.name_split.specs.declared.spans.Parts.{Parts}
 use Rattle.name_split.specs.Parts.{parts_of}
 use Rattle.name_split.specs.Names.{names_of}
@@ -22,10 +22,6 @@ pub data Misfit : Type 0 where
 abbrev pub characters : List ℕ → ℕ
 characters text = length (filter is_text_character (pieces text))
 
-abbrev pub first_is : ℕ → List ℕ → Bool
-first_is mark [] = false
-first_is mark (b ∷ bytes) = nat_eq b mark
-
 -- a token's initial: its first letter, or its first `{` with a `\` directly behind it, through the matching brace
 abbrev pub initial : List ℕ → List ℕ
 initial [] = []
@@ -39,6 +35,7 @@ pub record Manner : Type 0 where
   pub is_whole : Bool
   pub between : Option (List ℕ)
 
+-- how a token is written
 abbrev pub token_text : Manner → List ℕ → List ℕ
 token_text manner token = if manner.is_whole then token else initial token
 
@@ -49,6 +46,7 @@ joint_text b is_last written =
     else if is_last || nat_lt (characters written) 3 then 126 ∷ []
     else 32 ∷ []
 
+-- what follows an initial before a joint
 abbrev pub period : Manner → List ℕ
 period manner = if manner.is_whole then [] else 46 ∷ []
 
@@ -58,12 +56,15 @@ joined manner (Some text) b is_last written = written ++ text
 joined manner None b is_last written =
     let dotted = written ++ period manner in dotted ++ joint_text b is_last dotted
 
+-- the byte of a text at a place, counted from 0
 abbrev pub byte_at : List ℕ → ℕ → ℕ
 byte_at text at = slice_index text at
 
+-- the bytes of a token
 abbrev pub token_bytes : List ℕ → Token → List ℕ
 token_bytes text token = slice text (record { start = token.start; end = token.end })
 
+-- no token follows
 abbrev pub is_alone : List Token → Bool
 is_alone [] = true
 is_alone (token ∷ tokens) = false
@@ -81,6 +82,7 @@ tokens_written manner text written (token ∷ next ∷ tokens) =
 abbrev pub but_last_byte : List ℕ → List ℕ
 but_last_byte text = take (length text - 1) text
 
+-- the last byte is this mark
 abbrev pub ends_with : ℕ → List ℕ → Bool
 ends_with mark [] = false
 ends_with mark (b ∷ []) = nat_eq b mark
@@ -103,11 +105,12 @@ part_of b parts =
     else if nat_eq (lower b) 108 then parts.last
     else parts.jr
 
--- what follows the letters of a group: a text in braces that stands between tokens, if one follows directly, and the rest
+-- the text in braces that follows the letters of a group directly, if one does
 abbrev pub between_of : List ℕ → Option (List ℕ)
 between_of [] = None
 between_of (b ∷ bytes) = if nat_eq b 123 then Some (inside 1 bytes) else None
 
+-- what follows the letters of a group and the text between tokens, if one follows the letters
 abbrev pub behind_between : List ℕ → List ℕ
 behind_between [] = []
 behind_between (b ∷ bytes) = if nat_eq b 123 then drop (length (inside 1 bytes) + 1) bytes else b ∷ bytes
@@ -143,6 +146,7 @@ name_written name (Err fault) pattern = Err BadName
 name_written name (Ok parts) pattern =
     if pattern_ok pattern then Ok (pattern_written name parts zero pattern) else Err BadPattern
 
+-- the name at a stretch of a text, if there is one, by a pattern
 abbrev pub span_written : List ℕ → Option Span → List ℕ → Result (List ℕ) Misfit
 span_written text None pattern = Err BadNameIndex
 span_written text (Some span) pattern = name_written (slice text span) (parts_of (slice text span)) pattern

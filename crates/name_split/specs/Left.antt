@@ -10,5 +10,6 @@ names_from true start text = []
 names_from false start text =
     trimmed_all text (between start (separators start 0 false (drop start text)) (length text))
 
+-- the names that are left of a text from its next byte on
 abbrev pub names_left : Inside → Names
 names_left l = record { text = l.text.now; left = names_from l.ended l.start l.text.now }

@@ -27,6 +27,7 @@ abbrev pub between : ℕ → List ℕ → ℕ → List Span
 between from [] end = record { start = from; end = end } ∷ []
 between from (at ∷ more) end = record { start = from; end = at } ∷ between (at + 3) more end
 
+-- stretches of a text without the white space at their ends
 abbrev pub trimmed_all : List ℕ → List Span → List Span
 trimmed_all text [] = []
 trimmed_all text (span ∷ spans) = trimmed is_white text span ∷ trimmed_all text spans

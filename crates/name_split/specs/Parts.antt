@@ -31,9 +31,11 @@ but_last [] = []
 but_last (token ∷ []) = []
 but_last (token ∷ next ∷ tokens) = token ∷ but_last (next ∷ tokens)
 
+-- the token isn't low
 abbrev pub is_high : Token → Bool
 is_high token = not token.low
 
+-- a `-` follows the token
 abbrev pub is_tied : Token → Bool
 is_tied token = token.dash
 

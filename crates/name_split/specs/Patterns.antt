@@ -54,6 +54,7 @@ run_ok (a ∷ []) = is_part_letter a
 run_ok (a ∷ b ∷ []) = is_part_letter a && nat_eq (lower a) (lower b)
 run_ok (a ∷ b ∷ c ∷ _) = false
 
+-- there is no run
 abbrev pub are_none : List (List ℕ) → Bool
 are_none [] = true
 are_none (run ∷ runs) = false
@@ -63,6 +64,7 @@ abbrev pub runs_ok : List (List ℕ) → Bool
 runs_ok [] = true
 runs_ok (run ∷ runs) = run_ok run && are_none runs
 
+-- a group is well formed, by its runs of letters at level 1
 abbrev pub group_ok : List ℕ → Bool
 group_ok group = runs_ok (letter_runs 1 group)
 

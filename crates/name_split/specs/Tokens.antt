@@ -17,6 +17,7 @@ abbrev pub token_length : ℕ → List ℕ → ℕ
 token_length level [] = 0
 token_length level (b ∷ bytes) = if ends_token level b then 0 else suc (token_length (next_level level b) bytes)
 
+-- a small ASCII letter
 abbrev pub is_small : ℕ → Bool
 is_small b = nat_le 97 b && nat_le b 122
 
@@ -42,9 +43,11 @@ low_from level (b ∷ bytes) =
     else if begins_special level (b ∷ bytes) then special_low (inside 1 bytes)
     else low_from (next_level level b) bytes
 
+-- whether a token is low, from its first byte on, which has level 0
 abbrev pub is_low : List ℕ → Bool
 is_low token = low_from 0 token
 
+-- the first byte is this mark
 abbrev pub first_is : ℕ → List ℕ → Bool
 first_is mark [] = false
 first_is mark (b ∷ _) = nat_eq b mark

@@ -1,9 +1,9 @@
-//! Levels, and the white space at the ends of a slice.
+//! Levels, and the white space at the end of a slice.
 
 ghost use Rattle.std.specs.Prelude.{◌≡◌, ◌+◌, ◌<◌, ◌≤◌, length};
 ghost use Rattle.bv_base.specs.Bytes.{is_white as white};
 ghost use Rattle.bv_base.specs.Levels as levels;
-ghost use Rattle.name_split.specs.Spans.{front, kept};
+ghost use Rattle.name_split.specs.Spans.{kept};
 
 use bv_base::bytes::is_white;
 
@@ -18,19 +18,6 @@ pub(crate) fn next_level(level: usize, b: u8) -> usize
         b'}' => level.saturating_sub(1),
         _ => level,
     }
-}
-
-/// How many bytes of white space stand at the front.
-pub(crate) fn white_front(bytes: &[u8]) -> usize
-    ensures front { result ≡ front white bytes.now }
-    ensures within { result ≤ length bytes.now }
-{
-    for (i, b) in bytes.iter().enumerate() {
-        if !is_white(*b) {
-            return i;
-        }
-    }
-    bytes.len()
 }
 
 /// How many bytes there are without the white space at the end.

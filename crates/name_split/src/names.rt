@@ -8,9 +8,10 @@ ghost use Rattle.name_split.specs.Names as names;
 ghost use Rattle.name_split.specs.Spans.{front, kept, slice};
 ghost use Rattle.name_split.specs.declared.spans.Span.{Span};
 
-use crate::bytes::{kept_length, next_level, white_front};
+use crate::bytes::{kept_length, next_level};
 use crate::parts::has_parts;
 use bv_base::bytes::{is_white, lower};
+use bv_base::runs::after_white;
 use std::marker::Model;
 
 /// The names of a text, in order, as slices of it. Contracts see the text and the stretches that are left.
@@ -127,11 +128,12 @@ impl<'a> Iterator for NameList<'a> {
 }
 
 /// A slice without the white space at its ends.
+#[tactic(auto, using(crate::proofs::Cutting::white_front))]
 fn trimmed<'a>(bytes: &'a [u8]) -> &'a [u8]
     ensures { let rest = drop (front white bytes.now) bytes.now in
         result.now ≡ take (kept white rest) rest }
 {
-    let rest = bytes.split_at(white_front(bytes)).1;
+    let rest = after_white(bytes);
     rest.split_at(kept_length(rest)).0
 }
 

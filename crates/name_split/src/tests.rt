@@ -5,160 +5,238 @@ use crate::parts::{NameFault, parts};
 use crate::pattern::pattern_ok;
 use std::process::Abort;
 
-#[test]
-fn names_between_separators(rt: HostRuntime) {
-    assert_eq!(rt; count(b""), 0);
-    assert_eq!(rt; count(b" "), 1);
-    assert_eq!(rt; count(b"A and B"), 2);
-    assert_eq!(rt; count(b"A AND {B and C}"), 2);
-    assert_eq!(rt; count(b"A and and B"), 3);
-    assert_eq!(rt; count(b"and B and"), 1);
-    assert_eq!(rt; count(b"A}and B {and C} and\tD"), 2);
-
-    assert_eq!(rt; names(b"A and B").count(), 2);
-    assert!(rt; names(b"A and B").all(|name| name.len() == 1));
-
-    let mut list = names(b"");
-    ended(&rt, &mut list);
-    let mut list = names(b" A  and\n{B and C}\t AND and D ");
-    next_is(&rt, &mut list, b"A");
-    next_is(&rt, &mut list, b"{B and C}");
-    next_is(&rt, &mut list, b"");
-    next_is(&rt, &mut list, b"D");
-    ended(&rt, &mut list);
-    let mut list = names(b"Andy and B");
-    next_is(&rt, &mut list, b"Andy");
-    next_is(&rt, &mut list, b"B");
-    ended(&rt, &mut list);
+/// A text with the number of its names.
+#[derive(Clone, Copy)]
+struct Counted {
+    text: &'static [u8],
+    count: u64,
 }
 
-fn next_is(rt: &impl Abort, list: &mut NameList, want: &[u8]) {
-    match list.next() {
-        Some(name) => assert_eq!(rt; name, want),
-        None => panic!(rt; "a name is missing"),
+static COUNTED: [Counted; 7] = [
+    Counted {
+        text: b"",
+        count: 0,
+    },
+    Counted {
+        text: b" ",
+        count: 1,
+    },
+    Counted {
+        text: b"A and B",
+        count: 2,
+    },
+    Counted {
+        text: b"A AND {B and C}",
+        count: 2,
+    },
+    Counted {
+        text: b"A and and B",
+        count: 3,
+    },
+    Counted {
+        text: b"and B and",
+        count: 1,
+    },
+    Counted {
+        text: b"A}and B {and C} and\tD",
+        count: 2,
+    },
+];
+
+#[test]
+fn names_are_counted(rt: HostRuntime) {
+    have_count(&rt, &COUNTED);
+    assert_eq!(rt; names(b"A and B").count(), 2);
+    assert!(rt; names(b"A and B").all(|name| name.len() == 1));
+}
+
+fn have_count(rt: &impl Abort, rows: &[Counted]) {
+    for row in rows {
+        assert_eq!(rt; count(row.text), row.count);
     }
 }
 
-fn ended(rt: &impl Abort, list: &mut NameList) {
-    assert!(rt; list.next().is_none());
-    assert!(rt; list.next().is_none());
+/// A text with its names.
+#[derive(Clone, Copy)]
+struct Listed {
+    text: &'static [u8],
+    names: &'static [&'static [u8]],
 }
+
+static LISTED: [Listed; 3] = [
+    Listed {
+        text: b"",
+        names: &[],
+    },
+    Listed {
+        text: b" A  and\n{B and C}\t AND and D ",
+        names: &[b"A", b"{B and C}", b"", b"D"],
+    },
+    Listed {
+        text: b"Andy and B",
+        names: &[b"Andy", b"B"],
+    },
+];
+
+#[test]
+fn names_between_separators(rt: HostRuntime) {
+    for row in &LISTED {
+        let mut list = names(row.text);
+        are_next(&rt, &mut list, row.names);
+        assert!(rt; list.next().is_none());
+        assert!(rt; list.next().is_none());
+    }
+}
+
+fn are_next(rt: &impl Abort, list: &mut NameList, wanted: &[&[u8]]) {
+    for want in wanted {
+        match list.next() {
+            Some(name) => assert_eq!(rt; name, *want),
+            None => panic!(rt; "a name is missing"),
+        }
+    }
+}
+
+/// A name with its parts.
+#[derive(Clone, Copy)]
+struct Parted {
+    name: &'static [u8],
+    first: &'static [u8],
+    von: &'static [u8],
+    last: &'static [u8],
+    jr: &'static [u8],
+}
+
+/// A name with its parts, in the order in which patterns name them: first, von, last, jr.
+macro_rules! parted {
+    ($name:literal => $first:literal, $von:literal, $last:literal, $jr:literal) => {
+        Parted {
+            name: $name,
+            first: $first,
+            von: $von,
+            last: $last,
+            jr: $jr,
+        }
+    };
+}
+
+static PARTED: [Parted; 17] = [
+    parted!(b"de la Vall{\\'e}e Poussin, Charles" => b"Charles", b"de la", b"Vall{\\'e}e Poussin", b""),
+    parted!(b"Jean-Paul de la Fontaine" => b"Jean-Paul", b"de la", b"Fontaine", b""),
+    parted!(b"Donald E. Knuth" => b"Donald E.", b"", b"Knuth", b""),
+    parted!(b"Per Brinch-Hansen" => b"Per", b"", b"Brinch-Hansen", b""),
+    parted!(b"A-B-C" => b"", b"", b"A-B-C", b""),
+    parted!(b"ludwig" => b"", b"", b"ludwig", b""),
+    parted!(b"van~Beethoven , Jr,\tLudwig A." => b"Ludwig A.", b"van", b"Beethoven", b"Jr"),
+    parted!(b"Beethoven,Ludwig" => b"Ludwig", b"", b"Beethoven", b""),
+    parted!(b"A b C d E" => b"A", b"b C d", b"E", b""),
+    parted!(b"{von} Last" => b"{von}", b"", b"Last", b""),
+    parted!(b"{\\relax von} Last" => b"", b"{\\relax von}", b"Last", b""),
+    parted!(b"{\\OE}x y" => b"{\\OE}x", b"", b"y", b""),
+    parted!(b"{\\oe}X y" => b"", b"{\\oe}X", b"y", b""),
+    parted!(b"{\\'E}x {\\'e}X y" => b"{\\'E}x", b"{\\'e}X", b"y", b""),
+    parted!(b"{a, b} c-d~{e f}" => b"{a, b}", b"c-d", b"{e f}", b""),
+    parted!(b" ~- " => b"", b"", b"", b""),
+    parted!(b"" => b"", b"", b"", b""),
+];
 
 #[test]
 fn parts_of_names(rt: HostRuntime) {
-    has(
-        &rt,
-        b"de la Vall{\\'e}e Poussin, Charles",
-        b"Charles",
-        b"de la",
-        b"Vall{\\'e}e Poussin",
-        b"",
-    );
-    has(
-        &rt,
-        b"Jean-Paul de la Fontaine",
-        b"Jean-Paul",
-        b"de la",
-        b"Fontaine",
-        b"",
-    );
-    has(&rt, b"Donald E. Knuth", b"Donald E.", b"", b"Knuth", b"");
-    has(
-        &rt,
-        b"Per Brinch-Hansen",
-        b"Per",
-        b"",
-        b"Brinch-Hansen",
-        b"",
-    );
-    has(&rt, b"A-B-C", b"", b"", b"A-B-C", b"");
-    has(&rt, b"ludwig", b"", b"", b"ludwig", b"");
-    has(
-        &rt,
-        b"van~Beethoven , Jr,\tLudwig A.",
-        b"Ludwig A.",
-        b"van",
-        b"Beethoven",
-        b"Jr",
-    );
-    has(&rt, b"Beethoven,Ludwig", b"Ludwig", b"", b"Beethoven", b"");
-    has(&rt, b"A b C d E", b"A", b"b C d", b"E", b"");
-    has(&rt, b"{von} Last", b"{von}", b"", b"Last", b"");
-    has(
-        &rt,
-        b"{\\relax von} Last",
-        b"",
-        b"{\\relax von}",
-        b"Last",
-        b"",
-    );
-    has(&rt, b"{\\OE}x y", b"{\\OE}x", b"", b"y", b"");
-    has(&rt, b"{\\oe}X y", b"", b"{\\oe}X", b"y", b"");
-    has(&rt, b"{\\'E}x {\\'e}X y", b"{\\'E}x", b"{\\'e}X", b"y", b"");
-    has(&rt, b"{a, b} c-d~{e f}", b"{a, b}", b"c-d", b"{e f}", b"");
-    has(&rt, b" ~- ", b"", b"", b"", b"");
-    has(&rt, b"", b"", b"", b"", b"");
-    fails(&rt, b"A, B, C, D", NameFault::TooManyCommas);
-    fails(&rt, b"A,,,", NameFault::TooManyCommas);
-    fails(&rt, b"Smith, John,", NameFault::CommaAtEnd);
-    fails(&rt, b"Smith, ~-", NameFault::CommaAtEnd);
+    have_parts(&rt, &PARTED);
+}
+
+fn have_parts(rt: &impl Abort, rows: &[Parted]) {
+    for row in rows {
+        let Ok(found) = parts(row.name) else {
+            panic!(rt; "the name has no parts");
+        };
+        assert_eq!(rt; found.first, row.first);
+        assert_eq!(rt; found.von, row.von);
+        assert_eq!(rt; found.last, row.last);
+        assert_eq!(rt; found.jr, row.jr);
+    }
+}
+
+/// A name without parts.
+#[derive(Clone, Copy)]
+struct Faulty {
+    name: &'static [u8],
+    fault: NameFault,
+}
+
+static FAULTY: [Faulty; 4] = [
+    Faulty {
+        name: b"A, B, C, D",
+        fault: NameFault::TooManyCommas,
+    },
+    Faulty {
+        name: b"A,,,",
+        fault: NameFault::TooManyCommas,
+    },
+    Faulty {
+        name: b"Smith, John,",
+        fault: NameFault::CommaAtEnd,
+    },
+    Faulty {
+        name: b"Smith, ~-",
+        fault: NameFault::CommaAtEnd,
+    },
+];
+
+#[test]
+fn names_without_parts(rt: HostRuntime) {
+    have_faults(&rt, &FAULTY);
     assert!(rt; names_ok(b""));
     assert!(rt; names_ok(b"A and {Smith, John,}"));
     assert!(rt; !names_ok(b"A and Smith, John,"));
     assert!(rt; !names_ok(b"A, B, C, D and E"));
 }
 
-fn has(rt: &impl Abort, name: &[u8], first: &[u8], von: &[u8], last: &[u8], jr: &[u8]) {
-    match parts(name) {
-        Ok(found) => {
-            assert_eq!(rt; found.first, first);
-            assert_eq!(rt; found.von, von);
-            assert_eq!(rt; found.last, last);
-            assert_eq!(rt; found.jr, jr);
+fn have_faults(rt: &impl Abort, rows: &[Faulty]) {
+    for row in rows {
+        match parts(row.name) {
+            Ok(_) => panic!(rt; "the name has parts"),
+            Err(fault) => assert_eq!(rt; fault, row.fault),
         }
-        Err(_) => panic!(rt; "the name has no parts"),
     }
 }
 
-fn fails(rt: &impl Abort, name: &[u8], want: NameFault) {
-    match parts(name) {
-        Ok(_) => panic!(rt; "the name has parts"),
-        Err(fault) => assert_eq!(rt; fault, want),
-    }
-}
+static FORMED: [&[u8]; 10] = [
+    b"",
+    b"abc",
+    b"{ff~}{vv~}{ll}{, jj}",
+    b"{fF}",
+    b"{L.}",
+    b"{f{xyz}}",
+    b"{{xyz} }{ }",
+    b"{\\'f}",
+    b"{\xc3\xa9 v}",
+    b"x{{{}}j}y",
+];
+
+static MALFORMED: [&[u8]; 12] = [
+    b"{ff~}{xx}",
+    b"{a}",
+    b"{fv}",
+    b"{fff}",
+    b"{f{a}f}",
+    b"{f1f}",
+    b"{f",
+    b"f}",
+    b"}{",
+    b"{f}}",
+    b"{ff}{ll",
+    b"{ll}{l l}",
+];
 
 #[test]
 fn patterns(rt: HostRuntime) {
-    let formed: [&[u8]; 10] = [
-        b"",
-        b"abc",
-        b"{ff~}{vv~}{ll}{, jj}",
-        b"{fF}",
-        b"{L.}",
-        b"{f{xyz}}",
-        b"{{xyz} }{ }",
-        b"{\\'f}",
-        b"{\xc3\xa9 v}",
-        b"x{{{}}j}y",
-    ];
-    for pattern in formed {
-        assert!(rt; pattern_ok(pattern));
-    }
-    let others: [&[u8]; 12] = [
-        b"{ff~}{xx}",
-        b"{a}",
-        b"{fv}",
-        b"{fff}",
-        b"{f{a}f}",
-        b"{f1f}",
-        b"{f",
-        b"f}",
-        b"}{",
-        b"{f}}",
-        b"{ff}{ll",
-        b"{ll}{l l}",
-    ];
-    for pattern in others {
-        assert!(rt; !pattern_ok(pattern));
+    are_formed(&rt, &FORMED, true);
+    are_formed(&rt, &MALFORMED, false);
+}
+
+fn are_formed(rt: &impl Abort, patterns: &[&[u8]], formed: bool) {
+    for pattern in patterns {
+        assert_eq!(rt; pattern_ok(pattern), formed);
     }
 }

@@ -1,8 +1,9 @@
 -- The names of a style in the order of their ids, each with its kind (docs/LANGUAGE.md, "Names").
-use Rattle.std.specs.Prelude.{ℕ, suc, Bool, false, ◌&&◌, not, nat_le, map, List, [], ◌∷◌, Option, None, Some, nat_eq, if◌then◌else◌, slice_get}
+use Rattle.std.specs.Prelude.{ℕ, suc, Bool, false, ◌&&◌, not, map, List, [], ◌∷◌, Option, None, Some, nat_eq, if◌then◌else◌, slice_get}
 use Rattle.std.specs.Option.{option_map}
 use Rattle.std.specs.List.{list_all}
 use Rattle.bv_base.specs.Bytes.{is_name_byte, lower}
+use Rattle.bv_base.specs.Runs.{is_digit}
 use Rattle.std.specs.Cmp.Lexicographic.{pointwise}
 use Rattle.name_table.specs.declared.names.Kind.{Kind}
 use Rattle.name_table.specs.declared.names.NameId.{NameId}
@@ -32,9 +33,6 @@ text_at id names = option_map (λ entry. entry.0) (slice_get names id.0)
 -- a name as it is compared and kept
 abbrev pub lowered : List ℕ → List ℕ
 lowered name = map lower name
-
-abbrev pub is_digit : ℕ → Bool
-is_digit b = nat_le 48 b && nat_le b 57
 
 -- a name that may be defined has name bytes alone and doesn't begin with a digit
 abbrev pub is_definable : List ℕ → Bool

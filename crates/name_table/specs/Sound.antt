@@ -66,6 +66,7 @@ AreNumbered n [] = Unit {0}
 AreNumbered n (None ∷ rest) = AreNumbered n rest
 AreNumbered n (Some number ∷ rest) = (number ≡ n) × AreNumbered (suc n) rest
 
+-- what holds of a style: what each part of it names is there, and nothing is beyond the limits
 pub record IsSound (style : Style) : Type 0 where
   pub declared : List (List ℕ × Kind)
   pub names : style.names ≡ opening_names ++ declared

@@ -15,6 +15,7 @@ abbrev pub is_function : NameId → Command → Bool
 is_function id (Function other) = nat_eq id.0 other.0
 is_function id _ = false
 
+-- the command is READ
 abbrev pub is_read : Command → Bool
 is_read Read = true
 is_read _ = false

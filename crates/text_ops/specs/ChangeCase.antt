@@ -9,6 +9,7 @@ use Rattle.text_ops.specs.declared.change_case.Case.TheVariants.{Title, Lower, U
 abbrev pub raise : ℕ → ℕ
 raise b = if (nat_le 97 b && nat_le b 122) then b - 32 else b
 
+-- a letter of the mode's case, and every other byte as it is
 abbrev pub changed_byte : Case → ℕ → ℕ
 changed_byte Title b = lower b
 changed_byte Lower b = lower b
@@ -22,16 +23,19 @@ bare_words = codes "i" ∷ codes "j" ∷ codes "ss" ∷ []
 abbrev pub small_words : List (List ℕ)
 small_words = codes "oe" ∷ codes "ae" ∷ codes "aa" ∷ codes "o" ∷ codes "l" ∷ []
 
+-- the mode makes plain letters of this control word
 abbrev pub becomes_bare : Case → List ℕ → Bool
 becomes_bare Title letters = false
 becomes_bare Lower letters = false
 becomes_bare Upper letters = is_one_of bare_words letters
 
+-- the mode has another form of this control word
 abbrev pub has_case : Case → List ℕ → Bool
 has_case Title letters = is_foreign letters
 has_case Lower letters = is_foreign letters
 has_case Upper letters = is_one_of small_words letters
 
+-- letters of the mode's case
 abbrev pub changed_letters : Case → List ℕ → List ℕ
 changed_letters mode letters = map (changed_byte mode) letters
 
@@ -41,6 +45,7 @@ changed_word mode letters space =
     if becomes_bare mode letters then changed_letters mode letters
     else 92 ∷ (if has_case mode letters then changed_letters mode letters else letters) ++ space
 
+-- a part of a special character in another case
 abbrev pub changed_part : Case → SpecialPart → List ℕ
 changed_part mode (ControlWord letters space) = changed_word mode letters space
 changed_part mode (Other b) = changed_byte mode b ∷ []
@@ -49,14 +54,16 @@ changed_part mode (Other b) = changed_byte mode b ∷ []
 abbrev pub changed_plain : Case → ℕ → ℕ → ℕ
 changed_plain mode level b = if nat_eq level 0 then changed_byte mode b else b
 
+-- a piece in another case: of a special character its parts
 abbrev pub changed_piece : Case → Piece → List ℕ
 changed_piece mode (Plain level b) = changed_plain mode level b ∷ []
 changed_piece mode (Special inner close) = 123 ∷ flat_map (changed_part mode) (special_parts inner) ++ close
 
--- the special character whose first brace stands before these bytes: whole, and changed
+-- the special character whose first brace stands before these bytes
 abbrev pub whole_special : List ℕ → List ℕ
 whole_special bs = spelling (Special (inside 1 bs) (closing 1 bs))
 
+-- the special character whose first brace stands before these bytes, in another case
 abbrev pub changed_special : Case → List ℕ → List ℕ
 changed_special mode bs = changed_piece mode (Special (inside 1 bs) (closing 1 bs))
 
@@ -82,5 +89,6 @@ changed_pieces mode before [] = []
 changed_pieces mode before (p ∷ ps) =
     (if leaves mode (begins_title before) then spelling p else changed_piece mode p) ++ changed_pieces mode (reverse (spelling p) ++ before) ps
 
+-- a text in another case
 abbrev pub case_changed : Case → List ℕ → List ℕ
 case_changed mode text = changed_pieces mode [] (pieces text)

@@ -1,7 +1,8 @@
 -- Words of the laws that hold of every text (docs/TEXTS.md).
 use Rattle.std.specs.Prelude.{ℕ, Bool, ◌≡◌, ◌||◌, not, nat_eq, List, ◌++◌}
 use Rattle.bv_base.specs.Bytes.{is_white}
-use Rattle.bv_base.specs.Levels.{is_ascii_letter, is_letter, is_digit}
+use Rattle.bv_base.specs.Levels.{is_ascii_letter, is_letter}
+use Rattle.bv_base.specs.Runs.{is_digit}
 
 -- the bytes stand together in the text
 abbrev pub IsPartOf : List ℕ → List ℕ → Type 0

@@ -39,6 +39,7 @@ printed_after zero (b ∷ bs) =
     then ControlWord (word_letters bs) (owned_space bs) ∷ printed_after (length (owned bs ++ owned_space bs)) bs
     else Other b ∷ printed_after zero bs
 
+-- the parts of the bytes within a special character as they are printed, in order
 abbrev pub printed_parts : List ℕ → List SpecialPart
 printed_parts inner = printed_after 0 inner
 
@@ -53,6 +54,7 @@ word_width letters =
     else if is_foreign letters then byte_width (slice_index letters 0)
     else 0
 
+-- the width of a part of a special character, in which braces have none
 abbrev pub part_width : SpecialPart → ℕ
 part_width (ControlWord letters space) = word_width letters
 part_width (Other b) = if is_brace b then 0 else byte_width b
@@ -62,5 +64,6 @@ abbrev pub piece_width : Piece → ℕ
 piece_width (Plain level b) = byte_width b
 piece_width (Special inner close) = sum_by part_width (printed_parts inner)
 
+-- the width of a text: that of its pieces
 abbrev pub width_of : List ℕ → ℕ
 width_of text = sum_by piece_width (pieces text)

@@ -1,7 +1,7 @@
 -- What the grammar spells ends in a fault within the source.
 use Rattle.std.proofs.Common.{refl, arith}
 use Rattle.bst_lex.specs.Lexemes.{lexed_after}
-use Rattle.bst_lex.specs.Places.{first_place}
+use Rattle.bv_base.specs.Places.{first_place}
 use Rattle.bst_lex.proofs.Placing.{spelled_stands}
 use Rattle.bst_lex.proofs.Spelling.{spelled}
 use Rattle.bst_lex.proofs.laws.faults_in_source.Goals as goal

@@ -2,7 +2,7 @@
 use Rattle.std.proofs.Common.{◌≡◌, ap, subst}
 use Rattle.bst_lex.specs.Grammar.{Spells}
 use Rattle.bst_lex.specs.Lexemes.{Lexed, lexed_after}
-use Rattle.bst_lex.specs.Places.{first_place}
+use Rattle.bv_base.specs.Places.{first_place}
 use Rattle.bst_lex.proofs.Reading.{read}
 use Rattle.bst_lex.proofs.Spelling.{spelled}
 use Rattle.bst_lex.proofs.laws.lexemes_as_spelled.Goals as goal

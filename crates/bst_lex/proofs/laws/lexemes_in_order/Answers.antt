@@ -1,7 +1,7 @@
 -- What the definition reads the grammar spells, and what the grammar spells stands in order.
 use Rattle.std.proofs.Common.{refl}
 use Rattle.bst_lex.specs.Lexemes.{lexed_after}
-use Rattle.bst_lex.specs.Places.{first_place}
+use Rattle.bv_base.specs.Places.{first_place}
 use Rattle.bst_lex.proofs.Ordering.{in_order}
 use Rattle.bst_lex.proofs.Spelling.{spelled}
 use Rattle.bst_lex.proofs.laws.lexemes_in_order.Goals as goal

@@ -1,5 +1,6 @@
 use Rattle.std.proofs.Common.{◌≡◌, ◌+◌, drop}
-use Rattle.bst_lex.specs.Pieces.{ends_clean, length_before}
+use Rattle.bv_base.specs.Runs.{length_before}
+use Rattle.bst_lex.specs.Pieces.{ends_clean}
 use Rattle.bst_lex.proofs.pieces.clean_length.Given as goal
 
 abbrev pub invariant-loop-i : goal.invariant-loop-i

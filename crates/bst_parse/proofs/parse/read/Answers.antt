@@ -2,7 +2,7 @@ use Rattle.std.proofs.Common.{◌≡◌, length, take, drop, ap, subst, arith}
 use Rattle.std.specs.Option.{IfSome}
 use Rattle.std.specs.declared.option.Option.{Option}
 use Rattle.bst_lex.specs.declared.lexeme.Lexeme.{Lexeme}
-use Rattle.bst_lex.specs.Places.{place_at}
+use Rattle.bv_base.specs.Places.{place_at}
 use Rattle.bst_parse.proofs.Columns.{column_within}
 use Rattle.bst_parse.proofs.parse.read.Goals as goal
 

@@ -1,9 +1,8 @@
 -- A separator that stands where the loop is stands first.
 use Rattle.std.proofs.Common.{◌≡◌, ℕ, List, ◌∷◌, ◌+◌, ◌-◌, true, false, subst, length, drop, get_or, drop-cons, add-one, sym, ap, ◌∙◌, arith}
-use Rattle.std.proofs.lemmas.List.{length-drop}
+use Rattle.std.proofs.lemmas.List.{length-drop, drop-drop}
 use Rattle.bv_base.specs.Levels.{next_level}
 use Rattle.name_split.specs.Names.{begins_separator, separators}
-use Rattle.name_split.proofs.Cutting.{drop_more}
 use Rattle.name_split.proofs.Separating.{separator_here, separator_not_here}
 use Rattle.name_split.proofs.names.first_separator.Goals as goal
 
@@ -18,7 +17,7 @@ returns-then-begins_separator c =
     record {
       separators = λ base.
           sym (c.loop-at.invariant.same base) ∙ (here base).1
-          ∙ ap (λ xs. (base + at) ∷ separators (base + at + 3) 0 false xs) (drop_more at 3 text)
+          ∙ ap (λ xs. (base + at) ∷ separators (base + at + 3) 0 false xs) (drop-drop 3 at text)
           ∙ ap (λ n. (base + at) ∷ separators n 0 false (drop (at + 3) text)) (omega arith);
       within =
           (let left : length (drop at text) ≡ length text - at = length-drop at text in

@@ -1,8 +1,8 @@
 -- A group has no run, or its first letters are the first.
 use Rattle.std.proofs.Common.{◌≡◌, ℕ, ◌∙◌, take, drop, length, sym, ap, arith, eqb-true}
+use Rattle.std.proofs.lemmas.List.{drop-drop}
 use Rattle.std.proofs.lemmas.Bool.{eqb-false}
 use Rattle.name_split.specs.Patterns.{before_run}
-use Rattle.name_split.proofs.Cutting.{drop_more}
 use Rattle.name_split.proofs.Grouping.{runs_none, runs_some}
 use Rattle.name_split.proofs.pattern.first_run.Goals as goal
 
@@ -25,5 +25,5 @@ returns c =
       before = c.split_at.ensures.front ∙ ap (λ n. take n c.args.group.now) c.before_run.ensures.before;
       runs = runs_some c.args.group.now c.split_at.result.1.now c.word_letters-letters.result.now
           c.split_at-2.result.1.now rest c.word_letters-letters.ensures.letters c.split_at-2.ensures.back other;
-      behind = c.split_at-2.ensures.back ∙ ap (drop count) rest ∙ drop_more (before_run 1 c.args.group.now) count c.args.group.now;
+      behind = c.split_at-2.ensures.back ∙ ap (drop count) rest ∙ drop-drop count (before_run 1 c.args.group.now) c.args.group.now;
     }

@@ -1,6 +1,6 @@
 -- The cursor is as far from the end as what is left is long.
 use Rattle.std.proofs.Common.{◌∙◌, ap, length}
-use Rattle.bst_lex.specs.Places.{place_at}
+use Rattle.bv_base.specs.Places.{place_at}
 use Rattle.bst_lex.proofs.Moving.{end_place}
 use Rattle.bst_lex.proofs.Remaining.{source_kept}
 use Rattle.bst_lex.proofs.lexer.Lexer.end.Goals as goal

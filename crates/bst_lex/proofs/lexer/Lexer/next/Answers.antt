@@ -4,7 +4,7 @@ use Rattle.std.proofs.lemmas.Bool.{eqb-false}
 use Rattle.bst_lex.specs.Lexemes.{Reading, reading_at}
 use Rattle.bst_lex.specs.Lexer.{Stands}
 use Rattle.bst_lex.specs.Pieces.{gap_at, piece_at}
-use Rattle.bst_lex.specs.Places.{place_at}
+use Rattle.bv_base.specs.Places.{place_at}
 use Rattle.bst_lex.proofs.Moving.{stands_moved}
 use Rattle.bst_lex.proofs.Reaching.{Reaches, piece_reaches}
 use Rattle.bst_lex.proofs.Remaining.{after_gap, gap_gone, at_end, after_piece, at_fault, source_kept}
