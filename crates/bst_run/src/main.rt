@@ -9,8 +9,6 @@ mod judge;
 mod refusal;
 mod report;
 mod requests;
-#[cfg(test)]
-mod run_tests;
 mod runner;
 mod source_file;
 mod sources;
