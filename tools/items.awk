@@ -1,6 +1,12 @@
-# Blanks one item of a database, byte for byte, so that every line keeps its place: with `key`, the entry that has this key; with
-# `line`, `column` and `fault`, the item that the program couldn't read, from its `@` up to where the next begins. Then it
-# also writes to the file `report` what is wrong, in bibtex's shape, for the database called `file`.
+# Blanks one item of a database, byte for byte, so that every line keeps its place: with KEY in the environment, the entry that has
+# this key; with `line`, `column` and `fault`, the item that the program couldn't read, from its `@` up to where the next begins.
+# Then it also writes to the file REPORT what is wrong, in bibtex's shape, for the database called NAME. The names come by the
+# environment, since awk reads `\` in its variables as an escape.
+BEGIN {
+    if (!line) key = ENVIRON["KEY"]
+    report = ENVIRON["REPORT"]
+    file = ENVIRON["NAME"]
+}
 { text[NR] = $0 }
 
 END {
