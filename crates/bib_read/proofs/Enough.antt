@@ -1,12 +1,13 @@
 -- As many rounds as bytes are left are enough.
 use Rattle.std.proofs.Common.{◌≡◌, ℕ, zero, suc, ◌<◌, ◌≤◌, cond, List, [], ◌∷◌, length, drop, Option, None, Some, Result, Ok, Err, refl, sym, ap, ◌∙◌, arith}
+use Rattle.bv_base.specs.Runs.{length_before}
+use Rattle.bv_base.specs.Answers.{then_do}
 use Rattle.bib_read.specs.declared.stop.Stop.{Stop}
 use Rattle.bib_read.specs.Entering.{take_field, take_fields}
 use Rattle.bib_read.specs.Parts.{passed, stands, take_mark}
 use Rattle.bib_read.specs.Progress.{Progress}
 use Rattle.bib_read.specs.Reading.{next_item, take_item, take_items}
-use Rattle.bib_read.specs.Runs.{after_at, after_first, is_at, length_before}
-use Rattle.bib_read.specs.Stops.{then_do}
+use Rattle.bib_read.specs.Runs.{after_at, after_first, is_at}
 use Rattle.bib_read.specs.Values.{take_piece, take_pieces}
 use Rattle.bib_read.proofs.Shorter.{Below, dropped, field_below, item_below, mark_below, passed_le, piece_below}
 

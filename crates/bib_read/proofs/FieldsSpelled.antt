@@ -1,23 +1,25 @@
 -- The fields of an entry are what the grammar has, both ways.
-use Rattle.std.proofs.Common.{◌≡◌, ℕ, zero, suc, ◌<◌, ◌≤◌, ◌⊎◌, inl, inr, Bool, true, false, ◌&&◌, not, cond, nat_eq, List, [], ◌∷◌, ◌++◌, append_assoc, length, Result, Ok, Err, refl, sym, ap, subst, ◌∙◌, arith}
+use Rattle.std.proofs.Common.{◌≡◌, ℕ, zero, suc, ◌<◌, ◌≤◌, inl, inr, Bool, true, false, not, cond, nat_eq, List, [], ◌∷◌, ◌++◌, append_assoc, length, Result, Ok, refl, sym, ap, subst, ◌∙◌, arith}
 use Rattle.std.proofs.lemmas.Bool.Decides.{nat_tests}
 use Rattle.std.proofs.lemmas.List.{append-nil}
 use Rattle.bv_base.specs.Bytes.{is_name_byte}
+use Rattle.bv_base.specs.Runs.{after_white, is_black, is_digit}
+use Rattle.bv_base.specs.Answers.{then_do}
+use Rattle.name_table.specs.Names.{lowered}
 use Rattle.bib_read.specs.declared.stop.Stop.{Stop}
 use Rattle.bib_read.specs.Entering.{noted, take_field, take_fields, take_named, with_field}
-use Rattle.bib_read.specs.Grammar.{Piece, FieldTree, EndsBy, Gap, Identifier, IsField, IsFields, Mark, Opens}
+use Rattle.bib_read.specs.Grammar.{Piece, FieldTree, EndsBy, Identifier, IsField, IsFields, Mark, Opens}
 use Rattle.bib_read.specs.Meaning.{and_field, and_fields, field_warnings, fields_warnings, value_text, value_warnings}
 use Rattle.bib_read.specs.Names.{has_field}
 use Rattle.bib_read.specs.Parts.{is_first, passed, stands, take_identifier, take_mark}
 use Rattle.bib_read.specs.Progress.{Progress}
-use Rattle.bib_read.specs.Runs.{after_white, begins_name, is_black, is_digit, lowered}
+use Rattle.bib_read.specs.Runs.{begins_name}
 use Rattle.bib_read.specs.Squeeze.{trimmed}
-use Rattle.bib_read.specs.Stops.{then_do}
 use Rattle.bib_read.specs.Values.{take_equals}
 use Rattle.bib_read.specs.Warnings.{second_field}
 use Rattle.bib_read.proofs.Enough.{same_fields}
 use Rattle.bib_read.proofs.Gaps.{after_gap, at, gap_before, gap_joined, gap_passed, IsBlack, mark_first, mark_missed, mark_read, mark_stands, mark_taken, mark_there, ok, ok_is, other_stands, then_ok}
-use Rattle.bib_read.proofs.Pieces.{and_left, equals_read, equals_taken, EqualsRead, identifier_read, identifier_taken, named, NoHash, begins_black, valued}
+use Rattle.bib_read.proofs.Pieces.{and_left, equals_read, equals_taken, identifier_read, identifier_taken, NoHash, begins_black, valued}
 use Rattle.bib_read.proofs.Shorter.{Below, field_below, mark_below, noted_left, passed_le}
 
 -- after a field

@@ -3,6 +3,9 @@ use Rattle.std.proofs.Common.{◌≡◌, ℕ, zero, suc, Bool, true, false, cond
 use Rattle.std.specs.List.{list_all}
 use Rattle.bv_base.specs.Bytes.{is_white as white}
 use Rattle.bv_base.specs.Keys.{IsKey}
+use Rattle.bv_base.specs.Runs.{after_white, length_before}
+use Rattle.bv_base.specs.Answers.{then_do}
+use Rattle.name_table.specs.Names.{lowered, same_name}
 use Rattle.name_table.specs.declared.style.Macro.{Macro}
 use Rattle.bib_read.specs.declared.database.Database.{Database}
 use Rattle.bib_read.specs.declared.database.RawEntry.{RawEntry}
@@ -10,13 +13,13 @@ use Rattle.bib_read.specs.declared.stop.Stop.{Stop}
 use Rattle.bib_read.specs.declared.stop.Stop.TheVariants.{RepeatedKey}
 use Rattle.bib_read.specs.Additions.{AreKeyed, AreNew, HasAdded, HasDefined, HasGrown, IsLonger}
 use Rattle.bib_read.specs.Entering.{entry_at, take_entry, take_fields, with_entry}
-use Rattle.bib_read.specs.Names.{all_defined, defined, has_entry, same_name}
+use Rattle.bib_read.specs.Names.{all_defined, defined, has_entry}
 use Rattle.bib_read.specs.Parts.{take_identifier, take_mark, take_opening}
 use Rattle.bib_read.specs.Progress.{Progress}
 use Rattle.bib_read.specs.Reading.{database, database_of, finished, next_item, start, take_definition, take_item, take_items, take_opened, take_preamble, take_string, with_definition, with_preamble}
-use Rattle.bib_read.specs.Runs.{after_at, after_white, ends_key, length_before, lowered}
+use Rattle.bib_read.specs.Runs.{after_at, ends_key}
 use Rattle.bib_read.specs.Squeeze.{squeezed}
-use Rattle.bib_read.specs.Stops.{then_do, unexpected}
+use Rattle.bib_read.specs.Stops.{unexpected}
 use Rattle.bib_read.specs.Values.{take_equals, take_value}
 use Rattle.bib_read.proofs.Kept.{GivesKept, Kept, Same, equals_kept, fields_kept, identifier_kept, mark_kept, opening_kept, value_kept}
 

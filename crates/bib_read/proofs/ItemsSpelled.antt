@@ -1,26 +1,29 @@
 -- The items of a text are what the grammar has, both ways.
-use Rattle.std.proofs.Common.{◌≡◌, ℕ, zero, suc, ◌<◌, ◌≤◌, ◌⊎◌, inl, inr, Bool, true, false, ◌&&◌, ◌||◌, not, cond, nat_eq, List, [], ◌∷◌, ◌++◌, length, take, drop, Option, None, Some, Result, Ok, Err, refl, sym, ap, subst, ◌∙◌, arith, eqb-true, codes}
+use Rattle.std.proofs.Common.{◌≡◌, ℕ, zero, suc, ◌<◌, ◌≤◌, inl, inr, Bool, true, false, ◌&&◌, ◌||◌, not, cond, nat_eq, List, [], ◌∷◌, ◌++◌, length, take, drop, Option, None, Some, Result, Ok, Err, refl, sym, ap, subst, ◌∙◌, arith, eqb-true, codes}
 use Rattle.std.proofs.lemmas.Bool.Decides.{nat_tests}
 use Rattle.std.proofs.lemmas.List.{append-nil}
 use Rattle.bv_base.specs.Bytes.{is_white}
+use Rattle.bv_base.specs.Runs.{after_white, is_black, length_before}
+use Rattle.bv_base.specs.Answers.{then_do}
+use Rattle.name_table.specs.Names.{lowered, same_name}
 use Rattle.bib_read.specs.declared.database.Database.{Database}
 use Rattle.bib_read.specs.declared.stop.Stop.{Stop}
 use Rattle.bib_read.specs.declared.stop.Stop.TheVariants.{Expected, RepeatedKey}
 use Rattle.bib_read.specs.Entering.{entry_at, take_entry, take_fields, with_entry}
 use Rattle.bib_read.specs.Grammar.{Piece, FieldTree, Item, Comment, Definition, Preamble, Entry, EndsBy, Gap, Identifier, IsFields, IsItem, IsType, IsValue, Mark, NoneOf, Opens, Run, Spells, is_word}
-use Rattle.bib_read.specs.Meaning.{BibReads, and_fields, and_item, and_items, value_text, value_warnings, where_some}
-use Rattle.bib_read.specs.Names.{all_defined, defined, has_entry, same_name}
+use Rattle.bib_read.specs.Meaning.{BibReads, and_item, and_items, value_text, value_warnings, where_some}
+use Rattle.bib_read.specs.Names.{defined, has_entry}
 use Rattle.bib_read.specs.Parts.{opening_at, take_identifier, take_mark, take_opening}
 use Rattle.bib_read.specs.Progress.{Progress}
 use Rattle.bib_read.specs.Reading.{database, database_of, finished, next_item, start, take_definition, take_item, take_items, take_opened, take_preamble, take_string, with_definition, with_preamble}
-use Rattle.bib_read.specs.Runs.{after_at, after_first, after_white, ends_key, is_at, is_black, length_before, lowered}
+use Rattle.bib_read.specs.Runs.{after_at, after_first, ends_key, is_at}
 use Rattle.bib_read.specs.Squeeze.{squeezed}
-use Rattle.bib_read.specs.Stops.{fault_of, then_do, unexpected}
+use Rattle.bib_read.specs.Stops.{unexpected}
 use Rattle.bib_read.specs.Values.{take_equals, take_value}
 use Rattle.bib_read.proofs.Enough.{same_fields}
-use Rattle.bib_read.proofs.Gaps.{after_gap, at, gap_before, gap_joined, gap_passed, IsBlack, mark_first, mark_missed, mark_read, mark_stands, mark_taken, mark_there, ok, ok_is, run_before, run_taken, then_ok, unless_ok, where_ok}
-use Rattle.bib_read.proofs.FieldsSpelled.{FieldsRead, IsCloser, closer, fields_read, fields_taken, mark_no_hash, with_fields}
-use Rattle.bib_read.proofs.Pieces.{equals_read, equals_taken, identifier_read, identifier_taken, named, NoHash, valued, value_read, value_taken}
+use Rattle.bib_read.proofs.Gaps.{after_gap, at, gap_before, gap_joined, gap_passed, mark_first, mark_read, mark_taken, ok, ok_is, run_before, run_taken, then_ok, unless_ok}
+use Rattle.bib_read.proofs.FieldsSpelled.{IsCloser, closer, fields_read, fields_taken, mark_no_hash, with_fields}
+use Rattle.bib_read.proofs.Pieces.{equals_read, equals_taken, identifier_read, identifier_taken, valued, value_read, value_taken}
 use Rattle.bib_read.proofs.Shorter.{Below, dropped, item_below}
 
 -- an item that is read: what it spells, and what it adds

@@ -1,14 +1,17 @@
 -- Values and fields keep the macros, the entries and the preamble that are there, and add warnings alone.
 use Rattle.std.proofs.Common.{◌≡◌, ℕ, zero, suc, Bool, true, false, cond, nat_eq, List, [], ◌∷◌, ◌++◌, length, drop, take, Option, None, Some, Result, Ok, Err, ap, ◌∙◌, append_assoc}
+use Rattle.bv_base.specs.Runs.{after_white, is_digit, length_before}
+use Rattle.bv_base.specs.Answers.{then_do}
+use Rattle.name_table.specs.Names.{lowered}
 use Rattle.bib_read.specs.declared.stop.Stop.{Stop}
 use Rattle.bib_read.specs.Additions.{IsLonger}
 use Rattle.bib_read.specs.Entering.{noted, take_field, take_fields, take_named, with_field}
 use Rattle.bib_read.specs.Names.{has_field, value_of}
 use Rattle.bib_read.specs.Parts.{identifier_at, opening_at, passed, stands, take_identifier, take_mark, take_opening}
 use Rattle.bib_read.specs.Progress.{Progress}
-use Rattle.bib_read.specs.Runs.{after_white, begins_name, ends_name, inside_length, is_digit, length_before, lowered}
+use Rattle.bib_read.specs.Runs.{begins_name, ends_name, inside_length}
 use Rattle.bib_read.specs.Squeeze.{trimmed}
-use Rattle.bib_read.specs.Stops.{then_do, unexpected}
+use Rattle.bib_read.specs.Stops.{unexpected}
 use Rattle.bib_read.specs.Values.{closed, joined, macro_joined, piece_at, take_closed, take_digits, take_equals, take_macro, take_piece, take_pieces, take_value, with_macro}
 use Rattle.bib_read.specs.Warnings.{second_field, undefined_macro}
 

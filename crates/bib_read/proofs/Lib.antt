@@ -4,7 +4,6 @@ pub mod Gaps
 pub mod Growing
 pub mod ItemsSpelled
 pub mod Kept
-pub mod Keys
 pub mod Pieces
 pub mod Rounds
 pub mod Shorter

@@ -2,7 +2,10 @@
 use Rattle.std.proofs.Common.{◌≡◌, ℕ, zero, suc, ◌<◌, ◌≤◌, Bool, true, false, ◌&&◌, ◌||◌, not, cond, nat_eq, List, [], ◌∷◌, ◌++◌, append_assoc, length, take, drop, Option, None, Some, Result, Ok, Err, refl, sym, ap, subst, ◌∙◌, arith, eqb-true}
 use Rattle.std.proofs.lemmas.Bool.Decides.{nat_tests}
 use Rattle.std.proofs.lemmas.List.{take-append-drop, append-nil}
-use Rattle.bv_base.specs.Bytes.{is_name_byte, is_white}
+use Rattle.bv_base.specs.Bytes.{is_name_byte}
+use Rattle.bv_base.specs.Runs.{after_white, ends_digits, is_black, is_digit, length_before}
+use Rattle.bv_base.specs.Answers.{then_do}
+use Rattle.name_table.specs.Names.{lowered}
 use Rattle.bib_read.specs.declared.stop.Stop.{Stop}
 use Rattle.bib_read.specs.declared.stop.Stop.TheVariants.{Unbalanced}
 use Rattle.bib_read.specs.Grammar.{Piece, Braced, Quoted, Digits, Named, EndsBy, Gap, Identifier, IsPiece, IsValue, Mark, NoneOf, Run, is_inside}
@@ -10,12 +13,12 @@ use Rattle.bib_read.specs.Meaning.{or_nothing, piece_text, piece_warnings, value
 use Rattle.bib_read.specs.Names.{value_of}
 use Rattle.bib_read.specs.Parts.{identifier_at, is_first, passed, stands, take_identifier, take_mark}
 use Rattle.bib_read.specs.Progress.{Progress}
-use Rattle.bib_read.specs.Runs.{after_white, begins_name, ends_digits, ends_name, inside_length, is_black, is_digit, length_before, level_after, lowered}
-use Rattle.bib_read.specs.Stops.{then_do, unexpected}
+use Rattle.bib_read.specs.Runs.{begins_name, ends_name, inside_length, level_after}
+use Rattle.bib_read.specs.Stops.{unexpected}
 use Rattle.bib_read.specs.Values.{closed, joined, macro_joined, piece_at, take_closed, take_digits, take_equals, take_macro, take_piece, take_pieces, take_value, with_macro}
 use Rattle.bib_read.specs.Warnings.{undefined_macro}
 use Rattle.bib_read.proofs.Enough.{same_pieces}
-use Rattle.bib_read.proofs.Gaps.{after_gap, at, gap_before, mark_first, mark_missed, mark_read, mark_stands, mark_taken, mark_there, ok, ok_is, run_before, run_length, run_taken, take_front, drop_front, then_ok, where_ok}
+use Rattle.bib_read.proofs.Gaps.{after_gap, at, gap_before, mark_first, mark_missed, mark_read, mark_stands, mark_taken, mark_there, ok, ok_is, run_before, run_taken, take_front, drop_front, then_ok, where_ok}
 use Rattle.bib_read.proofs.Shorter.{Below, passed_less, piece_below}
 
 pub and_left : (a b : Bool) → (a && b) ≡ true → a ≡ true

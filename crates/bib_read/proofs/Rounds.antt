@@ -1,11 +1,11 @@
 -- One round of what is taken so many times.
 use Rattle.std.proofs.Common.{◌≡◌, ℕ, suc, ◌+◌, ◌-◌, ◌<◌, List, cond, Ok, ap, arith}
+use Rattle.bv_base.specs.Answers.{then_do}
 use Rattle.bib_read.specs.Entering.{take_field, take_fields}
 use Rattle.bib_read.specs.Parts.{passed, stands, take_mark}
 use Rattle.bib_read.specs.Progress.{Progress}
 use Rattle.bib_read.specs.Reading.{next_item, take_items}
 use Rattle.bib_read.specs.Runs.{after_at}
-use Rattle.bib_read.specs.Stops.{then_do}
 use Rattle.bib_read.specs.Values.{take_piece, take_pieces}
 
 one_more : (end i : ℕ) → i < end → end - i ≡ suc (end - (i + 1))

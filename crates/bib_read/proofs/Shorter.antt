@@ -3,17 +3,20 @@ use Rattle.std.proofs.Common.{◌≡◌, ℕ, zero, suc, ◌<◌, ◌≤◌, Boo
 use Rattle.bib_read.specs.declared.stop.Stop.{Stop}
 use Rattle.bib_read.specs.declared.stop.Stop.TheVariants.{RepeatedKey}
 use Rattle.bib_read.specs.Entering.{entry_at, noted, take_entry, take_field, take_fields, take_named, with_entry, with_field}
-use Rattle.bib_read.specs.Names.{has_entry, has_field, same_name, value_of}
+use Rattle.bib_read.specs.Names.{has_entry, has_field, value_of}
 use Rattle.bib_read.specs.Parts.{identifier_at, is_first, opening_at, passed, stands, take_identifier, take_mark, take_opening, without_first}
 use Rattle.bib_read.specs.Progress.{Progress}
 use Rattle.bib_read.specs.Reading.{take_definition, take_item, take_opened, take_preamble, take_string, with_definition, with_preamble}
-use Rattle.bib_read.specs.Runs.{after_white, begins_name, ends_digits, ends_key, ends_name, inside_length, is_black, is_digit, length_before, lowered}
-use Rattle.bib_read.specs.Stops.{then_do, unexpected}
+use Rattle.bib_read.specs.Runs.{begins_name, ends_key, ends_name, inside_length}
+use Rattle.bib_read.specs.Stops.{unexpected}
 use Rattle.bib_read.specs.Values.{closed, joined, macro_joined, piece_at, take_closed, take_digits, take_equals, take_macro, take_piece, take_pieces, take_value, with_macro}
 use Rattle.bib_read.specs.Squeeze.{trimmed}
 use Rattle.bib_read.specs.Warnings.{second_field}
 use Rattle.bv_base.specs.Bytes.{is_name_byte}
 use Rattle.std.specs.Prelude.{codes}
+use Rattle.bv_base.specs.Runs.{after_white, ends_digits, is_black, is_digit, length_before}
+use Rattle.bv_base.specs.Answers.{then_do}
+use Rattle.name_table.specs.Names.{lowered, same_name}
 
 -- fewer bytes than these are left, where there is a value
 abbrev pub Below : ℕ → Result Progress Stop → Type 0

@@ -8,8 +8,9 @@ use Rattle.std.specs.Option.{option_map}
 use Rattle.std.specs.Cmp.Lexicographic.{pointwise}
 use Rattle.std.specs.Map.{lookup}
 use Rattle.indexmap.specs.IndexMap.{insert_entry}
+use Rattle.name_table.specs.Names.{same_name}
 use Rattle.name_table.specs.declared.style.Macro.{Macro}
-use Rattle.bib_read.specs.Names.{defined, same_name, value_of}
+use Rattle.bib_read.specs.Names.{defined, value_of}
 use Rattle.bib_read.specs.Tables.{macro_of}
 
 -- a macro of a name and a value

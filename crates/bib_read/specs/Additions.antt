@@ -2,11 +2,11 @@
 use Rattle.std.specs.Prelude.{◌≡◌, false, List, [], ◌∷◌, ◌++◌}
 use Rattle.std.specs.List.{AllByRecursion}
 use Rattle.bv_base.specs.Keys.{IsKey}
+use Rattle.name_table.specs.Names.{lowered}
 use Rattle.name_table.specs.declared.style.Macro.{Macro}
 use Rattle.bib_read.specs.declared.database.Database.{Database}
 use Rattle.bib_read.specs.declared.database.RawEntry.{RawEntry}
 use Rattle.bib_read.specs.Names.{all_defined, has_entry}
-use Rattle.bib_read.specs.Runs.{lowered}
 
 -- each entry has a key
 abbrev pub AreKeyed : List RawEntry → Type 0

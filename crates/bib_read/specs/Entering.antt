@@ -1,13 +1,16 @@
 -- The fields of an entry, and entries (docs/DATA.md, "Entries").
 use Rattle.std.specs.Prelude.{ℕ, zero, suc, nat_eq, if◌then◌else◌, List, [], ◌∷◌, ◌++◌, length, take, drop, Result, Ok, Err}
+use Rattle.bv_base.specs.Runs.{after_white, length_before}
+use Rattle.bv_base.specs.Answers.{then_do}
+use Rattle.name_table.specs.Names.{lowered}
 use Rattle.bib_read.specs.declared.stop.Stop.{Stop}
 use Rattle.bib_read.specs.declared.stop.Stop.TheVariants.{EndOfFile, RepeatedKey}
 use Rattle.bib_read.specs.Names.{has_entry, has_field}
 use Rattle.bib_read.specs.Parts.{passed, stands, take_identifier, take_mark}
 use Rattle.bib_read.specs.Progress.{Progress}
-use Rattle.bib_read.specs.Runs.{after_white, ends_key, length_before, lowered}
+use Rattle.bib_read.specs.Runs.{ends_key}
 use Rattle.bib_read.specs.Squeeze.{trimmed}
-use Rattle.bib_read.specs.Stops.{then_do, unexpected}
+use Rattle.bib_read.specs.Stops.{unexpected}
 use Rattle.bib_read.specs.Values.{take_equals}
 use Rattle.bib_read.specs.Warnings.{second_field}
 

@@ -1,5 +1,7 @@
--- The faults of a `.bib` file: their names and places (docs/COMMANDS.md, "Faults of data").
-use Rattle.std.specs.Prelude.{ℕ, List, codes}
+-- The faults of a `.bib` file: their names and places (docs/COMMANDS.md, "Faults of data"; docs/DATA.md, "Faults of a
+-- .bib file").
+use Rattle.std.specs.Prelude.{◌≡◌, ℕ, List, codes}
+use Rattle.bv_base.specs.Places.{StandsIn, after_bytes, first_place}
 use Rattle.bv_base.specs.declared.place.Place.{Place}
 use Rattle.bib_read.specs.declared.fault.BibFault.{BibFault}
 use Rattle.bib_read.specs.declared.fault.BibFault.TheVariants.{Expected, EndOfFile, Unbalanced, RepeatedKey, NoMemory}
@@ -18,4 +20,12 @@ place_of (Expected place) = place
 place_of (EndOfFile place) = place
 place_of (Unbalanced place) = place
 place_of (RepeatedKey place) = place
-place_of NoMemory = record { line = 1; column = 1 }
+place_of NoMemory = first_place
+
+-- a fault stands in the text or at its end
+abbrev pub FaultStandsIn : List ℕ → BibFault → Type 0
+FaultStandsIn source (Expected place) = StandsIn source place
+FaultStandsIn source (EndOfFile place) = place ≡ after_bytes source first_place
+FaultStandsIn source (Unbalanced place) = StandsIn source place
+FaultStandsIn source (RepeatedKey place) = StandsIn source place
+FaultStandsIn source NoMemory = Unit {0}

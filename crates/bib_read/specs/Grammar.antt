@@ -1,8 +1,9 @@
 -- The grammar of databases over whole texts: items as trees, and how they are spelled (docs/DATA.md, "The .bib file").
 -- In each relation the first bytes begin with what it speaks of, and the second follow it.
 use Rattle.std.specs.Prelude.{◌≡◌, ℕ, ◌<◌, ◌⊎◌, Bool, true, false, ◌&&◌, ◌||◌, not, nat_eq, List, [], ◌∷◌, ◌++◌, length, codes}
-use Rattle.bib_read.specs.Names.{same_name}
-use Rattle.bib_read.specs.Runs.{begins_name, ends_digits, ends_key, ends_name, is_at, is_black, level_after, lowered}
+use Rattle.bv_base.specs.Runs.{ends_digits, is_black}
+use Rattle.name_table.specs.Names.{lowered, same_name}
+use Rattle.bib_read.specs.Runs.{begins_name, ends_key, ends_name, is_at, level_after}
 
 -- a piece of a value: a text in braces or in quotes, digits, or the name of a macro
 pub data Piece : Type 0 where

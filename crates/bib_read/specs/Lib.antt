@@ -1,6 +1,5 @@
 pub mod Additions
 pub mod Entering
-pub mod FaultPlaces
 pub mod Faults
 pub mod Grammar
 pub mod Meaning

@@ -1,12 +1,11 @@
 -- What the items of a database mean, one after the other (docs/DATA.md, "The .bib file").
-use Rattle.std.specs.Prelude.{◌≡◌, ℕ, Bool, false, if◌then◌else◌, List, [], ◌∷◌, ◌++◌, Option, None, Some}
+use Rattle.std.specs.Prelude.{◌≡◌, ℕ, false, if◌then◌else◌, List, [], ◌∷◌, ◌++◌, Option, None, Some}
+use Rattle.name_table.specs.Names.{lowered}
 use Rattle.name_table.specs.declared.style.Macro.{Macro}
 use Rattle.bib_read.specs.declared.database.Database.{Database}
-use Rattle.bib_read.specs.declared.database.RawEntry.{RawEntry}
 use Rattle.bib_read.specs.declared.database.RawField.{RawField}
 use Rattle.bib_read.specs.Grammar.{Piece, Braced, Quoted, Digits, Named, FieldTree, Item, Comment, Definition, Preamble, Entry, Spells}
 use Rattle.bib_read.specs.Names.{all_defined, defined, has_entry, has_field, value_of}
-use Rattle.bib_read.specs.Runs.{lowered}
 use Rattle.bib_read.specs.Squeeze.{squeezed, trimmed}
 use Rattle.bib_read.specs.Warnings.{second_field, undefined_macro}
 

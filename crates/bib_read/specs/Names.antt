@@ -1,30 +1,18 @@
 -- Names and keys that are there already, and macros by their names (docs/DATA.md, "The .bib file").
-use Rattle.std.specs.Prelude.{ℕ, Bool, false, ◌||◌, if◌then◌else◌, List, [], ◌∷◌, Option, None, Some, nat_eq}
-use Rattle.std.specs.Cmp.Lexicographic.{pointwise}
-use Rattle.std.specs.Global.{Vec}
+use Rattle.std.specs.Prelude.{ℕ, Bool, if◌then◌else◌, List, [], ◌∷◌, Option, None, Some}
+use Rattle.std.specs.List.{list_any}
+use Rattle.name_table.specs.Names.{lowered, same_name}
 use Rattle.name_table.specs.declared.style.Macro.{Macro}
 use Rattle.bib_read.specs.declared.database.RawEntry.{RawEntry}
 use Rattle.bib_read.specs.declared.database.RawField.{RawField}
-use Rattle.bib_read.specs.Runs.{lowered}
-
--- two names are the same bytes
-abbrev pub same_name : List ℕ → List ℕ → Bool
-same_name a b = pointwise nat_eq a b
-
--- a key of these bytes is among these entries of a hash table
-abbrev pub has_key : List ℕ → List (Vec ℕ × Unit {0}) → Bool
-has_key name [] = false
-has_key name (first ∷ rest) = same_name name first.0.items || has_key name rest
 
 -- a field of this name is among these
 abbrev pub has_field : List ℕ → List RawField → Bool
-has_field name [] = false
-has_field name (first ∷ rest) = same_name name first.name || has_field name rest
+has_field name fields = list_any (λ field. same_name name field.name) fields
 
 -- an entry with this lowered key is among these
 abbrev pub has_entry : List ℕ → List RawEntry → Bool
-has_entry key [] = false
-has_entry key (first ∷ rest) = same_name key (lowered first.key) || has_entry key rest
+has_entry key entries = list_any (λ entry. same_name key (lowered entry.key)) entries
 
 -- the value of the macro of this name
 abbrev pub value_of : List ℕ → List Macro → Option (List ℕ)

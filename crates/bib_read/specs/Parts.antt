@@ -1,9 +1,11 @@
 -- Marks, identifiers and opening braces, with white space before them (docs/DATA.md, "The .bib file").
 use Rattle.std.specs.Prelude.{ℕ, Bool, false, nat_eq, if◌then◌else◌, List, [], ◌∷◌, length, take, drop, Result, Ok, Err}
+use Rattle.bv_base.specs.Runs.{after_white, length_before}
+use Rattle.name_table.specs.Names.{lowered}
 use Rattle.bib_read.specs.declared.stop.Stop.{Stop}
 use Rattle.bib_read.specs.declared.stop.Stop.TheVariants.{Expected, EndOfFile}
 use Rattle.bib_read.specs.Progress.{Progress}
-use Rattle.bib_read.specs.Runs.{after_white, begins_name, ends_name, length_before, lowered}
+use Rattle.bib_read.specs.Runs.{begins_name, ends_name}
 use Rattle.bib_read.specs.Stops.{unexpected}
 
 -- a byte stands first

@@ -1,16 +1,18 @@
 -- The database that some bytes are after another, or their first fault (docs/DATA.md, "The .bib file").
 use Rattle.std.specs.Prelude.{ℕ, zero, suc, if◌then◌else◌, List, [], ◌++◌, false, length, Option, None, Some, Result, Ok, Err, codes}
+use Rattle.bv_base.specs.Answers.{then_do}
+use Rattle.name_table.specs.Names.{same_name}
 use Rattle.name_table.specs.declared.style.Macro.{Macro}
 use Rattle.bib_read.specs.declared.database.Database.{Database}
 use Rattle.bib_read.specs.declared.fault.BibFault.{BibFault}
 use Rattle.bib_read.specs.declared.stop.Stop.{Stop}
 use Rattle.bib_read.specs.Entering.{take_entry}
-use Rattle.bib_read.specs.Names.{all_defined, defined, same_name}
+use Rattle.bib_read.specs.Names.{all_defined, defined}
 use Rattle.bib_read.specs.Parts.{take_identifier, take_mark, take_opening}
 use Rattle.bib_read.specs.Progress.{Progress}
 use Rattle.bib_read.specs.Runs.{after_at}
 use Rattle.bib_read.specs.Squeeze.{squeezed}
-use Rattle.bib_read.specs.Stops.{fault_of, then_do}
+use Rattle.bib_read.specs.Stops.{fault_of}
 use Rattle.bib_read.specs.Values.{take_equals, take_value}
 
 -- a macro is defined by the value that has been read

@@ -1,14 +1,8 @@
 -- How far white space, identifiers, keys, numbers and the insides of braces and quotes reach
 -- (docs/DATA.md, "The .bib file").
-use Rattle.std.specs.Prelude.{ℕ, suc, ◌+◌, ◌-◌, Bool, false, ◌&&◌, ◌||◌, not, nat_eq, nat_le, if◌then◌else◌, List, [], ◌∷◌, drop, Option, None, Some, map}
-use Rattle.bv_base.specs.Bytes.{is_white as white, is_name_byte, lower}
-
--- every byte but white space
-abbrev pub is_black : ℕ → Bool
-is_black b = not (white b)
-
-abbrev pub is_digit : ℕ → Bool
-is_digit b = nat_le 48 b && nat_le b 57
+use Rattle.std.specs.Prelude.{ℕ, suc, ◌+◌, ◌-◌, Bool, false, ◌&&◌, ◌||◌, not, nat_eq, if◌then◌else◌, List, [], ◌∷◌, drop, Option, None, Some}
+use Rattle.bv_base.specs.Bytes.{is_white as white, is_name_byte}
+use Rattle.bv_base.specs.Runs.{is_digit, length_before}
 
 -- `@`
 abbrev pub is_at : ℕ → Bool
@@ -18,22 +12,9 @@ is_at b = nat_eq b 64
 abbrev pub ends_name : ℕ → Bool
 ends_name b = not (is_name_byte b)
 
--- every byte but digits
-abbrev pub ends_digits : ℕ → Bool
-ends_digits b = not (is_digit b)
-
 -- white space and the comma end a key, and `}` in an entry that `}` closes
 abbrev pub ends_key : ℕ → ℕ → Bool
 ends_key close b = white b || (nat_eq b 44 || (nat_eq b 125 && nat_eq close 125))
-
--- how many bytes stand before the first that passes a test
-abbrev pub length_before : (ℕ → Bool) → List ℕ → ℕ
-length_before test [] = 0
-length_before test (b ∷ bytes) = if test b then 0 else suc (length_before test bytes)
-
--- what is left after the white space that stands first
-abbrev pub after_white : List ℕ → List ℕ
-after_white bytes = drop (length_before is_black bytes) bytes
 
 -- all but the first byte
 abbrev pub after_first : List ℕ → Option (List ℕ)
@@ -48,10 +29,6 @@ after_at bytes = after_first (drop (length_before is_at bytes) bytes)
 abbrev pub begins_name : List ℕ → Bool
 begins_name [] = false
 begins_name (b ∷ _) = is_name_byte b && not (is_digit b)
-
--- a name as it is compared and kept
-abbrev pub lowered : List ℕ → List ℕ
-lowered name = map lower name
 
 -- how many braces are open after a byte, where so many are open before it
 abbrev pub level_after : ℕ → ℕ → ℕ

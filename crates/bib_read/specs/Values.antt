@@ -1,12 +1,13 @@
 -- Values and their pieces (docs/DATA.md, "Values").
 use Rattle.std.specs.Prelude.{ℕ, zero, suc, nat_eq, if◌then◌else◌, List, [], ◌∷◌, ◌++◌, length, take, drop, Option, None, Some, Result, Ok, Err}
+use Rattle.bv_base.specs.Runs.{after_white, ends_digits, is_digit, length_before}
+use Rattle.bv_base.specs.Answers.{then_do}
 use Rattle.bib_read.specs.declared.stop.Stop.{Stop}
 use Rattle.bib_read.specs.declared.stop.Stop.TheVariants.{EndOfFile, Unbalanced}
 use Rattle.bib_read.specs.Names.{value_of}
 use Rattle.bib_read.specs.Parts.{passed, stands, take_identifier, take_mark}
 use Rattle.bib_read.specs.Progress.{Progress}
-use Rattle.bib_read.specs.Runs.{after_white, ends_digits, inside_length, is_digit, length_before}
-use Rattle.bib_read.specs.Stops.{then_do}
+use Rattle.bib_read.specs.Runs.{inside_length}
 use Rattle.bib_read.specs.Warnings.{undefined_macro}
 
 -- a text is joined to the pieces before it, and these bytes are left

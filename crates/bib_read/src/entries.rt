@@ -4,31 +4,31 @@ ghost use Rattle.std.specs.Prelude.{◌≡◌, [], ◌∷◌, ◌++◌, OnOk};
 ghost use Rattle.bib_read.specs.Names as names;
 
 use crate::database::RawEntry;
-use crate::names::lowered;
+use bv_base::key_set::{KeySet, lowered};
 use bv_base::memory::NoMemory;
 use bv_base::seq::Seq;
-use indexmap::IndexMap;
 use std::alloc::Global;
 use std::marker::Model;
 
-/// The entries so far, in order, with their lowered keys in a hash table. Contracts see their list.
+/// The entries so far, in order, with the set of their lowered keys. Contracts see their list.
 #[derive(Drop)]
 pub(crate) struct Entries {
     alloc: Global,
     list: Seq<RawEntry>,
-    keys: IndexMap<Vec<u8>, ()>,
+    keys: KeySet,
 }
 
 impl Model for Entries {
     ghost use Rattle.std.specs.Prelude.{◌≡◌, ℕ, List};
     ghost use Rattle.bib_read.specs.declared.database.RawEntry.{RawEntry};
-    ghost use Rattle.bib_read.specs.Names.{has_entry, has_key};
+    ghost use Rattle.bib_read.specs.Names.{has_entry};
+    ghost use Rattle.bv_base.specs.KeySets.{has_key};
 
     ghost Value = { List RawEntry };
 
     ghost view = { λ e. e.list };
 
-    ghost invariant = { λ e. (key : List ℕ) → has_entry key e.list ≡ has_key key e.keys.entries };
+    ghost invariant = { λ e. (key : List ℕ) → has_entry key e.list ≡ has_key key e.keys };
 }
 
 impl Entries {
@@ -39,7 +39,7 @@ impl Entries {
         Entries {
             alloc,
             list: Seq::new(alloc),
-            keys: IndexMap::new(alloc),
+            keys: KeySet::new(alloc),
         }
     }
 
@@ -47,7 +47,7 @@ impl Entries {
     pub(crate) fn has(&self, key: &[u8]) -> bool
         ensures { result ≡ names.has_entry key.now self.now }
     {
-        self.keys.contains_key(key)
+        self.keys.has(key)
     }
 
     /// Adds an entry.
@@ -56,7 +56,7 @@ impl Entries {
     {
         let key = lowered(self.alloc, entry.key.as_slice())?;
         self.list.push(entry)?;
-        let Ok(_) = self.keys.insert(key, ()) else {
+        let Ok(_) = self.keys.add(key) else {
             let _ = self.list.pop();
             return Err(NoMemory);
         };

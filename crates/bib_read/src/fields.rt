@@ -4,30 +4,31 @@ ghost use Rattle.std.specs.Prelude.{◌≡◌, [], ◌∷◌, ◌++◌, OnOk};
 ghost use Rattle.bib_read.specs.Names as names;
 
 use crate::database::RawField;
+use bv_base::key_set::KeySet;
 use bv_base::memory::NoMemory;
 use bv_base::seq::Seq;
-use indexmap::IndexMap;
 use std::alloc::Global;
 use std::marker::Model;
 
-/// The fields so far, in order, with their names in a hash table. Contracts see their list.
+/// The fields so far, in order, with the set of their names. Contracts see their list.
 #[derive(Drop)]
 pub(crate) struct Fields {
     alloc: Global,
     list: Seq<RawField>,
-    names: IndexMap<Vec<u8>, ()>,
+    names: KeySet,
 }
 
 impl Model for Fields {
     ghost use Rattle.std.specs.Prelude.{◌≡◌, ℕ, List};
     ghost use Rattle.bib_read.specs.declared.database.RawField.{RawField};
-    ghost use Rattle.bib_read.specs.Names.{has_field, has_key};
+    ghost use Rattle.bib_read.specs.Names.{has_field};
+    ghost use Rattle.bv_base.specs.KeySets.{has_key};
 
     ghost Value = { List RawField };
 
     ghost view = { λ f. f.list };
 
-    ghost invariant = { λ f. (name : List ℕ) → has_field name f.list ≡ has_key name f.names.entries };
+    ghost invariant = { λ f. (name : List ℕ) → has_field name f.list ≡ has_key name f.names };
 }
 
 impl Fields {
@@ -38,7 +39,7 @@ impl Fields {
         Fields {
             alloc,
             list: Seq::new(alloc),
-            names: IndexMap::new(alloc),
+            names: KeySet::new(alloc),
         }
     }
 
@@ -46,7 +47,7 @@ impl Fields {
     pub(crate) fn has(&self, name: &[u8]) -> bool
         ensures { result ≡ names.has_field name.now self.now }
     {
-        self.names.contains_key(name)
+        self.names.has(name)
     }
 
     /// Adds a field.
@@ -55,7 +56,7 @@ impl Fields {
     {
         let key = field.name.as_slice().to_vec(self.alloc)?;
         self.list.push(field)?;
-        let Ok(_) = self.names.insert(key, ()) else {
+        let Ok(_) = self.names.add(key) else {
             let _ = self.list.pop();
             return Err(NoMemory);
         };

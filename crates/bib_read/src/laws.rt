@@ -1,9 +1,9 @@
 //! What holds of every text.
 
 ghost use Rattle.std.specs.Prelude.{◌≡◌, ◌↔◌, ℕ, ◌≤◌, List, [], length, Ok, Err};
+ghost use Rattle.bib_read.specs.Faults.{FaultStandsIn};
 ghost use Rattle.bib_read.specs.Additions.{AreNew, HasGrown};
 ghost use Rattle.bib_read.specs.Entering.{take_fields};
-ghost use Rattle.bib_read.specs.FaultPlaces.{StandsIn};
 ghost use Rattle.bib_read.specs.Meaning.{BibReads};
 ghost use Rattle.bib_read.specs.Progress.{Progress};
 ghost use Rattle.bib_read.specs.Reading.{database_of, take_items};
@@ -28,7 +28,7 @@ pub fn read_as_the_grammar(source: &[u8])
 
 /// Every fault of a text stands at a byte of it or at its end.
 pub fn faults_in_the_text(source: &[u8])
-    ensures { (before : Database) → (fault : BibFault) → database_of source.now before ≡ Err fault → StandsIn source.now fault }
+    ensures { (before : Database) → (fault : BibFault) → database_of source.now before ≡ Err fault → FaultStandsIn source.now fault }
 {}
 
 /// What was read before a text stays: its macros are defined before those of the text, and its entries, its preamble

@@ -7,7 +7,6 @@ pub mod fault;
 mod fields;
 pub mod laws;
 mod macros;
-mod names;
 mod opening;
 pub mod read;
 mod reader;

@@ -12,6 +12,7 @@ use crate::fields::Fields;
 use crate::opening::{copied_entries, copied_texts, defined};
 use crate::reader::Reader;
 use crate::stop::fault_of;
+use bv_base::limits::DATA_BYTES;
 use bv_base::memory::NoMemory;
 use bv_base::text::Text;
 use name_table::style::Style;
@@ -32,7 +33,7 @@ pub fn opening(alloc: Global, style: &Style) -> Result<Database, NoMemory>
 /// Each byte of the text is read a fixed number of times, and each macro, field and key is looked up in a hash
 /// table. A macro's value is copied wherever its name stands.
 pub fn read(alloc: Global, source: &[u8], before: &Database) -> Result<Database, BibFault>
-    requires { length source.now ≤ 16777216 }
+    requires { length source.now ≤ DATA_BYTES }
     ensures ok { IfOk result (λ database. reading.database_of source.now before.now ≡ Ok database) }
     ensures keys { IfOk result (λ database. AreKeyed before.now.entries → AreKeyed database.entries) }
     ensures fault { IfErr result (λ fault. fault ≢ WantOfMemory
@@ -44,7 +45,7 @@ pub fn read(alloc: Global, source: &[u8], before: &Database) -> Result<Database,
 
 /// Reads a text after what was read before.
 fn read_after(alloc: Global, source: &[u8], before: &Database) -> Result<Database, BibFault>
-    requires { length source.now ≤ 16777216 }
+    requires { length source.now ≤ DATA_BYTES }
     ensures ok { IfOk result (λ database. reading.database_of source.now before.now ≡ Ok database) }
     ensures fault { IfErr result (λ fault. fault ≢ WantOfMemory
         → reading.database_of source.now before.now ≡ Err fault) }

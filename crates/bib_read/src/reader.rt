@@ -1,22 +1,24 @@
 //! What has been read of a database, and the parts of it that come next.
 
 ghost use Rattle.std.specs.Prelude.{◌≡◌, ◌++◌, length, OnOk};
+ghost use Rattle.bv_base.specs.Answers.{GivesAndLeaves, Leaves};
 ghost use Rattle.bib_read.specs.Entering as entering;
 ghost use Rattle.bib_read.specs.Parts as parts;
 ghost use Rattle.bib_read.specs.Progressing.{progress_of};
 ghost use Rattle.bib_read.specs.Reading as reading;
-ghost use Rattle.bib_read.specs.Stops.{Answers, Gives};
+ghost use Rattle.bib_read.specs.declared.stop.Stop.TheVariants.{NoMemory as WantOfMemory};
 
 use crate::database::{RawEntry, RawField};
 use crate::entries::Entries;
 use crate::fields::Fields;
 use crate::macros::Macros;
-use crate::names::lowered;
-use crate::runs::{after_at, after_white, begins_name, key_length, name_length};
+use crate::runs::{after_at, begins_name, key_length, name_length};
 use crate::squeeze::{squeezed, trimmed};
 use crate::stop::{Stop, unexpected};
 use crate::warnings::second_field;
+use bv_base::key_set::lowered;
 use bv_base::memory::NoMemory;
+use bv_base::runs::after_white;
 use bv_base::seq::Seq;
 use bv_base::text::Text;
 use std::alloc::Global;
@@ -41,7 +43,7 @@ impl<'a> Reader<'a> {
     #[tactic(auto, using(crate::proofs::Rounds::items_round))]
     /// Takes what each `@` begins.
     pub(crate) fn take_items(&mut self) -> Result<(), Stop>
-        ensures { Answers
+        ensures { Leaves WantOfMemory
             (reading.take_items (length self.old.rest.now) (progress_of self.old))
             (progress_of self.new)
             result }
@@ -58,7 +60,7 @@ impl<'a> Reader<'a> {
 
     /// Takes what an `@` begins.
     fn take_item(&mut self) -> Result<(), Stop>
-        ensures { Answers (reading.take_item (progress_of self.old)) (progress_of self.new) result }
+        ensures { Leaves WantOfMemory (reading.take_item (progress_of self.old)) (progress_of self.new) result }
     {
         let word = self.take_identifier()?;
         if word.as_slice() == b"comment".as_slice() {
@@ -70,7 +72,7 @@ impl<'a> Reader<'a> {
 
     /// Takes what `{` or `(` opens after a word.
     fn take_opened(&mut self, word: Text, close: u8) -> Result<(), Stop>
-        ensures { Answers (reading.take_opened word close (progress_of self.old)) (progress_of self.new) result }
+        ensures { Leaves WantOfMemory (reading.take_opened word close (progress_of self.old)) (progress_of self.new) result }
     {
         if word.as_slice() == b"string".as_slice() {
             return self.take_string(close);
@@ -83,7 +85,7 @@ impl<'a> Reader<'a> {
 
     /// Takes the definition of a macro, after what opens it.
     fn take_string(&mut self, close: u8) -> Result<(), Stop>
-        ensures { Answers (reading.take_string close (progress_of self.old)) (progress_of self.new) result }
+        ensures { Leaves WantOfMemory (reading.take_string close (progress_of self.old)) (progress_of self.new) result }
     {
         let name = self.take_identifier()?;
         self.take_definition(close, name)
@@ -91,7 +93,7 @@ impl<'a> Reader<'a> {
 
     /// Takes the definition of a macro after its name.
     fn take_definition(&mut self, close: u8, name: Text) -> Result<(), Stop>
-        ensures { Answers (reading.take_definition close name (progress_of self.old)) (progress_of self.new) result }
+        ensures { Leaves WantOfMemory (reading.take_definition close name (progress_of self.old)) (progress_of self.new) result }
     {
         self.take_equals()?;
         self.take_mark(close)?;
@@ -102,7 +104,7 @@ impl<'a> Reader<'a> {
 
     /// Takes a preamble, after what opens it.
     fn take_preamble(&mut self, close: u8) -> Result<(), Stop>
-        ensures { Answers (reading.take_preamble close (progress_of self.old)) (progress_of self.new) result }
+        ensures { Leaves WantOfMemory (reading.take_preamble close (progress_of self.old)) (progress_of self.new) result }
     {
         self.take_value()?;
         self.take_mark(close)?;
@@ -113,7 +115,7 @@ impl<'a> Reader<'a> {
 
     /// Takes an entry from its key on.
     fn take_entry(&mut self, close: u8, entry_type: Text) -> Result<(), Stop>
-        ensures { Answers
+        ensures { Leaves WantOfMemory
             (entering.take_entry close entry_type (progress_of self.old))
             (progress_of self.new)
             result }
@@ -151,7 +153,7 @@ impl<'a> Reader<'a> {
     #[tactic(auto, using(crate::proofs::Rounds::fields_round))]
     /// Takes the rest of an entry after its key.
     fn take_fields(&mut self, close: u8, key: &[u8]) -> Result<(), Stop>
-        ensures { Answers
+        ensures { Leaves WantOfMemory
             (entering.take_fields (length self.old.rest.now) close key.now (progress_of self.old))
             (progress_of self.new)
             result }
@@ -171,7 +173,7 @@ impl<'a> Reader<'a> {
 
     /// Takes a field.
     fn take_field(&mut self, key: &[u8]) -> Result<(), Stop>
-        ensures { Answers (entering.take_field key.now (progress_of self.old)) (progress_of self.new) result }
+        ensures { Leaves WantOfMemory (entering.take_field key.now (progress_of self.old)) (progress_of self.new) result }
     {
         let name = self.take_identifier()?;
         self.take_named(key, name)
@@ -179,7 +181,7 @@ impl<'a> Reader<'a> {
 
     /// Takes a field after its name.
     fn take_named(&mut self, key: &[u8], name: Text) -> Result<(), Stop>
-        ensures { Answers (entering.take_named key.now name (progress_of self.old)) (progress_of self.new) result }
+        ensures { Leaves WantOfMemory (entering.take_named key.now name (progress_of self.old)) (progress_of self.new) result }
     {
         self.note(key, name.as_slice())?;
         self.take_equals()?;
@@ -211,7 +213,7 @@ impl<'a> Reader<'a> {
 
     /// Takes white space, and an identifier, which is given lowered.
     pub(crate) fn take_identifier(&mut self) -> Result<Text, Stop>
-        ensures { Gives (parts.take_identifier (progress_of self.old)) (progress_of self.new) result }
+        ensures { GivesAndLeaves WantOfMemory (parts.take_identifier (progress_of self.old)) (progress_of self.new) result }
     {
         let rest = after_white(self.rest);
         if !begins_name(rest) {
@@ -225,7 +227,7 @@ impl<'a> Reader<'a> {
 
     /// Takes white space, and `{` or `(`; the byte that closes what it opens is given.
     fn take_opening(&mut self) -> Result<u8, Stop>
-        ensures { Gives (parts.take_opening (progress_of self.old)) (progress_of self.new) result }
+        ensures { GivesAndLeaves WantOfMemory (parts.take_opening (progress_of self.old)) (progress_of self.new) result }
     {
         let rest = after_white(self.rest);
         match rest {
@@ -243,7 +245,7 @@ impl<'a> Reader<'a> {
 
     /// Takes white space, and a byte that must stand.
     pub(crate) fn take_mark(&mut self, mark: u8) -> Result<(), Stop>
-        ensures { Answers (parts.take_mark mark (progress_of self.old)) (progress_of self.new) result }
+        ensures { Leaves WantOfMemory (parts.take_mark mark (progress_of self.old)) (progress_of self.new) result }
     {
         if self.passes(mark) {
             Ok(())

@@ -3,15 +3,10 @@
 ghost use Rattle.std.specs.Prelude.{◌≡◌, ◌≤◌, ◌+◌, ◌<◌, length};
 ghost use Rattle.std.specs.Option.{option_map};
 ghost use Rattle.bib_read.specs.Runs as runs;
+ghost use Rattle.bv_base.specs.Runs.{length_before};
 
 use bv_base::bytes::{is_name_byte, is_white};
-
-/// What is left after the white space that stands first.
-pub(crate) fn after_white(bytes: &[u8]) -> &[u8]
-    ensures { result.now ≡ runs.after_white bytes.now }
-{
-    bytes.split_at(white_length(bytes)).1
-}
+use bv_base::runs::is_digit;
 
 /// What is left after the first `@`, or `None` where there is none.
 pub(crate) fn after_at(bytes: &[u8]) -> Option<&[u8]>
@@ -33,29 +28,9 @@ pub(crate) fn begins_name(bytes: &[u8]) -> bool
     }
 }
 
-/// Whether a byte is a digit.
-pub(crate) fn is_digit(b: u8) -> bool
-    ensures { result ≡ runs.is_digit b }
-{
-    matches!(b, b'0'..=b'9')
-}
-
-/// How many bytes of white space stand first.
-fn white_length(bytes: &[u8]) -> usize
-    ensures length { result ≡ runs.length_before runs.is_black bytes.now }
-    ensures within { result ≤ length bytes.now }
-{
-    for (i, b) in bytes.iter().enumerate() {
-        if !is_white(*b) {
-            return i;
-        }
-    }
-    bytes.len()
-}
-
 /// How many bytes stand before the first `@`.
 fn plain_length(bytes: &[u8]) -> usize
-    ensures length { result ≡ runs.length_before runs.is_at bytes.now }
+    ensures length { result ≡ length_before runs.is_at bytes.now }
     ensures within { result ≤ length bytes.now }
 {
     for (i, b) in bytes.iter().enumerate() {
@@ -68,7 +43,7 @@ fn plain_length(bytes: &[u8]) -> usize
 
 /// How many name bytes stand first.
 pub(crate) fn name_length(bytes: &[u8]) -> usize
-    ensures length { result ≡ runs.length_before runs.ends_name bytes.now }
+    ensures length { result ≡ length_before runs.ends_name bytes.now }
     ensures within { result ≤ length bytes.now }
 {
     for (i, b) in bytes.iter().enumerate() {
@@ -79,22 +54,9 @@ pub(crate) fn name_length(bytes: &[u8]) -> usize
     bytes.len()
 }
 
-/// How many digits stand first.
-pub(crate) fn digits_length(bytes: &[u8]) -> usize
-    ensures length { result ≡ runs.length_before runs.ends_digits bytes.now }
-    ensures within { result ≤ length bytes.now }
-{
-    for (i, b) in bytes.iter().enumerate() {
-        if !is_digit(*b) {
-            return i;
-        }
-    }
-    bytes.len()
-}
-
 /// How many bytes of a key stand first, in an entry that this byte closes.
 pub(crate) fn key_length(close: u8, bytes: &[u8]) -> usize
-    ensures length { result ≡ runs.length_before (runs.ends_key close) bytes.now }
+    ensures length { result ≡ length_before (runs.ends_key close) bytes.now }
     ensures within { result ≤ length bytes.now }
 {
     for (i, b) in bytes.iter().enumerate() {

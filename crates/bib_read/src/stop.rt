@@ -1,9 +1,10 @@
 //! Why the reader stops, by how many bytes are left there.
 
-ghost use Rattle.std.specs.Prelude.{◌≡◌, ◌≤◌, ◌+◌, length};
+ghost use Rattle.std.specs.Prelude.{◌≡◌, ◌≤◌, length};
 ghost use Rattle.bib_read.specs.Stops as stops;
 
 use crate::fault::BibFault;
+use bv_base::limits::DATA_BYTES;
 use bv_base::memory::NoMemory;
 use bv_base::place::Place;
 
@@ -40,41 +41,14 @@ pub(crate) fn unexpected(rest: &[u8]) -> Stop
 
 /// The fault of a text for which the reader stops.
 pub(crate) fn fault_of(source: &[u8], stop: Stop) -> BibFault
-    requires { length source.now ≤ 16777216 }
+    requires { length source.now ≤ DATA_BYTES }
     ensures { result ≡ stops.fault_of source.now stop }
 {
     match stop {
-        Stop::Expected(left) => BibFault::Expected(place_before(source, left)),
-        Stop::EndOfFile => BibFault::EndOfFile(place_before(source, 0)),
-        Stop::Unbalanced(left) => BibFault::Unbalanced(place_before(source, left)),
-        Stop::RepeatedKey(left) => BibFault::RepeatedKey(place_before(source, left)),
+        Stop::Expected(left) => BibFault::Expected(Place::before(source, left)),
+        Stop::EndOfFile => BibFault::EndOfFile(Place::before(source, 0)),
+        Stop::Unbalanced(left) => BibFault::Unbalanced(Place::before(source, left)),
+        Stop::RepeatedKey(left) => BibFault::RepeatedKey(Place::before(source, left)),
         Stop::NoMemory => BibFault::NoMemory,
     }
-}
-
-/// The place at which so many bytes are left.
-fn place_before(source: &[u8], left: usize) -> Place
-    requires { length source.now ≤ 16777216 }
-    ensures { result ≡ stops.place_before source.now left }
-{
-    let count = source.len().saturating_sub(left);
-    place_after(&source[..count])
-}
-
-/// The place after some bytes.
-fn place_after(bytes: &[u8]) -> Place
-    requires { length bytes.now ≤ 16777216 }
-    ensures { result ≡ stops.after_bytes bytes.now stops.first_place }
-{
-    let mut line = 1;
-    let mut column = 1;
-    for b in bytes {
-        if *b == b'\n' {
-            line += 1;
-            column = 1;
-        } else {
-            column += 1;
-        }
-    }
-    Place { line, column }
 }

@@ -3,6 +3,7 @@
 use crate::database::Database;
 use crate::fault::BibFault;
 use crate::read::{opening, read};
+use bv_base::limits::DATA_BYTES;
 use bv_base::memory::NoMemory;
 use bv_base::place::Place;
 use bv_base::seq::Seq;
@@ -35,7 +36,7 @@ fn style(alloc: Global) -> Result<Style, NoMemory> {
 }
 
 /// Texts with a byte where another has to stand, and the place of that byte.
-const EXPECTED: [(&[u8], u32, u32); 61] = [
+static EXPECTED: [(&[u8], u32, u32); 61] = [
     (b"@1", 1, 2),
     (b"@{k}", 1, 2),
     (b"@ \"misc\"{k}", 1, 3),
@@ -100,7 +101,7 @@ const EXPECTED: [(&[u8], u32, u32); 61] = [
 ];
 
 /// Texts that end within what an `@` began, and the place of their end.
-const ENDS: [(&[u8], u32, u32); 34] = [
+static ENDS: [(&[u8], u32, u32); 34] = [
     (b"@", 1, 2),
     (b"a @ \n", 2, 1),
     (b"@misc", 1, 6),
@@ -138,7 +139,7 @@ const ENDS: [(&[u8], u32, u32); 34] = [
 ];
 
 /// Texts with a `}` within quotes that has no `{`, and its place.
-const UNBALANCED: [(&[u8], u32, u32); 6] = [
+static UNBALANCED: [(&[u8], u32, u32); 6] = [
     (b"@misc{k, a = \"x}\"}", 1, 16),
     (b"@misc{k, a = \"}{\"}", 1, 15),
     (b"@misc{k, a = \"{x}\n}\"}", 2, 1),
@@ -148,7 +149,7 @@ const UNBALANCED: [(&[u8], u32, u32); 6] = [
 ];
 
 /// Texts with a key that is there, and the place where it stands again.
-const REPEATED: [(&[u8], u32, u32); 5] = [
+static REPEATED: [(&[u8], u32, u32); 5] = [
     (b"@misc{k}\n@misc{K}", 2, 7),
     (b"@misc{k, a = 1}\n@x{K", 2, 4),
     (b"@misc{Key}@misc( kEY , a = }", 1, 18),
@@ -200,7 +201,7 @@ fn expect_faults(
     kind: BibFault,
 ) {
     for (source, line, column) in rows {
-        assert!(rt; source.len() <= 16777216);
+        assert!(rt; source.len() <= DATA_BYTES);
         let want = moved(kind, at(*line, *column));
         assert!(rt; read(alloc, source, before).err() == Some(want));
     }
@@ -254,7 +255,7 @@ fn shown(alloc: Global, database: &Database) -> Result<Vec<u8>, NoMemory> {
 
 /// Texts, and what a database has after them: `#` begins a macro, `@` an entry, `.` a field, `<` the preamble and `!` a
 /// warning.
-const READ: [(&[u8], &[u8]); 35] = [
+static READ: [(&[u8], &[u8]); 35] = [
     (b"", b"#jan=January\n<>\n"),
     (b"text } \" { % # , without a mark", b"#jan=January\n<>\n"),
     (b"% @misc{k}", b"#jan=January\n@misc k\n<>\n"),
@@ -400,7 +401,7 @@ fn expect_databases(
     rows: &[(&[u8], &[u8])],
 ) -> Result<(), Fail> {
     for (source, want) in rows {
-        assert!(rt; source.len() <= 16777216);
+        assert!(rt; source.len() <= DATA_BYTES);
         let database = read(alloc, source, before)?;
         assert!(rt; shown(alloc, &database)?.as_slice() == *want);
     }

@@ -1,20 +1,22 @@
 //! Values and their pieces.
 
 ghost use Rattle.std.specs.Prelude.{◌≡◌, length, OnOk};
+ghost use Rattle.bv_base.specs.Answers.{Leaves};
 ghost use Rattle.bib_read.specs.Progressing.{progress_of};
-ghost use Rattle.bib_read.specs.Stops.{Answers};
 ghost use Rattle.bib_read.specs.Values as values;
+ghost use Rattle.bib_read.specs.declared.stop.Stop.TheVariants.{NoMemory as WantOfMemory};
 
 use crate::reader::{Reader, append};
-use crate::runs::{after_white, digits_length, inside_length, is_digit};
+use crate::runs::inside_length;
 use crate::stop::Stop;
 use crate::warnings::undefined_macro;
 use bv_base::memory::NoMemory;
+use bv_base::runs::{after_white, digits_length, is_digit};
 
 impl<'a> Reader<'a> {
     /// Takes `=` and a value.
     pub(crate) fn take_equals(&mut self) -> Result<(), Stop>
-        ensures { Answers (values.take_equals (progress_of self.old)) (progress_of self.new) result }
+        ensures { Leaves WantOfMemory (values.take_equals (progress_of self.old)) (progress_of self.new) result }
     {
         self.take_mark(b'=')?;
         self.take_value()
@@ -22,7 +24,7 @@ impl<'a> Reader<'a> {
 
     /// Takes a value.
     pub(crate) fn take_value(&mut self) -> Result<(), Stop>
-        ensures { Answers (values.take_value (progress_of self.old)) (progress_of self.new) result }
+        ensures { Leaves WantOfMemory (values.take_value (progress_of self.old)) (progress_of self.new) result }
     {
         self.text.clear();
         self.take_pieces()
@@ -31,7 +33,7 @@ impl<'a> Reader<'a> {
     /// Takes pieces with `#` between them.
     #[tactic(auto, using(crate::proofs::Rounds::pieces_round))]
     fn take_pieces(&mut self) -> Result<(), Stop>
-        ensures { Answers
+        ensures { Leaves WantOfMemory
             (values.take_pieces (length self.old.rest.now) (progress_of self.old))
             (progress_of self.new)
             result }
@@ -47,7 +49,7 @@ impl<'a> Reader<'a> {
 
     /// Takes white space, and a piece.
     fn take_piece(&mut self) -> Result<(), Stop>
-        ensures { Answers (values.take_piece (progress_of self.old)) (progress_of self.new) result }
+        ensures { Leaves WantOfMemory (values.take_piece (progress_of self.old)) (progress_of self.new) result }
     {
         let rest = after_white(self.rest);
         match rest {
@@ -64,7 +66,7 @@ impl<'a> Reader<'a> {
 
     /// Takes a piece in braces or quotes, after the mark that begins it.
     fn take_closed(&mut self, mark: u8, bytes: &'a [u8]) -> Result<(), Stop>
-        ensures { Answers (values.take_closed mark bytes.now (progress_of self.old)) (progress_of self.new) result }
+        ensures { Leaves WantOfMemory (values.take_closed mark bytes.now (progress_of self.old)) (progress_of self.new) result }
     {
         let (text, after) = bytes.split_at(inside_length(mark, bytes));
         match after {
@@ -92,7 +94,7 @@ impl<'a> Reader<'a> {
 
     /// Takes white space, and the name of a macro.
     fn take_macro(&mut self) -> Result<(), Stop>
-        ensures { Answers (values.take_macro (progress_of self.old)) (progress_of self.new) result }
+        ensures { Leaves WantOfMemory (values.take_macro (progress_of self.old)) (progress_of self.new) result }
     {
         let name = self.take_identifier()?;
         match self.macros.find(name.as_slice()) {

@@ -1,5 +1,6 @@
 use Rattle.std.proofs.Common.{◌≡◌, ◌+◌, drop}
-use Rattle.bib_read.specs.Runs.{ends_name, length_before}
+use Rattle.bv_base.specs.Runs.{length_before}
+use Rattle.bib_read.specs.Runs.{ends_name}
 use Rattle.bib_read.proofs.runs.name_length.Given as goal
 
 abbrev pub invariant-loop-i : goal.invariant-loop-i

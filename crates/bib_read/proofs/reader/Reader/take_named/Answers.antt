@@ -1,8 +1,8 @@
 use Rattle.std.proofs.Common.{◌≡◌, ◌∙◌, ap, sym, Ok, rules}
+use Rattle.bv_base.specs.Answers.{then_do}
 use Rattle.bib_read.specs.Entering.{noted, with_field}
 use Rattle.bib_read.specs.Progress.{Progress}
 use Rattle.bib_read.specs.Progressing.{progress_of}
-use Rattle.bib_read.specs.Stops.{then_do}
 use Rattle.bib_read.specs.Values.{take_equals}
 use Rattle.bib_read.proofs.reader.Reader.take_named.Goals as goal
 

@@ -1,8 +1,8 @@
 use Rattle.std.proofs.Common.{◌≡◌, ◌+◌, ◌-◌, length, cond, Ok, rules}
+use Rattle.bv_base.specs.Answers.{then_do}
 use Rattle.bib_read.specs.Parts.{passed, stands}
 use Rattle.bib_read.specs.Progress.{Progress}
 use Rattle.bib_read.specs.Progressing.{progress_of}
-use Rattle.bib_read.specs.Stops.{then_do}
 use Rattle.bib_read.specs.Values.{take_piece, take_pieces}
 use Rattle.bib_read.proofs.Rounds.{pieces_round}
 use Rattle.bib_read.proofs.reader.Reader.take_pieces.Goals as goal
