@@ -73,14 +73,17 @@ case_of_byte b =
     else if (nat_eq b 117 || nat_eq b 85) then Some Upper
     else None
 
+-- the way of changing case that a string names, which has one byte
 abbrev pub case_of : List ℕ → Option Case
 case_of (b ∷ []) = case_of_byte b
 case_of _ = None
 
+-- a string with its case changed so
 abbrev pub change_case_in : Option Case → List ℕ → List Value → Result Effect Fault
 change_case_in None bytes stack = Err BadCase
 change_case_in (Some mode) bytes stack = pushed (Str (case_changed mode bytes)) stack
 
+-- `change.case$`: the second operand names the way
 abbrev pub change_case : List Value → Result Effect Fault
 change_case stack =
     two_operands stack (λ a b rest. as_string b (λ mode. as_string a (λ bytes. change_case_in (case_of mode) bytes rest)))
@@ -100,10 +103,12 @@ abbrev pub is_empty : Option (List ℕ) → Bool
 is_empty None = true
 is_empty (Some bytes) = blank bytes
 
+-- `substring$`
 abbrev pub substring : List Value → Result Effect Fault
 substring stack = three_operands stack (λ a b c rest.
     as_integer c (λ len. as_integer b (λ start. as_string a (λ bytes. pushed (Str (substring_of bytes start len)) rest))))
 
+-- `text.prefix$`
 abbrev pub text_prefix : List Value → Result Effect Fault
 text_prefix stack = two_operands stack (λ a b rest.
     as_integer b (λ count. as_string a (λ bytes. pushed (Str (text_prefix_of bytes count)) rest)))
@@ -114,10 +119,12 @@ misfit_fault misfit.BadNameIndex = BadNameIndex
 misfit_fault misfit.BadName = BadName
 misfit_fault misfit.BadPattern = BadPattern
 
+-- a formatted name, or the fault that there is none
 abbrev pub pushed_name : Result (List ℕ) Misfit → List Value → Result Effect Fault
 pushed_name (Ok text) stack = pushed (Str text) stack
 pushed_name (Err reason) stack = Err (misfit_fault reason)
 
+-- `format.name$`: a text, the number of a name in it, and a pattern
 abbrev pub format_name : List Value → Result Effect Fault
 format_name stack = three_operands stack (λ a b c rest.
     as_string c (λ pattern. as_integer b (λ index. as_string a (λ text. pushed_name (formatted text index pattern) rest))))
@@ -137,9 +144,11 @@ while_do stack = two_operands stack (λ a b rest.
 abbrev pub block_number : Style → BodyId → List ℕ
 block_number style body = option_map_or (λ b. option_map_or decimal b.block []) (slice_get style.bodies body.0) []
 
+-- the bytes of a name
 abbrev pub name_text : Style → NameId → List ℕ
 name_text style name = option_map_or (λ bytes. bytes) (text_at name style.names) []
 
+-- a value as a line of the log shows it
 abbrev pub shown : Style → Value → List ℕ
 shown style (Int n) = numeral n
 shown style (Str bytes) = bytes
@@ -151,15 +160,18 @@ shown style (Func (Block body)) = codes "block " ++ block_number style body
 abbrev pub warning : List ℕ → List ℕ
 warning text = codes "Warning--" ++ text
 
+-- the line that tells that a string was cut to so many bytes
 abbrev pub cut_warning : Style → NameId → ℕ → List ℕ
 cut_warning style name size = warning (codes "cut " ++ (name_text style name ++ (codes " to " ++ decimal size)))
 
+-- a string is assigned, cut to so many bytes where it is longer
 abbrev pub assigned_string : Style → NameId → ℕ → List ℕ → List Value → Result Effect Fault
 assigned_string style name size bytes stack =
     if nat_le (length bytes) size
     then Ok (record (left stack) { assigned = Some (record { name = name; value = Str bytes }) })
     else Ok (record (left stack) { assigned = Some (record { name = name; value = Str (take size bytes) }); logged = cut_warning style name size ∷ [] })
 
+-- an integer is assigned
 abbrev pub assigned_integer : NameId → ℤ → List Value → Result Effect Fault
 assigned_integer name n stack = Ok (record (left stack) { assigned = Some (record { name = name; value = Int n }) })
 
@@ -177,10 +189,12 @@ assign_to context (Some StrEntry) name value stack =
     at_entry context.entry (λ _. as_string value (λ bytes. assigned_string context.style name 250 bytes stack))
 assign_to context _ name value stack = Err NotVariable
 
+-- a value is assigned to what is named; a block isn't a variable
 abbrev pub assign_target : Context → Target → Value → List Value → Result Effect Fault
 assign_target context (Named name) value stack = assign_to context (kind_of context.style name) name value stack
 assign_target context (Block body) value stack = Err NotVariable
 
+-- `:=`
 abbrev pub assign : Context → List Value → Result Effect Fault
 assign context stack = two_operands stack (λ value target rest.
     as_function target (λ t. assign_target context t value rest))

@@ -39,6 +39,7 @@ pub record EntryMeets (style : Style) (cond : Cond) (entry : Entry) : Type 0 whe
   pub nonblank : AllByRecursion (λ name. AllByRecursion (FieldIsNonblank name) entry.fields) cond.nonblank
   pub types : TypeIsAdmitted style cond entry.entry_type
 
+-- a list meets a condition
 pub record Meets (style : Style) (cond : Cond) (list : EntryList) : Type 0 where
   pub entries : length list.entries ≤ cond.entries
   pub preamble : length list.preamble ≤ cond.preamble

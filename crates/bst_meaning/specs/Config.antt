@@ -54,10 +54,12 @@ pub record Site : Type 0 where
   pub place : Place
   pub entry : Option ℕ
 
+-- an execution error, and where it has come
 pub record Stopped : Type 0 where
   pub fault : Fault
   pub site : Site
 
+-- a configuration of the machine
 pub record Config : Type 0 where
   pub preamble : List ℕ
   -- the commands left, and whether a call of the first of them runs
@@ -89,11 +91,13 @@ is_step _ = false
 abbrev pub opening_integer : ℕ → ℤ
 opening_integer id = if nat_eq id 39 then pos 250 else (if nat_eq id 40 then pos 20000 else pos 0)
 
+-- the variable of the whole style that a name declares, as it opens
 abbrev pub opening_global : ℕ → Kind → List Variable → List Variable
 opening_global id IntGlobal later = record { name = record { 0 = id }; value = Int (opening_integer id) } ∷ later
 opening_global id StrGlobal later = record { name = record { 0 = id }; value = Str [] } ∷ later
 opening_global id _ later = later
 
+-- the variable of each entry that a name declares, as it opens
 abbrev pub opening_entry_variable : ℕ → Kind → List Variable → List Variable
 opening_entry_variable id IntEntry later = record { name = record { 0 = id }; value = Int (pos 0) } ∷ later
 opening_entry_variable id StrEntry later = record { name = record { 0 = id }; value = Str [] } ∷ later
@@ -104,6 +108,7 @@ abbrev pub opening_variables : (ℕ → Kind → List Variable → List Variable
 opening_variables variable id [] = []
 opening_variables variable id (name ∷ names) = variable id name.1 (opening_variables variable (id + 1) names)
 
+-- the entries in order, each with its variables and its position
 abbrev pub opening_entries : List Variable → ℕ → List Entry → List EntryState
 opening_entries variables position [] = []
 opening_entries variables position (entry ∷ entries) =

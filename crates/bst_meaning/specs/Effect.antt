@@ -26,11 +26,14 @@ left stack = record { stack = stack; wrote = []; logged = []; assigned = None; e
 abbrev pub pushed : Value → List Value → Result Effect Fault
 pushed value stack = Ok (left (value ∷ stack))
 
+-- something is written
 abbrev pub with_written : Event → List Value → Result Effect Fault
 with_written event stack = Ok (record (left stack) { wrote = event ∷ [] })
 
+-- lines are logged
 abbrev pub with_logged : List (List ℕ) → List Value → Result Effect Fault
 with_logged lines stack = Ok (record (left stack) { logged = lines })
 
+-- a target is entered
 abbrev pub with_entered : Target → Part → List Value → Result Effect Fault
 with_entered target part stack = Ok (record (left stack) { entered = Some (record { target = target; part = part }) })

@@ -24,6 +24,7 @@ field_ids_from id (name ∷ names) = field_ids_at id name.1 (field_ids_from (id 
 abbrev pub field_ids : Style → List NameId
 field_ids style = field_ids_from 0 style.names
 
+-- each number is a byte
 abbrev pub IsByteList : List ℕ → Type 0
 IsByteList bytes = AllByRecursion (λ b. b < 256) bytes
 
@@ -35,6 +36,7 @@ pub record EntryFits (style : Style) (entry : Entry) : Type 0 where
   pub fields : map (λ f. f.name) entry.fields ≡ field_ids style
   pub field_bytes : AllByRecursion (λ f. ForSome f.value IsByteList) entry.fields
 
+-- a list is one that a style can be run over
 pub record Fits (style : Style) (list : EntryList) : Type 0 where
   pub entries : AllByRecursion (EntryFits style) list.entries
   pub preamble_bytes : IsByteList list.preamble

@@ -1,4 +1,5 @@
 pub mod StyleParts
+pub mod Faults
 pub mod Entries
 pub mod Condition
 pub mod Config

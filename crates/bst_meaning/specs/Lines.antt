@@ -10,6 +10,7 @@ abbrev pub after_white : List ℕ → List ℕ
 after_white [] = []
 after_white (b ∷ bytes) = if is_white b then after_white bytes else b ∷ bytes
 
+-- bytes without the white space at their end
 abbrev pub trimmed_end : List ℕ → List ℕ
 trimmed_end bytes = reverse (after_white (reverse bytes))
 
@@ -34,6 +35,7 @@ abbrev pub cut_with : List ℕ → List ℕ → Option Cut
 cut_with before [] = None
 cut_with before (b ∷ after) = Some (record { line = trimmed_end before; rest = 32 ∷ 32 ∷ b ∷ after })
 
+-- a buffer that is cut before a place; what follows has no white space at its start
 abbrev pub cut_at : List ℕ → Option ℕ → Option Cut
 cut_at buffer None = None
 cut_at buffer (Some at) = cut_with (take at buffer) (after_white (drop at buffer))
@@ -52,6 +54,7 @@ abbrev pub page_of : (List (List ℕ) → List ℕ → Page) → List (List ℕ)
 page_of again lines buffer None = record { lines = lines; buffer = buffer }
 page_of again lines buffer (Some cut) = again (lines ++ cut.line ∷ []) cut.rest
 
+-- a page whose buffer is broken at most so often
 abbrev pub broken : ℕ → List (List ℕ) → List ℕ → Page
 broken zero lines buffer = record { lines = lines; buffer = buffer }
 broken (suc most) lines buffer = page_of (broken most) lines buffer (cut_of buffer)
@@ -61,6 +64,7 @@ abbrev pub is_only_white : List ℕ → Bool
 is_only_white [] = false
 is_only_white (b ∷ bytes) = list_all is_white (b ∷ bytes)
 
+-- a page after bytes are written or a line is ended
 abbrev pub after_event : Page → Event → Page
 after_event page (Wrote bytes) = let buffer = page.buffer ++ bytes in broken (length buffer) page.lines buffer
 after_event page EndedLine = record {
@@ -68,6 +72,7 @@ after_event page EndedLine = record {
   buffer = [];
 }
 
+-- a page after events in order
 abbrev pub after_events : Page → List Event → Page
 after_events page [] = page
 after_events page (event ∷ events) = after_events (after_event page event) events

@@ -35,6 +35,7 @@ next_index visit entries = if visit.backwards then entries - (visit.visited + 1)
 abbrev pub visited_index : Config → Option ℕ
 visited_index c = if c.running then option_map (λ visit. next_index visit (length c.entries)) c.visit else None
 
+-- the visited entry
 abbrev pub visited_entry : Config → Option EntryState
 visited_entry c = option_and_then (slice_get c.entries) (visited_index c)
 
@@ -44,6 +45,7 @@ stopped_by fault place c = record c {
   stopped = Some (record { fault = fault; site = record { place = place; entry = option_map (λ e. e.position) (visited_entry c) } });
 }
 
+-- a value is pushed
 abbrev pub with_value : Value → Config → Config
 with_value value c = record c { stack = value ∷ c.stack }
 
@@ -51,6 +53,7 @@ with_value value c = record c { stack = value ∷ c.stack }
 abbrev pub with_frame : List TokenAt → Place → Part → Config → Config
 with_frame tokens place part c = record c { frames = record { tokens = tokens; place = place; part = part } ∷ c.frames }
 
+-- what a built-in function enters, where it enters something
 abbrev pub with_entered : Style → Option Entered → Place → Config → Config
 with_entered style None place c = c
 with_entered style (Some entered) place c = with_frame (entered_tokens style entered.target place) place entered.part c
@@ -60,11 +63,13 @@ abbrev pub value_at : ℕ → List Variable → Option Value
 value_at id [] = None
 value_at id (variable ∷ variables) = if nat_eq variable.name.0 id then Some variable.value else value_at id variables
 
+-- variables with a new value for one of them
 abbrev pub with_variable : Variable → List Variable → List Variable
 with_variable new [] = []
 with_variable new (variable ∷ variables) =
     if nat_eq variable.name.0 new.name.0 then new ∷ variables else variable ∷ with_variable new variables
 
+-- entries with a new value for a variable of one of them
 abbrev pub with_entry_variable : Variable → Option ℕ → List EntryState → List EntryState
 with_entry_variable new None entries = entries
 with_entry_variable new (Some at) entries =
@@ -76,6 +81,7 @@ assigned_by (Some IntEntry) new c = record c { entries = with_entry_variable new
 assigned_by (Some StrEntry) new c = record c { entries = with_entry_variable new (visited_index c) c.entries }
 assigned_by _ new c = record c { globals = with_variable new c.globals }
 
+-- a variable of the configuration has its new value
 abbrev pub with_assigned : Style → Option Variable → Config → Config
 with_assigned style None c = c
 with_assigned style (Some new) c = assigned_by (kind_of style new.name) new c
@@ -87,6 +93,7 @@ with_effect style (Ok effect) place c =
     with_entered style effect.entered place (with_assigned style effect.assigned
     (record c { stack = effect.stack; events = c.events ++ effect.wrote; log = c.log ++ effect.logged }))
 
+-- what surrounds a call of a built-in function
 abbrev pub context_of : Style → Config → Context
 context_of style c = record { style = style; preamble = c.preamble; entry = option_map (λ e. e.entry) (visited_entry c) }
 
@@ -100,6 +107,7 @@ abbrev pub field_value : NameId → Option (List ℕ) → Value
 field_value name None = Missing name
 field_value name (Some bytes) = Str bytes
 
+-- the value of a field; one that isn't there is missing
 abbrev pub field_in : NameId → List FieldValue → Value
 field_in name [] = Missing name
 field_in name (field ∷ fields) = if nat_eq field.name.0 name.0 then field_value name field.value else field_in name fields
@@ -185,6 +193,7 @@ outer_step running [] c = c
 outer_step true (first ∷ commands) c = call_end_step c.stack first.place commands c
 outer_step false (first ∷ commands) c = command_step first.command first.place commands c
 
+-- a step of the innermost frame, or of the command where no frame is left
 abbrev pub going_step : Style → List Frame → Config → Config
 going_step style [] c = outer_step c.running c.commands c
 going_step style (frame ∷ frames) c = frame_step style frame frames frame.tokens c
@@ -194,6 +203,7 @@ abbrev pub unless_stopped : Option Stopped → Config → Config → Config
 unless_stopped (Some stopped) now next = now
 unless_stopped None now next = next
 
+-- one step
 abbrev pub step : Style → Config → Config
 step style c = unless_stopped c.stopped c (going_step style c.frames c)
 

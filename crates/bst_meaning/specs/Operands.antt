@@ -26,14 +26,17 @@ three_operands (c ∷ []) rule = Err EmptyPop
 three_operands (c ∷ b ∷ []) rule = Err EmptyPop
 three_operands (c ∷ b ∷ a ∷ stack) rule = rule a b c stack
 
+-- a string
 abbrev pub as_string : Value → (List ℕ → Result Effect Fault) → Result Effect Fault
 as_string (Str bytes) rule = rule bytes
 as_string _ rule = Err WrongKind
 
+-- an integer
 abbrev pub as_integer : Value → (ℤ → Result Effect Fault) → Result Effect Fault
 as_integer (Int n) rule = rule n
 as_integer _ rule = Err WrongKind
 
+-- a function
 abbrev pub as_function : Value → (Target → Result Effect Fault) → Result Effect Fault
 as_function (Func target) rule = rule target
 as_function _ rule = Err WrongKind
@@ -58,10 +61,12 @@ abbrev pub truth : Bool → Value
 truth true = Int (pos 1)
 truth false = Int (pos 0)
 
+-- an integer is above 0
 abbrev pub is_positive : ℤ → Bool
 is_positive (pos n) = nat_le 1 n
 is_positive (negsuc n) = false
 
+-- an integer is 0
 abbrev pub is_zero : ℤ → Bool
 is_zero (pos n) = nat_le n 0
 is_zero (negsuc n) = false

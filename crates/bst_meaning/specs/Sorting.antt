@@ -6,6 +6,7 @@ use Rattle.bst_meaning.specs.declared.value.Value.{Value}
 use Rattle.bst_meaning.specs.declared.value.Value.TheVariants.{Str}
 use Rattle.bst_meaning.specs.Config.{EntryState, Variable}
 
+-- the bytes of a string
 abbrev pub string_of : Value → List ℕ
 string_of (Str bytes) = bytes
 string_of _ = []
@@ -25,6 +26,7 @@ inserted entry [] = entry ∷ []
 inserted entry (first ∷ entries) =
     if is_le (slice_cmp nat_cmp (sort_key entry) (sort_key first)) then entry ∷ first ∷ entries else first ∷ inserted entry entries
 
+-- entries in the order of their sort keys
 abbrev pub sorted : List EntryState → List EntryState
 sorted [] = []
 sorted (entry ∷ entries) = inserted entry (sorted entries)

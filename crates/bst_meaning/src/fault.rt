@@ -1,5 +1,8 @@
 //! The execution errors of the machine.
 
+ghost use Rattle.std.specs.Prelude.{◌≡◌};
+ghost use Rattle.bst_meaning.specs.Faults.{name_of};
+
 /// An execution error: the first list of errors, which certificates of the first version name.
 #[derive(Clone, Copy, Debug, PartialEq, Eq)]
 pub enum Fault {
@@ -27,4 +30,26 @@ pub enum Fault {
     IntRange,
     /// A call of a command ends with values on the literal stack.
     StackLeft,
+}
+
+impl Fault {
+    /// The name that a last line tells.
+    pub fn name(&self) -> &'static str
+        ensures { result.now ≡ name_of self.now }
+    {
+        match self {
+            Fault::EmptyPop => "EmptyPop",
+            Fault::WrongKind => "WrongKind",
+            Fault::NotVariable => "NotVariable",
+            Fault::NoEntry => "NoEntry",
+            Fault::BadCase => "BadCase",
+            Fault::NotOneByte => "NotOneByte",
+            Fault::NotAscii => "NotAscii",
+            Fault::BadNameIndex => "BadNameIndex",
+            Fault::BadName => "BadName",
+            Fault::BadPattern => "BadPattern",
+            Fault::IntRange => "IntRange",
+            Fault::StackLeft => "StackLeft",
+        }
+    }
 }

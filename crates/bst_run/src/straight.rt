@@ -2,9 +2,9 @@
 
 ghost use Rattle.std.specs.Prelude.{◌≡◌, drop, nat_le, Some};
 ghost use Rattle.std.specs.List.{list_all};
-ghost use Rattle.bst_meaning.specs.StyleParts as parts;
 ghost use Rattle.bst_run.specs.Straight as straight;
 
+use bst_meaning::style_parts::kind_of;
 use name_table::builtin::Builtin;
 use name_table::names::{Kind, NameId};
 use name_table::style::{Body, Command, CommandAt, Style, Token, TokenAt};
@@ -89,15 +89,4 @@ fn declares_functions_alone(style: &Style) -> bool
         }
     }
     true
-}
-
-/// What a name stands for, where the style has it.
-pub fn kind_of(style: &Style, name: NameId) -> Option<Kind>
-    ensures { result ≡ parts.kind_of style.now name }
-{
-    if name.0 < style.names.len() {
-        Some(style.names.kind(name))
-    } else {
-        None
-    }
 }

@@ -1,15 +1,14 @@
 //! The walk of the checker: the first rule that fails on a straight style.
 
 ghost use Rattle.std.specs.Prelude.{◌≡◌, ◌≤◌, ◌<◌, ◌+◌, ◌^◌, length, IfOk};
-ghost use Rattle.bst_meaning.specs.StyleParts as parts;
 ghost use Rattle.bst_run.specs.Walk as walk;
 
 use crate::refusal::{Reason, Refusal};
-use crate::straight::kind_of;
+use bst_meaning::style_parts::{kind_of, tokens_of};
 use bv_base::place::Place;
 use name_table::builtin::Builtin;
 use name_table::names::Kind;
-use name_table::style::{BodyId, Command, CommandAt, Style, Token, TokenAt};
+use name_table::style::{Command, CommandAt, Style, Token, TokenAt};
 
 /// The first rule that fails, in the order of the style's commands, and `None` where the rules hold.
 pub fn first_refusal(style: &Style) -> Option<Refusal>
@@ -46,16 +45,6 @@ fn walk_function(style: &Style, kind: Option<Kind>, place: Place) -> Result<usiz
             end_call(place, strings)
         }
         _ => Ok(0),
-    }
-}
-
-/// The tokens of a body, where the style has it.
-fn tokens_of(style: &Style, body: BodyId) -> &[TokenAt]
-    ensures { result.now ≡ parts.tokens_of style.now body }
-{
-    match style.bodies.as_slice().get(body.0 as usize) {
-        Some(found) => found.tokens.as_slice(),
-        None => &[],
     }
 }
 

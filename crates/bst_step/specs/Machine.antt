@@ -9,9 +9,11 @@ use Rattle.bst_step.specs.declared.machine.Turn.{Turn}
 use Rattle.bst_step.specs.declared.machine.Turn.TheVariants.{Went, Ended, Faulted}
 use Rattle.bst_step.specs.State.{config_of}
 
+-- the configuration of its run
 abbrev pub configuration : Machine → Config
 configuration m = config_of m.state
 
+-- its style
 abbrev pub style_of : Machine → Style
 style_of m = m.style.now
 
@@ -25,6 +27,7 @@ turn_by (Some stopped) commands = Faulted stopped.fault (record { place = stoppe
 turn_by None [] = Ended
 turn_by None (first ∷ commands) = Went
 
+-- what a configuration comes to
 abbrev pub turn_of : Config → Turn
 turn_of c = turn_by c.stopped c.commands
 
@@ -34,6 +37,7 @@ rests (Some stopped) frames commands = true
 rests None [] [] = true
 rests _ _ _ = false
 
+-- no step changes anything any more
 abbrev pub at_rest : Config → Bool
 at_rest c = rests c.stopped c.frames c.commands
 

@@ -9,6 +9,7 @@ use Rattle.bst_meaning.specs.declared.value.Value.TheVariants.{Str}
 use Rattle.bst_meaning.specs.Config.{Config, Event, Wrote, Variable, EntryState, Frame}
 use Rattle.bst_meaning.specs.Machine.{with_assigned, with_variable, with_entry_variable, with_found, visited_index, visited_entry, value_at, field_in}
 
+-- the literal stack is this one
 abbrev pub with_stack : List Value → Config → Config
 with_stack stack c = record c { stack = stack }
 
@@ -16,6 +17,7 @@ with_stack stack c = record c { stack = stack }
 abbrev pub with_log : List (List ℕ) → Config → Config
 with_log lines c = record c { log = c.log ++ lines }
 
+-- something is written
 abbrev pub with_event : Event → Config → Config
 with_event event c = record c { events = c.events ++ event ∷ [] }
 
@@ -45,9 +47,11 @@ assigned_in_entry new c = record c { entries = with_entry_variable new (visited_
 abbrev pub with_field : NameId → Place → Config → Config
 with_field name place c = with_found (option_map (λ e. field_in name e.entry.fields) (visited_entry c)) place c
 
+-- a variable of the visited entry is pushed
 abbrev pub with_entry_value : NameId → Place → Config → Config
 with_entry_value name place c = with_found (option_and_then (λ e. value_at name.0 e.variables) (visited_entry c)) place c
 
+-- a variable of the whole style is pushed
 abbrev pub with_global : NameId → Place → Config → Config
 with_global name place c = with_found (value_at name.0 c.globals) place c
 

@@ -21,22 +21,28 @@ abbrev pub tokens_left : Rest → List TokenAt
 tokens_left (Call name place) = record { token = CallToken name; place = place } ∷ []
 tokens_left (Tokens tokens) = tokens.now
 
+-- a frame
 abbrev pub frame_of : Frame → config.Frame
 frame_of f = record { tokens = tokens_left f.rest; place = f.place; part = part_of f.part }
 
+-- an entry with its variables
 abbrev pub state_of : EntryState → config.EntryState
 state_of e = record { entry = e.entry; variables = map variable_of e.variables.items; position = e.position }
 
+-- a visit of the entries
 abbrev pub visit_in : Visit → config.Visit
 visit_in v = record { backwards = v.backwards; visited = v.visited }
 
+-- what was written
 abbrev pub event_of : Event → config.Event
 event_of (Wrote text) = config.Wrote text
 event_of EndedLine = config.EndedLine
 
+-- where a fault has come
 abbrev pub site_of : Site → config.Site
 site_of s = record { place = s.place; entry = s.entry }
 
+-- a fault, and where it has come
 abbrev pub stopped_in : Stopped → config.Stopped
 stopped_in s = record { fault = s.fault; site = site_of s.site }
 

@@ -11,24 +11,14 @@ ghost use Rattle.bst_step.specs.Variables.{variable_of};
 use crate::outcome::Outcome;
 use crate::stack::Stack;
 use crate::state::{EntryState, Event, Rest, State};
-use crate::surroundings::kind_of;
 use crate::variables::{Variable, set_variable};
+use bst_meaning::style_parts::{kind_of, tokens_of};
 use bst_meaning::value::{Target, Value};
 use bv_base::memory::NoMemory;
 use bv_base::place::Place;
 use bv_base::text::Text;
 use name_table::names::{Kind, NameId};
-use name_table::style::{BodyId, Style, TokenAt};
-
-/// The tokens of a body, and none where the style has no such body.
-pub fn tokens_of(style: &Style, body: BodyId) -> &[TokenAt]
-    ensures { result.now ≡ parts.tokens_of style.now body }
-{
-    match style.bodies.as_slice().get(body.0 as usize) {
-        Some(body) => body.tokens.as_slice(),
-        None => &[],
-    }
-}
+use name_table::style::Style;
 
 /// What is executed where a target is entered at a place.
 pub fn entered_at<'a>(style: &'a Style, target: Target, place: Place) -> Rest<'a>

@@ -1,6 +1,6 @@
 //! The execution of a token.
 
-ghost use Rattle.std.specs.Prelude.{◌≡◌, option_map, OnOk, IfOk};
+ghost use Rattle.std.specs.Prelude.{◌≡◌, option_map, OnOk};
 ghost use Rattle.std.specs.Option.{option_and_then};
 ghost use Rattle.bst_meaning.specs.StyleParts as parts;
 ghost use Rattle.bst_meaning.specs.Builtins.{built_in};
@@ -10,32 +10,20 @@ ghost use Rattle.bst_step.specs.State.{config_of};
 ghost use Rattle.bst_step.specs.Moves.{with_field, with_entry_value, with_global};
 
 use crate::built_in::outcome_of;
-use crate::effects::tokens_of;
 use crate::operands::copied;
 use crate::outcome::{Outcome, Part};
 use crate::state::{Rest, State};
 use crate::stop::Stop;
-use crate::surroundings::kind_of;
 use crate::variables::{field_in, value_at};
 use bst_meaning::fault::Fault;
+use bst_meaning::style_parts::{kind_of, text_of, tokens_of};
 use bst_meaning::value::{Target, Value};
 use bv_base::memory::NoMemory;
 use bv_base::place::Place;
 use bv_base::text::Text;
 use name_table::builtin::Builtin;
 use name_table::names::{Kind, NameId};
-use name_table::style::{Style, TextId, Token};
-use std::alloc::Global;
-
-/// A copy of a text of the style, and of no bytes where the style has no such text.
-fn text_of(alloc: Global, style: &Style, text: TextId) -> Result<Text, NoMemory>
-    ensures { IfOk result (λ bytes. bytes ≡ parts.text_of style.now text) }
-{
-    match style.texts.as_slice().get(text.0 as usize) {
-        Some(bytes) => Text::from_slice(alloc, bytes.as_slice()),
-        None => Text::from_slice(alloc, &[]),
-    }
-}
+use name_table::style::{Style, Token};
 
 impl<'a> State<'a> {
     /// Executes a token, which its frame no longer has.
@@ -50,7 +38,7 @@ impl<'a> State<'a> {
         match token {
             Token::Int(n) => self.push(Value::Int(n)),
             Token::Str(text) => {
-                let bytes = text_of(self.alloc, style, text)?;
+                let bytes = Text::from_slice(self.alloc, text_of(style, text))?;
                 self.push(Value::Str(bytes))
             }
             Token::Quote(name) => self.push(Value::Func(Target::Named(name))),
