@@ -42,11 +42,11 @@ front_key (b ∷ bytes) some = by (white b) refl some
         ap (λ v. not v && list_all (λ c. not (white c)) (take (length_before is_white bytes) bytes)) is ∙ all_black bytes
 
 -- an item is a key, where there is one
-abbrev IsKeyOf : Option (List ℕ) → Type 0
+abbrev pub IsKeyOf : Option (List ℕ) → Type 0
 IsKeyOf None = Unit {0}
 IsKeyOf (Some item) = IsKey item
 
-begun_key : (bytes : List ℕ) → IsKeyOf (begun_item bytes)
+pub begun_key : (bytes : List ℕ) → IsKeyOf (begun_item bytes)
 begun_key bytes = by (nat_eq (length_before is_white bytes) 0) (is_blank (drop (length_before is_white bytes) bytes)) refl
   where
     by : (none blank : Bool) → nat_eq (length_before is_white bytes) 0 ≡ none

@@ -4,6 +4,7 @@
 pub mod aux;
 pub mod fault;
 mod items;
+pub mod laws;
 mod lines;
 pub mod read;
 #[cfg(test)]
