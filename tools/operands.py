@@ -1,6 +1,8 @@
 """What the built-in functions take, the top of the stack first, and how values are called. The rules are docs/MACHINE.md's."""
 import re
 
+from styles import text as as_text
+
 # `value` is any, `field` a string or a missing field.
 OPERANDS = {
     b"=": ("value", "value"), b">": ("integer", "integer"), b"<": ("integer", "integer"), b"+": ("integer", "integer"),
@@ -46,7 +48,7 @@ def kinds_of(value):
 
 def said(value, kind=None, in_sentence=False):
     """A logged value in words. Where a string and another kind are logged alike, the kind may be given."""
-    text = value.decode("utf-8", "replace")
+    text = as_text(value)
     kinds = kinds_of(value)
     if kind == "string" or kinds == {"string"}:
         short = text if len(text) <= 60 else text[:57] + "..."

@@ -24,6 +24,14 @@ BUILT_IN = set(
 OPENING = {b"crossref": "field", b"sort.key$": "string of an entry", b"entry.max$": "integer", b"global.max$": "integer"}
 
 
+def text(some):
+    """Bytes as text for people."""
+    try:
+        return some.decode("utf-8")
+    except UnicodeDecodeError:
+        return some.decode("latin-1")
+
+
 def read(path):
     try:
         with open(path, "rb") as file:
