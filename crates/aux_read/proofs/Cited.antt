@@ -5,15 +5,17 @@ use Rattle.std.specs.Option.{option_map_or}
 use Rattle.std.specs.Cmp.Lexicographic.{pointwise}
 use Rattle.bstr.specs.Text.{lines_of}
 use Rattle.bv_base.specs.declared.place.Place.{Place}
-use Rattle.bv_base.specs.Bytes.{is_white as white}
 use Rattle.bv_base.specs.Keys.{IsKey}
+use Rattle.bv_base.specs.Runs.{is_black, length_before}
+use Rattle.bv_base.specs.Bytes.{is_white}
+use Rattle.bv_base.specs.Answers.{then_do}
 use Rattle.aux_read.specs.declared.aux.Aux.{Aux}
 use Rattle.aux_read.specs.declared.aux.AuxItem.{AuxItem}
 use Rattle.aux_read.specs.declared.aux.AuxItem.TheVariants.{All, Cite, Input}
 use Rattle.aux_read.specs.declared.fault.AuxFault.{AuxFault}
-use Rattle.aux_read.specs.Items.{after_front, begun_item, inside_of, is_black, is_blank, is_white, item_of, length_before, stretches}
+use Rattle.aux_read.specs.Items.{after_front, begun_item, inside_of, is_blank, item_of, stretches}
 use Rattle.aux_read.specs.Keys.{HasKey, HaveKeys}
-use Rattle.aux_read.specs.Lines.{add_citations, citation, file_name, file_names, nothing, take_line, then_do, with_databases, with_item, with_part, with_style}
+use Rattle.aux_read.specs.Lines.{add_citations, citation, file_name, file_names, nothing, take_line, with_databases, with_item, with_part, with_style}
 use Rattle.aux_read.specs.Reading.{aux_of, next_line, reading}
 
 -- what is wanted has keys, where it is no fault
@@ -21,25 +23,25 @@ abbrev pub HasKeysOf : Result Aux AuxFault → Type 0
 HasKeysOf (Ok aux) = HaveKeys aux.items
 HasKeysOf (Err _) = Unit {0}
 
-all_black : (bytes : List ℕ) → list_all (λ c. not (white c)) (take (length_before is_white bytes) bytes) ≡ true
+all_black : (bytes : List ℕ) → list_all (λ c. not (is_white c)) (take (length_before is_white bytes) bytes) ≡ true
 all_black [] = refl
-all_black (b ∷ bytes) = by (white b) refl (all_black bytes)
+all_black (b ∷ bytes) = by (is_white b) refl (all_black bytes)
   where
-    by : (v : Bool) → white b ≡ v → list_all (λ c. not (white c)) (take (length_before is_white bytes) bytes) ≡ true
-        → list_all (λ c. not (white c)) (take (cond v 0 (suc (length_before is_white bytes))) (b ∷ bytes)) ≡ true
+    by : (v : Bool) → is_white b ≡ v → list_all (λ c. not (is_white c)) (take (length_before is_white bytes) bytes) ≡ true
+        → list_all (λ c. not (is_white c)) (take (cond v 0 (suc (length_before is_white bytes))) (b ∷ bytes)) ≡ true
     by true is rest = refl
-    by false is rest = ap (λ v. not v && list_all (λ c. not (white c)) (take (length_before is_white bytes) bytes)) is ∙ rest
+    by false is rest = ap (λ v. not v && list_all (λ c. not (is_white c)) (take (length_before is_white bytes) bytes)) is ∙ rest
 
 -- the bytes before the first white space are a key, where there are any
 front_key : (bytes : List ℕ) → nat_eq (length_before is_white bytes) 0 ≡ false → IsKey (take (length_before is_white bytes) bytes)
 front_key [] some = absurd cc
-front_key (b ∷ bytes) some = by (white b) refl some
+front_key (b ∷ bytes) some = by (is_white b) refl some
   where
-    by : (v : Bool) → white b ≡ v → nat_eq (cond v 0 (suc (length_before is_white bytes))) 0 ≡ false
+    by : (v : Bool) → is_white b ≡ v → nat_eq (cond v 0 (suc (length_before is_white bytes))) 0 ≡ false
         → IsKey (take (cond v 0 (suc (length_before is_white bytes))) (b ∷ bytes))
     by true is some = absurd cc
     by false is some =
-        ap (λ v. not v && list_all (λ c. not (white c)) (take (length_before is_white bytes) bytes)) is ∙ all_black bytes
+        ap (λ v. not v && list_all (λ c. not (is_white c)) (take (length_before is_white bytes) bytes)) is ∙ all_black bytes
 
 -- an item is a key, where there is one
 abbrev pub IsKeyOf : Option (List ℕ) → Type 0

@@ -6,13 +6,15 @@ use Rattle.std.specs.Option.{option_and_then, option_map_or}
 use Rattle.std.specs.Cmp.Lexicographic.{pointwise}
 use Rattle.bstr.specs.Text.{lines_of}
 use Rattle.bv_base.specs.declared.place.Place.{Place}
+use Rattle.std.specs.Str.{is_utf8}
+use Rattle.bv_base.specs.Answers.{then_do}
 use Rattle.aux_read.specs.declared.aux.Aux.{Aux}
 use Rattle.aux_read.specs.declared.aux.AuxItem.{AuxItem}
 use Rattle.aux_read.specs.declared.aux.AuxItem.TheVariants.{All, Cite, Input}
 use Rattle.aux_read.specs.declared.fault.AuxFault.{AuxFault}
 use Rattle.aux_read.specs.FileNames.{AreFileNames, GivesFileNames, HasFileName, IsFileName}
-use Rattle.aux_read.specs.Items.{after_front, file_name_of, inside_of, is_utf8, item_of, stretches}
-use Rattle.aux_read.specs.Lines.{add_citations, add_names, citation, file_name, file_names, nothing, take_line, then_do, with_databases, with_item, with_part, with_style}
+use Rattle.aux_read.specs.Items.{after_front, file_name_of, inside_of, item_of, stretches}
+use Rattle.aux_read.specs.Lines.{add_citations, add_names, citation, file_name, file_names, nothing, take_line, with_databases, with_item, with_part, with_style}
 use Rattle.aux_read.specs.Reading.{aux_of, next_line, reading}
 
 -- the name that a stretch is, is UTF-8

@@ -1,5 +1,6 @@
 -- The faults of an `.aux` file: their names and places (docs/COMMANDS.md, "Faults of data").
 use Rattle.std.specs.Prelude.{ℕ, List, codes}
+use Rattle.bv_base.specs.Places.{first_place}
 use Rattle.bv_base.specs.declared.place.Place.{Place}
 use Rattle.aux_read.specs.declared.fault.AuxFault.{AuxFault}
 use Rattle.aux_read.specs.declared.fault.AuxFault.TheVariants.{BadCommand, SecondStyle, SecondData, NoMemory}
@@ -16,4 +17,4 @@ abbrev pub place_of : AuxFault → Place
 place_of (BadCommand place) = place
 place_of (SecondStyle place) = place
 place_of (SecondData place) = place
-place_of NoMemory = record { line = 1; column = 1 }
+place_of NoMemory = first_place

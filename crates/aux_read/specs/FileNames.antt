@@ -1,10 +1,10 @@
 -- The names of files that an `.aux` file gives (docs/DATA.md, "Lines of an .aux file").
 use Rattle.std.specs.Prelude.{◌≡◌, ℕ, true, List, IfSome}
 use Rattle.std.specs.List.{AllByRecursion}
+use Rattle.std.specs.Str.{is_utf8}
 use Rattle.aux_read.specs.declared.aux.Aux.{Aux}
 use Rattle.aux_read.specs.declared.aux.AuxItem.{AuxItem}
 use Rattle.aux_read.specs.declared.aux.AuxItem.TheVariants.{Input}
-use Rattle.aux_read.specs.Items.{is_utf8}
 
 -- the name of a file is UTF-8
 abbrev pub IsFileName : List ℕ → Type 0

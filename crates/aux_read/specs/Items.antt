@@ -1,37 +1,22 @@
 -- The items between the braces of a line (docs/DATA.md, "Lines of an .aux file").
-use Rattle.std.specs.Prelude.{ℕ, suc, Bool, true, ◌&&◌, not, nat_eq, nat_lt, if◌then◌else◌, List, [], ◌∷◌, length, take, drop, Option, None, Some}
+use Rattle.std.specs.Prelude.{ℕ, Bool, ◌&&◌, not, nat_eq, nat_lt, if◌then◌else◌, List, [], ◌∷◌, length, take, drop, Option, None, Some}
+use Rattle.std.specs.List.{list_all}
 use Rattle.std.specs.Option.{option_and_then}
-use Rattle.std.specs.Str.{is_utf8 as is_text}
+pub use Rattle.std.specs.Str.{is_utf8}
 use Rattle.bstr.specs.Find.{matches}
 use Rattle.bstr.specs.Text.{split_at}
-use Rattle.bv_base.specs.Bytes.{is_white as white}
-
--- white space, as the style language has it
-abbrev pub is_white : ℕ → Bool
-is_white b = white b
-
--- every byte but white space
-abbrev pub is_black : ℕ → Bool
-is_black b = not (white b)
+use Rattle.bv_base.specs.Bytes.{is_white}
+use Rattle.bv_base.specs.Runs.{is_black, length_before}
 
 -- `}`
 abbrev pub is_close : ℕ → Bool
 is_close b = nat_eq b 125
-
--- the bytes are UTF-8
-abbrev pub is_utf8 : List ℕ → Bool
-is_utf8 bytes = is_text bytes
 
 -- what follows these bytes at the front of others
 abbrev pub after_front : List ℕ → List ℕ → Option (List ℕ)
 after_front [] bytes = Some bytes
 after_front (mark ∷ marks) [] = None
 after_front (mark ∷ marks) (b ∷ bytes) = if nat_eq b mark then after_front marks bytes else None
-
--- how many bytes stand before the first that passes a test
-abbrev pub length_before : (ℕ → Bool) → List ℕ → ℕ
-length_before test [] = 0
-length_before test (b ∷ bytes) = if test b then 0 else suc (length_before test bytes)
 
 -- what stands before the first `}`
 abbrev pub inside_of : List ℕ → Option (List ℕ)
@@ -41,8 +26,7 @@ inside_of bytes =
 
 -- all bytes are white space
 abbrev pub is_blank : List ℕ → Bool
-is_blank [] = true
-is_blank (b ∷ bytes) = white b && is_blank bytes
+is_blank bytes = list_all is_white bytes
 
 -- an item: one or more bytes without white space, which nothing but white space follows
 abbrev pub begun_item : List ℕ → Option (List ℕ)

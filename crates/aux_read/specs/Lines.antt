@@ -1,25 +1,16 @@
 -- What the lines of an `.aux` file add, and what is wrong with them (docs/DATA.md, "Lines of an .aux file").
-use Rattle.std.specs.Prelude.{◌≡◌, ◌≢◌, ℕ, List, [], ◌∷◌, ◌++◌, Option, None, Some, Result, Ok, Err, codes, nat_eq, if◌then◌else◌}
+use Rattle.std.specs.Prelude.{ℕ, List, [], ◌∷◌, ◌++◌, Option, None, Some, Result, Ok, Err, codes, nat_eq, if◌then◌else◌}
 use Rattle.std.specs.Option.{option_map_or}
-use Rattle.std.specs.Result.{MatchResult}
 use Rattle.std.specs.Cmp.Lexicographic.{pointwise}
+use Rattle.bv_base.specs.Answers.{then_do}
+use Rattle.bv_base.specs.Places.{first_place}
 use Rattle.bv_base.specs.declared.place.Place.{Place}
 use Rattle.aux_read.specs.declared.aux.Aux.{Aux}
 use Rattle.aux_read.specs.declared.aux.AuxItem.{AuxItem}
 use Rattle.aux_read.specs.declared.aux.AuxItem.TheVariants.{Cite, All, Input}
 use Rattle.aux_read.specs.declared.fault.AuxFault.{AuxFault}
-use Rattle.aux_read.specs.declared.fault.AuxFault.TheVariants.{BadCommand, SecondStyle, SecondData, NoMemory}
+use Rattle.aux_read.specs.declared.fault.AuxFault.TheVariants.{BadCommand, SecondStyle, SecondData}
 use Rattle.aux_read.specs.Items.{after_front, inside_of, item_of, file_name_of, stretches}
-
--- what a call answers: the value or the fault that is wanted, where memory isn't wanting
-abbrev pub Answers : {A : Type 0} → Result A AuxFault → Result A AuxFault → Type 0
-Answers wanted result =
-    MatchResult result (λ value. wanted ≡ Ok value) (λ fault. fault ≢ NoMemory → wanted ≡ Err fault)
-
--- what is wanted first, and what is wanted of its value; a fault ends both
-abbrev pub then_do : {A B : Type 0} → Result A AuxFault → (A → Result B AuxFault) → Result B AuxFault
-then_do (Ok value) next = next value
-then_do (Err fault) next = Err fault
 
 -- what is wanted of a part that a line must have; a line without it is at fault
 abbrev pub with_part : {A B : Type 0} → Place → Option A → (A → Result B AuxFault) → Result B AuxFault
@@ -32,9 +23,9 @@ nothing =
     record {
       items = [];
       style = None;
-      style_place = record { line = 1; column = 1 };
+      style_place = first_place;
       databases = [];
-      data_place = record { line = 1; column = 1 };
+      data_place = first_place;
     }
 
 -- another request after those that are there

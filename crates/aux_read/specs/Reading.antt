@@ -2,9 +2,11 @@
 use Rattle.std.specs.Prelude.{ℕ, ◌+◌, List, [], ◌∷◌, Result, Ok}
 use Rattle.bstr.specs.Text.{lines_of}
 use Rattle.bv_base.specs.declared.place.Place.{Place}
+use Rattle.bv_base.specs.Answers.{then_do}
+use Rattle.bv_base.specs.Places.{first_place}
 use Rattle.aux_read.specs.declared.aux.Aux.{Aux}
 use Rattle.aux_read.specs.declared.fault.AuxFault.{AuxFault}
-use Rattle.aux_read.specs.Lines.{nothing, take_line, then_do}
+use Rattle.aux_read.specs.Lines.{nothing, take_line}
 
 -- the start of the line after the one that starts at a place
 abbrev pub next_line : Place → Place
@@ -17,4 +19,4 @@ reading place (line ∷ rest) aux = then_do (take_line place line aux) (reading 
 
 -- what the lines of a text ask for
 abbrev pub aux_of : List ℕ → Result Aux AuxFault
-aux_of source = reading (record { line = 1; column = 1 }) (lines_of source) nothing
+aux_of source = reading first_place (lines_of source) nothing

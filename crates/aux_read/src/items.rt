@@ -2,9 +2,12 @@
 
 ghost use Rattle.std.specs.Prelude.{◌≡◌, ◌≤◌, length};
 ghost use Rattle.std.specs.Option.{option_map};
+ghost use Rattle.std.specs.Str.{is_utf8};
 ghost use Rattle.aux_read.specs.Items as items;
+ghost use Rattle.bv_base.specs.Runs.{length_before};
 
 use bv_base::bytes::is_white;
+use bv_base::runs::{after_white, black_length};
 
 /// What follows these bytes at the front of others, or `None` where they don't stand there.
 pub(crate) fn after_front<'a>(front: &[u8], bytes: &'a [u8]) -> Option<&'a [u8]>
@@ -38,7 +41,7 @@ pub(crate) fn inside_of(bytes: &[u8]) -> Option<&[u8]>
 pub(crate) fn item_of(stretch: &[u8]) -> Option<&[u8]>
     ensures { option_map (λ item. item.now) result ≡ items.item_of stretch.now }
 {
-    let begun = stretch.split_at(white_length(stretch)).1;
+    let begun = after_white(stretch);
     let (item, after) = begun.split_at(black_length(begun));
     if !item.is_empty() && is_blank(after) {
         Some(item)
@@ -57,7 +60,7 @@ pub(crate) fn file_name_of(stretch: &[u8]) -> Option<&[u8]>
 
 /// Whether bytes are UTF-8.
 fn is_utf8(bytes: &[u8]) -> bool
-    ensures { result ≡ items.is_utf8 bytes.now }
+    ensures { result ≡ is_utf8 bytes.now }
 {
     match str::from_utf8(bytes) {
         Ok(_) => true,
@@ -67,7 +70,7 @@ fn is_utf8(bytes: &[u8]) -> bool
 
 /// How many bytes stand before the first `}`.
 fn inside_length(bytes: &[u8]) -> usize
-    ensures length { result ≡ items.length_before items.is_close bytes.now }
+    ensures length { result ≡ length_before items.is_close bytes.now }
     ensures within { result ≤ length bytes.now }
 {
     for (i, b) in bytes.iter().enumerate() {
@@ -78,40 +81,9 @@ fn inside_length(bytes: &[u8]) -> usize
     bytes.len()
 }
 
-/// How many bytes of white space stand first.
-fn white_length(bytes: &[u8]) -> usize
-    ensures length { result ≡ items.length_before items.is_black bytes.now }
-    ensures within { result ≤ length bytes.now }
-{
-    for (i, b) in bytes.iter().enumerate() {
-        if !is_white(*b) {
-            return i;
-        }
-    }
-    bytes.len()
-}
-
-/// How many bytes stand before the first white space.
-fn black_length(bytes: &[u8]) -> usize
-    ensures length { result ≡ items.length_before items.is_white bytes.now }
-    ensures within { result ≤ length bytes.now }
-{
-    for (i, b) in bytes.iter().enumerate() {
-        if is_white(*b) {
-            return i;
-        }
-    }
-    bytes.len()
-}
-
 /// Whether all bytes are white space.
 fn is_blank(bytes: &[u8]) -> bool
     ensures { result ≡ items.is_blank bytes.now }
 {
-    for b in bytes {
-        if !is_white(*b) {
-            return false;
-        }
-    }
-    true
+    bytes.iter().all(|b| is_white(*b))
 }

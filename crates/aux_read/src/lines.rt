@@ -3,6 +3,8 @@
 ghost use Rattle.std.specs.Prelude.{◌≡◌, OnOk, IfOk};
 ghost use Rattle.aux_read.specs.Items.{stretches};
 ghost use Rattle.aux_read.specs.Lines as lines;
+ghost use Rattle.aux_read.specs.declared.fault.AuxFault.TheVariants.{NoMemory as WantOfMemory};
+ghost use Rattle.bv_base.specs.Answers.{Gives};
 
 use crate::aux::{Aux, AuxItem};
 use crate::fault::AuxFault;
@@ -16,7 +18,7 @@ use std::alloc::Global;
 
 /// Takes a line that stands at a place.
 pub(crate) fn take_line(alloc: Global, aux: Aux, place: Place, line: &[u8]) -> Result<Aux, AuxFault>
-    ensures { lines.Answers (lines.take_line place line.now aux) result }
+    ensures { Gives WantOfMemory (lines.take_line place line.now aux) result }
 {
     if let Some(rest) = after_front(b"\\citation{", line) {
         return take_citations(alloc, aux, place, rest);
@@ -35,7 +37,7 @@ pub(crate) fn take_line(alloc: Global, aux: Aux, place: Place, line: &[u8]) -> R
 
 /// Takes the citations after an opening brace.
 fn take_citations(alloc: Global, aux: Aux, place: Place, rest: &[u8]) -> Result<Aux, AuxFault>
-    ensures { lines.Answers (lines.take_citations place rest.now aux) result }
+    ensures { Gives WantOfMemory (lines.take_citations place rest.now aux) result }
 {
     match inside_of(rest) {
         Some(inside) => add_citations(alloc, aux, place, inside),
@@ -45,7 +47,7 @@ fn take_citations(alloc: Global, aux: Aux, place: Place, rest: &[u8]) -> Result<
 
 /// Adds the citations that some bytes list.
 fn add_citations(alloc: Global, aux: Aux, place: Place, inside: &[u8]) -> Result<Aux, AuxFault>
-    ensures { lines.Answers (lines.add_citations place (stretches inside.now) aux) result }
+    ensures { Gives WantOfMemory (lines.add_citations place (stretches inside.now) aux) result }
 {
     let mut aux = aux;
     let mut stretches = inside.split_str(b",");
@@ -70,7 +72,7 @@ fn citation(alloc: Global, item: &[u8]) -> Result<AuxItem, NoMemory>
 
 /// Takes the names of databases after an opening brace.
 fn take_databases(alloc: Global, aux: Aux, place: Place, rest: &[u8]) -> Result<Aux, AuxFault>
-    ensures { lines.Answers (lines.take_databases place rest.now aux) result }
+    ensures { Gives WantOfMemory (lines.take_databases place rest.now aux) result }
 {
     let Some(inside) = inside_of(rest) else {
         return Err(AuxFault::BadCommand(place));
@@ -88,7 +90,7 @@ fn take_databases(alloc: Global, aux: Aux, place: Place, rest: &[u8]) -> Result<
 
 /// The names of files that some bytes list.
 fn file_names(alloc: Global, place: Place, inside: &[u8]) -> Result<Seq<Text>, AuxFault>
-    ensures { lines.Answers (lines.file_names place inside.now) result }
+    ensures { Gives WantOfMemory (lines.file_names place inside.now) result }
 {
     let mut names = Seq::new(alloc);
     let mut stretches = inside.split_str(b",");
@@ -103,7 +105,7 @@ fn file_names(alloc: Global, place: Place, inside: &[u8]) -> Result<Seq<Text>, A
 
 /// Takes the name of a style after an opening brace.
 fn take_style(alloc: Global, aux: Aux, place: Place, rest: &[u8]) -> Result<Aux, AuxFault>
-    ensures { lines.Answers (lines.take_style place rest.now aux) result }
+    ensures { Gives WantOfMemory (lines.take_style place rest.now aux) result }
 {
     let name = file_name(alloc, place, rest)?;
     match aux.style {
@@ -118,7 +120,7 @@ fn take_style(alloc: Global, aux: Aux, place: Place, rest: &[u8]) -> Result<Aux,
 
 /// Takes the name of a further file after an opening brace.
 fn take_input(alloc: Global, aux: Aux, place: Place, rest: &[u8]) -> Result<Aux, AuxFault>
-    ensures { lines.Answers (lines.take_input place rest.now aux) result }
+    ensures { Gives WantOfMemory (lines.take_input place rest.now aux) result }
 {
     let name = file_name(alloc, place, rest)?;
     let mut aux = aux;
@@ -128,7 +130,7 @@ fn take_input(alloc: Global, aux: Aux, place: Place, rest: &[u8]) -> Result<Aux,
 
 /// The one name of a file after an opening brace.
 fn file_name(alloc: Global, place: Place, rest: &[u8]) -> Result<Text, AuxFault>
-    ensures { lines.Answers (lines.file_name place rest.now) result }
+    ensures { Gives WantOfMemory (lines.file_name place rest.now) result }
 {
     let Some(inside) = inside_of(rest) else {
         return Err(AuxFault::BadCommand(place));

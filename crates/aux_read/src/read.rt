@@ -10,6 +10,7 @@ use crate::aux::Aux;
 use crate::fault::AuxFault;
 use crate::lines::take_line;
 use bstr::ByteSlice;
+use bv_base::limits::DATA_BYTES;
 use bv_base::place::Place;
 use std::alloc::Global;
 
@@ -18,7 +19,7 @@ use std::alloc::Global;
 /// Each key that is cited has a byte and no white space, and each name of a file is UTF-8. Each byte is read a fixed
 /// number of times.
 pub fn read(alloc: Global, source: &[u8]) -> Result<Aux, AuxFault>
-    requires { length source.now ≤ 16777216 }
+    requires { length source.now ≤ DATA_BYTES }
     ensures ok { IfOk result (λ aux. aux_of source.now ≡ Ok aux) }
     ensures keys { IfOk result (λ aux. HaveKeys aux.items) }
     ensures names { IfOk result GivesFileNames }
@@ -30,7 +31,7 @@ pub fn read(alloc: Global, source: &[u8]) -> Result<Aux, AuxFault>
 
 /// Reads the lines of an `.aux` file.
 fn read_lines(alloc: Global, source: &[u8]) -> Result<Aux, AuxFault>
-    requires { length source.now ≤ 16777216 }
+    requires { length source.now ≤ DATA_BYTES }
     ensures ok { IfOk result (λ aux. aux_of source.now ≡ Ok aux) }
     ensures fault { IfErr result (λ fault. fault ≢ WantOfMemory → aux_of source.now ≡ Err fault) }
 {

@@ -3,6 +3,7 @@
 use crate::aux::{Aux, AuxItem};
 use crate::fault::AuxFault;
 use crate::read::read;
+use bv_base::limits::DATA_BYTES;
 use bv_base::memory::NoMemory;
 use bv_base::place::Place;
 use std::alloc::Global;
@@ -17,7 +18,7 @@ const STYLE: AuxFault = AuxFault::SecondStyle(Place::START);
 const DATA: AuxFault = AuxFault::SecondData(Place::START);
 
 /// Files, their fault, and the line at which it stands.
-const FAULTS: [(&[u8], AuxFault, u32); 34] = [
+static FAULTS: [(&[u8], AuxFault, u32); 34] = [
     // A line without its brace.
     (b"\\citation{a", BAD, 1),
     (b"\\citation{a\n}", BAD, 1),
@@ -76,7 +77,7 @@ fn the_first_line_at_fault_is_answered(rt: HostRuntime) -> Result<(), Fail> {
 /// Expects faults at the starts of these lines.
 fn expect_faults(rt: &impl Abort, alloc: Global, rows: &[(&[u8], AuxFault, u32)]) {
     for (source, fault, line) in rows {
-        assert!(rt; source.len() <= 16777216);
+        assert!(rt; source.len() <= DATA_BYTES);
         let want = moved(
             *fault,
             Place {
@@ -100,7 +101,7 @@ fn moved(fault: AuxFault, place: Place) -> AuxFault {
 
 /// Files, and what is read of them: a line for each request in order (`c` and a key, `*`, or `i`, a file and the number
 /// of its line), then `s`, the style and the number of its line, and `d`, the databases and the number of theirs.
-const READ: [(&[u8], &[u8]); 17] = [
+static READ: [(&[u8], &[u8]); 17] = [
     (b"", b"s 1\nd 1\n"),
     (
         b"x\\citation{a}\n \\citation{a}\n%\\citation{a}\n\\citation {a}\n",
@@ -153,7 +154,7 @@ fn requests_come_in_their_order(rt: HostRuntime) -> Result<(), Fail> {
 /// Expects files to be read so.
 fn expect_read(rt: &impl Abort, alloc: Global, rows: &[(&[u8], &[u8])]) -> Result<(), Fail> {
     for (source, want) in rows {
-        assert!(rt; source.len() <= 16777216);
+        assert!(rt; source.len() <= DATA_BYTES);
         let aux = read(alloc, source)?;
         assert!(rt; shown(alloc, &aux)?.as_slice() == *want);
     }

@@ -1,5 +1,6 @@
 use Rattle.std.proofs.Common.{◌≡◌, ◌+◌, drop}
-use Rattle.aux_read.specs.Items.{is_close, length_before}
+use Rattle.bv_base.specs.Runs.{length_before}
+use Rattle.aux_read.specs.Items.{is_close}
 use Rattle.aux_read.proofs.items.inside_length.Given as goal
 
 abbrev pub invariant-loop-i : goal.invariant-loop-i
