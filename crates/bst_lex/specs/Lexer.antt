@@ -1,5 +1,6 @@
 -- How the reader's fields stand for what is left of its source.
 use Rattle.std.specs.Prelude.{◌≡◌, ℕ, ◌+◌, ◌≤◌, List, length, drop}
+use Rattle.bv_base.specs.declared.limits.TheConstants.{STYLE_BYTES}
 use Rattle.bv_base.specs.declared.place.Place.{Place}
 use Rattle.bst_lex.specs.declared.lexer.Lexer.TheInside.{Inside}
 use Rattle.bst_lex.specs.Lexemes.{Reading, reading_at}
@@ -11,7 +12,7 @@ reading_of l = reading_at l.source.now l.failed l.cursor.start l.cursor.place l.
 
 -- what is left of a source after `start` of its bytes, and the place of the next byte
 pub record Stands (source : List ℕ) (start : ℕ) (place : Place) (rest : List ℕ) : Type 0 where
-  pub small : length source ≤ 4194304
+  pub small : length source ≤ STYLE_BYTES
   pub within : start ≤ length source
   pub rest_is : rest ≡ drop start source
   pub place_is : place ≡ place_at source start

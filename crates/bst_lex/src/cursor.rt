@@ -3,6 +3,7 @@
 ghost use Rattle.std.specs.Prelude.{◌≡◌, ◌+◌, ◌≤◌, length, take, drop};
 ghost use Rattle.bv_base.specs.Places.{after_bytes};
 
+use bv_base::limits::STYLE_BYTES;
 use bv_base::place::Place;
 
 /// What is left of a source, how many bytes stand before it, and the place of its first byte.
@@ -17,7 +18,7 @@ impl<'a> Cursor<'a> {
     /// Passes over some bytes.
     pub(crate) fn passed(self, count: usize) -> Cursor<'a>
         requires count { count ≤ length self.rest.now }
-        requires small { self.start + length self.rest.now ≤ 4194304 }
+        requires small { self.start + length self.rest.now ≤ STYLE_BYTES }
         requires line { self.place.line ≤ self.start + 1 }
         requires column { self.place.column ≤ self.start + 1 }
         ensures rest { result.rest.now ≡ drop count self.entry.rest.now }

@@ -7,6 +7,7 @@ ghost use Rattle.bv_base.specs.Places.{place_at};
 use crate::cursor::Cursor;
 use crate::lexeme::{LexFault, Lexeme};
 use crate::pieces::{gap_length, piece_at};
+use bv_base::limits::STYLE_BYTES;
 use bv_base::place::Place;
 use std::marker::Model;
 
@@ -34,9 +35,9 @@ impl<'a> Model for Lexer<'a> {
 }
 
 impl<'a> Lexer<'a> {
-    /// All lexemes of a source of at most 4194304 bytes are left.
+    /// All lexemes of a source of at most [`STYLE_BYTES`] bytes are left.
     pub fn new(source: &'a [u8]) -> Lexer<'a>
-        requires { length source.now ≤ 4194304 }
+        requires { length source.now ≤ STYLE_BYTES }
         ensures { result ≡ lexed source.now }
     {
         Lexer {

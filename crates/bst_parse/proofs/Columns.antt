@@ -3,6 +3,7 @@ use Rattle.std.proofs.Common.{◌≡◌, ℕ, ◌+◌, ◌≤◌, Bool, true, fa
 use Rattle.std.proofs.lemmas.List.{length-take, length-drop}
 use Rattle.bv_base.specs.declared.place.Place.{Place}
 use Rattle.bv_base.specs.Places.{after_byte, after_bytes, place_at}
+use Rattle.bv_base.specs.declared.limits.TheConstants.{STYLE_BYTES}
 
 next_column : (b : Bool) (line column : ℕ)
     → (cond {A = Place} b (record { line = line + 1; column = 1 }) (record { line = line; column = column + 1 })).column ≤ column + 1
@@ -17,7 +18,7 @@ column-after (b ∷ bytes) place =
     omega arith
 
 -- a part of a source that is cut out at a place ends at a column of 32 bits
-pub column_within : (source text : List ℕ) (start : ℕ) (place : Place) → length source ≤ 4194304
+pub column_within : (source text : List ℕ) (start : ℕ) (place : Place) → length source ≤ STYLE_BYTES
     → text ≡ take (length text) (drop start source) → place ≡ place_at source start
     → place.column + length text ≤ 4294967295
 column_within source text start place small cut stands =

@@ -1,6 +1,7 @@
 -- How many bodies and blocks there are after a change of one body and after one more.
 use Rattle.std.proofs.Common.{◌≡◌, ℕ, zero, suc, ◌+◌, ◌<◌, ◌≤◌, List, [], ◌∷◌, ◌++◌, Option, None, Some, length, length-append, get_or, refl, ap, arith}
 use Rattle.std.proofs.Math.ListN.{set}
+use Rattle.name_table.specs.declared.style.TheConstants.{MOST_BODIES}
 use Rattle.name_table.specs.declared.style.Body.{Body}
 use Rattle.name_table.specs.declared.style.TokenAt.{TokenAt}
 use Rattle.bst_parse.specs.Bodies.{changed_at, token_added, counted, block_count}
@@ -47,8 +48,8 @@ block_count-le [] = omega arith
 block_count-le (body ∷ bodies) = let e = block_count-le bodies in let f = counted-le body.block in omega arith
 
 -- one more body
-pub one_more : (n : ℕ) (bodies new : List Body) (body : Body) → n ≡ block_count bodies → length bodies < 65536
-    → new ≡ bodies ++ body ∷ [] → (n + counted body.block ≡ block_count new) × (length new ≤ 65536)
+pub one_more : (n : ℕ) (bodies new : List Body) (body : Body) → n ≡ block_count bodies → length bodies < MOST_BODIES
+    → new ≡ bodies ++ body ∷ [] → (n + counted body.block ≡ block_count new) × (length new ≤ MOST_BODIES)
 one_more n bodies new body blocks short is =
     let e = block_count-push bodies body in
     let f = ap block_count is in

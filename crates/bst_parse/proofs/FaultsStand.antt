@@ -1,5 +1,5 @@
 -- Every fault stands in its source.
-use Rattle.std.proofs.Common.{◌≡◌, ℕ, suc, ◌+◌, Bool, true, false, cond, nat_le, List, [], ◌∷◌, ◌++◌, Option, None, Some, is_some, Result, Ok, Err, length, take, drop, refl, sym, ap, subst, ◌∙◌, arith}
+use Rattle.std.proofs.Common.{◌≡◌, ℕ, suc, ◌+◌, Bool, true, false, cond, nat_le, nat_lt, List, [], ◌∷◌, ◌++◌, Option, None, Some, is_some, Result, Ok, Err, length, take, drop, refl, sym, ap, subst, ◌∙◌, arith}
 use Rattle.std.specs.Option.{option_map_or, IfSome}
 use Rattle.bv_base.specs.declared.place.Place.{Place}
 use Rattle.name_table.specs.declared.names.Kind.{Kind}
@@ -32,6 +32,9 @@ use Rattle.bst_parse.specs.Fault.{IsFaultOf}
 use Rattle.bst_parse.specs.Names.{has_macro}
 use Rattle.bst_parse.specs.Parts.{take_open, take_close, definable, defined, define, take_names, take_function_name, called, take_target, take_macro_name, take_macro_text, take_body, pass, take_part}
 use Rattle.bv_base.specs.Answers.{then_do}
+use Rattle.bst_parse.specs.declared.tokens.TheConstants.{DEEPEST}
+use Rattle.name_table.specs.declared.style.TheConstants.{MOST_BODIES}
+use Rattle.name_table.specs.declared.names.TheConstants.{MOST_NAMES}
 use Rattle.bst_parse.specs.Progress.{Progress}
 use Rattle.bst_parse.specs.Reading.{take_outside, take_within, take_lexeme, is_idle, ended, reading, opening_progress, style_of}
 use Rattle.bst_parse.specs.Tokens.{begins_block, is_own, not_own, used, take_token}
@@ -90,7 +93,7 @@ definable_placed source Quoted place text at = at
 defined_placed : (source name : List ℕ) (kind : Kind) (place : Place) (names : List (List ℕ × Kind)) → StandsIn source place
     → Placed source (defined name kind place names)
 defined_placed source name kind place names at =
-    placed_either source (is_some (id_of name names)) _ _ at (placed_either source (nat_le 65536 (length names)) _ (Ok (names ++ (name, kind) ∷ [])) at tt)
+    placed_either source (is_some (id_of name names)) _ _ at (placed_either source (nat_le MOST_NAMES (length names)) _ (Ok (names ++ (name, kind) ∷ [])) at tt)
 
 define_placed : (source : List ℕ) (kind : Kind) (shape : Shape) (place : Place) (text : List ℕ) (p : Progress) → StandsIn source place
     → Placed source (define kind shape place text p)
@@ -137,7 +140,7 @@ macro_text_placed source Quoted place text p at = at
 macro_text_placed source Name place text p at = at
 
 body_placed : (source : List ℕ) (shape : Shape) (place : Place) (p : Progress) → StandsIn source place → Placed source (take_body shape place p)
-body_placed source OpenBrace place p at = placed_either source (nat_le 65536 (length p.bodies)) _ _ at tt
+body_placed source OpenBrace place p at = placed_either source (nat_le MOST_BODIES (length p.bodies)) _ _ at tt
 body_placed source CloseBrace place p at = at
 body_placed source (Integer k) place p at = at
 body_placed source Text place p at = at
@@ -217,7 +220,7 @@ used_placed source l name p at after =
 token_placed : (source : List ℕ) (inside : BodyId) (shape : Shape) (l : Seen) (p : Progress) → l.shape ≡ shape → AtLexeme source l
     → Placed source (take_token source inside shape l p)
 token_placed source inside OpenBrace l p is at =
-    placed_either source (nat_le 257 (length p.opened)) _ _ at.stands (placed_either source (nat_le 65536 (length p.bodies)) _ _ at.stands tt)
+    placed_either source (nat_lt DEEPEST (length p.opened)) _ _ at.stands (placed_either source (nat_le MOST_BODIES (length p.bodies)) _ _ at.stands tt)
 token_placed source inside CloseBrace l p is at = tt
 token_placed source inside (Integer k) l p is at = tt
 token_placed source inside Text l p is at = tt

@@ -1,7 +1,9 @@
 -- What a rule's function leaves of the parts to come and of the open bodies, and the shape of its lexeme.
-use Rattle.std.proofs.Common.{◌≡◌, ℕ, true, nat_le, List, [], ◌∷◌, ◌++◌, Option, None, Some, Ok, Err, length, drop, refl, ap, ◌∙◌}
+use Rattle.std.proofs.Common.{◌≡◌, ℕ, true, nat_le, nat_lt, List, [], ◌∷◌, ◌++◌, Option, None, Some, Ok, Err, length, drop, refl, ap, ◌∙◌}
 use Rattle.std.specs.Option.{option_map_or}
 use Rattle.bv_base.specs.declared.place.Place.{Place}
+use Rattle.bst_parse.specs.declared.tokens.TheConstants.{DEEPEST}
+use Rattle.name_table.specs.declared.style.TheConstants.{MOST_BODIES}
 use Rattle.name_table.specs.declared.names.Kind.{Kind}
 use Rattle.name_table.specs.declared.names.Kind.TheVariants.{Wizard}
 use Rattle.name_table.specs.declared.names.NameId.{NameId}
@@ -111,7 +113,7 @@ pub record Entered (p q : Progress) : Type 0 where
 
 pub body_kept : (shape : Shape) (place : Place) (p q : Progress) → take_body shape place p ≡ Ok q → (shape ≡ OpenBrace) × Entered p q
 body_kept OpenBrace place p q e =
-    let u = unless_ok (nat_le 65536 (length p.bodies)) _ _ q e in
+    let u = unless_ok (nat_le MOST_BODIES (length p.bodies)) _ _ q e in
     let is = ok_is _ q u.1 in
     (refl, record { parts = ap (λ (x : Progress). x.parts) is; opened = ap (λ (x : Progress). x.opened) is })
 body_kept CloseBrace place p q e = absurd (cc)
@@ -122,8 +124,8 @@ body_kept Name place p q e = absurd (cc)
 
 pub block_kept : (inside : BodyId) (place : Place) (p q : Progress) → begin_block inside place p ≡ Ok q → Entered p q
 block_kept inside place p q e =
-    let u = unless_ok (nat_le 257 (length p.opened)) _ _ q e in
-    let v = unless_ok (nat_le 65536 (length p.bodies)) _ _ q u.1 in
+    let u = unless_ok (nat_lt DEEPEST (length p.opened)) _ _ q e in
+    let v = unless_ok (nat_le MOST_BODIES (length p.bodies)) _ _ q u.1 in
     let is = ok_is _ q v.1 in
     record { parts = ap (λ (x : Progress). x.parts) is; opened = ap (λ (x : Progress). x.opened) is }
 

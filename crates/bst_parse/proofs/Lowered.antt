@@ -6,6 +6,7 @@ use Rattle.std.proofs.lemmas.List.{length-map}
 use Rattle.std.specs.List.{list_all}
 use Rattle.bv_base.specs.Bytes.{is_name_byte, lower}
 use Rattle.bv_base.specs.Runs.{is_digit}
+use Rattle.bv_base.specs.declared.limits.TheConstants.{STYLE_BYTES}
 use Rattle.name_table.specs.Names.{lowered, is_definable}
 use Rattle.name_table.specs.Sound.{IsDeclared}
 
@@ -37,7 +38,7 @@ definable-lowered [] h = h
 definable-lowered (b ∷ name) h =
     both _ _ (ap not (digit-lower b) ∙ (and_parts _ _ h).0) (name_bytes-lowered (b ∷ name) (and_parts _ _ h).1)
 
-pub declared-lowered : (name : List ℕ) → is_definable name ≡ true → length name ≤ 4194304 → IsDeclared (lowered name)
+pub declared-lowered : (name : List ℕ) → is_definable name ≡ true → length name ≤ STYLE_BYTES → IsDeclared (lowered name)
 declared-lowered name h short =
     record {
       definable = definable-lowered name h;

@@ -9,6 +9,7 @@ use Rattle.bst_lex.specs.declared.lexeme.Shape.TheVariants.{OpenBrace, CloseBrac
 use Rattle.bst_parse.specs.declared.fault.StyleFault.{StyleFault}
 use Rattle.bst_parse.specs.Parts.{definable, defined, define}
 use Rattle.bv_base.specs.Answers.{then_do}
+use Rattle.name_table.specs.declared.names.TheConstants.{MOST_NAMES}
 use Rattle.bst_parse.specs.Progress.{Progress}
 
 abbrev pub ok : {A : Type 0} → A → Result A StyleFault
@@ -51,17 +52,17 @@ definable_ok Text place text name e = absurd (cc)
 definable_ok Quoted place text name e = absurd (cc)
 
 pub defined_ok : (name : List ℕ) (kind : Kind) (place : Place) (names new : List (List ℕ × Kind)) → defined name kind place names ≡ Ok new
-    → (id_of name names ≡ None) × (length names < 65536) × (new ≡ names ++ (name, kind) ∷ [])
+    → (id_of name names ≡ None) × (length names < MOST_NAMES) × (new ≡ names ++ (name, kind) ∷ [])
 defined_ok name kind place names new e =
     let u = unless_ok (is_some (id_of name names)) _ _ new e in
-    let v = unless_ok (nat_le 65536 (length names)) _ _ new u.1 in
-    (none_is (id_of name names) u.0, below 65536 (length names) v.0, ok_is _ new v.1)
+    let v = unless_ok (nat_le MOST_NAMES (length names)) _ _ new u.1 in
+    (none_is (id_of name names) u.0, below MOST_NAMES (length names) v.0, ok_is _ new v.1)
 
 -- a name was defined
 pub record Defined (kind : Kind) (text : List ℕ) (p m : Progress) : Type 0 where
   pub definable : is_definable text ≡ true
   pub none : id_of (lowered text) p.names ≡ None
-  pub room : length p.names < 65536
+  pub room : length p.names < MOST_NAMES
   pub is : m ≡ record p { names = p.names ++ (lowered text, kind) ∷ [] }
 
 pub define_ok : (kind : Kind) (shape : Shape) (place : Place) (text : List ℕ) (p m : Progress) → define kind shape place text p ≡ Ok m

@@ -3,6 +3,9 @@ use Rattle.std.proofs.Common.{◌≡◌, ℕ, zero, suc, ◌+◌, ◌<◌, ◌�
 use Rattle.std.specs.Option.{option_map}
 use Rattle.std.proofs.lemmas.Bool.{cases_lt}
 use Rattle.bv_base.specs.declared.place.Place.{Place}
+use Rattle.bv_base.specs.declared.limits.TheConstants.{STYLE_BYTES}
+use Rattle.name_table.specs.declared.style.TheConstants.{MOST_BODIES}
+use Rattle.name_table.specs.declared.names.TheConstants.{MOST_NAMES}
 use Rattle.name_table.specs.declared.names.Kind.{Kind}
 use Rattle.name_table.specs.declared.names.Kind.TheVariants.{Builtin, Wizard, Field, IntEntry, StrEntry, IntGlobal, StrGlobal}
 use Rattle.name_table.specs.declared.names.NameId.{NameId}
@@ -56,7 +59,7 @@ pub record NamesFine (names : List (List ℕ × Kind)) : Type 0 where
   pub are : names ≡ opening_names ++ declared
   pub spelled : Each (λ entry. IsDeclared entry.0) declared
   pub apart : AreApart names
-  pub few : length names ≤ 65536
+  pub few : length names ≤ MOST_NAMES
 
 pub record SoFar (n : ℕ) (ns : List (List ℕ × Kind)) (cs : List CommandAt) (bs : List Body) (ts : List (List ℕ))
     (ps : List Part) (os : List BodyId) : Type 0 where
@@ -66,8 +69,8 @@ pub record SoFar (n : ℕ) (ns : List (List ℕ × Kind)) (cs : List CommandAt) 
   pub commands : Each (λ at. IsCommandSound ns at.command) cs
   pub few_commands : length cs ≤ n
   pub numbered : AreNumbered 0 (map (λ body. body.block) bs)
-  pub few_bodies : length bs ≤ 65536
-  pub texts : Each (λ text. length text ≤ 4194304) ts
+  pub few_bodies : length bs ≤ MOST_BODIES
+  pub texts : Each (λ text. length text ≤ STYLE_BYTES) ts
   pub parts : PartsFine ps
   pub busy : IsBusy os ps
 
@@ -280,7 +283,7 @@ numbered_block n (first ∷ bodies) body number some is h =
 module _ (n : ℕ) (names : List (List ℕ × Kind)) (commands : List CommandAt) (bodies : List Body) (texts : List (List ℕ))
     (parts : List Part) (opened : List BodyId) (s : SoFar n names commands bodies texts parts opened) where
   -- a name is defined
-  pub named : (name : List ℕ) (kind : Kind) → IsDeclared name → id_of name names ≡ None → length names < 65536
+  pub named : (name : List ℕ) (kind : Kind) → IsDeclared name → id_of name names ≡ None → length names < MOST_NAMES
       → IsKindSoFar bodies (coming parts) kind → SoFar n (names ++ (name, kind) ∷ []) commands bodies texts parts opened
   named name kind declared none room fine =
       record {
@@ -336,7 +339,7 @@ module _ (n : ℕ) (names : List (List ℕ × Kind)) (commands : List CommandAt)
       }
 
   -- a text is read
-  pub worded : (text : List ℕ) → length text ≤ 4194304 → SoFar n names commands bodies (texts ++ text ∷ []) parts opened
+  pub worded : (text : List ℕ) → length text ≤ STYLE_BYTES → SoFar n names commands bodies (texts ++ text ∷ []) parts opened
   worded text short =
       record {
         names = s.names;
@@ -385,7 +388,7 @@ module _ (n : ℕ) (names : List (List ℕ × Kind)) (commands : List CommandAt)
       }
 
   -- the body of a function begins, which is the last part
-  pub function_put : (rest : List Part) (place : Place) (next : List BodyId) → parts ≡ BodyPart ∷ rest → length bodies < 65536
+  pub function_put : (rest : List Part) (place : Place) (next : List BodyId) → parts ≡ BodyPart ∷ rest → length bodies < MOST_BODIES
       → SoFar n names commands (function_begun place bodies) texts rest next
   function_put rest place next is room =
       let fine = subst PartsFine is s.parts in
@@ -403,7 +406,7 @@ module _ (n : ℕ) (names : List (List ℕ × Kind)) (commands : List CommandAt)
       }
 
   -- a block begins
-  pub block_put : (inside : BodyId) (place : Place) (next : List BodyId) → parts ≡ [] → length bodies < 65536
+  pub block_put : (inside : BodyId) (place : Place) (next : List BodyId) → parts ≡ [] → length bodies < MOST_BODIES
       → SoFar n names commands (block_begun inside place bodies) texts parts next
   block_put inside place next idle room =
       let at : TokenAt = record { token = Block (next_body bodies); place = place } in

@@ -1,5 +1,5 @@
 -- Each lexeme keeps what holds of what has been read.
-use Rattle.std.proofs.Common.{◌≡◌, ℕ, suc, ◌+◌, ◌-◌, ◌<◌, ◌≤◌, Bool, true, false, cond, nat_le, List, [], ◌∷◌, ◌++◌, Option, None, Some, Result, Ok, Err, length, length-append, drop, refl, sym, ap, subst, ◌∙◌, arith}
+use Rattle.std.proofs.Common.{◌≡◌, ℕ, suc, ◌+◌, ◌-◌, ◌<◌, ◌≤◌, Bool, true, false, cond, nat_le, nat_lt, List, [], ◌∷◌, ◌++◌, Option, None, Some, Result, Ok, Err, length, length-append, drop, refl, sym, ap, subst, ◌∙◌, arith}
 use Rattle.std.proofs.lemmas.List.{length-take, length-drop}
 use Rattle.std.specs.Option.{option_map, option_map_or}
 use Rattle.bv_base.specs.declared.place.Place.{Place}
@@ -26,6 +26,9 @@ use Rattle.bst_parse.specs.Commands.{word_of, parts_of, call_of}
 use Rattle.bst_parse.specs.Names.{has_macro}
 use Rattle.bst_parse.specs.Parts.{take_open, take_close, definable, define, take_names, next_name, take_function_name, called, take_target, take_macro_name, unmarked, take_macro_text, take_body, pass, take_part}
 use Rattle.bv_base.specs.Answers.{then_do}
+use Rattle.bv_base.specs.declared.limits.TheConstants.{STYLE_BYTES}
+use Rattle.bst_parse.specs.declared.tokens.TheConstants.{DEEPEST}
+use Rattle.name_table.specs.declared.style.TheConstants.{MOST_BODIES}
 use Rattle.bst_parse.specs.Progress.{Progress}
 use Rattle.bst_parse.specs.Reading.{take_outside, take_within, take_lexeme}
 use Rattle.bst_parse.specs.Tokens.{begins_block, is_own, not_own, used, with_token, with_text, take_token}
@@ -73,13 +76,13 @@ close_steps n Quoted place p q s e = absurd (cc)
 close_steps n Name place p q s e = absurd (cc)
 
 -- a name is defined
-named_now : (n : ℕ) (kind : Kind) (text : List ℕ) (p q : Progress) → Now n p → length text ≤ 4194304
+named_now : (n : ℕ) (kind : Kind) (text : List ℕ) (p q : Progress) → Now n p → length text ≤ STYLE_BYTES
     → IsKindSoFar p.bodies (coming p.parts) kind → Defined kind text p q
     → SoFar n (p.names ++ (lowered text, kind) ∷ []) p.commands p.bodies p.texts p.parts p.opened
 named_now n kind text p q s short fine d =
     named n p.names p.commands p.bodies p.texts p.parts p.opened s (lowered text) kind (declared-lowered text d.definable short) d.none d.room fine
 
-define_steps : (n : ℕ) (kind : Kind) (shape : Shape) (place : Place) (text : List ℕ) (p q : Progress) → Now n p → length text ≤ 4194304
+define_steps : (n : ℕ) (kind : Kind) (shape : Shape) (place : Place) (text : List ℕ) (p q : Progress) → Now n p → length text ≤ STYLE_BYTES
     → IsKindSoFar p.bodies (coming p.parts) kind → define kind shape place text p ≡ Ok q → Stepped n p q
 define_steps n kind shape place text p q s short fine e =
     let d = define_ok kind shape place text p q e in
@@ -90,7 +93,7 @@ define_steps n kind shape place text p q s short fine e =
     }
 
 -- the name of a function
-function_steps : (n : ℕ) (shape : Shape) (place : Place) (text : List ℕ) (p q : Progress) → Now n p → length text ≤ 4194304
+function_steps : (n : ℕ) (shape : Shape) (place : Place) (text : List ℕ) (p q : Progress) → Now n p → length text ≤ STYLE_BYTES
     → coming p.parts ≡ 1 → take_function_name shape place text p ≡ Ok q → Stepped n p q
 function_steps n shape place text p q s short owed e =
     let kind : Kind = Wizard (next_body p.bodies) in
@@ -178,7 +181,7 @@ done n part rest p m r is idle same fine e steps =
 
 -- a name of a list, or the brace after it
 names_keep : (n : ℕ) (kind : Kind) (rest : List Part) (shape : Shape) (place : Place) (text : List ℕ) (p m : Progress) → Now n p
-    → length text ≤ 4194304 → p.parts ≡ Names kind ∷ rest → p.opened ≡ [] → take_names kind rest shape place text p ≡ Ok m → Now (suc n) m
+    → length text ≤ STYLE_BYTES → p.parts ≡ Names kind ∷ rest → p.opened ≡ [] → take_names kind rest shape place text p ≡ Ok m → Now (suc n) m
 names_keep n kind rest CloseBrace place text p m s short is idle e =
     subst (Now (suc n)) (sym (ok_is (record p { parts = rest }) m e))
     (on n (record p { parts = rest }) (passed n p.names p.commands p.bodies p.texts p.parts p.opened s (Names kind) rest is refl (λ fine. fine.1) idle))
@@ -199,11 +202,11 @@ body_keeps : (n : ℕ) (rest : List Part) (shape : Shape) (place : Place) (p m :
 body_keeps n rest OpenBrace place p m s is e =
     let a = then_ok (take_body OpenBrace place p) (pass rest) m e in
     let q : Progress = record p { bodies = p.bodies ++ record { tokens = []; block = None; place = place } ∷ []; opened = next_body p.bodies ∷ p.opened } in
-    let u = unless_ok (nat_le 65536 (length p.bodies)) _ (ok q) a.0 a.1 in
+    let u = unless_ok (nat_le MOST_BODIES (length p.bodies)) _ (ok q) a.0 a.1 in
     let same = ok_is (record (a.0) { parts = rest }) m a.2 ∙ ap (λ (r : Progress). record r { parts = rest }) (ok_is q (a.0) u.1) in
     subst (Now (suc n)) (sym same)
     (on n (record q { parts = rest })
-    (function_put n p.names p.commands p.bodies p.texts p.parts p.opened s rest place (next_body p.bodies ∷ p.opened) is (below 65536 (length p.bodies) u.0)))
+    (function_put n p.names p.commands p.bodies p.texts p.parts p.opened s rest place (next_body p.bodies ∷ p.opened) is (below MOST_BODIES (length p.bodies) u.0)))
 body_keeps n rest CloseBrace place p m s is e = absurd (cc)
 body_keeps n rest (Integer k) place p m s is e = absurd (cc)
 body_keeps n rest Text place p m s is e = absurd (cc)
@@ -211,7 +214,7 @@ body_keeps n rest Quoted place p m s is e = absurd (cc)
 body_keeps n rest Name place p m s is e = absurd (cc)
 
 part_keeps : (n : ℕ) (part : Part) (rest : List Part) (shape : Shape) (place : Place) (text : List ℕ) (p m : Progress) → Now n p
-    → length text ≤ 4194304 → p.parts ≡ part ∷ rest → p.opened ≡ [] → take_part part rest shape place text p ≡ Ok m → Now (suc n) m
+    → length text ≤ STYLE_BYTES → p.parts ≡ part ∷ rest → p.opened ≡ [] → take_part part rest shape place text p ≡ Ok m → Now (suc n) m
 part_keeps n (Names kind) rest shape place text p m s short is idle e = names_keep n kind rest shape place text p m s short is idle e
 part_keeps n Open rest shape place text p m s short is idle e =
     done n Open rest p m (take_open shape place p) is idle refl (λ fine. fine) e (λ q. open_steps n shape place p q s)
@@ -306,13 +309,13 @@ used_within source l name p id e =
 
 -- a token of a body
 token_keeps : (n : ℕ) (source : List ℕ) (inside : BodyId) (shape : Shape) (l : Seen) (p m : Progress) → Now n p
-    → length l.text ≤ 4194304 → p.parts ≡ [] → take_token source inside shape l p ≡ Ok m → Now (suc n) m
+    → length l.text ≤ STYLE_BYTES → p.parts ≡ [] → take_token source inside shape l p ≡ Ok m → Now (suc n) m
 token_keeps n source inside OpenBrace l p m s short none e =
-    let u = unless_ok (nat_le 257 (length p.opened)) _ _ m e in
-    let v = unless_ok (nat_le 65536 (length p.bodies)) _ _ m u.1 in
+    let u = unless_ok (nat_lt DEEPEST (length p.opened)) _ _ m e in
+    let v = unless_ok (nat_le MOST_BODIES (length p.bodies)) _ _ m u.1 in
     subst (Now (suc n)) (sym (ok_is _ m v.1))
     (later_on n p.names p.commands _ p.texts p.parts (next_body p.bodies ∷ p.opened)
-    (block_put n p.names p.commands p.bodies p.texts p.parts p.opened s inside l.place (next_body p.bodies ∷ p.opened) none (below 65536 (length p.bodies) v.0)))
+    (block_put n p.names p.commands p.bodies p.texts p.parts p.opened s inside l.place (next_body p.bodies ∷ p.opened) none (below MOST_BODIES (length p.bodies) v.0)))
 token_keeps n source inside CloseBrace l p m s short none e =
     subst (Now (suc n)) (sym (ok_is (record p { opened = drop 1 p.opened }) m e))
     (on n (record p { opened = drop 1 p.opened }) (left n p.names p.commands p.bodies p.texts p.parts p.opened s))
@@ -321,7 +324,7 @@ token_keeps n source inside (Integer value) l p m s short none e =
     (on n (with_token inside (Int value) l.place p) (token_put n p.names p.commands p.bodies p.texts p.parts p.opened s inside (Int value) l.place tt))
 token_keeps n source inside Text l p m s short none e =
     let text : List ℕ = unmarked l.text in
-    let small : length text ≤ 4194304 = omega (arith, length-take (length l.text - 2) (drop 1 l.text), length-drop 1 l.text) in
+    let small : length text ≤ STYLE_BYTES = omega (arith, length-take (length l.text - 2) (drop 1 l.text), length-drop 1 l.text) in
     subst (Now (suc n)) (sym (ok_is (with_text inside l p) m e))
     (on n (with_text inside l p)
     (token_put n p.names p.commands p.bodies (p.texts ++ text ∷ []) p.parts p.opened
@@ -339,17 +342,17 @@ token_keeps n source inside Name l p m s short none e =
     (token_put n p.names p.commands p.bodies p.texts p.parts p.opened s inside (Call (a.0)) l.place (used_within source l l.text p a.0 a.1)))
 
 outside_keeps : (n : ℕ) (parts : List Part) (l : Seen) (p m : Progress) → p.parts ≡ parts → p.opened ≡ [] → Now n p
-    → length l.text ≤ 4194304 → take_outside parts l p ≡ Ok m → Now (suc n) m
+    → length l.text ≤ STYLE_BYTES → take_outside parts l p ≡ Ok m → Now (suc n) m
 outside_keeps n [] l p m is idle s short e = word_keeps n l.shape l.place l.text p m s is idle e
 outside_keeps n (part ∷ rest) l p m is idle s short e = part_keeps n part rest l.shape l.place l.text p m s short is idle e
 
 within_keeps : (n : ℕ) (opened : List BodyId) (source : List ℕ) (l : Seen) (p m : Progress) → p.opened ≡ opened → Now n p
-    → length l.text ≤ 4194304 → take_within (innermost opened) source l p ≡ Ok m → Now (suc n) m
+    → length l.text ≤ STYLE_BYTES → take_within (innermost opened) source l p ≡ Ok m → Now (suc n) m
 within_keeps n [] source l p m is s short e = outside_keeps n p.parts l p m refl is s short e
 within_keeps n (inside ∷ outer) source l p m is s short e =
     token_keeps n source inside l.shape l p m s short (subst (λ (o : List BodyId). IsBusy o p.parts) is s.busy) e
 
 -- a lexeme keeps what holds
-pub lexeme_keeps : (n : ℕ) (source : List ℕ) (l : Seen) (p m : Progress) → Now n p → length l.text ≤ 4194304
+pub lexeme_keeps : (n : ℕ) (source : List ℕ) (l : Seen) (p m : Progress) → Now n p → length l.text ≤ STYLE_BYTES
     → take_lexeme source l p ≡ Ok m → Now (suc n) m
 lexeme_keeps n source l p m s short e = within_keeps n p.opened source l p m refl s short e

@@ -12,6 +12,7 @@ use Rattle.name_table.specs.Sound.{Each, AreApart, IsKindSound, IsSound}
 use Rattle.bst_lex.specs.declared.lexeme.LexFault.{LexFault}
 use Rattle.bst_lex.specs.Lexemes.{Seen, lexed}
 use Rattle.bv_base.specs.Places.{first_place}
+use Rattle.bv_base.specs.declared.limits.TheConstants.{STYLE_BYTES}
 use Rattle.bst_parse.specs.declared.fault.StyleFault.{StyleFault}
 use Rattle.bst_parse.specs.declared.grammar.Part.{Part}
 use Rattle.bst_parse.specs.Progress.{Progress}
@@ -91,7 +92,7 @@ pub none_left : {X : Type 0} (xs : List X) → nat_eq (length xs) 0 ≡ true →
 none_left [] e = refl
 none_left (x ∷ xs) e = let z : suc (length xs) ≡ 0 = eqb-true (suc (length xs)) 0 e in absurd (omega (arith, z))
 
-now_sound : (n : ℕ) (p : Progress) → n ≤ 4194304 → p.parts ≡ [] → Now n p
+now_sound : (n : ℕ) (p : Progress) → n ≤ STYLE_BYTES → p.parts ≡ [] → Now n p
     → IsSound (record { names = p.names; commands = p.commands; bodies = p.bodies; texts = p.texts; macros = p.macros })
 now_sound n p small none s =
     record {
@@ -111,7 +112,7 @@ now_sound n p small none s =
       short_texts = s.texts;
     }
 
-ended_sound : (source : List ℕ) (fault : Option LexFault) (n : ℕ) (p : Progress) (style : Style) → n ≤ 4194304 → Now n p
+ended_sound : (source : List ℕ) (fault : Option LexFault) (n : ℕ) (p : Progress) (style : Style) → n ≤ STYLE_BYTES → Now n p
     → ended source fault p ≡ Ok style → IsSound style
 ended_sound source (Some fault) n p style small s e = absurd (cc)
 ended_sound source None n p style small s e =
@@ -121,14 +122,14 @@ ended_sound source None n p style small s e =
     (now_sound n p small (none_left p.parts (and_parts (nat_eq (length p.parts) 0) (nat_eq (length p.opened) 0) w.0).0) s)
 
 reading_sound : (source : List ℕ) (lexemes : List Seen) (fault : Option LexFault) (n : ℕ) (p : Progress) (style : Style)
-    → Each (λ l. length l.text ≤ 4194304) lexemes → n + length lexemes ≤ 4194304 → Now n p
+    → Each (λ l. length l.text ≤ STYLE_BYTES) lexemes → n + length lexemes ≤ STYLE_BYTES → Now n p
     → reading source lexemes fault p ≡ Ok style → IsSound style
 reading_sound source [] fault n p style short few s e = ended_sound source fault n p style (omega (arith, few)) s e
 reading_sound source (l ∷ rest) fault n p style short few s e =
     let a = then_ok (take_lexeme source l p) (reading source rest fault) style e in
     reading_sound source rest fault (suc n) a.0 style short.1 (omega (arith, few)) (lexeme_keeps n source l p a.0 s short.0 a.1) a.2
 
-pub sound_style : (source : List ℕ) (r : Result Style StyleFault) → length source ≤ 4194304
+pub sound_style : (source : List ℕ) (r : Result Style StyleFault) → length source ≤ STYLE_BYTES
     → IfOk r (λ style. style_of source ≡ Ok style) → IfOk r IsSound
 sound_style source (Err fault) small h = tt
 sound_style source (Ok style) small h =

@@ -18,6 +18,8 @@ use Rattle.bst_parse.specs.Bodies.{next_body, function_begun}
 use Rattle.bst_parse.specs.Commands.{call_of}
 use Rattle.bst_parse.specs.Names.{lowered, is_definable, has_macro}
 use Rattle.bv_base.specs.Answers.{then_do}
+use Rattle.name_table.specs.declared.style.TheConstants.{MOST_BODIES}
+use Rattle.name_table.specs.declared.names.TheConstants.{MOST_NAMES}
 use Rattle.bst_parse.specs.Progress.{Progress}
 
 -- `{`
@@ -39,7 +41,7 @@ definable _ place text = Err (Expected place Name)
 abbrev pub defined : List ℕ → Kind → Place → List (List ℕ × Kind) → Result (List (List ℕ × Kind)) StyleFault
 defined name kind place names =
     if is_some (id_of name names) then Err (AlreadyDefined place)
-    else if nat_le 65536 (length names) then Err (TooMany place)
+    else if nat_le MOST_NAMES (length names) then Err (TooMany place)
     else Ok (names ++ (name, kind) ∷ [])
 
 -- a name that is defined as this kind
@@ -99,7 +101,7 @@ take_macro_text _ place text p = Err (Expected place Text)
 -- the opening brace of a function's body
 abbrev pub take_body : Shape → Place → Progress → Result Progress StyleFault
 take_body OpenBrace place p =
-    if nat_le 65536 (length p.bodies) then Err (TooMany place)
+    if nat_le MOST_BODIES (length p.bodies) then Err (TooMany place)
     else Ok (record p { bodies = function_begun place p.bodies; opened = next_body p.bodies ∷ p.opened })
 take_body _ place p = Err (Expected place OpenBrace)
 

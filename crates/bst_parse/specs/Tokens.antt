@@ -1,5 +1,5 @@
 -- The tokens of a body (docs/LANGUAGE.md, "Commands").
-use Rattle.std.specs.Prelude.{ℕ, ◌+◌, Bool, false, nat_eq, nat_le, if◌then◌else◌, List, [], ◌∷◌, ◌++◌, length, drop, Option, None, Some, Result, Ok, Err}
+use Rattle.std.specs.Prelude.{ℕ, ◌+◌, Bool, false, nat_eq, nat_le, nat_lt, if◌then◌else◌, List, [], ◌∷◌, ◌++◌, length, drop, Option, None, Some, Result, Ok, Err}
 use Rattle.bv_base.specs.declared.place.Place.{Place}
 use Rattle.name_table.specs.declared.names.NameId.{NameId}
 use Rattle.name_table.specs.declared.style.BodyId.{BodyId}
@@ -17,6 +17,8 @@ use Rattle.bst_parse.specs.Bodies.{next_body, token_added, block_begun}
 use Rattle.bst_parse.specs.Names.{lowered}
 use Rattle.bst_parse.specs.Parts.{unmarked}
 use Rattle.bv_base.specs.Answers.{then_do}
+use Rattle.bst_parse.specs.declared.tokens.TheConstants.{DEEPEST}
+use Rattle.name_table.specs.declared.style.TheConstants.{MOST_BODIES}
 use Rattle.bst_parse.specs.Progress.{Progress}
 
 -- `{` stands first
@@ -55,8 +57,8 @@ with_text inside lexeme p =
 -- a block in a body: the outermost blocks have depth 1, and the deepest that may be have depth 256
 abbrev pub begin_block : BodyId → Place → Progress → Result Progress StyleFault
 begin_block inside place p =
-    if nat_le 257 (length p.opened) then Err (TooDeep place)
-    else if nat_le 65536 (length p.bodies) then Err (TooMany place)
+    if nat_lt DEEPEST (length p.opened) then Err (TooDeep place)
+    else if nat_le MOST_BODIES (length p.bodies) then Err (TooMany place)
     else Ok (record p {
       bodies = block_begun inside place p.bodies;
       opened = next_body p.bodies ∷ p.opened;

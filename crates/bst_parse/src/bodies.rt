@@ -6,12 +6,9 @@ ghost use Rattle.bst_parse.specs.Bodies as bodies;
 use bv_base::memory::NoMemory;
 use bv_base::place::Place;
 use bv_base::seq::Seq;
-use name_table::style::{Body, BodyId, Token, TokenAt};
+use name_table::style::{Body, BodyId, MOST_BODIES, Token, TokenAt};
 use std::alloc::Global;
 use std::marker::Model;
-
-/// The most bodies that a style has.
-pub(crate) const MOST_BODIES: u32 = 65536;
 
 /// The bodies so far, in the order of their opening braces. Contracts see their list.
 #[derive(Drop)]
@@ -24,13 +21,14 @@ pub(crate) struct Bodies {
 impl Model for Bodies {
     ghost use Rattle.std.specs.Prelude.{◌≡◌, ◌≤◌, List, length};
     ghost use Rattle.name_table.specs.declared.style.Body.{Body};
+    ghost use Rattle.name_table.specs.declared.style.TheConstants.{MOST_BODIES};
     ghost use Rattle.bst_parse.specs.Bodies.{block_count};
 
     ghost Value = { List Body };
 
     ghost view = { λ b. b.list.items };
 
-    ghost invariant = { λ b. (b.blocks ≡ block_count b.list.items) × (length b.list.items ≤ 65536) };
+    ghost invariant = { λ b. (b.blocks ≡ block_count b.list.items) × (length b.list.items ≤ MOST_BODIES) };
 }
 
 impl Bodies {
@@ -48,14 +46,14 @@ impl Bodies {
     /// The id of the body that begins next.
     pub(crate) fn next(&self) -> BodyId
         ensures next { result ≡ bodies.next_body self.now }
-        ensures within { length self.now ≤ 65536 }
+        ensures within { length self.now ≤ MOST_BODIES }
     {
         BodyId(self.list.len() as u32)
     }
 
     /// Begins the body of a function.
     pub(crate) fn begin_function(&mut self, place: Place) -> Result<(), NoMemory>
-        requires { length self.old < 65536 }
+        requires { length self.old < MOST_BODIES }
         ensures { OnOk result (self.new ≡ bodies.function_begun place self.old) }
     {
         self.list.push(Body {
@@ -68,7 +66,7 @@ impl Bodies {
 
     /// Begins a block in a body.
     pub(crate) fn begin_block(&mut self, inside: BodyId, place: Place) -> Result<(), NoMemory>
-        requires { length self.old < 65536 }
+        requires { length self.old < MOST_BODIES }
         ensures { OnOk result (self.new ≡ bodies.block_begun inside place self.old) }
     {
         let block = Some(self.blocks);

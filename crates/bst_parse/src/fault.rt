@@ -52,10 +52,10 @@ pub enum StyleFault {
     /// The lexemes end within a command. It stands at the text's end.
     #[error("the text ends within a command at {0:?}")]
     EndOfFile(Place),
-    /// A block is nested deeper than 256 blocks. It stands at its opening brace.
+    /// A block is nested deeper than blocks may be. It stands at its opening brace.
     #[error("blocks nest too deep at {0:?}")]
     TooDeep(Place),
-    /// There are 65536 names, or as many bodies. It stands at the name or the opening brace that is too much.
+    /// There are as many names or bodies as a style may have. It stands at the name or the opening brace that is too much.
     #[error("too many names or bodies at {0:?}")]
     TooMany(Place),
     /// Want of memory.

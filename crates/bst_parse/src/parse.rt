@@ -8,14 +8,15 @@ ghost use Rattle.bst_parse.specs.Reading.{style_of};
 use crate::fault::StyleFault;
 use crate::parser::Parser;
 use bst_lex::lexer::Lexer;
+use bv_base::limits::STYLE_BYTES;
 use name_table::style::Style;
 use std::alloc::Global;
 
-/// Reads a style of at most 4194304 bytes, or gives the first fault of the bytes.
+/// Reads a style of at most [`STYLE_BYTES`] bytes, or gives the first fault of the bytes.
 ///
 /// Each byte is read a fixed number of times, and each name is looked up in a hash table.
 pub fn parse(alloc: Global, source: &[u8]) -> Result<Style, StyleFault>
-    requires { length source.now ≤ 4194304 }
+    requires { length source.now ≤ STYLE_BYTES }
     ensures ok { IfOk result (λ style. style_of source.now ≡ Ok style) }
     ensures fault { IfErr result (Refuses StyleFault.NoMemory (style_of source.now)) }
     ensures sound { IfOk result IsSound }
@@ -25,7 +26,7 @@ pub fn parse(alloc: Global, source: &[u8]) -> Result<Style, StyleFault>
 
 /// Takes the lexemes of a source one after the other.
 fn read(alloc: Global, source: &[u8]) -> Result<Style, StyleFault>
-    requires { length source.now ≤ 4194304 }
+    requires { length source.now ≤ STYLE_BYTES }
     ensures ok { IfOk result (λ style. style_of source.now ≡ Ok style) }
     ensures fault { IfErr result (Refuses StyleFault.NoMemory (style_of source.now)) }
 {

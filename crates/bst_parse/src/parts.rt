@@ -8,7 +8,6 @@ ghost use Rattle.bst_parse.specs.Parts as parts;
 ghost use Rattle.bv_base.specs.Answers.{Leaves};
 ghost use Rattle.bst_parse.specs.Progressing.{progress_of};
 
-use crate::bodies::MOST_BODIES;
 use crate::fault::StyleFault;
 use crate::grammar::{Caller, Part, call_of};
 use crate::parser::{Parser, lower_into};
@@ -17,7 +16,7 @@ use bv_base::bytes::is_name_byte;
 use bv_base::place::Place;
 use bv_base::text::Text;
 use name_table::names::{DefineFault, Kind, NameId, Names};
-use name_table::style::{Command, CommandAt};
+use name_table::style::{Command, CommandAt, MOST_BODIES};
 
 impl Parser {
     /// Takes a lexeme of a part, after which the rest of the command's parts are to come.

@@ -6,7 +6,6 @@ ghost use Rattle.bv_base.specs.Answers.{Gives, Leaves};
 ghost use Rattle.bst_parse.specs.Progressing.{progress_of};
 ghost use Rattle.bst_parse.specs.Tokens as tokens;
 
-use crate::bodies::MOST_BODIES;
 use crate::fault::StyleFault;
 use crate::parser::{Parser, lower_into};
 use crate::parts::unmarked;
@@ -15,10 +14,10 @@ use bv_base::memory::NoMemory;
 use bv_base::place::Place;
 use bv_base::text::Text;
 use name_table::names::NameId;
-use name_table::style::{BodyId, TextId, Token, TokenAt};
+use name_table::style::{BodyId, MOST_BODIES, TextId, Token, TokenAt};
 
 /// The most blocks that nest within each other.
-const DEEPEST: usize = 256;
+pub(crate) const DEEPEST: usize = 256;
 
 impl Parser {
     /// Takes a lexeme in a body.

@@ -1,6 +1,8 @@
 -- What holds of every style that has been read (docs/LANGUAGE.md, "What is read").
 use Rattle.std.specs.Prelude.{◌≡◌, ℕ, suc, ◌<◌, ◌≤◌, Bool, true, false, List, [], ◌∷◌, ◌++◌, length, map, Option, None, Some, slice_get}
 use Rattle.std.specs.Option.{option_map}
+use Rattle.bv_base.specs.declared.limits.TheConstants.{STYLE_BYTES}
+use Rattle.name_table.specs.declared.names.TheConstants.{MOST_NAMES}
 use Rattle.name_table.specs.declared.names.Kind.{Kind}
 use Rattle.name_table.specs.declared.names.Kind.TheVariants.{Builtin, Wizard}
 use Rattle.name_table.specs.declared.style.Body.{Body}
@@ -8,6 +10,7 @@ use Rattle.name_table.specs.declared.style.BodyId.{BodyId}
 use Rattle.name_table.specs.declared.style.Command.{Command}
 use Rattle.name_table.specs.declared.style.Command.TheVariants.{Execute, Function, Iterate, Reverse}
 use Rattle.name_table.specs.declared.style.Style.{Style}
+use Rattle.name_table.specs.declared.style.TheConstants.{MOST_BODIES}
 use Rattle.name_table.specs.declared.style.Token.{Token}
 use Rattle.name_table.specs.declared.style.Token.TheVariants.{Int, Str, Quote, Block, Call}
 use Rattle.name_table.specs.Names.{same_name, kind_at, lowered, is_definable}
@@ -18,11 +21,11 @@ abbrev pub Each : {X : Type 0} → (X → Type 0) → List X → Type 0
 Each P [] = Unit {0}
 Each P (x ∷ xs) = P x × Each P xs
 
--- a declared name has name bytes alone, doesn't begin with a digit, is lowered, and has at most 4194304 bytes
+-- a declared name has name bytes alone, doesn't begin with a digit, is lowered, and is no longer than a style
 pub record IsDeclared (name : List ℕ) : Type 0 where
   pub definable : is_definable name ≡ true
   pub lower : lowered name ≡ name
-  pub short : length name ≤ 4194304
+  pub short : length name ≤ STYLE_BYTES
 
 -- no two of the names are equal
 abbrev pub AreApart : List (List ℕ × Kind) → Type 0
@@ -76,7 +79,7 @@ pub record IsSound (style : Style) : Type 0 where
   pub tokens : Each (λ body. Each (λ at. IsTokenSound style.names style.bodies style.texts at.token) body.tokens) style.bodies
   pub commands : Each (λ at. IsCommandSound style.names at.command) style.commands
   pub numbered : AreNumbered 0 (map (λ body. body.block) style.bodies)
-  pub few_names : length style.names ≤ 65536
-  pub few_bodies : length style.bodies ≤ 65536
-  pub few_commands : length style.commands ≤ 4194304
-  pub short_texts : Each (λ text. length text ≤ 4194304) style.texts
+  pub few_names : length style.names ≤ MOST_NAMES
+  pub few_bodies : length style.bodies ≤ MOST_BODIES
+  pub few_commands : length style.commands ≤ STYLE_BYTES
+  pub short_texts : Each (λ text. length text ≤ STYLE_BYTES) style.texts

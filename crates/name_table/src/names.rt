@@ -43,7 +43,7 @@ pub enum DefineFault {
     /// The name is there already, with this id.
     #[error("the name is there already")]
     AlreadyDefined(NameId),
-    /// There are 65536 names.
+    /// There are [`MOST_NAMES`] names.
     #[error("too many names")]
     TooMany,
     /// Want of memory, where neither of the others holds.
@@ -64,12 +64,13 @@ pub struct Names {
 impl Model for Names {
     ghost use Rattle.std.specs.Prelude.{List, ℕ, ◌≤◌, length, map};
     ghost use Rattle.name_table.specs.declared.names.Kind.{Kind};
+    ghost use Rattle.name_table.specs.declared.names.TheConstants.{MOST_NAMES};
 
     ghost Value = { List (List ℕ × Kind) };
 
     ghost view = { λ n. map (λ e. (e.0.items, e.1)) n.table.entries };
 
-    ghost invariant = { λ n. length n.table.entries ≤ 65536 };
+    ghost invariant = { λ n. length n.table.entries ≤ MOST_NAMES };
 }
 
 impl Names {
@@ -126,7 +127,7 @@ impl Names {
         ensures defined { IfOk result (λ id. (id_of name.now self.old ≡ None)
             × (id ≡ record { 0 = length self.old })
             × (self.new ≡ self.old ++ (name.now, kind) ∷ [])) }
-        ensures within { length self.new ≤ 65536 }
+        ensures within { length self.new ≤ MOST_NAMES }
         ensures fault { IfErr result (λ fault. IsCause name.now self.old fault × (self.new ≡ self.old)) }
     {
         if let Some(id) = self.find(name) {

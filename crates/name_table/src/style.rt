@@ -12,6 +12,9 @@ use bv_base::text::Text;
 #[derive(Clone, Copy, Debug, PartialEq, Eq)]
 pub struct BodyId(pub u32);
 
+/// The most bodies that a style has.
+pub const MOST_BODIES: u32 = 65536;
+
 /// A text of a body, as its number in `Style::texts`.
 #[derive(Clone, Copy, Debug, PartialEq, Eq)]
 pub struct TextId(pub u32);

@@ -1,40 +1,77 @@
+//! Names and types of entries, worked out by hand.
+
 use crate::builtin::Builtin;
 use crate::names::{DefineFault, Kind, NameId, Names};
+use crate::opening::{CROSSREF, ENTRY_MAX, GLOBAL_MAX, SKIP, SORT_KEY};
 use crate::style::{BodyId, Command, CommandAt, Style, TypeTarget};
 use bv_base::memory::NoMemory;
 use bv_base::place::Place;
 use bv_base::seq::Seq;
 use std::alloc::Global;
+use std::process::Abort;
 use std::test::Fail;
 
-#[test]
-fn opening_names_and_definitions(rt: HostRuntime) -> Result<(), Fail> {
-    let mut names = Names::opening(rt.alloc())?;
-    let rows: [(&[u8], u32, Kind); 12] = [
-        (b"=", 0, Kind::Builtin(Builtin::Equal)),
-        (b"*", 5, Kind::Builtin(Builtin::Join)),
-        (b":=", 6, Kind::Builtin(Builtin::Assign)),
-        (b"call.type$", 8, Kind::Builtin(Builtin::CallType)),
-        (b"if$", 15, Kind::Builtin(Builtin::IfElse)),
-        (b"skip$", 25, Kind::Builtin(Builtin::Skip)),
-        (b"while$", 34, Kind::Builtin(Builtin::WhileDo)),
-        (b"write$", 36, Kind::Builtin(Builtin::Write)),
-        (b"crossref", 37, Kind::Field),
-        (b"sort.key$", 38, Kind::StrEntry),
-        (b"entry.max$", 39, Kind::IntGlobal),
-        (b"global.max$", 40, Kind::IntGlobal),
-    ];
-    assert_eq!(rt; names.len(), 41);
-    for (text, id, kind) in rows {
-        let found = names.find(text);
-        assert_eq!(rt; found, Some(NameId(id)));
-        if let Some(found) = found {
-            assert_eq!(rt; names.kind(found), kind);
-            assert_eq!(rt; names.text(found), text);
+/// A name of every style.
+#[derive(Clone, Copy)]
+struct Opening {
+    name: &'static [u8],
+    id: NameId,
+    kind: Kind,
+}
+
+macro_rules! opening {
+    ($name:literal $id:expr => $kind:expr) => {
+        Opening {
+            name: $name,
+            id: $id,
+            kind: $kind,
         }
-    }
+    };
+}
+
+static OPENING: [Opening; 12] = [
+    opening!(b"=" NameId(0) => Kind::Builtin(Builtin::Equal)),
+    opening!(b"*" NameId(5) => Kind::Builtin(Builtin::Join)),
+    opening!(b":=" NameId(6) => Kind::Builtin(Builtin::Assign)),
+    opening!(b"call.type$" NameId(8) => Kind::Builtin(Builtin::CallType)),
+    opening!(b"if$" NameId(15) => Kind::Builtin(Builtin::IfElse)),
+    opening!(b"skip$" NameId(25) => Kind::Builtin(Builtin::Skip)),
+    opening!(b"while$" NameId(34) => Kind::Builtin(Builtin::WhileDo)),
+    opening!(b"write$" NameId(36) => Kind::Builtin(Builtin::Write)),
+    opening!(b"crossref" NameId(37) => Kind::Field),
+    opening!(b"sort.key$" NameId(38) => Kind::StrEntry),
+    opening!(b"entry.max$" NameId(39) => Kind::IntGlobal),
+    opening!(b"global.max$" NameId(40) => Kind::IntGlobal),
+];
+
+#[test]
+fn opening_names(rt: HostRuntime) -> Result<(), Fail> {
+    let names = Names::opening(rt.alloc())?;
+    assert_eq!(rt; names.len(), 41);
+    have_names(&rt, &names, &OPENING);
     assert_eq!(rt; names.find(b"title"), None);
     assert_eq!(rt; names.find(b"Skip$"), None);
+    assert_eq!(rt; names.find(b"crossref"), Some(CROSSREF));
+    assert_eq!(rt; names.find(b"sort.key$"), Some(SORT_KEY));
+    assert_eq!(rt; names.find(b"entry.max$"), Some(ENTRY_MAX));
+    assert_eq!(rt; names.find(b"global.max$"), Some(GLOBAL_MAX));
+    Ok(())
+}
+
+fn have_names(rt: &impl Abort, names: &Names, rows: &[Opening]) {
+    for row in rows {
+        let Some(found) = names.find(row.name) else {
+            panic!(rt; "a name is missing");
+        };
+        assert_eq!(rt; found, row.id);
+        assert_eq!(rt; names.kind(found), row.kind);
+        assert_eq!(rt; names.text(found), row.name);
+    }
+}
+
+#[test]
+fn definitions(rt: HostRuntime) -> Result<(), Fail> {
+    let mut names = Names::opening(rt.alloc())?;
     assert_eq!(rt; names.define(b"title", Kind::Field), Ok(NameId(41)));
     assert_eq!(rt; names.define(b"f", Kind::Wizard(BodyId(0))), Ok(NameId(42)));
     assert_eq!(rt;
@@ -43,82 +80,65 @@ fn opening_names_and_definitions(rt: HostRuntime) -> Result<(), Fail> {
     );
     assert_eq!(rt;
         names.define(b"skip$", Kind::Field),
-        Err(DefineFault::AlreadyDefined(NameId(25)))
+        Err(DefineFault::AlreadyDefined(SKIP))
     );
     assert_eq!(rt; names.find(b"f"), Some(NameId(42)));
     assert_eq!(rt; names.len(), 43);
     Ok(())
 }
 
+/// What a type of entries enters after these commands.
+#[derive(Clone, Copy)]
+struct Typed {
+    commands: &'static [Command],
+    entry_type: &'static [u8],
+    target: TypeTarget,
+}
+
+macro_rules! typed {
+    ($commands:expr, $entry_type:literal => $target:expr) => {
+        Typed {
+            commands: &$commands,
+            entry_type: $entry_type,
+            target: $target,
+        }
+    };
+}
+
+const ARTICLE: NameId = NameId(41);
+
+const DEFAULT: NameId = NameId(42);
+
+const DEFINES_ARTICLE: Command = Command::Function(ARTICLE);
+
+const DEFINES_DEFAULT: Command = Command::Function(DEFAULT);
+
+static TYPED: [Typed; 7] = [
+    typed!([DEFINES_ARTICLE, Command::Read], b"article" => TypeTarget::Function(ARTICLE)),
+    typed!([Command::Read, DEFINES_ARTICLE], b"article" => TypeTarget::Skip),
+    typed!([DEFINES_ARTICLE], b"article" => TypeTarget::Skip),
+    typed!([DEFINES_DEFAULT, Command::Read], b"article" => TypeTarget::Default(DEFAULT)),
+    typed!([DEFINES_DEFAULT, Command::Read], b"book" => TypeTarget::Default(DEFAULT)),
+    typed!([DEFINES_DEFAULT, Command::Read, DEFINES_ARTICLE], b"article" => TypeTarget::Default(DEFAULT)),
+    typed!([DEFINES_DEFAULT, DEFINES_ARTICLE, Command::Read], b"title" => TypeTarget::Default(DEFAULT)),
+];
+
 #[test]
 fn types_before_and_after_read(rt: HostRuntime) -> Result<(), Fail> {
-    let article = NameId(41);
-    let default = NameId(42);
-    let rows: [(&[Command], &[u8], TypeTarget); 7] = [
-        (
-            &[Command::Function(article), Command::Read],
-            b"article",
-            TypeTarget::Function(article),
-        ),
-        (
-            &[Command::Read, Command::Function(article)],
-            b"article",
-            TypeTarget::Skip,
-        ),
-        (&[Command::Function(article)], b"article", TypeTarget::Skip),
-        (
-            &[Command::Function(default), Command::Read],
-            b"article",
-            TypeTarget::Default(default),
-        ),
-        (
-            &[Command::Function(default), Command::Read],
-            b"book",
-            TypeTarget::Default(default),
-        ),
-        (
-            &[
-                Command::Function(default),
-                Command::Read,
-                Command::Function(article),
-            ],
-            b"article",
-            TypeTarget::Default(default),
-        ),
-        (
-            &[
-                Command::Function(default),
-                Command::Function(article),
-                Command::Read,
-            ],
-            b"title",
-            TypeTarget::Default(default),
-        ),
-    ];
-    for (commands, entry_type, want) in rows {
-        let mut names = Names::opening(rt.alloc())?;
-        assert_eq!(rt;
-            names.define(b"article", Kind::Wizard(BodyId(0))),
-            Ok(article)
-        );
-        assert_eq!(rt;
-            names.define(b"default.type", Kind::Wizard(BodyId(1))),
-            Ok(default)
-        );
-        let style = Style {
-            names,
-            commands: commands_of(rt.alloc(), commands)?,
-            bodies: Seq::new(rt.alloc()),
-            texts: Seq::new(rt.alloc()),
-            macros: Seq::new(rt.alloc()),
-        };
-        assert_eq!(rt; style.type_target(entry_type), want);
+    for row in &TYPED {
+        let style = style_of(rt.alloc(), row.commands)?;
+        assert_eq!(rt; style.names.find(b"article"), Some(ARTICLE));
+        assert_eq!(rt; style.names.find(b"default.type"), Some(DEFAULT));
+        assert_eq!(rt; style.type_target(row.entry_type), row.target);
     }
     Ok(())
 }
 
-/// The commands, all at one place.
-fn commands_of(alloc: Global, commands: &[Command]) -> Result<Seq<CommandAt>, NoMemory> {
+/// A style with two functions and these commands, all at one place.
+fn style_of(alloc: Global, commands: &[Command]) -> Result<Style, NoMemory> {
+    let mut names = Names::opening(alloc)?;
+    let _article = names.define(b"article", Kind::Wizard(BodyId(0)));
+    let _default = names.define(b"default.type", Kind::Wizard(BodyId(1)));
     let mut list = Seq::new(alloc);
     for command in commands {
         list.push(CommandAt {
@@ -126,5 +146,11 @@ fn commands_of(alloc: Global, commands: &[Command]) -> Result<Seq<CommandAt>, No
             place: Place::START,
         })?;
     }
-    Ok(list)
+    Ok(Style {
+        names,
+        commands: list,
+        bodies: Seq::new(alloc),
+        texts: Seq::new(alloc),
+        macros: Seq::new(alloc),
+    })
 }

@@ -162,55 +162,71 @@ fn word_width(letters: &[u8]) -> u16
 #[cfg(test)]
 mod tests {
     use super::*;
+    use std::process::Abort;
+
+    /// Bytes, and the width of each.
+    #[derive(Clone, Copy)]
+    struct Printing {
+        bytes: &'static [u8],
+        widths: &'static [u128],
+    }
+
+    static PRINTING: [Printing; 8] = [
+        Printing {
+            bytes: b" !\"#$%&'()*+,-./",
+            widths: &[
+                278, 278, 500, 833, 500, 833, 778, 278, 389, 389, 500, 778, 278, 333, 278, 500,
+            ],
+        },
+        Printing {
+            bytes: b"0123456789",
+            widths: &[500, 500, 500, 500, 500, 500, 500, 500, 500, 500],
+        },
+        Printing {
+            bytes: b":;<=>?@",
+            widths: &[278, 278, 278, 778, 472, 472, 778],
+        },
+        Printing {
+            bytes: b"ABCDEFGHIJKLM",
+            widths: &[
+                750, 708, 722, 764, 681, 653, 785, 750, 361, 514, 778, 625, 917,
+            ],
+        },
+        Printing {
+            bytes: b"NOPQRSTUVWXYZ",
+            widths: &[
+                750, 778, 681, 778, 736, 556, 722, 750, 750, 1028, 750, 750, 611,
+            ],
+        },
+        Printing {
+            bytes: b"[\\]^_`{|}~",
+            widths: &[278, 500, 278, 500, 278, 278, 500, 1000, 500, 500],
+        },
+        Printing {
+            bytes: b"abcdefghijklm",
+            widths: &[
+                500, 556, 444, 556, 444, 306, 500, 556, 278, 306, 528, 278, 833,
+            ],
+        },
+        Printing {
+            bytes: b"nopqrstuvwxyz",
+            widths: &[
+                556, 500, 556, 528, 392, 394, 389, 556, 528, 722, 528, 528, 444,
+            ],
+        },
+    ];
 
     #[test]
     fn each_printing_byte_has_its_width(rt: HostRuntime) {
-        let rows: [(&[u8], &[u128]); 8] = [
-            (
-                b" !\"#$%&'()*+,-./",
-                &[
-                    278, 278, 500, 833, 500, 833, 778, 278, 389, 389, 500, 778, 278, 333, 278, 500,
-                ],
-            ),
-            (
-                b"0123456789",
-                &[500, 500, 500, 500, 500, 500, 500, 500, 500, 500],
-            ),
-            (b":;<=>?@", &[278, 278, 278, 778, 472, 472, 778]),
-            (
-                b"ABCDEFGHIJKLM",
-                &[
-                    750, 708, 722, 764, 681, 653, 785, 750, 361, 514, 778, 625, 917,
-                ],
-            ),
-            (
-                b"NOPQRSTUVWXYZ",
-                &[
-                    750, 778, 681, 778, 736, 556, 722, 750, 750, 1028, 750, 750, 611,
-                ],
-            ),
-            (
-                b"[\\]^_`{|}~",
-                &[278, 500, 278, 500, 278, 278, 500, 1000, 500, 500],
-            ),
-            (
-                b"abcdefghijklm",
-                &[
-                    500, 556, 444, 556, 444, 306, 500, 556, 278, 306, 528, 278, 833,
-                ],
-            ),
-            (
-                b"nopqrstuvwxyz",
-                &[
-                    556, 500, 556, 528, 392, 394, 389, 556, 528, 722, 528, 528, 444,
-                ],
-            ),
-        ];
-        for (bytes, wanted) in rows {
-            assert_eq!(rt; bytes.len(), wanted.len());
-            for (b, w) in bytes.iter().zip(wanted) {
-                assert_eq!(rt; width(&[*b]), *w, "{b}");
-            }
+        for row in &PRINTING {
+            have_widths(&rt, row.bytes, row.widths);
+        }
+    }
+
+    fn have_widths(rt: &impl Abort, bytes: &[u8], widths: &[u128]) {
+        assert_eq!(rt; bytes.len(), widths.len());
+        for (b, wanted) in bytes.iter().zip(widths) {
+            assert_eq!(rt; width(&[*b]), *wanted, "{b}");
         }
     }
 

@@ -1,4 +1,5 @@
 use Rattle.std.proofs.Common.{◌<◌, ap, sym, ◌∙◌, length, arith}
+use Rattle.name_table.specs.declared.style.TheConstants.{MOST_BODIES}
 use Rattle.bst_parse.proofs.Counted.{one_more, block_count-le}
 use Rattle.bst_parse.proofs.bodies.Bodies.begin_block.Goals as goal
 
@@ -7,5 +8,5 @@ overflow_add-self c = omega (arith, c.self.invariant.0, c.self.invariant.1, bloc
 
 pub invariant_of-self-2 : goal.invariant_of-self-2
 invariant_of-self-2 c =
-    let short : length c.push_token.new.list.items < 65536 = omega (arith, ap (λ l. length l) c.self.view_is, c.push_token.ensures.length) in
+    let short : length c.push_token.new.list.items < MOST_BODIES = omega (arith, ap (λ l. length l) c.self.view_is, c.push_token.ensures.length) in
     one_more c.self.inside.blocks c.push_token.new.list.items c.push.new.self.items _ (c.self.invariant.0 ∙ sym c.push_token.ensures.blocks) short c.in_ok-push.ensures.items
