@@ -19,5 +19,5 @@ def rows():
 
 
 def rows_of(name):
-    """The rows of a name, in whatever case."""
-    return [it for it in rows() if it.name.lower() == name.lower()]
+    """The rows of a name, in whatever case; a hyphen may stand for a blank."""
+    return [it for it in rows() if it.name.lower() == name.lower().replace("-", " ")]
