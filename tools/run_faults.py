@@ -118,7 +118,12 @@ def wrong_kind(block, stood):
     block.taken_as = dict(enumerate(OPERANDS.get(stood.function, ())[:at]))
     as_kind = "integer" if "string" in kind and "integer" in kinds_of(value) else None
     block.taken_as[at] = as_kind
-    block.sentence = f"{function_name(stood)} takes {kind}, and {WHERE[at]} is {said(value, as_kind, True)}"
+    takes = f"{function_name(stood)} takes {kind}"
+    if stood.function == b"=":
+        takes = "`=` takes two integers or two strings"
+    elif stood.function == b":=" and at == 1:
+        takes = f"`:=` assigns {kind} to `{text(stood.values[0][len(b'function '):])}`"
+    block.sentence = f"{takes}, and {WHERE[at]} is {said(value, as_kind, True)}"
     if value.startswith(b"missing "):
         field = text(value[len(b"missing "):])
         block.short = f"'{field}' is a missing field, not {kind}"

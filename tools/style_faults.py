@@ -1,5 +1,7 @@
 """What `explain` shows of a fault of a style: the place, and what it answers to."""
-from styles import PARTS, text
+import difflib
+
+from styles import BUILT_IN, PARTS, text
 
 
 def shown(lexeme):
@@ -54,6 +56,11 @@ def unknown_name(block, style, offset, lexeme, before, command):
         block.mark(style, offset, len(lexeme.text), "^")
         block.mark(style, later[0].lexeme.start, len(later[0].lexeme.text), "-", "it is defined here, below")
         block.note("help", "move that %s up, above line %d" % ("FUNCTION" if later[0].kind == "function" else "command", style.line(command.word.start)))
+        return
+    known = [text(it) for it in BUILT_IN] + [text(it) for it, at in style.declared().items() if at[0].lexeme.start < offset]
+    near = difflib.get_close_matches(text(name), known, 1, 0.8)
+    if near:
+        block.note("help", f"declare it earlier, or write `{near[0]}` if that is meant")
 
 
 def unknown_command(block, style, offset, lexeme, before, command):
