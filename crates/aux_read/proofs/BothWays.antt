@@ -1,9 +1,10 @@
 -- What a text asks for is what the grammar has, both ways.
 use Rattle.std.proofs.Common.{◌≡◌, ℕ, ◌+◌, List, [], ◌∷◌, Option, None, Some, Ok, refl, sym, ap, ◌∙◌}
 use Rattle.std.specs.Option.{option_and_then}
+use Rattle.bv_base.specs.Answers.{then_do}
 use Rattle.aux_read.specs.declared.aux.Aux.{Aux}
 use Rattle.aux_read.specs.Grammar.{Line, Spells}
-use Rattle.aux_read.specs.Lines.{nothing, take_line, then_do}
+use Rattle.aux_read.specs.Lines.{nothing, take_line}
 use Rattle.aux_read.specs.Meaning.{AuxReads, and_line, and_lines, start_of}
 use Rattle.aux_read.specs.Reading.{aux_of, reading}
 use Rattle.aux_read.proofs.Lined.{Lined, as_lines, lines_are}

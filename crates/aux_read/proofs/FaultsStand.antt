@@ -8,14 +8,14 @@ use Rattle.bstr.specs.Text.{lines_of}
 use Rattle.bstr.proofs.lemmas.LineLemmas.{lines-nil}
 use Rattle.bv_base.specs.declared.place.Place.{Place}
 use Rattle.bv_base.specs.Places.{StandsIn, after_byte, after_bytes, first_place}
+use Rattle.bv_base.specs.Answers.{then_do}
 use Rattle.aux_read.specs.declared.aux.Aux.{Aux}
 use Rattle.aux_read.specs.declared.fault.AuxFault.{AuxFault}
 use Rattle.aux_read.specs.declared.fault.AuxFault.TheVariants.{BadCommand, NoMemory, SecondData, SecondStyle}
-use Rattle.aux_read.specs.FaultPlaces.{IsFaultOf}
-use Rattle.aux_read.specs.Faults.{place_of}
+use Rattle.aux_read.specs.Faults.{IsFaultOf, place_of}
 use Rattle.aux_read.specs.Grammar.{Ends, Without}
 use Rattle.aux_read.specs.Items.{after_front, file_name_of, inside_of, item_of, stretches}
-use Rattle.aux_read.specs.Lines.{add_citations, add_names, citation, file_name, file_names, nothing, take_line, then_do, with_databases, with_item, with_part, with_style}
+use Rattle.aux_read.specs.Lines.{add_citations, add_names, citation, file_name, file_names, nothing, take_line, with_databases, with_item, with_part, with_style}
 use Rattle.aux_read.specs.Reading.{aux_of, next_line, reading}
 use Rattle.aux_read.specs.Meaning.{start_of}
 use Rattle.aux_read.proofs.Lined.{Lined, as_lines, lines_are}

@@ -6,11 +6,13 @@ use Rattle.std.specs.Option.{option_and_then}
 use Rattle.std.proofs.Math.Seq.{drop-append_seam, take-append_seam}
 use Rattle.std.proofs.lemmas.Bool.{and_from, and_parts, eq-eqb, eqb-true, lt-ltb, ltb-true, ne_eqb, not-false, not-true, not_from_false, not_from_true}
 use Rattle.std.proofs.lemmas.List.{take-append-drop}
-use Rattle.bv_base.specs.Bytes.{is_white as white}
+use Rattle.bv_base.specs.Bytes.{is_white}
 use Rattle.bv_base.specs.Keys.{IsKey}
+use Rattle.bv_base.specs.Runs.{is_black, length_before}
+use Rattle.std.specs.Str.{is_utf8}
 use Rattle.aux_read.specs.FileNames.{IsFileName}
 use Rattle.aux_read.specs.Grammar.{Begins, Blank, IsItem, IsName, Without}
-use Rattle.aux_read.specs.Items.{after_front, begun_item, file_name_of, inside_of, is_black, is_blank, is_close, is_utf8, is_white, item_of, length_before}
+use Rattle.aux_read.specs.Items.{after_front, begun_item, file_name_of, inside_of, is_blank, is_close, item_of}
 use Rattle.aux_read.proofs.Cited.{begun_key, IsKeyOf}
 
 -- nothing follows, or a byte that passes the test
@@ -39,9 +41,9 @@ run_inside inside test other (b ∷ bytes) = by (test b) refl (run_inside inside
     by true is rest = refl
     by false is rest = and_from (inside b) (list_all inside (take (length_before test bytes) bytes)) (other b is) rest
 
-blank_is : (bytes : List ℕ) → is_blank bytes ≡ list_all white bytes
+blank_is : (bytes : List ℕ) → is_blank bytes ≡ list_all is_white bytes
 blank_is [] = refl
-blank_is (b ∷ bytes) = ap (λ t. white b && t) (blank_is bytes)
+blank_is (b ∷ bytes) = ap (λ t. is_white b && t) (blank_is bytes)
 
 -- an item that has no white space before it, as it is read
 begun_read : (bytes item : List ℕ) → begun_item bytes ≡ Some item
@@ -69,7 +71,7 @@ item_read text item is =
           sym (take-append-drop count text)
           ∙ ap (λ l. take count text ++ l) (sym (take-append-drop length begun))
           ∙ ap (λ l. take count text ++ (l ++ drop length begun)) (sym found.0);
-      blank_before = run_inside white is_black (λ b e. not-false (white b) e) text;
+      blank_before = run_inside is_white is_black (λ b e. not-false (is_white b) e) text;
       blank_after = found.1;
       solid = subst IsKeyOf is (begun_key begun);
     }
@@ -77,14 +79,14 @@ item_read text item is =
 -- white space ends an item
 blank_ends : (bytes : List ℕ) → Blank bytes → EndsBy is_white bytes
 blank_ends [] blank = tt
-blank_ends (b ∷ bytes) blank = (and_parts (white b) (list_all white bytes) blank).0
+blank_ends (b ∷ bytes) blank = (and_parts (is_white b) (list_all is_white bytes) blank).0
 
 -- an item begins with no white space
 item_ends : (item rest : List ℕ) → IsKey item → EndsBy is_black (item ++ rest)
 item_ends [] rest solid = absurd solid
-item_ends (b ∷ item) rest solid = (and_parts (not (white b)) (list_all (λ c. not (white c)) item) solid).0
+item_ends (b ∷ item) rest solid = (and_parts (not (is_white b)) (list_all (λ c. not (is_white c)) item) solid).0
 
-item_all : (item : List ℕ) → IsKey item → list_all (λ c. not (white c)) item ≡ true
+item_all : (item : List ℕ) → IsKey item → list_all (λ c. not (is_white c)) item ≡ true
 item_all [] solid = absurd solid
 item_all (b ∷ item) solid = solid
 
@@ -96,7 +98,7 @@ item_some (b ∷ item) solid =
 begun_taken : (item after : List ℕ) → IsKey item → Blank after → begun_item (item ++ after) ≡ Some item
 begun_taken item after solid blank =
     let run : length_before is_white (item ++ after) ≡ length item =
-    run_length (λ c. not (white c)) is_white (λ b e. not-true (white b) e) item after (item_all item solid) (blank_ends after blank) in
+    run_length (λ c. not (is_white c)) is_white (λ b e. not-true (is_white b) e) item after (item_all item solid) (blank_ends after blank) in
     ap
     (λ n. cond (not (nat_eq n 0) && is_blank (drop n (item ++ after))) (Some (take n (item ++ after))) None)
     run
@@ -110,7 +112,7 @@ pub item_taken : (text item : List ℕ) → IsItem item text → item_of text �
 item_taken text item is =
     let rest = item ++ is.after in
     let run : length_before is_black (is.before ++ rest) ≡ length is.before =
-    run_length white is_black (λ b e. not_from_true (white b) e) is.before rest is.blank_before (item_ends item is.after is.solid) in
+    run_length is_white is_black (λ b e. not_from_true (is_white b) e) is.before rest is.blank_before (item_ends item is.after is.solid) in
     ap item_of is.spelled
     ∙ ap (λ n. begun_item (drop n (is.before ++ rest))) run
     ∙ ap begun_item (drop-append_seam is.before rest)

@@ -4,12 +4,13 @@ use Rattle.std.specs.Option.{option_map_or}
 use Rattle.std.proofs.lemmas.Bool.{ne_eqb}
 use Rattle.std.proofs.lemmas.List.{append-nil}
 use Rattle.bv_base.specs.declared.place.Place.{Place}
+use Rattle.bv_base.specs.Answers.{then_do}
 use Rattle.aux_read.specs.declared.aux.Aux.{Aux}
 use Rattle.aux_read.specs.declared.aux.AuxItem.TheVariants.{Input as InputItem}
 use Rattle.aux_read.specs.declared.fault.AuxFault.{AuxFault}
 use Rattle.aux_read.specs.Grammar.{AreItems, Citations, Databases, Holds, Input, IsItem, IsLine, IsName, Line, Other, Style}
 use Rattle.aux_read.specs.Items.{after_front, file_name_of, inside_of, item_of, stretches}
-use Rattle.aux_read.specs.Lines.{add_citations, add_names, citation, file_name, file_names, take_citations, take_databases, take_input, take_line, take_style, then_do, with_databases, with_item, with_part, with_style}
+use Rattle.aux_read.specs.Lines.{add_citations, add_names, citation, file_name, file_names, take_citations, take_databases, take_input, take_line, take_style, with_databases, with_item, with_part, with_style}
 use Rattle.aux_read.specs.Meaning.{and_line, start_of}
 use Rattle.aux_read.proofs.Itemized.{front_missed, front_missing, front_read, front_taken, Inside, inside_read, inside_taken, item_read, item_taken, name_read, name_taken}
 use Rattle.aux_read.proofs.Stretched.{Stretched, as_stretches, stretches_are}

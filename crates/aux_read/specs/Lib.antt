@@ -1,4 +1,3 @@
-pub mod FaultPlaces
 pub mod Faults
 pub mod FileNames
 pub mod Grammar

@@ -1,7 +1,7 @@
 //! What holds of every text.
 
 ghost use Rattle.std.specs.Prelude.{◌≡◌, ◌↔◌, Ok, Err};
-ghost use Rattle.aux_read.specs.FaultPlaces.{IsFaultOf};
+ghost use Rattle.aux_read.specs.Faults.{IsFaultOf};
 ghost use Rattle.aux_read.specs.Meaning.{AuxReads};
 ghost use Rattle.aux_read.specs.Reading.{aux_of};
 ghost use Rattle.aux_read.specs.declared.aux.Aux.{Aux};

@@ -2,6 +2,7 @@
 use Rattle.std.proofs.Common.{◌≡◌, ℕ, List, [], ◌∷◌, ◌++◌, Option, Some, None, Bool, map, refl, sym, ap, ◌∙◌, subst}
 use Rattle.std.specs.Prelude.{flat_map}
 use Rattle.std.specs.List.{AllByRecursion}
+use Rattle.bv_base.specs.KeySets.{has_lowered}
 use Rattle.name_table.specs.declared.style.Style.{Style}
 use Rattle.aux_read.specs.declared.aux.AuxItem.{AuxItem}
 use Rattle.bib_read.specs.declared.database.Database.{Database}
@@ -16,7 +17,7 @@ use Rattle.entry_list.specs.Fields.{Declared, declared_fields, is_parent_listed,
 use Rattle.entry_list.specs.Joining.{joined}
 use Rattle.entry_list.specs.Keys.{AreCitations, Listed, is_listed}
 use Rattle.entry_list.specs.Parents.{appended, parent_of, whole_list}
-use Rattle.entry_list.specs.Tables.{entry_by, has_key, has_parent}
+use Rattle.entry_list.specs.Tables.{entry_by, has_parent}
 use Rattle.entry_list.proofs.Declaring.{declared_ids}
 use Rattle.entry_list.proofs.Keyed.{IsKeyed, whole_keyed}
 
@@ -49,12 +50,12 @@ joined_is style items database list first warnings entries preamble whole are no
     (warned ∙ ap (λ f. f ++ flat_map (without_parent database.entries) list) none
     ∙ ap (λ l. no_entries items database.entries ++ flat_map (without_parent database.entries) l) whole)
 
-keeps_same : (keys : List (List ℕ)) (list : List Listed) → ((key : List ℕ) → has_key key keys ≡ is_listed key list)
+keeps_same : (keys : List (List ℕ)) (list : List Listed) → ((key : List ℕ) → has_lowered key keys ≡ is_listed key list)
     → (parent : Option RawEntry) → has_parent keys parent ≡ is_parent_listed list parent
 keeps_same keys list same None = refl
 keeps_same keys list same (Some parent) = same parent.key
 
-pub entry_same : (keys : List (List ℕ)) (list : List Listed) → ((key : List ℕ) → has_key key keys ≡ is_listed key list)
+pub entry_same : (keys : List (List ℕ)) (list : List Listed) → ((key : List ℕ) → has_lowered key keys ≡ is_listed key list)
     → (fields : List Declared) (raw : List RawEntry) (listed : Listed)
     → entry_by keys fields raw listed ≡ joined_entry fields raw list listed
 entry_same keys list same fields raw listed =

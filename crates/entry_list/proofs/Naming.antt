@@ -2,15 +2,15 @@
 use Rattle.std.proofs.Common.{◌≡◌, ℕ, Bool, true, false, cond, ◌&&◌, ◌||◌, List, [], ◌∷◌, refl, sym, ap, ◌∙◌}
 use Rattle.std.specs.Cmp.Lexicographic.{same_text}
 use Rattle.std.specs.List.{list_any}
+use Rattle.bv_base.specs.KeySets.{has_lowered}
 use Rattle.name_table.specs.Names.{same_name, lowered}
 use Rattle.entry_list.specs.Keys.{Listed, same_key, is_listed}
 use Rattle.entry_list.specs.Parents.{is_named_twice, same_listed}
-use Rattle.entry_list.specs.Tables.{has_key}
 use Rattle.entry_list.proofs.Lists.{fresh, or_false}
 
 -- a parent was looked at before
 abbrev pub is_done : Listed → List (List ℕ) → Bool
-is_done parent done = has_key parent.key done
+is_done parent done = has_lowered parent.key done
 
 -- the first parents that weren't looked at before
 abbrev pub undone : List (List ℕ) → List Listed → List Listed
@@ -25,7 +25,7 @@ twice_end twice true key = or_false twice
 twice_end twice false key = or_false twice
 
 -- a set holds both of two equal keys, or neither
-pub has_same : (a b : List ℕ) (set : List (List ℕ)) → same_key a b ≡ true → has_key a set ≡ has_key b set
+pub has_same : (a b : List ℕ) (set : List (List ℕ)) → same_key a b ≡ true → has_lowered a set ≡ has_lowered b set
 has_same a b set same = ap (λ t. list_any (same_name t) set) (same_text (lowered a) (lowered b) (sym same))
 
 fresh_named : (t o s l n : Bool) → (s ≡ true → o ≡ false) → (t || cond (s || o) l n) ≡ (t || cond o (s || l) (cond s l n))
@@ -44,40 +44,40 @@ again_named t false false l n h = refl
 
 -- a parent that wasn't named before
 pub twice_fresh : (twice old new : List (List ℕ)) (parent : Listed) (key : List ℕ) (rest : List Listed)
-    → has_key parent.key old ≡ false → has_key key new ≡ (same_key key parent.key || has_key key old)
-    → twice_with (has_key key twice) (has_key key new) key rest
-    ≡ twice_with (has_key key twice) (has_key key old) key (parent ∷ rest)
+    → has_lowered parent.key old ≡ false → has_lowered key new ≡ (same_key key parent.key || has_lowered key old)
+    → twice_with (has_lowered key twice) (has_lowered key new) key rest
+    ≡ twice_with (has_lowered key twice) (has_lowered key old) key (parent ∷ rest)
 twice_fresh twice old new parent key rest none added =
-    ap (λ b. has_key key twice || cond b (is_listed key rest) (is_named_twice key rest)) added
-    ∙ fresh_named (has_key key twice) (has_key key old) (same_key key parent.key) (is_listed key rest)
+    ap (λ b. has_lowered key twice || cond b (is_listed key rest) (is_named_twice key rest)) added
+    ∙ fresh_named (has_lowered key twice) (has_lowered key old) (same_key key parent.key) (is_listed key rest)
     (is_named_twice key rest) (λ same. has_same key parent.key old same ∙ none)
 
 -- a parent that was named before
 pub twice_again : (twice twice_new old new : List (List ℕ)) (parent : Listed) (key : List ℕ) (rest : List Listed)
-    → has_key parent.key old ≡ true → has_key key new ≡ (same_key key parent.key || has_key key old)
-    → has_key key twice_new ≡ (same_key key parent.key || has_key key twice)
-    → twice_with (has_key key twice_new) (has_key key new) key rest
-    ≡ twice_with (has_key key twice) (has_key key old) key (parent ∷ rest)
+    → has_lowered parent.key old ≡ true → has_lowered key new ≡ (same_key key parent.key || has_lowered key old)
+    → has_lowered key twice_new ≡ (same_key key parent.key || has_lowered key twice)
+    → twice_with (has_lowered key twice_new) (has_lowered key new) key rest
+    ≡ twice_with (has_lowered key twice) (has_lowered key old) key (parent ∷ rest)
 twice_again twice twice_new old new parent key rest some added added_twice =
-    ap (λ b. b || cond (has_key key new) (is_listed key rest) (is_named_twice key rest)) added_twice
-    ∙ ap (λ b. (same_key key parent.key || has_key key twice) || cond b (is_listed key rest) (is_named_twice key rest)) added
-    ∙ again_named (has_key key twice) (has_key key old) (same_key key parent.key) (is_listed key rest)
+    ap (λ b. b || cond (has_lowered key new) (is_listed key rest) (is_named_twice key rest)) added_twice
+    ∙ ap (λ b. (same_key key parent.key || has_lowered key twice) || cond b (is_listed key rest) (is_named_twice key rest)) added
+    ∙ again_named (has_lowered key twice) (has_lowered key old) (same_key key parent.key) (is_listed key rest)
     (is_named_twice key rest) (λ same. has_same key parent.key old same ∙ some)
 
 -- a parent that is named, once or again
 pub twice_step : (twice twice_new old new : List (List ℕ)) (parent : Listed) (key : List ℕ) (rest : List Listed)
-    → has_key key new ≡ (same_key key parent.key || has_key key old)
-    → has_key key twice_new ≡ ((has_key parent.key old && same_key key parent.key) || has_key key twice)
-    → twice_with (has_key key twice_new) (has_key key new) key rest
-    ≡ twice_with (has_key key twice) (has_key key old) key (parent ∷ rest)
+    → has_lowered key new ≡ (same_key key parent.key || has_lowered key old)
+    → has_lowered key twice_new ≡ ((has_lowered parent.key old && same_key key parent.key) || has_lowered key twice)
+    → twice_with (has_lowered key twice_new) (has_lowered key new) key rest
+    ≡ twice_with (has_lowered key twice) (has_lowered key old) key (parent ∷ rest)
 twice_step twice twice_new old new parent key rest added added_twice =
-    by (has_key parent.key old) refl added_twice
+    by (has_lowered parent.key old) refl added_twice
   where
-    by : (b : Bool) → has_key parent.key old ≡ b
-        → has_key key twice_new ≡ ((b && same_key key parent.key) || has_key key twice)
-        → twice_with (has_key key twice_new) (has_key key new) key rest
-        ≡ twice_with (has_key key twice) (has_key key old) key (parent ∷ rest)
+    by : (b : Bool) → has_lowered parent.key old ≡ b
+        → has_lowered key twice_new ≡ ((b && same_key key parent.key) || has_lowered key twice)
+        → twice_with (has_lowered key twice_new) (has_lowered key new) key rest
+        ≡ twice_with (has_lowered key twice) (has_lowered key old) key (parent ∷ rest)
     by true is more = twice_again twice twice_new old new parent key rest is added more
     by false is more =
-        ap (λ b. twice_with b (has_key key new) key rest) more
+        ap (λ b. twice_with b (has_lowered key new) key rest) more
         ∙ twice_fresh twice old new parent key rest is added

@@ -8,49 +8,6 @@ use Rattle.std.specs.Option.{option_map}
 use Rattle.indexmap.specs.IndexMap.{insert_entry}
 use Rattle.name_table.specs.Names.{same_name}
 
-found_or : {V : Type 0} (b : Bool) (value : V) (o : Option V) (h : Bool) → is_some o ≡ h
-    → is_some (cond b (Some value) o) ≡ (b || h)
-found_or true value o h e = refl
-found_or false value o h e = e
-
--- a key is found where it is in the table
-pub holds_lookup : (name : List ℕ) (es : List (Vec ℕ × Unit {0}))
-    → is_some (lookup (λ k. pointwise nat_eq name k.items) es) ≡ list_any (same_name name) (map (λ e. e.0.items) es)
-holds_lookup name [] = refl
-holds_lookup name (e ∷ es) =
-    found_or (same_name name e.0.items) e.1 (lookup (λ (k : Vec ℕ). pointwise nat_eq name k.items) es)
-    (list_any (same_name name) (map (λ e. e.0.items) es)) (holds_lookup name es)
-
-or_again : (a b c : Bool) → a ≡ b → (a || c) ≡ (b || (a || c))
-or_again true true c e = refl
-or_again true false c e = absurd cc
-or_again false true c e = absurd cc
-or_again false false c e = refl
-
-or_swap : (a b c : Bool) → (a || (b || c)) ≡ (b || (a || c))
-or_swap true true c = refl
-or_swap true false c = refl
-or_swap false b c = refl
-
--- a key that is put in is in the table with those before
-pub holds_inserted : (name : List ℕ) (key : Vec ℕ) (es : List (Vec ℕ × Unit {0}))
-    → list_any (same_name name) (map (λ e. e.0.items) (insert_entry (λ a b. pointwise nat_eq a.items b.items) es key tt))
-    ≡ (same_name name key.items || list_any (same_name name) (map (λ e. e.0.items) es))
-holds_inserted name key [] = refl
-holds_inserted name key (e ∷ es) = by (pointwise nat_eq key.items e.0.items) refl (holds_inserted name key es)
-  where
-    by : (b : Bool) → b ≡ pointwise nat_eq key.items e.0.items
-        → list_any (same_name name) (map (λ e. e.0.items) (insert_entry (λ a b. pointwise nat_eq a.items b.items) es key tt))
-        ≡ (same_name name key.items || list_any (same_name name) (map (λ e. e.0.items) es))
-        → list_any (same_name name) (map (λ e. e.0.items) (cond b ((e.0, tt) ∷ es) (e ∷ insert_entry (λ a b. pointwise nat_eq a.items b.items) es key tt)))
-        ≡ (same_name name key.items || (same_name name e.0.items || list_any (same_name name) (map (λ e. e.0.items) es)))
-    by true is rest =
-        or_again (same_name name e.0.items) (same_name name key.items) (list_any (same_name name) (map (λ e. e.0.items) es))
-        (sym (ap (same_name name) (same_text key.items e.0.items is)))
-    by false is rest =
-        ap (λ b. same_name name e.0.items || b) rest
-        ∙ or_swap (same_name name e.0.items) (same_name name key.items) (list_any (same_name name) (map (λ e. e.0.items) es))
-
 over_again : {V : Type 0} (a b : Bool) (value old : V) (rest : Option V) → a ≡ b
     → cond a (Some value) rest ≡ cond b (Some value) (cond a (Some old) rest)
 over_again true true value old rest e = refl

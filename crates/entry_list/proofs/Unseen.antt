@@ -1,13 +1,14 @@
 -- The citations that are left, and the entries that no citation names.
 use Rattle.std.proofs.Common.{◌≡◌, ℕ, ◌+◌, Bool, true, false, cond, not, List, [], ◌∷◌, ◌++◌, map, drop, refl, sym, ap, ◌∙◌, append_assoc}
 use Rattle.std.specs.Prelude.{filter}
+use Rattle.bv_base.specs.KeySets.{has_lowered}
 use Rattle.aux_read.specs.declared.aux.AuxItem.{AuxItem}
 use Rattle.aux_read.specs.declared.aux.AuxItem.TheVariants.{Cite, All, Input}
 use Rattle.bib_read.specs.declared.database.RawEntry.{RawEntry}
 use Rattle.entry_list.specs.declared.citing.Seen.{Seen}
 use Rattle.entry_list.specs.Keys.{Listed, own}
 use Rattle.entry_list.specs.Citing.{asks_same, is_cited, uncited}
-use Rattle.entry_list.specs.Tables.{has_key, was_asked}
+use Rattle.entry_list.specs.Tables.{was_asked}
 use Rattle.entry_list.proofs.Lists.{fresh}
 
 -- the first requests that weren't asked for before
@@ -15,7 +16,7 @@ abbrev pub unseen : Seen → List AuxItem → List AuxItem
 unseen seen items = fresh asks_same was_asked seen items
 
 pub none_asked : (seen : Seen) → seen.keys ≡ [] → seen.all ≡ false → (item : AuxItem) → was_asked item seen ≡ false
-none_asked seen keys all (Cite key) = ap (has_key key) keys
+none_asked seen keys all (Cite key) = ap (has_lowered key) keys
 none_asked seen keys all All = all
 none_asked seen keys all (Input _ _) = refl
 

@@ -1,8 +1,7 @@
 -- How tables stand for lists.
 use Rattle.std.specs.Prelude.{ℕ, Bool, false, List, Option}
-use Rattle.std.specs.List.{list_any}
 use Rattle.std.specs.Option.{option_map_or}
-use Rattle.name_table.specs.Names.{same_name, lowered}
+use Rattle.bv_base.specs.KeySets.{has_lowered}
 use Rattle.aux_read.specs.declared.aux.AuxItem.{AuxItem}
 use Rattle.aux_read.specs.declared.aux.AuxItem.TheVariants.{Cite, All, Input}
 use Rattle.bib_read.specs.declared.database.RawEntry.{RawEntry}
@@ -12,19 +11,15 @@ use Rattle.entry_list.specs.Fields.{Declared, values_of}
 use Rattle.entry_list.specs.Keys.{Listed}
 use Rattle.entry_list.specs.Parents.{parent_of}
 
--- a key is among lowered keys
-abbrev pub has_key : List ℕ → List (List ℕ) → Bool
-has_key key keys = list_any (same_name (lowered key)) keys
-
 -- what a request asks for was asked for before
 abbrev pub was_asked : AuxItem → Seen → Bool
-was_asked (Cite key) seen = has_key key seen.keys
+was_asked (Cite key) seen = has_lowered key seen.keys
 was_asked All seen = seen.all
 was_asked (Input _ _) seen = false
 
 -- a parent is there, and its key is in a set
 abbrev pub has_parent : List (List ℕ) → Option RawEntry → Bool
-has_parent listed parent = option_map_or (λ found. has_key found.key listed) parent false
+has_parent listed parent = option_map_or (λ found. has_lowered found.key listed) parent false
 
 -- an entry of the list, where the keys of the list are in a set
 abbrev pub entry_by : List (List ℕ) → List Declared → List RawEntry → Listed → Entry

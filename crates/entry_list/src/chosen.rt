@@ -1,11 +1,11 @@
 //! Entries of the list before their fields are joined.
 
 ghost use Rattle.std.specs.Prelude.{◌≡◌, ℕ, List, IfOk};
+ghost use Rattle.bv_base.specs.KeySets.{has_lowered};
 ghost use Rattle.entry_list.specs.Keys as keys;
-ghost use Rattle.entry_list.specs.Tables.{has_key};
 
-use crate::keys::KeySet;
 use bib_read::database::RawEntry;
+use bv_base::key_set::KeySet;
 use bv_base::memory::NoMemory;
 use std::alloc::Global;
 use std::marker::Model;
@@ -49,11 +49,11 @@ impl<'a> Chosen<'a> {
 
 /// The keys of a list.
 pub(crate) fn listed_keys(alloc: Global, list: &[Chosen<'_>]) -> Result<KeySet, NoMemory>
-    ensures { IfOk result (λ set. (key : List ℕ) → has_key key set ≡ keys.is_listed key list.now) }
+    ensures { IfOk result (λ set. (key : List ℕ) → has_lowered key set ≡ keys.is_listed key list.now) }
 {
     let mut set = KeySet::new(alloc);
     for chosen in list {
-        set.add(chosen.key)?;
+        set.add_lowered(chosen.key)?;
     }
     Ok(set)
 }

@@ -2,17 +2,18 @@
 
 ghost use Rattle.std.specs.Prelude.{◌≡◌, ℕ, ◌||◌, ◌++◌, if◌then◌else◌, not, List, [], ◌∷◌, IfOk, OnOk};
 ghost use Rattle.std.specs.Option.{option_map, option_to_list};
+ghost use Rattle.bv_base.specs.KeySets.{has_lowered};
 ghost use Rattle.aux_read.specs.declared.aux.AuxItem.{AuxItem};
 ghost use Rattle.entry_list.specs.Citing as citing;
 ghost use Rattle.entry_list.specs.Keys.{entry_of, own};
-ghost use Rattle.entry_list.specs.Tables.{has_key, was_asked};
+ghost use Rattle.entry_list.specs.Tables.{was_asked};
 
 use crate::chosen::Chosen;
 use crate::entry_table::EntryTable;
-use crate::keys::KeySet;
 use crate::warnings::no_entry;
 use aux_read::aux::AuxItem;
 use bib_read::database::RawEntry;
+use bv_base::key_set::KeySet;
 use bv_base::memory::NoMemory;
 use bv_base::seq::Seq;
 use bv_base::text::Text;
@@ -85,7 +86,7 @@ fn note(seen: &mut Seen, item: &AuxItem) -> Result<bool, NoMemory>
         → was_asked later seen.new ≡ (citing.asks_same later item.now || was_asked later seen.old)) }
 {
     match item {
-        AuxItem::Cite(key) => seen.keys.add(key.as_slice()),
+        AuxItem::Cite(key) => seen.keys.add_lowered(key.as_slice()),
         AuxItem::All => Ok(!std::mem::replace(&mut seen.all, true)),
         AuxItem::Input(_, _) => Ok(true),
     }
@@ -147,9 +148,9 @@ fn push_uncited<'a>(
     entry: &'a RawEntry,
 ) -> Result<(), NoMemory>
     ensures { OnOk result (list.new.items
-        ≡ list.old.items ++ (if has_key entry.now.key cited.now then [] else own entry.now ∷ [])) }
+        ≡ list.old.items ++ (if has_lowered entry.now.key cited.now then [] else own entry.now ∷ [])) }
 {
-    if cited.has(entry.key.as_slice())? {
+    if cited.has_lowered(entry.key.as_slice())? {
         return Ok(());
     }
     list.push(Chosen::own(entry))?;
@@ -158,7 +159,7 @@ fn push_uncited<'a>(
 
 /// The keys that are cited.
 fn cited_keys(alloc: Global, items: &[AuxItem]) -> Result<KeySet, NoMemory>
-    ensures { IfOk result (λ keys. (key : List ℕ) → has_key key keys ≡ citing.is_cited key items.now) }
+    ensures { IfOk result (λ keys. (key : List ℕ) → has_lowered key keys ≡ citing.is_cited key items.now) }
 {
     let mut keys = KeySet::new(alloc);
     for item in items {
@@ -170,10 +171,10 @@ fn cited_keys(alloc: Global, items: &[AuxItem]) -> Result<KeySet, NoMemory>
 /// Adds the key of a citation.
 fn add_cited(keys: &mut KeySet, item: &AuxItem) -> Result<(), NoMemory>
     ensures { OnOk result ((key : List ℕ)
-        → has_key key keys.new ≡ (citing.cites key item.now || has_key key keys.old)) }
+        → has_lowered key keys.new ≡ (citing.cites key item.now || has_lowered key keys.old)) }
 {
     if let AuxItem::Cite(key) = item {
-        keys.add(key.as_slice())?;
+        keys.add_lowered(key.as_slice())?;
     }
     Ok(())
 }

@@ -4,8 +4,8 @@ ghost use Rattle.std.specs.Prelude.{◌≡◌, IfOk};
 ghost use Rattle.std.specs.Option.{option_map};
 ghost use Rattle.entry_list.specs.Keys.{entry_of};
 
-use crate::keys::lowered;
 use bib_read::database::RawEntry;
+use bv_base::key_set::lowered;
 use bv_base::memory::NoMemory;
 use indexmap::IndexMap;
 use std::alloc::Global;

@@ -10,11 +10,11 @@ ghost use Rattle.entry_list.specs.Bytes.{HasBytes};
 
 use crate::chosen::{Chosen, listed_keys};
 use crate::entry_table::EntryTable;
-use crate::keys::KeySet;
 use crate::parents::{crossref_of, parent_of, text_of};
 use crate::warnings::no_parent;
 use bib_read::database::RawEntry;
 use bst_meaning::entry::{Entry, FieldValue};
+use bv_base::key_set::KeySet;
 use bv_base::memory::NoMemory;
 use bv_base::seq::Seq;
 use bv_base::text::Text;
@@ -95,7 +95,7 @@ fn is_parent_listed(listed: &KeySet, parent: Option<&RawEntry>) -> Result<bool, 
         ≡ has_parent listed.now (option_map (λ e. e.now) parent.entry)) }
 {
     match parent {
-        Some(found) => listed.has(found.key.as_slice()),
+        Some(found) => listed.has_lowered(found.key.as_slice()),
         None => Ok(false),
     }
 }

@@ -7,7 +7,6 @@ mod entry_table;
 mod fields;
 pub mod join;
 pub mod joined;
-mod keys;
 pub mod laws;
 mod parents;
 #[cfg(test)]

@@ -2,14 +2,14 @@
 
 ghost use Rattle.std.specs.Prelude.{◌≡◌, ℕ, ◌&&◌, ◌||◌, ◌++◌, if◌then◌else◌, not, List, [], ◌∷◌, IfOk, OnOk};
 ghost use Rattle.std.specs.Option.{option_map, option_to_list};
+ghost use Rattle.bv_base.specs.KeySets.{has_lowered};
 ghost use Rattle.entry_list.specs.Keys as keys;
 ghost use Rattle.entry_list.specs.Parents as naming;
-ghost use Rattle.entry_list.specs.Tables.{has_key};
 
 use crate::chosen::{Chosen, listed_keys};
 use crate::entry_table::EntryTable;
-use crate::keys::KeySet;
 use bib_read::database::{RawEntry, RawField};
+use bv_base::key_set::KeySet;
 use bv_base::memory::NoMemory;
 use std::alloc::Global;
 
@@ -116,13 +116,13 @@ fn take_parent<'a>(
     parent: &Chosen<'a>,
 ) -> Result<(), NoMemory>
     ensures found { OnOk result (found.new.items ≡ found.old.items
-        ++ (if has_key parent.now.key done.old then []
-        else if has_key parent.now.key twice.now && not (has_key parent.now.key listed.now)
+        ++ (if has_lowered parent.now.key done.old then []
+        else if has_lowered parent.now.key twice.now && not (has_lowered parent.now.key listed.now)
         then parent.now ∷ [] else [])) }
     ensures done { OnOk result ((key : List ℕ)
-        → has_key key done.new ≡ (keys.same_key key parent.now.key || has_key key done.old)) }
+        → has_lowered key done.new ≡ (keys.same_key key parent.now.key || has_lowered key done.old)) }
 {
-    if !done.add(parent.key)? {
+    if !done.add_lowered(parent.key)? {
         return Ok(());
     }
     push_wanted(found, twice, listed, parent)
@@ -136,13 +136,13 @@ fn push_wanted<'a>(
     parent: &Chosen<'a>,
 ) -> Result<(), NoMemory>
     ensures { OnOk result (found.new.items ≡ found.old.items
-        ++ (if has_key parent.now.key twice.now && not (has_key parent.now.key listed.now)
+        ++ (if has_lowered parent.now.key twice.now && not (has_lowered parent.now.key listed.now)
         then parent.now ∷ [] else [])) }
 {
-    if !twice.has(parent.key)? {
+    if !twice.has_lowered(parent.key)? {
         return Ok(());
     }
-    if listed.has(parent.key)? {
+    if listed.has_lowered(parent.key)? {
         return Ok(());
     }
     found.push(parent.copied())?;
@@ -151,7 +151,7 @@ fn push_wanted<'a>(
 
 /// The keys that at least two of these parents have.
 fn named_twice(alloc: Global, parents: &[Chosen<'_>]) -> Result<KeySet, NoMemory>
-    ensures { IfOk result (λ twice. (key : List ℕ) → has_key key twice ≡ naming.is_named_twice key parents.now) }
+    ensures { IfOk result (λ twice. (key : List ℕ) → has_lowered key twice ≡ naming.is_named_twice key parents.now) }
 {
     let mut once = KeySet::new(alloc);
     let mut twice = KeySet::new(alloc);
@@ -164,14 +164,14 @@ fn named_twice(alloc: Global, parents: &[Chosen<'_>]) -> Result<KeySet, NoMemory
 /// Adds a key to those that are named, or to those that are named twice too.
 fn name(once: &mut KeySet, twice: &mut KeySet, key: &[u8]) -> Result<(), NoMemory>
     ensures once { OnOk result ((other : List ℕ)
-        → has_key other once.new ≡ (keys.same_key other key.now || has_key other once.old)) }
-    ensures twice { OnOk result ((other : List ℕ) → has_key other twice.new
-        ≡ ((has_key key.now once.old && keys.same_key other key.now) || has_key other twice.old)) }
+        → has_lowered other once.new ≡ (keys.same_key other key.now || has_lowered other once.old)) }
+    ensures twice { OnOk result ((other : List ℕ) → has_lowered other twice.new
+        ≡ ((has_lowered key.now once.old && keys.same_key other key.now) || has_lowered other twice.old)) }
 {
-    if once.add(key)? {
+    if once.add_lowered(key)? {
         return Ok(());
     }
-    twice.add(key)?;
+    twice.add_lowered(key)?;
     Ok(())
 }
 
