@@ -1,8 +1,13 @@
 //! How far a source is read.
 
-ghost use Rattle.std.specs.Prelude.{◌≡◌, ◌+◌, ◌≤◌, length, take, drop};
+ghost use Rattle.std.specs.Prelude.{◌≡◌, ℕ, ◌+◌, ◌≤◌, List, length, take, drop, Option};
 ghost use Rattle.bv_base.specs.Places.{after_bytes};
+ghost use Rattle.bst_lex.specs.Lexemes.{reading_at};
+ghost use Rattle.bst_lex.specs.Lexer.{Stands};
+ghost use Rattle.bst_lex.specs.Pieces.{gap_at};
+ghost use Rattle.bst_lex.specs.declared.lexeme.LexFault.{LexFault};
 
+use crate::pieces::gap_length;
 use bv_base::limits::STYLE_BYTES;
 use bv_base::place::Place;
 
@@ -33,5 +38,20 @@ impl<'a> Cursor<'a> {
             start: self.start + count as u32,
             place: self.place.after(passed),
         }
+    }
+
+    /// Passes over the white space and the comments that stand next.
+    pub(crate) fn after_gap(self) -> Cursor<'a>
+        requires small { self.start + length self.rest.now ≤ STYLE_BYTES }
+        requires line { self.place.line ≤ self.start + 1 }
+        requires column { self.place.column ≤ self.start + 1 }
+        ensures gone { gap_at result.rest.now ≡ 0 }
+        ensures stands { (source : List ℕ) → Stands source self.entry.start self.entry.place self.entry.rest.now
+            → Stands source result.start result.place result.rest.now }
+        ensures reading { (source : List ℕ) → (failed : Option LexFault)
+            → reading_at source failed result.start result.place result.rest.now
+            ≡ reading_at source failed self.entry.start self.entry.place self.entry.rest.now }
+    {
+        self.passed(gap_length(self.rest))
     }
 }

@@ -6,7 +6,7 @@ ghost use Rattle.bv_base.specs.Places.{place_at};
 
 use crate::cursor::Cursor;
 use crate::lexeme::{LexFault, Lexeme};
-use crate::pieces::{gap_length, piece_at};
+use crate::pieces::piece_at;
 use bv_base::limits::STYLE_BYTES;
 use bv_base::place::Place;
 use std::marker::Model;
@@ -68,7 +68,7 @@ impl<'a> Lexer<'a> {
         if let Some(fault) = self.failed {
             return Err(fault);
         }
-        let at = self.cursor.passed(gap_length(self.cursor.rest));
+        let at = self.cursor.after_gap();
         self.cursor = at;
         if at.rest.is_empty() {
             return Ok(None);
