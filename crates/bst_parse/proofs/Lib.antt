@@ -9,6 +9,7 @@ mod Keys
 mod Lexed
 mod Lists
 mod Lowered
+mod PlacesHold
 mod Rules
 mod SoFar
 mod SoundSteps

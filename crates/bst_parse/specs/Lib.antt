@@ -4,6 +4,7 @@ pub mod Fault
 pub mod Grammar
 pub mod Names
 pub mod Parts
+pub mod PlacesStand
 pub mod Progress
 pub mod Progressing
 pub mod Reading

@@ -4,6 +4,7 @@ ghost use Rattle.std.specs.Prelude.{◌≡◌, ◌↔◌, Ok, Err};
 ghost use Rattle.name_table.specs.declared.style.Style.{Style};
 ghost use Rattle.bst_parse.specs.Fault.{IsFaultOf};
 ghost use Rattle.bst_parse.specs.Grammar.{Reads};
+ghost use Rattle.bst_parse.specs.PlacesStand.{PlacesStand};
 ghost use Rattle.bst_parse.specs.Reading.{style_of};
 ghost use Rattle.bst_parse.specs.declared.fault.StyleFault.{StyleFault};
 
@@ -31,4 +32,11 @@ pub fn faults_in_the_text(source: &[u8])
     lexemes_as_spelled(source);
     lexemes_in_order(source);
     faults_in_source(source);
+}
+
+/// Each command, each body and each token of a style that was read has the place of a byte of its text.
+pub fn places_in_the_text(source: &[u8])
+    ensures { (style : Style) → style_of source.now ≡ Ok style → PlacesStand source.now style }
+{
+    lexemes_in_order(source);
 }
