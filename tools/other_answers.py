@@ -37,7 +37,7 @@ def not_built(block, style, answer):
 def budget(block, style, answer, program):
     steps = int(answer.words[2])
     block.sentence = f"the style hasn't ended in {steps} steps"
-    calls = Probe(program, style, 0, answer.aux, answer.data, min(steps, 1000000) // 40).calls()
+    calls = Probe(program, style, 0, answer.aux, answer.data, min(steps, 1000000) // 40).trace(at_token=False)[0]
     if calls:
         block.note("calls", " > ".join(calls))
     first = calls[-1].lower().encode("latin-1") if calls else b""

@@ -6,7 +6,7 @@ import subprocess
 import tempfile
 
 from databases import COMMAND
-from styles import read
+from styles import read, text
 
 # No style logs this byte: it may stand in a text, and nobody writes it there.
 MARK = b"\x01"
@@ -18,13 +18,13 @@ def logged(mark):
     return b' "' + MARK + mark + b'" top$ '
 
 
-def edited(text, edits):
-    """A text with pieces put in: each is a place and what goes there."""
+def edited(style, edits):
+    """The text of a style with pieces put in: each is a place and what goes there."""
     parts, at = [], 0
     for offset, piece in sorted(edits, key=lambda it: it[0]):
-        parts += [text[at:offset], piece]
+        parts += [style[at:offset], piece]
         at = offset
-    return b"".join(parts + [text[at:]])
+    return b"".join(parts + [style[at:]])
 
 
 class Probe:
@@ -34,9 +34,10 @@ class Probe:
         self.program, self.style, self.offset, self.aux, self.data = program, style, offset, aux, data
         self.steps = min(MOST_STEPS, 1000 + 40 * steps)
 
-    def run(self, text):
+    def run(self, copy):
+        """The log of a run of a copy of the style."""
         with tempfile.TemporaryDirectory() as folder:
-            files = {"s.bst": text}
+            files = {"s.bst": copy}
             if self.aux is None:
                 files.update({"0.aux": b"\\bibstyle{s}\n\\bibdata{d0}\n", "d0.bib": b""})
             else:
@@ -80,35 +81,24 @@ class Probe:
                               + b"}EXECUTE{volutecress." + place + b"} "))
         return edits
 
-    def trace(self):
-        """The calls that led to the place, the outermost first, and how often the token was reached."""
-        log = self.run(edited(self.style.text, self.marks() + [(self.offset, logged(b"@"))]))
-        command, calls, reached = None, [], 0
+    def trace(self, at_token=True):
+        """The calls that the run ends in, the outermost first, how often the token was reached, and which function was the last to
+        end with none around it."""
+        log = self.run(edited(self.style.text, self.marks() + ([(self.offset, logged(b"@"))] if at_token else [])))
+        command, calls, reached, ended = None, [], 0, None
         for line in log:
-            if line.startswith(MARK):
-                kind, name = line[1:2], line[2:]
-                if kind == b"!":
-                    command, calls = name, []
-                elif kind == b">":
-                    calls.append(name)
-                elif kind == b"<":
-                    calls = calls[:-1]
-                else:
-                    reached += 1
-        return [it.decode("latin-1") for it in ([command] if command else []) + calls], reached
-
-    def calls(self):
-        """The calls that a run without a place is in when its steps are taken."""
-        log = self.run(edited(self.style.text, self.marks()))
-        command, calls = None, []
-        for line in log:
-            if line.startswith(MARK + b"!"):
-                command, calls = line[2:], []
-            elif line.startswith(MARK + b">"):
-                calls.append(line[2:])
-            elif line.startswith(MARK + b"<"):
-                calls = calls[:-1]
-        return [it.decode("latin-1") for it in ([command] if command else []) + calls]
+            if not line.startswith(MARK):
+                continue
+            kind, name = line[1:2], line[2:]
+            if kind == b"!":
+                command, calls = name, []
+            elif kind == b">":
+                calls.append(name)
+            elif kind == b"<":
+                calls, ended = calls[:-1], name
+            else:
+                reached += 1
+        return [text(it) for it in ([command] if command else []) + calls], reached, ended
 
     def stack(self, reached):
         """The values on the stack when the token is reached for the last time, the top first."""
@@ -121,15 +111,15 @@ class Probe:
         """The values that the first call of a command leaves that leaves some, the top first."""
         name = command.groups[0].inside[0]
         wrapper = b"FUNCTION{volutecress.call}{" + name.text + logged(b"(") + b"stack$" + logged(b")") + b"} "
-        text = edited(self.style.text, [(command.word.start, wrapper), (name.start, b"volutecress.call ")])
+        copy = edited(self.style.text, [(command.word.start, wrapper), (name.start, b"volutecress.call ")])
         # The wrapper takes the place of the name.
         at = name.start + len(wrapper) + len(b"volutecress.call ")
-        return self.between(text[:at] + text[at + len(name.text):])
+        return self.between(copy[:at] + copy[at + len(name.text):])
 
-    def between(self, text):
-        """The first values that are logged between two marks."""
+    def between(self, copy):
+        """The first values that a run of a copy logs between two marks."""
         values, inside = [], False
-        for line in self.run(text):
+        for line in self.run(copy):
             if line == MARK + b"(":
                 inside = True
             elif line == MARK + b")":

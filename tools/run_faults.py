@@ -20,9 +20,12 @@ class Stood:
         if self.command:
             self.function = self.command.groups[0].inside[0].text.lower()
             self.calls, self.values = ["%s at %d:%d" % (text(self.command.word.text.upper()), *answer.place), text(self.function)], []
+            ended = self.probe.trace(at_token=False)[2]
+            if self.function == b"call.type$" and ended:
+                self.calls.append(text(ended))
         else:
             self.function = self.lexeme.text.lower()
-            self.calls, reached = self.probe.trace()
+            self.calls, reached, _ = self.probe.trace()
             self.values = self.probe.stack(reached) if reached else []
             self.enter()
 
