@@ -1,6 +1,5 @@
 -- What joining gives is the joined list, and fits the style.
-use Rattle.std.proofs.Common.{◌≡◌, ℕ, List, [], ◌∷◌, ◌++◌, Option, Some, None, Bool, map, refl, sym, ap, ◌∙◌, subst}
-use Rattle.std.specs.Prelude.{flat_map}
+use Rattle.std.proofs.Common.{◌≡◌, ℕ, List, [], ◌∷◌, Option, Some, None, Bool, map, refl, sym, ap, ◌∙◌, subst}
 use Rattle.std.specs.List.{AllByRecursion}
 use Rattle.bv_base.specs.KeySets.{has_lowered}
 use Rattle.name_table.specs.declared.style.Style.{Style}
@@ -12,11 +11,10 @@ use Rattle.bst_meaning.specs.Entries.{EntryFits, Fits, IsByteList}
 use Rattle.bst_meaning.specs.declared.entry.Entry.{Entry}
 use Rattle.entry_list.specs.declared.joined.Joined.{Joined}
 use Rattle.entry_list.specs.Bytes.{HasBytes}
-use Rattle.entry_list.specs.Citing.{cited_list, no_entries}
-use Rattle.entry_list.specs.Fields.{Declared, declared_fields, is_parent_listed, joined_entry, values_of, without_parent}
-use Rattle.entry_list.specs.Joining.{joined}
+use Rattle.entry_list.specs.Fields.{Declared, declared_fields, is_parent_listed, joined_entry, values_of}
+use Rattle.entry_list.specs.Joining.{all_joined, all_warnings, joined}
 use Rattle.entry_list.specs.Keys.{AreCitations, Listed, is_listed}
-use Rattle.entry_list.specs.Parents.{appended, parent_of, whole_list}
+use Rattle.entry_list.specs.Parents.{parent_of, whole_list}
 use Rattle.entry_list.specs.Tables.{entry_by, has_parent}
 use Rattle.entry_list.proofs.Declaring.{declared_ids}
 use Rattle.entry_list.proofs.Keyed.{IsKeyed, whole_keyed}
@@ -24,31 +22,25 @@ use Rattle.entry_list.proofs.Keyed.{IsKeyed, whole_keyed}
 abbrev one : List Entry → List ℕ → List (List ℕ) → Joined
 one entries preamble warnings = record { list = record { entries = entries; preamble = preamble }; warnings = warnings }
 
-pub whole_is : (items : List AuxItem) (entries : List RawEntry) (cited list : List Listed) → cited ≡ cited_list items entries
-    → list ≡ cited ++ appended entries cited → list ≡ whole_list items entries
-whole_is items entries cited list is all = all ∙ ap (λ c. c ++ appended entries c) is
-
-pub entries_are : (style : Style) (items : List AuxItem) (raw : List RawEntry) (list : List Listed) (declared : List Declared)
-    (entries : List Entry) → list ≡ whole_list items raw → declared ≡ declared_fields style
-    → entries ≡ map (joined_entry declared raw list) list
-    → entries ≡ map (joined_entry (declared_fields style) raw (whole_list items raw)) (whole_list items raw)
-entries_are style items raw list declared entries whole fields are =
+-- the entries that are joined over the table of the databases' entries are those over the databases
+pub entries_are : (style : Style) (items : List AuxItem) (table raw : List RawEntry) (list : List Listed) (entries : List Entry)
+    → table ≡ raw → list ≡ whole_list items table → entries ≡ all_joined style table list
+    → entries ≡ all_joined style raw (whole_list items raw)
+entries_are style items table raw list entries same whole are =
     are
-    ∙ ap (λ d. map (joined_entry d raw list) list) fields
-    ∙ ap (λ l. map (joined_entry (declared_fields style) raw l) l) whole
+    ∙ ap (all_joined style table) whole
+    ∙ ap (λ r. all_joined style r (whole_list items r)) same
 
-pub joined_is : (style : Style) (items : List AuxItem) (database : Database) (list : List Listed) (first warnings : List (List ℕ))
-    (entries : List Entry) (preamble : List ℕ) → list ≡ whole_list items database.entries
-    → entries ≡ map (joined_entry (declared_fields style) database.entries (whole_list items database.entries)) (whole_list items database.entries)
-    → first ≡ no_entries items database.entries
-    → warnings ≡ first ++ flat_map (without_parent database.entries) list → preamble ≡ database.preamble
+pub joined_is : (style : Style) (items : List AuxItem) (database : Database) (table : List RawEntry) (entries : List Entry)
+    (preamble : List ℕ) (warnings : List (List ℕ)) → table ≡ database.entries
+    → entries ≡ all_joined style database.entries (whole_list items database.entries)
+    → preamble ≡ database.preamble → warnings ≡ all_warnings items table
     → one entries preamble warnings ≡ joined style items database
-joined_is style items database list first warnings entries preamble whole are none warned pre =
+joined_is style items database table entries preamble warnings same are pre warned =
+    let all = all_joined style database.entries (whole_list items database.entries) in
     ap (λ e. one e preamble warnings) are
-    ∙ ap (λ p. one (map (joined_entry (declared_fields style) database.entries (whole_list items database.entries)) (whole_list items database.entries)) p warnings) pre
-    ∙ ap (λ w. one (map (joined_entry (declared_fields style) database.entries (whole_list items database.entries)) (whole_list items database.entries)) database.preamble w)
-    (warned ∙ ap (λ f. f ++ flat_map (without_parent database.entries) list) none
-    ∙ ap (λ l. no_entries items database.entries ++ flat_map (without_parent database.entries) l) whole)
+    ∙ ap (λ p. one all p warnings) pre
+    ∙ ap (λ w. one all database.preamble w) (warned ∙ ap (all_warnings items) same)
 
 keeps_same : (keys : List (List ℕ)) (list : List Listed) → ((key : List ℕ) → has_lowered key keys ≡ is_listed key list)
     → (parent : Option RawEntry) → has_parent keys parent ≡ is_parent_listed list parent
@@ -87,7 +79,7 @@ entries_fit style raw whole (listed ∷ list) keyed bytes =
 
 pub list_fits : (style : Style) (items : List AuxItem) (raw : List RawEntry) (entries : List Entry) (preamble : List ℕ)
     → AreCitations items → AreKeyed raw
-    → entries ≡ map (joined_entry (declared_fields style) raw (whole_list items raw)) (whole_list items raw)
+    → entries ≡ all_joined style raw (whole_list items raw)
     → AllByRecursion HasBytes entries → IsByteList preamble
     → Fits style (record { entries = entries; preamble = preamble })
 list_fits style items raw entries preamble cited keyed are bytes pre =

@@ -1,20 +1,25 @@
 //! Joining citations and databases.
 
 ghost use Rattle.std.specs.Prelude.{◌≡◌, IfOk};
+ghost use Rattle.std.specs.List.{AllByRecursion};
 ghost use Rattle.bib_read.specs.Additions.{AreKeyed};
 ghost use Rattle.bst_meaning.specs.Entries.{Fits};
+ghost use Rattle.entry_list.specs.Bytes.{HasBytes};
 ghost use Rattle.entry_list.specs.Joining as joining;
 ghost use Rattle.entry_list.specs.Keys.{AreCitations};
+ghost use Rattle.entry_list.specs.Parents as naming;
 
-use crate::citing::cited_list;
+use crate::chosen::Chosen;
+use crate::citing::{Cited, cited_list};
 use crate::entry_table::EntryTable;
 use crate::fields::{copied, declared_fields, join_entries, warn_of_parents};
 use crate::joined::Joined;
 use crate::parents::append_parents;
 use aux_read::aux::AuxItem;
 use bib_read::database::Database;
-use bst_meaning::entry::EntryList;
+use bst_meaning::entry::{Entry, EntryList};
 use bv_base::memory::NoMemory;
+use bv_base::seq::Seq;
 use name_table::style::Style;
 use std::alloc::Global;
 
@@ -40,16 +45,42 @@ pub fn join(
     ensures fits { IfOk result (λ found. Fits style.now found.list) }
 {
     let table = EntryTable::new(alloc, database.entries.as_slice())?;
-    let cited = cited_list(alloc, items, &table)?;
-    let mut list = cited.list;
-    let mut warnings = cited.warnings;
-    append_parents(alloc, &mut list, &table)?;
-    warn_of_parents(alloc, &mut warnings, &table, list.as_slice())?;
-    let declared = declared_fields(alloc, style)?;
-    let entries = join_entries(alloc, declared.as_slice(), &table, list.as_slice())?;
+    let whole = whole_list(alloc, items, &table)?;
+    let entries = entries_of(alloc, style, &table, whole.list.as_slice())?;
     let preamble = copied(alloc, database.preamble.as_slice())?;
     Ok(Joined {
         list: EntryList { entries, preamble },
-        warnings,
+        warnings: whole.warnings,
     })
+}
+
+/// The cited entries and the parents that are appended, and the warnings of both.
+fn whole_list<'a>(
+    alloc: Global,
+    items: &'a [AuxItem],
+    table: &EntryTable<'a>,
+) -> Result<Cited<'a>, NoMemory>
+    ensures list { IfOk result (λ cited. cited.list.items ≡ naming.whole_list items.now table.now) }
+    ensures warnings { IfOk result (λ cited. cited.warnings ≡ joining.all_warnings items.now table.now) }
+{
+    let cited = cited_list(alloc, items, table)?;
+    let mut list = cited.list;
+    let mut warnings = cited.warnings;
+    append_parents(alloc, &mut list, table)?;
+    warn_of_parents(alloc, &mut warnings, table, list.as_slice())?;
+    Ok(Cited { list, warnings })
+}
+
+/// The entries of a list, with the fields that the style declares.
+fn entries_of(
+    alloc: Global,
+    style: &Style,
+    table: &EntryTable<'_>,
+    list: &[Chosen<'_>],
+) -> Result<Seq<Entry>, NoMemory>
+    ensures joined { IfOk result (λ entries. entries ≡ joining.all_joined style.now table.now list.now) }
+    ensures bytes { IfOk result (AllByRecursion HasBytes) }
+{
+    let declared = declared_fields(alloc, style)?;
+    join_entries(alloc, declared.as_slice(), table, list)
 }
