@@ -5,7 +5,6 @@ mod Counted
 mod FaultsStand
 mod Held
 mod Kept
-mod Keys
 mod Lexed
 mod Lists
 mod Lowered

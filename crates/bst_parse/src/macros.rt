@@ -3,32 +3,33 @@
 ghost use Rattle.std.specs.Prelude.{◌≡◌, [], ◌∷◌, ◌++◌, OnOk};
 ghost use Rattle.bst_parse.specs.Names.{has_macro};
 
+use bv_base::key_set::KeySet;
 use bv_base::memory::NoMemory;
 use bv_base::seq::Seq;
 use bv_base::text::Text;
-use indexmap::IndexMap;
 use name_table::style::Macro;
 use std::alloc::Global;
 use std::marker::Model;
 
-/// The macros so far, in order, with their names in a hash table. Contracts see their list.
+/// The macros so far, in order, with the set of their names. Contracts see their list.
 #[derive(Drop)]
 pub(crate) struct Macros {
     alloc: Global,
     list: Seq<Macro>,
-    names: IndexMap<Vec<u8>, ()>,
+    names: KeySet,
 }
 
 impl Model for Macros {
     ghost use Rattle.std.specs.Prelude.{◌≡◌, ℕ, List};
     ghost use Rattle.name_table.specs.declared.style.Macro.{Macro};
-    ghost use Rattle.bst_parse.specs.Names.{has_macro, has_key};
+    ghost use Rattle.bst_parse.specs.Names.{has_macro};
+    ghost use Rattle.bv_base.specs.KeySets.{has_key};
 
     ghost Value = { List Macro };
 
     ghost view = { λ m. m.list };
 
-    ghost invariant = { λ m. (name : List ℕ) → has_macro name m.list ≡ has_key name m.names.entries };
+    ghost invariant = { λ m. (name : List ℕ) → has_macro name m.list ≡ has_key name m.names };
 }
 
 impl Macros {
@@ -39,7 +40,7 @@ impl Macros {
         Macros {
             alloc,
             list: Seq::new(alloc),
-            names: IndexMap::new(alloc),
+            names: KeySet::new(alloc),
         }
     }
 
@@ -47,7 +48,7 @@ impl Macros {
     pub(crate) fn has(&self, name: &[u8]) -> bool
         ensures { result ≡ has_macro name.now self.now }
     {
-        self.names.contains_key(name)
+        self.names.has(name)
     }
 
     /// Adds a macro.
@@ -60,7 +61,7 @@ impl Macros {
             value: Text::from_slice(self.alloc, value)?,
         };
         self.list.push(one)?;
-        let Ok(_) = self.names.insert(key, ()) else {
+        let Ok(_) = self.names.add(key) else {
             let _ = self.list.pop();
             return Err(NoMemory);
         };
