@@ -69,12 +69,13 @@ function pass(byte, i, at) {
     }
 }
 
-# Where the next item begins behind the fault: blanks go up to the byte before.
-function find_next(    i, rest, skipped) {
-    for (i = line; i <= NR; i++) {
+# Where the next item begins behind the fault, at an `@` that begins a line or that a word and an opening follow: blanks go up to
+# the byte before.
+function find_next(    i, skipped, rest) {
+    for (i = line; fault != "EndOfFile" && i <= NR; i++) {
         skipped = i == line ? column - 1 : 0
         rest = substr(text[i], skipped + 1)
-        if (fault != "EndOfFile" && match(rest, /@[ \t]*[A-Za-z]+[ \t]*[{(]/)) {
+        if (match(rest, /@[ \t]*[A-Za-z]+[ \t]*[{(]/) || (i > line && match(rest, /^[ \t]*@/))) {
             stop_line = i
             stop_column = skipped + RSTART - 1
             return
@@ -103,16 +104,24 @@ function before_fault(    i, joined) {
 }
 
 # What bibtex says where another byte has to stand, told by what stands before.
-function expected(before,    field) {
-    if (before == "@") return "You're missing an entry type"
+function expected(before,    kind, field) {
+    kind = tolower(before)
+    sub(/^@[ \t\r]*/, "", kind)
+    sub(/[ \t\r{(].*/, "", kind)
+    if (kind == "") return "You're missing an entry type"
     if (before !~ /[{(]/) return "I was expecting a `{' or a `('"
+    if (kind == "string" && before ~ /[{(]$/) return "You're missing a string name"
+    if (kind == "string" && before !~ /=/) return "I was expecting an \"=\""
+    if (kind == "preamble" && before ~ /[{(]$/) return "You're missing a field part"
+    if (kind ~ /^(string|preamble)$/ && before !~ /[=#]$/)
+        return "Missing \"" closing "\" in " kind " command"
     if (before ~ /^@[^{(]*[{(]$/) return "You're missing an entry key"
     if (before ~ /[=#]$/) return "You're missing a field part"
     if (before ~ /,$/) return "You're missing a field name"
     field = before
     sub(/.*,/, "", field)
     if (before ~ /,/ && field ~ /^[ \t\r]*[^ \t\r={}"#]+$/) return "I was expecting an \"=\""
-    return "I was expecting a `,' or a `}'"
+    return "I was expecting a `,' or a `" closing "'"
 }
 
 function tell(    words, read, rest, indent) {

@@ -2,6 +2,7 @@
 marks at the begin and the end of each function and before the token at fault, and then another that logs the stack when that
 token is reached for the last time. Everything else of the copies is as it stands, on the same lines."""
 import os
+import re
 import subprocess
 import tempfile
 
@@ -30,9 +31,10 @@ def edited(style, edits):
 class Probe:
     """The runs for one place of a style: of the .aux file, or without one of no entries at all."""
 
-    def __init__(self, program, style, offset, aux, data, steps):
-        self.program, self.style, self.offset, self.aux, self.data = program, style, offset, aux, data
-        self.steps = min(MOST_STEPS, 1000 + 40 * steps)
+    def __init__(self, program, style, offset, aux, data, steps, fault=None):
+        self.program, self.style, self.offset, self.aux, self.data, self.fault = program, style, offset, aux, data, fault
+        # Marks take steps too. What runs on behind the place is bounded, since it may write without end.
+        self.steps = min(1000 + 40 * steps, max(100000000, 2 * steps), MOST_STEPS)
 
     def run(self, copy):
         """The log of a run of a copy of the style."""
@@ -83,8 +85,11 @@ class Probe:
 
     def trace(self, at_token=True):
         """The calls that the run ends in, the outermost first, how often the token was reached, and which function was the last to
-        end with none around it."""
+        end with none around it. Where the copy doesn't end in the same fault on the same line, nothing is known."""
         log = self.run(edited(self.style.text, self.marks() + ([(self.offset, logged(b"@"))] if at_token else [])))
+        last = log[-2] if len(log) > 1 else b""
+        if self.fault and not re.match(rb"fault %d:[0-9]+ %s " % (self.style.line(self.offset), self.fault.encode()), last):
+            return [], 0, None
         command, calls, reached, ended = None, [], 0, None
         for line in log:
             if not line.startswith(MARK):

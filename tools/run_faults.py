@@ -15,7 +15,7 @@ class Stood:
         self.lexeme, _ = style.lexeme_at(offset)
         self.command = next((it for it in style.commands if it.word.start == offset), None)
         steps = int(answer.words[2]) if answer.aux and answer.words[2].isdigit() else 1000000
-        self.probe = Probe(program, style, offset, answer.aux, answer.data, steps)
+        self.probe = Probe(program, style, offset, answer.aux, answer.data, steps, answer.name)
         self.test = False
         if self.command:
             self.function = self.command.groups[0].inside[0].text.lower()
