@@ -1,6 +1,6 @@
 //! Small databases, worked out by hand.
 
-use crate::database::Database;
+use crate::database::{Database, RawEntry};
 use crate::fault::BibFault;
 use crate::read::{opening, read};
 use bv_base::limits::DATA_BYTES;
@@ -33,6 +33,12 @@ fn style(alloc: Global) -> Result<Style, NoMemory> {
         texts: Seq::new(alloc),
         macros,
     })
+}
+
+/// The database before the first text.
+fn before(alloc: Global) -> Result<Database, NoMemory> {
+    let style = style(alloc)?;
+    opening(alloc, &style)
 }
 
 /// Texts with a byte where another has to stand, and the place of that byte.
@@ -159,8 +165,7 @@ static REPEATED: [(&[u8], u32, u32); 5] = [
 
 #[test]
 fn the_fault_with_the_least_place_is_answered(rt: HostRuntime) -> Result<(), Fail> {
-    let style = style(rt.alloc())?;
-    let before = opening(rt.alloc(), &style)?;
+    let before = before(rt.alloc())?;
     expect_faults(
         &rt,
         rt.alloc(),
@@ -234,6 +239,15 @@ fn push_line(
     Ok(())
 }
 
+/// Appends an entry and its fields as lines.
+fn push_entry(shown: &mut Vec<u8>, entry: &RawEntry) -> Result<(), NoMemory> {
+    push_line(shown, b'@', &entry.entry_type, b' ', entry.key.as_slice())?;
+    for field in entry.fields.as_slice() {
+        push_line(shown, b'.', &field.name, b'=', field.value.as_slice())?;
+    }
+    Ok(())
+}
+
 /// A database as lines.
 fn shown(alloc: Global, database: &Database) -> Result<Vec<u8>, NoMemory> {
     let mut shown = Vec::new(alloc);
@@ -241,10 +255,7 @@ fn shown(alloc: Global, database: &Database) -> Result<Vec<u8>, NoMemory> {
         push_line(&mut shown, b'#', &one.name, b'=', one.value.as_slice())?;
     }
     for one in database.entries.as_slice() {
-        push_line(&mut shown, b'@', &one.entry_type, b' ', one.key.as_slice())?;
-        for field in one.fields.as_slice() {
-            push_line(&mut shown, b'.', &field.name, b'=', field.value.as_slice())?;
-        }
+        push_entry(&mut shown, one)?;
     }
     push_line(&mut shown, b'<', &database.preamble, b'>', b"")?;
     for one in database.warnings.as_slice() {
@@ -387,10 +398,8 @@ static READ: [(&[u8], &[u8]); 35] = [
 
 #[test]
 fn texts_are_read(rt: HostRuntime) -> Result<(), Fail> {
-    let style = style(rt.alloc())?;
-    let before = opening(rt.alloc(), &style)?;
-    expect_databases(&rt, rt.alloc(), &before, &READ)?;
-    Ok(())
+    let before = before(rt.alloc())?;
+    expect_databases(&rt, rt.alloc(), &before, &READ)
 }
 
 /// Expects texts to give these databases.
@@ -403,26 +412,36 @@ fn expect_databases(
     for (source, want) in rows {
         assert!(rt; source.len() <= DATA_BYTES);
         let database = read(alloc, source, before)?;
-        assert!(rt; shown(alloc, &database)?.as_slice() == *want);
+        expect_shown(rt, alloc, &database, want)?;
     }
     Ok(())
 }
 
+/// Expects a database to be these lines.
+fn expect_shown(
+    rt: &impl Abort,
+    alloc: Global,
+    database: &Database,
+    want: &[u8],
+) -> Result<(), Fail> {
+    let lines = shown(alloc, database)?;
+    assert!(rt; lines.as_slice() == want);
+    Ok(())
+}
+
 #[test]
-fn texts_add_to_what_was_read_before(rt: HostRuntime) -> Result<(), Fail> {
-    let style = style(rt.alloc())?;
-    let opened = opening(rt.alloc(), &style)?;
-    assert_eq!(rt;
-        shown(rt.alloc(), &opened)?.as_slice(),
-        b"#jan=January\n<>\n".as_slice()
-    );
-    let first = read(rt.alloc(), b"@A{One,}", &opened)?;
-    let source = b"text @string{ A = \"x  y\" } @STRING(b = a # 1 # {{Z}\" })
+fn a_style_opens_with_its_macros(rt: HostRuntime) -> Result<(), Fail> {
+    let before = before(rt.alloc())?;
+    expect_shown(&rt, rt.alloc(), &before, b"#jan=January\n<>\n")
+}
+
+/// A text, and what a database has after another text and it.
+static BOTH: [(&[u8], &[u8]); 1] = [(
+    b"text @string{ A = \"x  y\" } @STRING(b = a # 1 # {{Z}\" })
 @preamble{\" p \" # jan}@preamble{Q # \"\n\"}
 @comment{ @Misc{ Key , Title = {  a {\"} \t b } # zz # \"c{\"}d\", title = unknown, year=1999 , } }
-@misc(k} )@string{A = a # \"!\"}";
-    let both = read(rt.alloc(), source, &first)?;
-    let want = b"#jan=January
+@misc(k} )@string{A = a # \"!\"}",
+    b"#jan=January
 #a=x y!
 #b=x y1{Z}\" 
 @a One
@@ -435,7 +454,12 @@ fn texts_add_to_what_was_read_before(rt: HostRuntime) -> Result<(), Fail> {
 !Warning--undefined macro zz!
 !Warning--second field title in Key!
 !Warning--undefined macro unknown!
-";
-    assert_eq!(rt; shown(rt.alloc(), &both)?.as_slice(), want.as_slice());
-    Ok(())
+",
+)];
+
+#[test]
+fn texts_add_to_what_was_read_before(rt: HostRuntime) -> Result<(), Fail> {
+    let before = before(rt.alloc())?;
+    let first = read(rt.alloc(), b"@A{One,}", &before)?;
+    expect_databases(&rt, rt.alloc(), &first, &BOTH)
 }
