@@ -31,30 +31,3 @@ fn ends_in_stop(s: &[u8]) -> bool
     }
     false
 }
-
-#[cfg(test)]
-mod tests {
-    use super::*;
-    use std::test::Fail;
-
-    #[test]
-    fn the_last_byte_that_is_no_closing_brace_decides(rt: HostRuntime) -> Result<(), Fail> {
-        let rows: [(&[u8], &[u8]); 11] = [
-            (b"Hi}", b"Hi}."),
-            (b"Hi.}", b"Hi.}"),
-            (b"", b""),
-            (b"Hi", b"Hi."),
-            (b"Why?", b"Why?"),
-            (b"Oh!}}", b"Oh!}}"),
-            (b"}", b"}."),
-            (b"}}", b"}}."),
-            (b"a.b", b"a.b."),
-            (b"a. ", b"a. ."),
-            (b"{.", b"{."),
-        ];
-        for (text, wanted) in rows {
-            assert_eq!(rt; add_period(rt.alloc(), text)?.as_slice(), wanted);
-        }
-        Ok(())
-    }
-}

@@ -9,6 +9,8 @@ pub mod laws;
 mod levels;
 pub mod purify;
 pub mod substring;
+#[cfg(test)]
+mod tests;
 pub mod text_length;
 pub mod text_prefix;
 pub mod width;

@@ -27,30 +27,3 @@ pub fn text_length(s: &[u8]) -> u64
     }
     count
 }
-
-#[cfg(test)]
-mod tests {
-    use super::*;
-
-    #[test]
-    fn a_special_character_counts_one(rt: HostRuntime) {
-        let rows: [(&[u8], u64); 13] = [
-            (br"{\'E}cole", 5),
-            (b"{TeX}", 3),
-            (b"", 0),
-            (b"{}", 0),
-            (br"{\'E", 1),
-            (br"{\", 1),
-            (br"a{\v{o}}b", 3),
-            (br"{\{a}b}c", 2),
-            (br"{{\'E}}", 3),
-            (br"{ \x}", 3),
-            (br"}{\i}x", 2),
-            (br"\{a}", 2),
-            (b"\xc3\xa9", 2),
-        ];
-        for (text, wanted) in rows {
-            assert_eq!(rt; text_length(text), wanted);
-        }
-    }
-}

@@ -54,35 +54,3 @@ fn prefix(alloc: Global, s: &[u8], count: u32) -> Result<(Vec<u8>, usize), NoMem
     }
     Ok((text, level))
 }
-
-#[cfg(test)]
-mod tests {
-    use super::*;
-    use std::test::Fail;
-
-    #[test]
-    fn a_prefix_is_closed(rt: HostRuntime) -> Result<(), Fail> {
-        let rows: [(&[u8], i32, &[u8]); 16] = [
-            (br"{\'E}cole", 2, br"{\'E}c"),
-            (b"{TeX}book", 2, b"{Te}"),
-            (b"abc", 0, b""),
-            (b"abc", i32::MIN, b""),
-            (b"abc", 3, b"abc"),
-            (b"abc", i32::MAX, b"abc"),
-            (b"", 3, b""),
-            (b"{a}b", 1, b"{a}"),
-            (b"{{a}b", 1, b"{{a}}"),
-            (b"{{a}b", 2, b"{{a}b}"),
-            (b"a{}{", 1, b"a"),
-            (b"a{}{", 2, b"a{}{}"),
-            (b"}ab", 1, b"}a"),
-            (br"{\'E", 1, br"{\'E}"),
-            (br"{\'{E", 1, br"{\'{E}}"),
-            (br"x{\'E}}y", 3, br"x{\'E}}y"),
-        ];
-        for (text, count, wanted) in rows {
-            assert_eq!(rt; text_prefix(rt.alloc(), text, count)?.as_slice(), wanted);
-        }
-        Ok(())
-    }
-}
