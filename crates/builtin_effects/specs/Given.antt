@@ -18,5 +18,6 @@ Gives result left wanted = MatchResult result (λ after. wanted ≡ gives left a
 abbrev pub facts_of : Said → List Fact
 facts_of said = option_to_list said.fact
 
+-- the rows that are said of it
 abbrev pub rows_of : Said → List Row
 rows_of said = option_to_list said.first ++ option_to_list said.second

@@ -11,6 +11,4 @@ pub mod results;
 pub mod steps;
 pub mod substring;
 pub mod surroundings;
-#[cfg(test)]
-mod tests;
 pub mod texts;

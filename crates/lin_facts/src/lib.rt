@@ -3,5 +3,3 @@
 
 pub mod follows;
 pub mod row;
-#[cfg(test)]
-mod tests;

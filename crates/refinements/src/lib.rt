@@ -24,8 +24,6 @@ pub mod laws;
 pub mod needed;
 pub mod operands;
 pub mod strings;
-#[cfg(test)]
-mod tests;
 pub mod weighing;
 
 /// The states of the cases of a test, that of 1 or of an integer above 0 first. A test that is decided has one case. The

@@ -31,12 +31,15 @@ pub record Cases : Type 0 where
   pub states : List State
   pub hints : List Hint
 
+-- those, or why the test has none
 abbrev pub Split : Type 0
 Split = Result Cases EffectFault
 
+-- the cases of a test, where no hint is taken any more
 abbrev pub given : List State → List Hint → Split
 given states hints = Ok (record { states = states; hints = hints })
 
+-- a demand of a test isn't met
 abbrev pub refused : DemandKind → ℕ → Split
 refused kind operand = Err (fails kind operand)
 
@@ -72,6 +75,7 @@ weighed_by cond state Keep hints = given (state ∷ []) hints
 weighed_by cond state (Drop proof) hints = if shows cond state proof absurdity then given [] hints else Err (NotEntailed 0)
 weighed_by cond state hint hints = Err WrongHint
 
+-- the same, where the hint is the first of a list
 abbrev pub weighed : Cond → State → List Hint → Split
 weighed cond state [] = Err HintsShort
 weighed cond state (hint ∷ hints) = weighed_by cond state hint hints
@@ -81,6 +85,7 @@ abbrev pub before : List State → Split → Split
 before states (Ok cases) = given (states ++ cases.states) cases.hints
 before states (Err fault) = Err fault
 
+-- a rule for the hints that the cases before it left
 abbrev pub followed_by : Split → (List Hint → Split) → Split
 followed_by (Ok cases) rule = before cases.states (rule cases.hints)
 followed_by (Err fault) rule = Err fault
@@ -100,10 +105,12 @@ pub record Two : Type 0 where
   pub upper : Sym
   pub rest : State
 
+-- the top operand, of a stack whose top comes first
 abbrev pub one_of : List Sym → State → Result One EffectFault
 one_of [] state = Err (fails EmptyPop 1)
 one_of (a ∷ rest) state = Ok (record { operand = a; rest = record state { stack = reverse rest } })
 
+-- the two topmost, of a stack whose top comes first
 abbrev pub two_of : List Sym → State → Result Two EffectFault
 two_of [] state = Err (fails EmptyPop 1)
 two_of (b ∷ []) state = Err (fails EmptyPop 2)
@@ -114,6 +121,7 @@ abbrev pub field_met : State → Result One EffectFault → Result One EffectFau
 field_met state (Ok one) = if is_of_kind state Optional one.operand then Ok one else Err (fails WrongKind 1)
 field_met state (Err fault) = Err fault
 
+-- the operand of `empty$` and of `missing$`
 abbrev pub field_of : State → Result One EffectFault
 field_of state = field_met state (one_of (reverse state.stack) state)
 
@@ -125,6 +133,7 @@ integers_met state (Ok two) =
     else Err (fails WrongKind 1)
 integers_met state (Err fault) = Err fault
 
+-- the operands of `<` and of `>`
 abbrev pub integers_of : State → Result Two EffectFault
 integers_of state = integers_met state (two_of (reverse state.stack) state)
 
@@ -139,6 +148,7 @@ empty_cases (Some answer) one hints = decided answer one.rest hints
 empty_cases None one hints =
     both (Blank one.operand ∷ []) (Is one.operand Str ∷ Nonblank one.operand ∷ []) one.rest hints
 
+-- it takes a string or a missing field
 abbrev pub empty : State → List Hint → Split
 empty state hints = split_by (field_of state) (λ one. empty_cases (first_said emptiness_said one.operand.0 state.facts) one hints)
 
@@ -148,6 +158,7 @@ missing_cases Missing one hints = decided true one.rest hints
 missing_cases Str one hints = decided false one.rest hints
 missing_cases _ one hints = both (Is one.operand Missing ∷ []) (Is one.operand Str ∷ []) one.rest hints
 
+-- it takes the same
 abbrev pub missing : State → List Hint → Split
 missing state hints = split_by (field_of state) (λ one. missing_cases (known_kind state.facts one.operand.0) one hints)
 
@@ -166,21 +177,27 @@ abbrev pub integers_decided : (ℤ → ℤ → Bool) → Bool → List Fact → 
 integers_decided test reflexive facts a b =
     answer_of (nat_eq a.0 b.0) reflexive (answer test (exact_integer facts a.0) (exact_integer facts b.0))
 
+-- two integers are equal
 abbrev pub is_equal : ℤ → ℤ → Bool
 is_equal x y = is_zero (x -ℤ y)
 
+-- the first of two integers is less
 abbrev pub is_less : ℤ → ℤ → Bool
 is_less x y = is_positive (y -ℤ x)
 
+-- the first of two integers is greater
 abbrev pub is_greater : ℤ → ℤ → Bool
 is_greater x y = is_positive (x -ℤ y)
 
+-- whether `=` of two integers is decided: a symbol is equal to itself
 abbrev pub equal_decided : List Fact → Sym → Sym → Option Bool
 equal_decided facts a b = integers_decided is_equal true facts a b
 
+-- whether `<` is: no symbol is less than itself
 abbrev pub less_decided : List Fact → Sym → Sym → Option Bool
 less_decided facts a b = integers_decided is_less false facts a b
 
+-- whether `>` is: no symbol is greater than itself
 abbrev pub greater_decided : List Fact → Sym → Sym → Option Bool
 greater_decided facts a b = integers_decided is_greater false facts a b
 
@@ -194,9 +211,11 @@ integer_cases cond None holds fails rest hints =
 abbrev pub less_rows : Sym → Sym → List Row
 less_rows a b = exceeds (Value b.0) (Value a.0) (pos 1) ∷ []
 
+-- the first is at least the second
 abbrev pub at_least_rows : Sym → Sym → List Row
 at_least_rows a b = exceeds (Value a.0) (Value b.0) (pos 0) ∷ []
 
+-- both are equal
 abbrev pub equal_rows : Sym → Sym → List Row
 equal_rows a b = exceeds (Value a.0) (Value b.0) (pos 0) ∷ exceeds (Value b.0) (Value a.0) (pos 0) ∷ []
 
@@ -215,13 +234,16 @@ abbrev pub texts_decided : List Fact → Sym → Sym → Option Bool
 texts_decided facts a b =
     answer_of (nat_eq a.0 b.0) true (answer (pointwise nat_eq) (exact_text facts a.0) (exact_text facts b.0))
 
+-- an exact text as a fact on another symbol
 abbrev pub passed : Option (List ℕ) → Sym → List Fact
 passed None s = []
 passed (Some text) s = TextFact s text ∷ []
 
+-- the exact text of each as a fact on the other
 abbrev pub passed_both : List Fact → Sym → Sym → List Fact
 passed_both facts a b = passed (exact_text facts a.0) b ++ passed (exact_text facts b.0) a
 
+-- the cases of `=` of two strings, with the facts of that of 1
 abbrev pub text_cases : Option Bool → List Fact → State → List Hint → Split
 text_cases (Some answer) facts rest hints = decided answer rest hints
 text_cases None facts rest hints = both facts [] rest hints
@@ -238,6 +260,7 @@ equal_by cond state Str two hints =
     else refused WrongKind 2
 equal_by cond state _ two hints = refused WrongKind 1
 
+-- it takes two integers or two strings, as the top one is
 abbrev pub equal : Cond → State → List Hint → Split
 equal cond state hints = split_by (two_of (reverse state.stack) state) (λ two.
     equal_by cond state (known_kind state.facts two.upper.0) two hints)
@@ -246,14 +269,17 @@ equal cond state hints = split_by (two_of (reverse state.stack) state) (λ two.
 abbrev pub positive_rows : Sym → List Row
 positive_rows s = at_least (Value s.0) (pos 1) ∷ []
 
+-- it is at most 0
 abbrev pub not_positive_rows : Sym → List Row
 not_positive_rows s = at_most (Value s.0) (pos 0) ∷ []
 
+-- the cases of that test: an exact integer has one
 abbrev pub above_cases : Cond → State → Sym → Option ℤ → List Hint → Split
 above_cases cond state s (Some n) hints = given (state ∷ []) hints
 above_cases cond state s None hints =
     weighed_both cond (with_case [] (positive_rows s) state) (with_case [] (not_positive_rows s) state) hints
 
+-- the cases of each test
 abbrev pub split_of : Cond → State → Test → List Hint → Split
 split_of cond state Empty hints = empty state hints
 split_of cond state IsMissing hints = missing state hints

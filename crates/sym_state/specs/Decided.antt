@@ -29,14 +29,17 @@ abbrev pub integer_said : Fact → Option ℤ
 integer_said (Int s n) = Some n
 integer_said _ = None
 
+-- the text that one fact says
 abbrev pub text_said : Fact → Option (List ℕ)
 text_said (Text s text) = Some text
 text_said _ = None
 
+-- the name that one fact says
 abbrev pub name_said : Fact → Option NameId
 name_said (Call s name) = Some name
 name_said _ = None
 
+-- the block that one fact says
 abbrev pub block_said : Fact → Option ℕ
 block_said (Block s number) = Some number
 block_said _ = None
@@ -105,6 +108,7 @@ first_said said s (fact ∷ facts) =
 abbrev pub exact_integer : List Fact → ℕ → Option ℤ
 exact_integer facts s = first_said integer_said s facts
 
+-- the exact text of a symbol
 abbrev pub exact_text : List Fact → ℕ → Option (List ℕ)
 exact_text facts s = first_said text_said s facts
 
@@ -113,6 +117,7 @@ pub data Function : Type 0 where
   ByName : (name : NameId) → Function
   ByNumber : (number : ℕ) → Function
 
+-- that function, where the fact says one
 abbrev pub function_said : Fact → Option Function
 function_said (Call s name) = Some (ByName name)
 function_said (Block s number) = Some (ByNumber number)

@@ -28,6 +28,7 @@ Outcome = Result After EffectFault
 abbrev pub fails : DemandKind → ℕ → EffectFault
 fails kind operand = Demand (record { kind = kind; operand = operand })
 
+-- an effect ends by that fault
 abbrev pub unmet : DemandKind → ℕ → Outcome
 unmet kind operand = Err (fails kind operand)
 
@@ -40,6 +41,7 @@ abbrev pub one_of : List Sym → State → (Sym → State → Outcome) → Outco
 one_of [] state rule = unmet EmptyPop 1
 one_of (a ∷ rest) state rule = rule a (record state { stack = reverse rest })
 
+-- a rule for the top operand of a state
 abbrev pub one_operand : State → (Sym → State → Outcome) → Outcome
 one_operand state rule = one_of (reverse state.stack) state rule
 
@@ -49,6 +51,7 @@ two_of [] state rule = unmet EmptyPop 1
 two_of (b ∷ []) state rule = unmet EmptyPop 2
 two_of (b ∷ (a ∷ rest)) state rule = rule a b (record state { stack = reverse rest })
 
+-- a rule for the two topmost
 abbrev pub two_operands : State → (Sym → Sym → State → Outcome) → Outcome
 two_operands state rule = two_of (reverse state.stack) state rule
 
@@ -59,6 +62,7 @@ three_of (c ∷ []) state rule = unmet EmptyPop 2
 three_of (c ∷ (b ∷ [])) state rule = unmet EmptyPop 3
 three_of (c ∷ (b ∷ (a ∷ rest))) state rule = rule a b c (record state { stack = reverse rest })
 
+-- a rule for the three topmost
 abbrev pub three_operands : State → (Sym → Sym → Sym → State → Outcome) → Outcome
 three_operands state rule = three_of (reverse state.stack) state rule
 
@@ -70,6 +74,7 @@ demand met kind operand next = if met then next else unmet kind operand
 abbrev pub is_of_kind : State → Kinds → Sym → Bool
 is_of_kind state kind s = includes kind (known_kind state.facts s.0)
 
+-- a demand that an operand is of a kind
 abbrev pub of_kind : State → Kinds → ℕ → Sym → Outcome → Outcome
 of_kind state kind operand s next = demand (is_of_kind state kind s) WrongKind operand next
 
@@ -84,6 +89,7 @@ abbrev pub step_by : Cond → State → Row → EffectFault → Hint → List Hi
 step_by cond state row fault (Step proof) hints rule = if shows cond state proof row then rule hints else Err fault
 step_by cond state row fault hint hints rule = Err WrongHint
 
+-- the same, where the hint is the first of a list
 abbrev pub step : Cond → State → Row → EffectFault → List Hint → (List Hint → Outcome) → Outcome
 step cond state row fault [] rule = Err HintsShort
 step cond state row fault (hint ∷ hints) rule = step_by cond state row fault hint hints rule
@@ -100,6 +106,7 @@ choice_by cond state wanted row (Step proof) hints by_step by_rule =
 choice_by cond state wanted row Plain hints by_step by_rule = by_rule hints
 choice_by cond state wanted row hint hints by_step by_rule = Err WrongHint
 
+-- the same, where the hint is the first of a list
 abbrev pub choice : Cond → State → Bool → Row → List Hint → (List Hint → Outcome) → (List Hint → Outcome) → Outcome
 choice cond state wanted row [] by_step by_rule = Err HintsShort
 choice cond state wanted row (hint ∷ hints) by_step by_rule = choice_by cond state wanted row hint hints by_step by_rule

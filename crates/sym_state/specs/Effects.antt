@@ -41,6 +41,7 @@ nonblank_where false s = []
 abbrev pub string : State → (Sym → State → Outcome) → Outcome
 string state rule = one_operand state (λ a rest. of_kind state Str 1 a (rule a rest))
 
+-- one integer, and what it gives of the state without it
 abbrev pub integer : State → (Sym → State → Outcome) → Outcome
 integer state rule = one_operand state (λ a rest. of_kind state Int 1 a (rule a rest))
 
@@ -53,6 +54,7 @@ abbrev pub exact_sum : Option ℤ → Option ℤ → (ℤ → ℤ → ℤ) → O
 exact_sum (Some a) (Some b) sum = Some (sum a b)
 exact_sum _ _ sum = None
 
+-- a sum that is exactly known has 32 bits; of another, two steps show that it has
 abbrev pub summed : Cond → State → ℤ → Sym → Sym → State → Option ℤ → List Hint → Outcome
 summed cond state sign a b rest (Some n) hints = demand (has_32_bits n) IntRange 0 (known_integer n hints rest)
 summed cond state sign a b rest None hints =
@@ -67,6 +69,7 @@ summed cond state sign a b rest None hints =
     ∷ []
     ) rest))
 
+-- the effect of both: two integers are added by a rule
 abbrev pub sum : Cond → State → ℤ → (ℤ → ℤ → ℤ) → List Hint → Outcome
 sum cond state sign rule hints = two_operands state (λ a b rest.
     of_kind state Int 1 b (of_kind state Int 2 a
@@ -88,11 +91,13 @@ join state hints = two_operands state (λ a b rest.
 abbrev pub fits_exactly : Option (List ℕ) → ℕ → Bool
 fits_exactly found size = option_map_or (λ text. nat_le (length text) size) found false
 
+-- a new string of at most the variable's size is bound to it
 abbrev pub cut_bound : NameId → ℕ → List Hint → State → Outcome
 cut_bound name size hints rest =
     let r = next_of rest in
     gives hints (with_bind name r (with_symbol Str [] (at_most (Length r.0) (pos size) ∷ []) rest))
 
+-- a string is bound as it is where it fits, by what is known or by a step, and else cut
 abbrev pub string_assigned : Cond → State → NameId → ℕ → Sym → State → List Hint → Outcome
 string_assigned cond state name size a rest hints =
     if fits_exactly (exact_text state.facts a.0) size
@@ -100,6 +105,7 @@ string_assigned cond state name size a rest hints =
     else choice cond state true (at_most (Length a.0) (pos size)) hints
     (λ left. gives left (with_bind name a rest)) (λ left. cut_bound name size left rest)
 
+-- the variable's kind says what it takes
 abbrev pub assigned : Cond → State → Option Kind → NameId → Sym → State → List Hint → Outcome
 assigned cond state (Some IntGlobal) name a rest hints = of_kind state Int 2 a (gives hints (with_bind name a rest))
 assigned cond state (Some StrGlobal) name a rest hints = of_kind state Str 2 a (string_assigned cond state name 20000 a rest hints)
@@ -108,10 +114,12 @@ assigned cond state (Some StrEntry) name a rest hints =
     at_entry state (of_kind state Str 2 a (string_assigned cond state name 250 a rest hints))
 assigned cond state _ name a rest hints = unmet NotVariable 1
 
+-- a function by name is the variable
 abbrev pub assigned_to : Style → Cond → State → Option Function → Sym → State → List Hint → Outcome
 assigned_to style cond state (Some (ByName name)) a rest hints = assigned cond state (kind_of style name) name a rest hints
 assigned_to style cond state _ a rest hints = unmet NotVariable 1
 
+-- the effect: the top operand is the variable, the other its value
 abbrev pub assign : Style → Cond → State → List Hint → Outcome
 assign style cond state hints = two_operands state (λ a f rest.
     of_kind state Func 1 f (assigned_to style cond state (exact_function state.facts f.0) a rest hints))
@@ -127,6 +135,7 @@ add_period state hints = string state (λ a rest.
 abbrev pub no_longer : Sym → List Hint → State → Outcome
 no_longer a hints rest = gives hints (with_result Str [] (exceeds (Length a.0) (Length (next_of rest).0) (pos 0) ∷ []) rest)
 
+-- the effect of `purify$`
 abbrev pub purify : State → List Hint → Outcome
 purify state hints = string state (λ a rest. no_longer a hints rest)
 
@@ -134,6 +143,7 @@ purify state hints = string state (λ a rest. no_longer a hints rest)
 abbrev pub is_mode : Option (List ℕ) → Bool
 is_mode found = option_map_or (λ text. is_some (case_of text)) found false
 
+-- the effect: no longer than the string either
 abbrev pub change_case : State → List Hint → Outcome
 change_case state hints = two_operands state (λ a c rest.
     of_kind state Str 1 c (of_kind state Str 2 a
@@ -144,6 +154,7 @@ abbrev pub one_byte : Option (List ℕ) → Option ℕ
 one_byte (Some (b ∷ [])) = Some b
 one_byte _ = None
 
+-- the number of a known byte, and else one from 0 to 255 where two steps show that there is one byte
 abbrev pub byte_number : Cond → State → Sym → State → Option ℕ → List Hint → Outcome
 byte_number cond state a rest (Some b) hints = known_integer (pos b) hints rest
 byte_number cond state a rest None hints =
@@ -151,6 +162,7 @@ byte_number cond state a rest None hints =
     two_steps cond state (at_least (Length a.0) (pos 1)) (at_most (Length a.0) (pos 1)) (fails NotOneByte 1) hints (λ left.
     gives left (with_result Int [] (at_least (Value r.0) (pos 0) ∷ at_most (Value r.0) (pos 255) ∷ []) rest))
 
+-- the effect
 abbrev pub chr_to_int : Cond → State → List Hint → Outcome
 chr_to_int cond state hints = string state (λ a rest. byte_number cond state a rest (one_byte (exact_text state.facts a.0)) hints)
 
@@ -165,6 +177,7 @@ int_to_chr cond state hints = integer state (λ a rest.
 abbrev pub is_pattern : Option (List ℕ) → Bool
 is_pattern found = option_map_or pattern_ok found false
 
+-- the effect: a string, a number of a name in it and a pattern
 abbrev pub format_name : Cond → State → List Hint → Outcome
 format_name cond state hints = three_operands state (λ s i p rest.
     of_kind state Str 1 p (of_kind state Int 2 i (of_kind state Str 3 s
@@ -187,12 +200,14 @@ num_names cond state hints = string state (λ a rest.
     gives left (with_result Int []
     (exceeds (Value r.0) (Names a.0) (pos 0) ∷ exceeds (Names a.0) (Value r.0) (pos 0) ∷ []) rest)))
 
+-- no more than the bytes of the string
 abbrev pub text_length : Cond → State → List Hint → Outcome
 text_length cond state hints = string state (λ a rest.
     let r = next_of rest in
     step cond state (at_most (Length a.0) (pos 2147483647)) (fails IntRange 0) hints (λ left.
     gives left (with_result Int [] (at_least (Value r.0) (pos 0) ∷ exceeds (Length a.0) (Value r.0) (pos 0) ∷ []) rest)))
 
+-- no more than 1028 for each byte of the string
 abbrev pub width : Cond → State → List Hint → Outcome
 width cond state hints = string state (λ a rest.
     let r = next_of rest in
@@ -206,39 +221,47 @@ abbrev pub size : ℤ → ℕ
 size (pos n) = n
 size (negsuc n) = suc n
 
+-- a result is no longer than a known length, and empty where that is below 0
 abbrev pub at_most_known : Option ℤ → Sym → List Row
 at_most_known None r = []
 at_most_known (Some (pos n)) r = at_most (Length r.0) (pos n) ∷ []
 at_most_known (Some (negsuc n)) r = at_most (Length r.0) (pos 0) ∷ []
 
+-- a start that is known and isn't 0
 abbrev pub is_start : Option ℤ → Bool
 is_start (Some (pos zero)) = false
 is_start (Some start) = true
 is_start None = false
 
+-- a length that is known and above 0
 abbrev pub is_length : Option ℤ → Bool
 is_length (Some (pos (suc n))) = true
 is_length _ = false
 
+-- how great a known integer is
 abbrev pub known_size : Option ℤ → ℕ
 known_size found = option_map_or size found 0
 
+-- a new string of this length
 abbrev pub of_length : ℕ → List Hint → State → Outcome
 of_length size hints rest =
     let r = next_of rest in
     gives hints (with_result Str [] (at_least (Length r.0) (pos size) ∷ at_most (Length r.0) (pos size) ∷ []) rest)
 
+-- a new string that is no longer than another, nor than a length that is known
 abbrev pub shorter : Sym → Option ℤ → List Hint → State → Outcome
 shorter a len hints rest =
     let r = next_of rest in
     gives hints (with_result Str [] (exceeds (Length a.0) (Length r.0) (pos 0) ∷ at_most_known len r) rest)
 
+-- the effect on a string, by what is known of the start and the length
 abbrev pub substring_of : Cond → State → Sym → Option ℤ → Option ℤ → State → List Hint → Outcome
 substring_of cond state a start len rest hints =
     choice cond state (is_start start && is_length len)
     (at_least (Length a.0) (pos (known_size start + known_size len - 1))) hints
     (λ left. of_length (known_size len) left rest) (λ left. shorter a len left rest)
 
+-- the effect: a string, a start and a length
 abbrev pub substring : Cond → State → List Hint → Outcome
 substring cond state hints = three_operands state (λ a b c rest.
     of_kind state Int 1 c (of_kind state Int 2 b (of_kind state Str 3 a

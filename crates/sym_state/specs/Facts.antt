@@ -62,5 +62,6 @@ Says style (Blank s) value = emptiness value ≡ Some true
 Says style (Nonblank s) value = emptiness value ≡ Some false
 Says style (Wellformed s) value = has_good_names value ≡ true
 
+-- what a fact says of the value that its symbol stands for
 abbrev pub FactHolds : Style → Valuation → Fact → Type 0
 FactHolds style v fact = Says style fact (v.value (subject fact))

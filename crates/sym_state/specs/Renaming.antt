@@ -10,12 +10,15 @@ use Rattle.sym_state.specs.declared.symbol.Fact.TheVariants.{Is, Int, Text, Call
 use Rattle.sym_state.specs.declared.piece.Piece.{Piece}
 use Rattle.sym_state.specs.Symbols.{Valuation}
 
+-- a symbol by its new number
 abbrev pub sym_renamed : (ℕ → ℕ) → Sym → Sym
 sym_renamed name s = record { 0 = name s.0 }
 
+-- a name with its symbol renamed
 abbrev pub bind_renamed : (ℕ → ℕ) → Bind → Bind
 bind_renamed name bind = record { name = bind.name; sym = sym_renamed name bind.sym }
 
+-- a fact on the symbol renamed
 abbrev pub fact_renamed : (ℕ → ℕ) → Fact → Fact
 fact_renamed name (Is s kind) = Is (sym_renamed name s) kind
 fact_renamed name (Int s n) = Int (sym_renamed name s) n
@@ -26,6 +29,7 @@ fact_renamed name (Blank s) = Blank (sym_renamed name s)
 fact_renamed name (Nonblank s) = Nonblank (sym_renamed name s)
 fact_renamed name (Wellformed s) = Wellformed (sym_renamed name s)
 
+-- a term of the symbol renamed
 abbrev pub term_renamed : (ℕ → ℕ) → Term → Term
 term_renamed name (Value s) = Value (name s)
 term_renamed name (Length s) = Length (name s)
@@ -33,12 +37,14 @@ term_renamed name (Names s) = Names (name s)
 term_renamed name Pos = Pos
 term_renamed name Count = Count
 
+-- a row of terms renamed
 abbrev pub row_renamed : (ℕ → ℕ) → Row → Row
 row_renamed name row = record {
   constant = row.constant;
   parts = map (λ part. record { coefficient = part.coefficient; term = term_renamed name part.term }) row.parts;
 }
 
+-- a piece, of which each symbol is renamed
 abbrev pub piece_renamed : (ℕ → ℕ) → Piece → Piece
 piece_renamed name piece = record {
   stack = map (sym_renamed name) piece.stack;

@@ -39,6 +39,7 @@ part coefficient term = record { coefficient = coefficient; term = term }
 abbrev pub kept_part : ℤ → Term → List Part → List Part
 kept_part coefficient term parts = if int_eq coefficient (pos 0) then parts else part coefficient term ∷ parts
 
+-- a part among others, added to the first of its term
 abbrev pub and_part : ℤ → Term → List Part → List Part
 and_part coefficient term [] = kept_part coefficient term []
 and_part coefficient term (first ∷ parts) =

@@ -38,6 +38,7 @@ placed piece = piece.stack ++ (map (λ bind. bind.sym) piece.vars ++ map (λ bin
 abbrev pub symbols_of : Piece → ℕ
 symbols_of piece = symbol_count (placed piece)
 
+-- how many symbols pieces have together
 abbrev pub all_symbols : List Piece → ℕ
 all_symbols pieces = sum_by symbols_of pieces
 
@@ -68,6 +69,7 @@ abbrev pub seat : Option Sym → NameId → ℕ → (ℕ → List Bind) → List
 seat (Some sym) name next later = record { name = name; sym = sym } ∷ later next
 seat None name next later = record { name = name; sym = record { 0 = next } } ∷ later (suc next)
 
+-- the same of a list of names, from this symbol on
 abbrev pub seats : List Bind → ℕ → List NameId → List Bind
 seats binds next [] = []
 seats binds next (name ∷ names) = seat (symbol_at name binds) name next (λ n. seats binds n names)
@@ -85,14 +87,17 @@ abbrev pub most_names : NameId → List NamesLine → Option ℕ
 most_names name [] = None
 most_names name (line ∷ lines) = if nat_eq line.field.0 name.0 then Some line.most else most_names name lines
 
+-- a field is a string that isn't blank, or it may be missing
 abbrev pub field_kind : Bool → Sym → List Fact
 field_kind true sym = Is sym Str ∷ Nonblank sym ∷ []
 field_kind false sym = Is sym Optional ∷ []
 
+-- the names of a field are well formed where there is a line on them
 abbrev pub name_facts : Option ℕ → Sym → List Fact
 name_facts (Some most) sym = Wellformed sym ∷ []
 name_facts None sym = []
 
+-- and there are at most so many
 abbrev pub name_rows : Option ℕ → Sym → List Row
 name_rows (Some most) sym = at_most (Names sym.0) (pos most) ∷ []
 name_rows None sym = []
@@ -141,6 +146,7 @@ bound_by pieces = flat_map (λ piece. piece.vars ++ piece.fields) pieces
 abbrev pub names_in_play : Style → Bool → List NameId
 names_in_play style at_entry = ids_from (takes_part at_entry) 0 style.names
 
+-- the state that pieces start: their symbols are numbered on, then come those of names that none binds
 abbrev pub started : Global → Style → Cond → List Piece → Bool → Bool → State
 started alloc style cond pieces whole at_entry =
     let on = numbered_on 0 pieces in

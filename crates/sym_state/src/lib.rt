@@ -20,5 +20,3 @@ pub mod start;
 pub mod state;
 pub mod symbol;
 pub mod test;
-#[cfg(test)]
-mod tests;

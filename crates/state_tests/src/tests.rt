@@ -1,0 +1,19 @@
+//! Examples, worked out by hand from docs/. What an example is given is a row of plain data; what comes of it is a line.
+
+/// A name of this id with a symbol.
+macro_rules! bind {
+    ($name:literal, $sym:literal) => {
+        sym_state::symbol::Bind {
+            name: name_table::names::NameId($name),
+            sym: sym_state::symbol::Sym($sym),
+        }
+    };
+}
+
+mod cases;
+mod effects;
+mod hints;
+mod known;
+mod lines;
+mod rows;
+mod states;

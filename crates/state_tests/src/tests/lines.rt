@@ -1,0 +1,153 @@
+//! What a state says that another doesn't, as a line.
+
+use bv_base::memory::NoMemory;
+use lin_facts::row::{Row, Term};
+use std::fmt::Debug;
+use sym_state::demand::EffectFault;
+use sym_state::facts::subject;
+use sym_state::state::State;
+use sym_state::symbol::{Bind, Fact};
+
+/// What a line says in words of its own.
+trait Said: Debug {
+    fn say(&self, line: &mut String) -> Result<(), NoMemory>;
+}
+
+/// Adds the stack of a state, and what isn't as it was before: each fact, row and name that didn't stand at its place, and
+/// that there are fewer.
+pub fn add_state(line: &mut String, before: &State, after: &State) -> Result<(), NoMemory> {
+    add_stack(line, after)?;
+    add_setting(line, before, after)?;
+    add_new(line, before.facts.as_slice(), after.facts.as_slice())?;
+    add_new(line, before.rows.as_slice(), after.rows.as_slice())?;
+    add_new(line, before.vars.as_slice(), after.vars.as_slice())?;
+    add_new(line, before.fields.as_slice(), after.fields.as_slice())
+}
+
+/// Adds why a state has no effect.
+pub fn add_fault(line: &mut String, fault: EffectFault) -> Result<(), NoMemory> {
+    match fault {
+        EffectFault::Demand(demand) => {
+            let (kind, operand) = (demand.kind, demand.operand);
+            write!(line, "{kind:?} {operand}")?;
+        }
+        _ => write!(line, "{fault:?}")?,
+    }
+    Ok(())
+}
+
+/// Adds how many hints are left of those that were given: where there is an answer if any are, else if any were taken.
+pub fn add_left(line: &mut String, is_ok: bool, given: usize, left: usize) -> Result<(), NoMemory> {
+    if left != if is_ok { 0 } else { given } {
+        write!(line, "; {left} left")?;
+    }
+    Ok(())
+}
+
+fn add_stack(line: &mut String, state: &State) -> Result<(), NoMemory> {
+    if state.stack.as_slice().is_empty() {
+        line.push_str("empty")?;
+    }
+    for (k, sym) in state.stack.as_slice().iter().enumerate() {
+        let (space, s) = (if k == 0 { "" } else { " " }, sym.0);
+        write!(line, "{space}{s}")?;
+    }
+    Ok(())
+}
+
+fn add_setting(line: &mut String, before: &State, after: &State) -> Result<(), NoMemory> {
+    let (whole, at_entry, next) = (after.whole, after.at_entry, after.next);
+    if whole != before.whole {
+        write!(line, "; whole {whole}")?;
+    }
+    if at_entry != before.at_entry {
+        write!(line, "; at an entry {at_entry}")?;
+    }
+    if next != before.next {
+        write!(line, "; next {next}")?;
+    }
+    Ok(())
+}
+
+fn add_new<T: Said>(line: &mut String, before: &[T], after: &[T]) -> Result<(), NoMemory> {
+    for (k, item) in after.iter().enumerate() {
+        if k >= before.len() || !looks_like(line, item, &before[k])? {
+            line.push_str("; ")?;
+            item.say(line)?;
+        }
+    }
+    if after.len() < before.len() {
+        line.push_str("; fewer")?;
+    }
+    Ok(())
+}
+
+/// Whether two items are printed alike.
+fn looks_like<T: Debug>(line: &String, one: &T, other: &T) -> Result<bool, NoMemory> {
+    let alloc = *line.allocator();
+    Ok(format!(in alloc; "{one:?}")?.as_str() == format!(in alloc; "{other:?}")?.as_str())
+}
+
+impl Said for Bind {
+    fn say(&self, line: &mut String) -> Result<(), NoMemory> {
+        let (name, s) = (self.name.0, self.sym.0);
+        Ok(write!(line, "{name}={s}")?)
+    }
+}
+
+impl Said for Fact {
+    fn say(&self, line: &mut String) -> Result<(), NoMemory> {
+        let s = subject(self).0;
+        match self {
+            Fact::Is(_, kind) => write!(line, "is {s} {kind:?}")?,
+            Fact::Int(_, n) => write!(line, "int {s} {n}")?,
+            Fact::Text(_, text) => {
+                let bytes = text.as_slice();
+                write!(line, "text {s} {bytes:?}")?
+            }
+            Fact::Call(_, name) => {
+                let name = name.0;
+                write!(line, "call {s} {name}")?
+            }
+            Fact::Block(_, number) => write!(line, "block {s} {number}")?,
+            Fact::Blank(_) => write!(line, "blank {s}")?,
+            Fact::Nonblank(_) => write!(line, "nonblank {s}")?,
+            Fact::Wellformed(_) => write!(line, "wellformed {s}")?,
+        }
+        Ok(())
+    }
+}
+
+impl Said for Row {
+    /// The constant, and the terms of older symbols before those of newer ones.
+    fn say(&self, line: &mut String) -> Result<(), NoMemory> {
+        let constant = self.constant;
+        write!(line, "{constant}")?;
+        for s in 0..100 {
+            add_terms(line, self, s)?;
+        }
+        Ok(())
+    }
+}
+
+/// Adds the terms of one symbol.
+fn add_terms(line: &mut String, row: &Row, s: u32) -> Result<(), NoMemory> {
+    for part in row.parts.as_slice() {
+        let (letter, symbol) = letter_of(part.term);
+        let times = part.coefficient;
+        if symbol == s {
+            write!(line, " {times}{letter}{s}")?;
+        }
+    }
+    Ok(())
+}
+
+fn letter_of(term: Term) -> (&'static str, u32) {
+    match term {
+        Term::Value(s) => ("v", s),
+        Term::Length(s) => ("l", s),
+        Term::Names(s) => ("n", s),
+        Term::Pos => ("p", 0),
+        Term::Count => ("c", 0),
+    }
+}
