@@ -14,6 +14,7 @@ is_white b = is_among (9 ∷ 10 ∷ 13 ∷ 32 ∷ []) b
 abbrev pub is_mark : ℕ → Bool
 is_mark b = is_among (codes "\"#%'(),={}") b
 
+-- what may stand in a name that a style declares
 abbrev pub is_name_byte : ℕ → Bool
 is_name_byte b = (nat_le 33 b && nat_le b 126 && not (is_mark b)) || nat_le 128 b
 

@@ -3,6 +3,7 @@ use Rattle.std.specs.Prelude.{ℕ, zero, suc, Bool, true, false, ◌+◌, ◌-�
 use Rattle.std.specs.List.{list_any}
 use Rattle.bv_base.specs.Bytes.{is_white}
 
+-- a letter of ASCII, of either case
 abbrev pub is_ascii_letter : ℕ → Bool
 is_ascii_letter b = (nat_le 65 b && nat_le b 90) || (nat_le 97 b && nat_le b 122)
 
@@ -10,9 +11,7 @@ is_ascii_letter b = (nat_le 65 b && nat_le b 90) || (nat_le 97 b && nat_le b 122
 abbrev pub is_letter : ℕ → Bool
 is_letter b = is_ascii_letter b || nat_le 128 b
 
-abbrev pub is_digit : ℕ → Bool
-is_digit b = nat_le 48 b && nat_le b 57
-
+-- `{` or `}`
 abbrev pub is_brace : ℕ → Bool
 is_brace b = nat_eq b 123 || nat_eq b 125
 
@@ -125,5 +124,6 @@ is_one_of words word = list_any (bytes_eq word) words
 abbrev pub foreign_words : List (List ℕ)
 foreign_words = codes "oe" ∷ codes "OE" ∷ codes "ae" ∷ codes "AE" ∷ codes "ss" ∷ codes "aa" ∷ codes "AA" ∷ codes "o" ∷ codes "O" ∷ codes "l" ∷ codes "L" ∷ codes "i" ∷ codes "j" ∷ []
 
+-- the control word stands for a letter of another language
 abbrev pub is_foreign : List ℕ → Bool
 is_foreign letters = is_one_of foreign_words letters

@@ -36,9 +36,11 @@ no_files = record { listing = map.empty; calls = 0; failing = []; begun = None; 
 abbrev pub begun_code : Coded Begun
 begun_code = code_by (List ℕ × Bool) (coded× (coded_list coded_ℕ) coded_bool) (λ b. (b.name, b.absent)) (λ p. record { name = p.0; absent = p.1 }) (λ _. refl)
 
+-- of files by their names
 abbrev pub listing_code : Coded Listing
 listing_code = map.code (coded_list coded_ℕ) (coded_list coded_ℕ)
 
+-- of all that is known of files in memory
 abbrev pub file_memory_code : Coded FileMemory
 file_memory_code =
     code_by (Listing × (ℕ × (List ℕ × (Option Begun × (List ℕ × ℕ)))))

@@ -3,6 +3,7 @@ use Rattle.std.specs.Prelude.{ℕ}
 use Rattle.bv_base.specs.declared.status.Status.{Status}
 use Rattle.bv_base.specs.declared.status.Status.TheVariants.{Done, Refused, Usage, NoFile, ReadFailed, WriteFailed, NoMemory, BadStyle, BadCert, BadData, Fault, Budget, TooLong, Unknown, NotBuilt}
 
+-- the number with which the program ends
 abbrev pub number_of : Status → ℕ
 number_of Done = 0
 number_of Refused = 1
