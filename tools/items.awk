@@ -103,30 +103,37 @@ function before_fault(    i, joined) {
     return joined
 }
 
+# What bibtex says of a byte that stands directly behind a name, and else what it wants.
+function follows(what, else_wants,    byte) {
+    byte = substr(text[line], column, 1)
+    if (column == 1 || byte == "" || substr(text[line], column - 1, 1) ~ /[ \t\r]/) return else_wants
+    return "\"" byte "\" immediately follows " what
+}
+
 # What bibtex says where another byte has to stand, told by what stands before.
 function expected(before,    kind, field) {
     kind = tolower(before)
     sub(/^@[ \t\r]*/, "", kind)
     sub(/[ \t\r{(].*/, "", kind)
     if (kind == "") return "You're missing an entry type"
-    if (before !~ /[{(]/) return "I was expecting a `{' or a `('"
+    if (before !~ /[{(]/) return follows("an entry type", "I was expecting a `{' or a `('")
+    if (before ~ /[=#]$/ || (kind == "preamble" && before ~ /[{(]$/)) return "You're missing a field part"
     if (kind == "string" && before ~ /[{(]$/) return "You're missing a string name"
-    if (kind == "string" && before !~ /=/) return "I was expecting an \"=\""
-    if (kind == "preamble" && before ~ /[{(]$/) return "You're missing a field part"
-    if (kind ~ /^(string|preamble)$/ && before !~ /[=#]$/)
-        return "Missing \"" closing "\" in " kind " command"
+    if (kind == "string" && before !~ /=/) return follows("a string name", "I was expecting an \"=\"")
+    if (kind ~ /^(string|preamble)$/) return "Missing \"" closing "\" in " kind " command"
     if (before ~ /^@[^{(]*[{(]$/) return "You're missing an entry key"
-    if (before ~ /[=#]$/) return "You're missing a field part"
     if (before ~ /,$/) return "You're missing a field name"
     field = before
     sub(/.*,/, "", field)
-    if (before ~ /,/ && field ~ /^[ \t\r]*[^ \t\r={}"#]+$/) return "I was expecting an \"=\""
+    if (before ~ /,/ && field ~ /^[ \t\r]*[^ \t\r={}"#]+$/) return follows("a field name", "I was expecting an \"=\"")
+    sub(/.*[=#][ \t\r]*/, "", field)
+    if (field ~ /^[^ \t\r{}"0-9][^ \t\r{}"]*$/) return follows("a field part", "I was expecting a `,' or a `" closing "'")
     return "I was expecting a `,' or a `" closing "'"
 }
 
 function tell(    words, read, rest, indent) {
     if (fault == "EndOfFile") {
-        print "Illegal end of database file---line " line " of file " file > report
+        print "Illegal end of database file---line " (line > NR ? NR : line) " of file " file > report
         print "The entry that begins on line " start_line " isn't closed" > report
         return
     }
