@@ -10,6 +10,7 @@ use Rattle.aux_read.specs.declared.aux.AuxItem.TheVariants.{Input}
 abbrev pub IsFileName : List ℕ → Type 0
 IsFileName name = is_utf8 name ≡ true
 
+-- each is the name of a file
 abbrev pub AreFileNames : List (List ℕ) → Type 0
 AreFileNames names = AllByRecursion IsFileName names
 
@@ -18,6 +19,7 @@ abbrev pub HasFileName : AuxItem → Type 0
 HasFileName (Input name place) = IsFileName name
 HasFileName _ = Unit {0}
 
+-- each request for a further file has the name of a file
 abbrev pub HaveFileNames : List AuxItem → Type 0
 HaveFileNames items = AllByRecursion HasFileName items
 

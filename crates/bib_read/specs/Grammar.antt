@@ -62,6 +62,7 @@ is_inside mark level [] = nat_eq level 0
 is_inside mark level (b ∷ bytes) =
     not (nat_eq level 0 && (nat_eq b mark || nat_eq b 125)) && is_inside mark (level_after level b) bytes
 
+-- how a piece is spelled, with white space before it
 abbrev pub IsPiece : Piece → List ℕ → List ℕ → Type 0
 IsPiece (Braced text) bytes rest = Mark 123 bytes (text ++ 125 ∷ rest) × (is_inside 125 0 text ≡ true)
 IsPiece (Quoted text) bytes rest = Mark 34 bytes (text ++ 34 ∷ rest) × (is_inside 34 0 text ≡ true)

@@ -19,12 +19,14 @@ abbrev pub warned : List ℕ → Option (List ℕ) → List (List ℕ)
 warned name (Some value) = []
 warned name None = undefined_macro name ∷ []
 
+-- the text of a piece, which for a name is that macro's value
 abbrev pub piece_text : List Macro → Piece → List ℕ
 piece_text macros (Braced text) = text
 piece_text macros (Quoted text) = text
 piece_text macros (Digits text) = text
 piece_text macros (Named name) = or_nothing (value_of (lowered name) macros)
 
+-- the warnings of a piece: of a macro that isn't defined
 abbrev pub piece_warnings : List Macro → Piece → List (List ℕ)
 piece_warnings macros (Named name) = warned (lowered name) (value_of (lowered name) macros)
 piece_warnings macros _ = []
@@ -34,6 +36,7 @@ abbrev pub value_text : List Macro → List Piece → List ℕ
 value_text macros [] = []
 value_text macros (piece ∷ pieces) = piece_text macros piece ++ value_text macros pieces
 
+-- the warnings of the pieces of a value, in order
 abbrev pub value_warnings : List Macro → List Piece → List (List ℕ)
 value_warnings macros [] = []
 value_warnings macros (piece ∷ pieces) = piece_warnings macros piece ++ value_warnings macros pieces
@@ -50,10 +53,12 @@ field_warnings macros key field before =
     (if has_field (lowered field.name) before then second_field (lowered field.name) key ∷ [] else [])
     ++ value_warnings macros field.value
 
+-- fields after others, one after the other
 abbrev pub and_fields : List Macro → List FieldTree → List RawField → List RawField
 and_fields macros [] before = before
 and_fields macros (field ∷ fields) before = and_fields macros fields (and_field macros field before)
 
+-- the warnings of fields after others, in order
 abbrev pub fields_warnings : List Macro → List ℕ → List FieldTree → List RawField → List (List ℕ)
 fields_warnings macros key [] before = []
 fields_warnings macros key (field ∷ fields) before =
@@ -84,6 +89,7 @@ abbrev pub where_some : Option Database → (Database → Option Database) → O
 where_some None next = None
 where_some (Some d) next = next d
 
+-- a database after items, one after the other, where there is one
 abbrev pub and_items : List Item → Database → Option Database
 and_items [] d = Some d
 and_items (item ∷ items) d = where_some (and_item item d) (and_items items)

@@ -2,6 +2,7 @@
 use Rattle.bib_read.specs.declared.reader.Reader.{Reader}
 use Rattle.bib_read.specs.Progress.{Progress}
 
+-- the bytes that are left and what has been read, as the fields of the reader have it
 abbrev pub progress_of : Reader → Progress
 progress_of reader =
     record {

@@ -4,6 +4,7 @@ use Rattle.std.specs.Option.{ForSome}
 use Rattle.bst_meaning.specs.Entries.{IsByteList}
 use Rattle.bst_meaning.specs.declared.entry.Entry.{Entry}
 
+-- the key, the type and the fields of an entry are bytes
 pub record HasBytes (entry : Entry) : Type 0 where
   pub key : IsByteList entry.key
   pub entry_type : IsByteList entry.entry_type

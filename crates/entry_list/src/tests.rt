@@ -1,8 +1,9 @@
 //! Citations and databases, joined by hand.
 
-ghost use Rattle.std.specs.Prelude.{◌≡◌, ◌≤◌, length};
+ghost use Rattle.std.specs.Prelude.{◌≡◌, ◌≤◌, length, IfOk};
 ghost use Rattle.std.specs.List.{list_all};
 ghost use Rattle.aux_read.specs.Keys.{HaveKeys};
+ghost use Rattle.bib_read.specs.Additions.{AreKeyed};
 ghost use Rattle.entry_list.specs.Keys.{is_no_input};
 
 use crate::join::join;
@@ -95,6 +96,7 @@ fn joined(alloc: Global, style: &Style, aux: &[u8], bib: &[u8]) -> Result<Vec<u8
 /// A database after the style's macros.
 fn database(alloc: Global, style: &Style, bib: &[u8]) -> Result<Database, Fail>
     requires { length bib.now ≤ DATA_BYTES }
+    ensures { IfOk result (λ found. AreKeyed found.entries) }
 {
     let opened = opening(alloc, style)?;
     Ok(bib_read::read::read(alloc, bib, &opened)?)
@@ -107,7 +109,8 @@ fn lines_of(
     items: &[AuxItem],
     database: &Database,
 ) -> Result<Vec<u8>, Fail>
-    requires { HaveKeys items.now }
+    requires items { HaveKeys items.now }
+    requires keys { AreKeyed database.now.entries }
 {
     if !are_citations(items) {
         return Err(Fail::new("a further file"));
