@@ -1,7 +1,7 @@
 -- The cursor stays within its source, at the place of the next byte.
 use Rattle.std.proofs.Common.{◌≡◌, ℕ, zero, suc, ◌+◌, ◌-◌, ◌≤◌, List, [], ◌∷◌, length, take, drop, sym, ap, ◌∙◌, arith, length-drop}
 use Rattle.std.proofs.lemmas.List.{drop-drop}
-use Rattle.std.proofs.Math.Seq.{drop-nil, take-nil}
+use Rattle.std.proofs.Math.Seq.{take-nil}
 use Rattle.bv_base.specs.declared.place.Place.{Place}
 use Rattle.bst_lex.specs.Lexer.{Stands}
 use Rattle.bv_base.specs.Places.{after_byte, after_bytes, first_place, place_at}

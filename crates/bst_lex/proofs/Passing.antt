@@ -1,11 +1,10 @@
 -- What is passed over changes no lexeme that follows.
-use Rattle.std.proofs.Common.{◌≡◌, ℕ, zero, suc, ◌+◌, ◌-◌, ◌*◌, ◌<◌, ◌≤◌, Bool, true, false, cond, nat_eq, not, List, [], ◌∷◌, length, take, drop, Ok, Err, Some, min, refl, sym, ap, ◌∙◌, subst, arith, eqb-true}
+use Rattle.std.proofs.Common.{◌≡◌, ℕ, zero, suc, ◌+◌, ◌-◌, ◌<◌, ◌≤◌, Bool, true, false, cond, nat_eq, not, List, [], ◌∷◌, length, take, drop, Ok, Err, Some, refl, sym, ap, ◌∙◌, subst, arith, eqb-true}
 use Rattle.bv_base.specs.declared.place.Place.{Place}
 use Rattle.bv_base.specs.Bytes.{is_white}
 use Rattle.bst_lex.specs.declared.lexeme.LexFault.{LexFault}
 use Rattle.bst_lex.specs.declared.lexeme.Piece.{Piece}
 use Rattle.bst_lex.specs.Lexemes.{Lexed, before, begun, lexed_after}
-use Rattle.bv_base.specs.Runs.{number_from}
 use Rattle.bst_lex.specs.Pieces.{comment_length, gap_at, gap_length, piece_at}
 use Rattle.bv_base.specs.Places.{after_byte, after_bytes}
 

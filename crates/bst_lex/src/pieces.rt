@@ -1,6 +1,6 @@
 //! How far a lexeme, white space or a comment reaches, and what is wrong with a lexeme.
 
-ghost use Rattle.std.specs.Prelude.{◌≡◌, ◌+◌, ◌≤◌, length, min, false};
+ghost use Rattle.std.specs.Prelude.{◌≡◌, ◌+◌, ◌≤◌, length, false};
 ghost use Rattle.bst_lex.specs.Pieces as pieces;
 ghost use Rattle.bv_base.specs.Runs.{length_before};
 

@@ -1,7 +1,6 @@
 -- Slices of slices.
-use Rattle.std.proofs.Common.{◌≡◌, ℕ, zero, suc, ◌+◌, ◌-◌, ◌≤◌, Bool, true, false, cond, not, nat_eq, min, List, [], ◌∷◌, length, take, drop, refl, sym, ap, ◌∙◌, arith, take-take}
+use Rattle.std.proofs.Common.{◌≡◌, ℕ, suc, ◌+◌, ◌-◌, ◌≤◌, Bool, true, false, cond, not, nat_eq, min, List, [], ◌∷◌, length, take, drop, refl, ap, ◌∙◌, arith, take-take}
 use Rattle.std.proofs.lemmas.List.{length-take, length-drop, drop-take, drop-drop}
-use Rattle.std.proofs.Math.Seq.{drop-nil}
 use Rattle.bv_base.specs.Bytes.{is_white}
 use Rattle.bv_base.specs.Runs.{is_black, length_before}
 use Rattle.name_split.specs.declared.spans.Span.{Span}

@@ -1,9 +1,8 @@
 -- Behind a gap the cursor stands at the end, at a lexeme or at a fault.
-use Rattle.std.proofs.Common.{◌≡◌, ◌<◌, ◌≤◌, ◌∷◌, length, List, Bool, true, false, nat_eq, Result, Ok, IfOk, ℕ, ap, sym, ◌∙◌, subst, arith, eqb-true, refl}
+use Rattle.std.proofs.Common.{◌≡◌, ◌<◌, ◌≤◌, ◌∷◌, length, List, Bool, true, false, nat_eq, Ok, IfOk, ℕ, ap, sym, ◌∙◌, subst, arith, eqb-true, refl}
 use Rattle.std.proofs.lemmas.Bool.{eqb-false}
 use Rattle.bv_base.specs.declared.place.Place.{Place}
 use Rattle.bv_base.specs.Places.{place_at}
-use Rattle.bst_lex.specs.declared.lexeme.LexFault.{LexFault}
 use Rattle.bst_lex.specs.declared.lexeme.Piece.{Piece}
 use Rattle.bst_lex.specs.Lexemes.{Reading, reading_at}
 use Rattle.bst_lex.specs.Pieces.{gap_at, piece_at}
