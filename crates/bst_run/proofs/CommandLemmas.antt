@@ -1,111 +1,230 @@
--- From what was said to what is promised of a call.
-use Rattle.std.proofs.Common.{◌≡◌, ℕ, ◌⊎◌, List, [], length, Option, None, Some, Result, Ok, Err, refl, sym, ◌∙◌, ap, arith, append-nil, inl, inr}
-use Rattle.std.specs.Prelude.{IfSome}
-use Rattle.std.proofs.Math.Seq.{take_all}
-use Rattle.bv_base.specs.Outside.{Listing, appended}
+-- From what a command's words come to and what was delivered to what is promised of a call.
+use Rattle.std.proofs.Common.{◌≡◌, ◌≢◌, ℕ, ◌⊎◌, List, [], ◌∷◌, true, false, Option, None, Some, Result, Ok, Err, refl, sym, ◌∙◌, ap, subst, inl, inr}
+use Rattle.std.specs.Prelude.{IfSome, IfOk, IfErr}
+use Rattle.std.specs.String.{string_bytes}
+use Rattle.bv_base.specs.Outside.{Listing, Begun, Rose, appended}
+use Rattle.bv_base.specs.declared.files.Files.{Ghosts}
+use Rattle.bv_base.specs.declared.memory.NoMemory.{NoMemory}
 use Rattle.bv_base.specs.declared.status.Status.{Status}
 use Rattle.bv_base.specs.declared.status.Status.TheVariants as status
-use Rattle.bst_meaning.specs.declared.condition.Cond.{Cond}
+use Rattle.bst_run.specs.declared.outcome.Outcome.{Outcome}
 use Rattle.bst_run.specs.declared.stop.Stop.{Stop}
-use Rattle.bst_run.specs.declared.stop.Stop.TheVariants.{ReadFailed, NoMemory}
-use Rattle.bst_run.specs.Report.{Answer, Accepts, output, error_text, status_of}
-use Rattle.bst_run.specs.Stops.{answer_of, Gives, Stands, stop_status, stop_line}
-use Rattle.bst_run.specs.Top.{IsFront, IsSaid, IsAnswered, IsAccepted, IsSafelyAccepted, check_answer, check_from, condition_in}
+use Rattle.bst_run.specs.declared.stop.Stop.TheVariants.{Told, Absent, Failed, TooLong, NoMemory as Wanting}
+use Rattle.bst_run.specs.Delivery.{Sunk, IsFront, IsDelivered, Whole, OutFailed, ErrFailed, OutWanting, ErrWanting, Delivers}
+use Rattle.bst_run.specs.Forms.{Form, Check, Run}
+use Rattle.bst_run.specs.Reads.{Reads}
+use Rattle.bst_run.specs.Report.{usage, absent, unread, too_long}
+use Rattle.bst_run.specs.Stops.{Gives, HasCause, IsDecided, told_of}
+use Rattle.bst_run.specs.Top.{CausedBy, IsWanted, IsAnswer, IsAnswered, IsAcceptance, IsSafelyAccepted, Promises, IsPromised, ended, outcome_in}
+use Rattle.bst_run.proofs.DeliveryLemmas.{appended_nothing, delivered_front, silent, wanting}
 
--- nothing more is written
-appended_nothing : (written : Option (List ℕ)) → written ≡ appended written []
-appended_nothing None = refl
-appended_nothing (Some bytes) = ap Some (sym (append-nil bytes))
+-- a status that the files decide has no cause outside
+decided_cause : (given : Status) (outcome : Outcome) (begun : Option Begun) (f f' : ℕ) → IsDecided given → CausedBy given outcome begun f f'
+decided_cause status.Usage outcome begun f f' decided = absurd decided
+decided_cause status.NoFile outcome begun f f' decided = absurd decided
+decided_cause status.ReadFailed outcome begun f f' decided = absurd decided
+decided_cause status.WriteFailed outcome begun f f' decided = absurd decided
+decided_cause status.NoMemory outcome begun f f' decided = absurd decided
+decided_cause _ outcome begun f f' decided = tt
 
-no_front : (text : List ℕ) (written : Option (List ℕ)) → IsFront text written written
-no_front text written = (0, omega arith, appended_nothing written)
+-- what the outside shows of a command's result, it shows of the outcome
+told_cause : (result : Result Outcome Stop) (outcome : Outcome) (begun : Option Begun) (f f' : ℕ) → told_of result ≡ Some outcome
+    → IfOk result (λ o. IsDecided o.status) → IfErr result (λ stop. HasCause stop begun f f') → CausedBy outcome.status outcome begun f f'
+told_cause (Ok o) outcome begun f f' is decided cause =
+    let same : o ≡ outcome = cc in
+    decided_cause outcome.status outcome begun f f' (subst (λ (x : Outcome). IsDecided x.status) same decided)
+told_cause (Err (Told o)) outcome begun f f' is decided cause =
+    let same : o ≡ outcome = cc in
+    decided_cause outcome.status outcome begun f f' (subst (λ (x : Outcome). IsDecided x.status) same cause.1)
+told_cause (Err (Absent name)) outcome begun f f' is decided cause =
+    let same : absent (string_bytes name) ≡ outcome = cc in
+    subst (λ (x : Outcome). CausedBy x.status x begun f f') same (rw cause (refl, refl))
+told_cause (Err (Failed name)) outcome begun f f' is decided cause =
+    let same : unread (string_bytes name) ≡ outcome = cc in
+    let opened = cause.0 in
+    subst (λ (x : Outcome). CausedBy x.status x begun f f') same (rw opened (cause.1, (refl, refl)))
+told_cause (Err (TooLong name)) outcome begun f f' is decided cause =
+    let same : too_long (string_bytes name) ≡ outcome = cc in
+    subst (λ (x : Outcome). CausedBy x.status x begun f f') same tt
+told_cause (Err Wanting) outcome begun f f' is decided cause = absurd (cc)
 
-whole_front : (text : List ℕ) (before after : Option (List ℕ)) → after ≡ appended before text → IsFront text before after
-whole_front text before after whole =
-    (length text, omega arith, whole ∙ ap (appended before) (sym (take_all (length text) text (omega arith))))
+-- the outcome of a command's result is the one that is wanted of the files, where they tell
+told_wanted : (t : Option Listing) (wanted : Listing → Result Outcome Outcome) (result : Result Outcome Stop) (outcome : Outcome) → told_of result ≡ Some outcome
+    → Gives {A = Outcome} t wanted result → IfSome t (λ told. IsWanted (ended (wanted told)) outcome)
+told_wanted None wanted result outcome is gives = tt
+told_wanted (Some t) wanted (Ok o) outcome is gives =
+    let same : o ≡ outcome = cc in
+    inl (sym same ∙ sym (ap ended gives))
+told_wanted (Some t) wanted (Err (Told o)) outcome is gives =
+    let same : o ≡ outcome = cc in
+    inl (sym same ∙ sym (ap ended gives))
+told_wanted (Some t) wanted (Err (Absent name)) outcome is gives =
+    let same : absent (string_bytes name) ≡ outcome = cc in
+    inl (sym same ∙ sym (ap ended gives))
+told_wanted (Some t) wanted (Err (Failed name)) outcome is gives =
+    let same : unread (string_bytes name) ≡ outcome = cc in
+    inr (string_bytes name, sym same)
+told_wanted (Some t) wanted (Err (TooLong name)) outcome is gives =
+    let same : too_long (string_bytes name) ≡ outcome = cc in
+    inl (sym same ∙ sym (ap ended gives))
+told_wanted (Some t) wanted (Err Wanting) outcome is gives = absurd (cc)
 
--- whatever was said, a front of the text was written
-said_front : (given wanted : Status) (text : List ℕ) (before after : Option (List ℕ)) (faults faults' : ℕ)
-    → IsSaid given wanted text before after faults faults' → IsFront text before after
-said_front status.WriteFailed wanted text before after faults faults' said = said.1
-said_front status.NoMemory wanted text before after faults faults' said = said
-said_front _ wanted text before after faults faults' said = whole_front text before after said.1
+-- a stop has no text for standard output, so what a command promises of one is promised of the outcome
+told_safe : (t : Option Listing) (form : Form) (result : Result Outcome Stop) (outcome : Outcome) (begun : Option Begun) (f f' : ℕ) → told_of result ≡ Some outcome
+    → IfErr result (λ stop. HasCause stop begun f f') → IfOk result (λ o. IfSome t (λ told. Promises told form o))
+    → IfSome t (λ told. outcome.out ≢ [] → Promises told form outcome)
+told_safe None form result outcome begun f f' is cause safe = tt
+told_safe (Some t) form (Ok o) outcome begun f f' is cause safe =
+    let same : o ≡ outcome = cc in
+    λ some. subst (λ (x : Outcome). Promises t form x) same safe
+told_safe (Some t) form (Err (Told o)) outcome begun f f' is cause safe =
+    let same : o ≡ outcome = cc in
+    λ some. absurd (some (ap (λ x. x.out) (sym same) ∙ cause.0))
+told_safe (Some t) form (Err (Absent name)) outcome begun f f' is cause safe =
+    let same : absent (string_bytes name) ≡ outcome = cc in
+    λ some. absurd (some (ap (λ x. x.out) (sym same)))
+told_safe (Some t) form (Err (Failed name)) outcome begun f f' is cause safe =
+    let same : unread (string_bytes name) ≡ outcome = cc in
+    λ some. absurd (some (ap (λ x. x.out) (sym same)))
+told_safe (Some t) form (Err (TooLong name)) outcome begun f f' is cause safe =
+    let same : too_long (string_bytes name) ≡ outcome = cc in
+    λ some. absurd (some (ap (λ x. x.out) (sym same)))
+told_safe (Some t) form (Err Wanting) outcome begun f f' is cause safe = absurd (cc)
 
--- the text that accepts was to be written
-answered_out : (given : Status) (condition : Cond) (answer : Answer) (out out' err : Option (List ℕ)) (faults faults' : ℕ)
-    → IsSaid given status.Done (output (Accepts condition)) out out' faults faults' → answer ≡ Accepts condition
-    → IsAnswered given answer out out' err err
-answered_out status.ReadFailed condition answer out out' err faults faults' said is = absurd (not_done said.0)
+-- what the words of a form come to
+pub told_answer : {F : Type 0} (see : Ghosts F) (old new : F) (form : Form) (wanted : Listing → Result Outcome Outcome) (result : Result Outcome Stop) (found : Result Outcome NoMemory)
+    → Reads {F = F} {A = Outcome} see old new wanted result → IfOk result (λ o. IsDecided o.status)
+    → IfOk result (λ o. IfSome (see.told old) (λ told. Promises told form o))
+    → ((t : Listing) → ended (wanted t) ≡ outcome_in t form)
+    → IfOk found (λ o. told_of result ≡ Some o) → IfOk found (λ o. IsAnswer {F = F} see old new form o)
+told_answer see old new form wanted result (Ok o) reads decided safe same is = record {
+  wanted = as_wanted (see.told old) (told_wanted (see.told old) wanted result o is reads.gives);
+  cause = told_cause result o (see.begun new) (see.faults old) (see.faults new) is decided reads.cause;
+  safe = told_safe (see.told old) form result o (see.begun new) (see.faults old) (see.faults new) is reads.cause safe;
+}
   where
-    not_done : status.ReadFailed ≡ status.Done → ⊥
-    not_done e = cc
-answered_out status.WriteFailed condition answer out out' err faults faults' said is = rw is said.1
-answered_out status.NoMemory condition answer out out' err faults faults' said is = rw is said
-answered_out _ condition answer out out' err faults faults' said is = rw is (said.0, said.1, appended_nothing err)
+    as_wanted : (t : Option Listing) → IfSome t (λ told. IsWanted (ended (wanted told)) o) → IfSome t (λ told. IsWanted (outcome_in told form) o)
+    as_wanted None w = tt
+    as_wanted (Some t) w = subst (λ (x : Outcome). IsWanted x o) (same t) w
+told_answer see old new form wanted result (Err refused) reads decided safe same is = tt
 
--- the last line was to be written, and nothing else
-answered_line : (given wanted : Status) (line : List ℕ) (answer : Answer) (out err err' : Option (List ℕ)) (faults faults' : ℕ)
-    → IsSaid given wanted line err err' faults faults' → wanted ≡ status_of answer → line ≡ error_text answer → output answer ≡ []
-    → IsAnswered given answer out out err err'
-answered_line status.ReadFailed wanted line answer out err err' faults faults' said e f g = refl
-answered_line status.WriteFailed wanted line answer out err err' faults faults' said e f g = no_front (output answer) out
-answered_line status.NoMemory wanted line answer out err err' faults faults' said e f g = no_front (output answer) out
-answered_line _ wanted line answer out err err' faults faults' said e f g =
-    (said.0 ∙ e, appended_nothing out ∙ ap (appended out) (sym g), said.1 ∙ ap (appended err) f)
+-- the words have no form
+pub usage_delivered : (found : Result Outcome NoMemory) (given : Status) (out err : Sunk) → IfOk found (λ o. o ≡ usage) → Delivers found given out err → IsDelivered usage given out err
+usage_delivered (Ok o) given out err is delivered = subst (λ (x : Outcome). IsDelivered x given out err) is delivered
+usage_delivered (Err refused) given out err is delivered = wanting usage given out err delivered.0 delivered.1 delivered.2
 
--- a file couldn't be read, or memory was wanting
-answered_nothing : (given wanted : Status) (line : List ℕ) (answer : Answer) (out err err' : Option (List ℕ)) (faults faults' : ℕ)
-    → IsSaid given wanted line err err' faults faults' → (wanted ≡ status.ReadFailed) ⊎ (wanted ≡ status.NoMemory)
-    → IsAnswered given answer out out err err'
-answered_nothing status.ReadFailed wanted line answer out err err' faults faults' said e = refl
-answered_nothing status.WriteFailed wanted line answer out err err' faults faults' said e = no_front (output answer) out
-answered_nothing status.NoMemory wanted line answer out err err' faults faults' said e = no_front (output answer) out
-answered_nothing _ wanted line answer out err err' faults faults' said e = absurd (grind arith)
+module _ {F : Type 0} (see : Ghosts F) (old new : F) (form : Form) where
+  -- the answer is the one that is wanted
+  pub form_answered : (found : Result Outcome NoMemory) (given : Status) (out err : Sunk) → IfOk found (λ o. IsAnswer {F = F} see old new form o) → Delivers found given out err
+      → IfSome (see.told old) (λ told. IsAnswered (outcome_in told form) given out err)
+  form_answered (Ok o) given out err answer delivered = as_answered (see.told old) answer.wanted
+    where
+      as_answered : (t : Option Listing) → IfSome t (λ told. IsWanted (outcome_in told form) o) → IfSome t (λ told. IsAnswered (outcome_in told form) given out err)
+      as_answered None w = tt
+      as_answered (Some t) (inl same) = inl (subst (λ (x : Outcome). IsDelivered x given out err) same delivered)
+      as_answered (Some t) (inr named) = inr (named.0, subst (λ (x : Outcome). IsDelivered x given out err) named.1 delivered)
+  form_answered (Err refused) given out err answer delivered = as_answered (see.told old)
+    where
+      as_answered : (t : Option Listing) → IfSome t (λ told. IsAnswered (outcome_in told form) given out err)
+      as_answered None = tt
+      as_answered (Some t) = inl (wanting (outcome_in t form) given out err delivered.0 delivered.1 delivered.2)
 
-answered_err : (stop : Stop) (given : Status) (answer : Answer) (out err err' : Option (List ℕ)) (faults faults' : ℕ)
-    → IsSaid given (stop_status stop) (stop_line stop) err err' faults faults' → Stands stop answer → IsAnswered given answer out out err err'
-answered_err (ReadFailed name) given answer out err err' faults faults' said is =
-    answered_nothing given _ _ answer out err err' faults faults' said (inl refl)
-answered_err NoMemory given answer out err err' faults faults' said is =
-    answered_nothing given _ _ answer out err err' faults faults' said (inr refl)
-answered_err _ given answer out err err' faults faults' said is =
-    answered_line given _ _ answer out err err' faults faults' said (ap status_of (sym is)) (ap error_text (sym is)) (ap output is)
+-- an answer NoFile names the file that isn't there
+pub no_file_shown : {F : Type 0} (see : Ghosts F) (old new : F) (form : Form) (found : Result Outcome NoMemory) (given : Status) (out err : Sunk)
+    → IfOk found (λ o. IsAnswer {F = F} see old new form o) → Delivers found given out err → given ≡ status.NoFile
+    → IfSome (see.begun new) (λ b. (b.absent ≡ true) × (err.after ≡ appended err.before (absent b.name).err))
+no_file_shown see old new form (Err refused) given out err answer delivered is = let e = delivered.0 in absurd (cc)
+no_file_shown see old new form (Ok o) given out err answer (OutFailed e cut last) is = absurd (cc)
+no_file_shown see old new form (Ok o) given out err answer (ErrFailed e put cut) is = absurd (cc)
+no_file_shown see old new form (Ok o) given out err answer (OutWanting e front last) is = absurd (cc)
+no_file_shown see old new form (Ok o) given out err answer (ErrWanting e put front) is = absurd (cc)
+no_file_shown see old new form (Ok o) given out err answer (Whole e put last) is =
+    shown (see.begun new) (subst (λ (s : Status). CausedBy s o (see.begun new) (see.faults old) (see.faults new)) (sym e ∙ is) answer.cause)
+  where
+    shown : (begun : Option Begun) → IfSome begun (λ b. (b.absent ≡ true) × (o ≡ absent b.name))
+        → IfSome begun (λ b. (b.absent ≡ true) × (err.after ≡ appended err.before (absent b.name).err))
+    shown None cause = tt
+    shown (Some b) cause = (cause.0, last ∙ ap (λ (x : Outcome). appended err.before x.err) cause.1)
 
--- the certificate is accepted
-pub accepted_answered : (told : Option Listing) (style cert : List ℕ) (given : Status) (condition : Cond) (out out' err : Option (List ℕ)) (faults faults' : ℕ)
-    → IsSaid given status.Done (output (Accepts condition)) out out' faults faults'
-    → Gives {A = Cond} told (λ t. condition_in t style cert) (Ok condition)
-    → IfSome told (λ t. IsAnswered given (check_answer t style cert) out out' err err)
-accepted_answered None style cert given condition out out' err faults faults' said is = tt
-accepted_answered (Some t) style cert given condition out out' err faults faults' said is =
-    answered_out given condition (check_answer t style cert) out out' err faults faults' said (ap check_from is)
+-- an answer ReadFailed names the file that couldn't be read
+pub read_failed_shown : {F : Type 0} (see : Ghosts F) (old new : F) (form : Form) (found : Result Outcome NoMemory) (given : Status) (out err : Sunk)
+    → IfOk found (λ o. IsAnswer {F = F} see old new form o) → Delivers found given out err → given ≡ status.ReadFailed
+    → Rose (see.faults old) (see.faults new) × IfSome (see.begun new) (λ b. (b.absent ≡ false) × (err.after ≡ appended err.before (unread b.name).err))
+read_failed_shown see old new form (Err refused) given out err answer delivered is = let e = delivered.0 in absurd (cc)
+read_failed_shown see old new form (Ok o) given out err answer (OutFailed e cut last) is = absurd (cc)
+read_failed_shown see old new form (Ok o) given out err answer (ErrFailed e put cut) is = absurd (cc)
+read_failed_shown see old new form (Ok o) given out err answer (OutWanting e front last) is = absurd (cc)
+read_failed_shown see old new form (Ok o) given out err answer (ErrWanting e put front) is = absurd (cc)
+read_failed_shown see old new form (Ok o) given out err answer (Whole e put last) is =
+    let cause : CausedBy status.ReadFailed o (see.begun new) (see.faults old) (see.faults new) =
+    subst (λ (s : Status). CausedBy s o (see.begun new) (see.faults old) (see.faults new)) (sym e ∙ is) answer.cause in
+    (cause.0, shown (see.begun new) cause.1)
+  where
+    shown : (begun : Option Begun) → IfSome begun (λ b. (b.absent ≡ false) × (o ≡ unread b.name))
+        → IfSome begun (λ b. (b.absent ≡ false) × (err.after ≡ appended err.before (unread b.name).err))
+    shown None cause = tt
+    shown (Some b) cause = (cause.0, last ∙ ap (λ (x : Outcome). appended err.before x.err) cause.1)
 
--- what was put on standard output is a front of the text that accepts
-pub accepted_safe : (told : Option Listing) (style cert : List ℕ) (given : Status) (condition : Cond) (out out' : Option (List ℕ)) (faults faults' : ℕ)
-    → IfSome told (λ t. IsAccepted t style cert condition)
-    → IsSaid given status.Done (output (Accepts condition)) out out' faults faults'
-    → IfSome told (λ t. IsSafelyAccepted t style cert out out')
-accepted_safe None style cert given condition out out' faults faults' accepted said = tt
-accepted_safe (Some t) style cert given condition out out' faults faults' accepted said =
-    record {
-      cond = condition;
-      accepted = accepted;
-      printed = said_front given status.Done (output (Accepts condition)) out out' faults faults' said;
-    }
+-- an answer WriteFailed comes from a sink
+pub write_failed_shown : {F : Type 0} (see : Ghosts F) (old new : F) (form : Form) (found : Result Outcome NoMemory) (given : Status) (out err : Sunk)
+    → IfOk found (λ o. IsAnswer {F = F} see old new form o) → Delivers found given out err → given ≡ status.WriteFailed
+    → Rose out.faults out.faults' ⊎ Rose err.faults err.faults'
+write_failed_shown see old new form (Err refused) given out err answer delivered is = let e = delivered.0 in absurd (cc)
+write_failed_shown see old new form (Ok o) given out err answer (OutFailed e cut last) is = inl cut.failed
+write_failed_shown see old new form (Ok o) given out err answer (ErrFailed e put cut) is = inr cut.failed
+write_failed_shown see old new form (Ok o) given out err answer (OutWanting e front last) is = absurd (cc)
+write_failed_shown see old new form (Ok o) given out err answer (ErrWanting e put front) is = absurd (cc)
+write_failed_shown see old new form (Ok o) given out err answer (Whole e put last) is =
+    absurd (subst (λ (s : Status). CausedBy s o (see.begun new) (see.faults old) (see.faults new)) (sym e ∙ is) answer.cause)
 
--- a stop stands for the answer
-pub stop_answered : (told : Option Listing) (answer : Listing → Answer) (stop : Stop) (given : Status) (out err err' : Option (List ℕ)) (faults faults' : ℕ)
-    → IsSaid given (stop_status stop) (stop_line stop) err err' faults faults' → IfSome told (λ t. Stands stop (answer t))
-    → IfSome told (λ t. IsAnswered given (answer t) out out err err')
-stop_answered None answer stop given out err err' faults faults' said stands = tt
-stop_answered (Some t) answer stop given out err err' faults faults' said stands =
-    answered_err stop given (answer t) out err err' faults faults' said stands
+-- words of a form aren't answered by Usage
+pub form_not_usage : {F : Type 0} (see : Ghosts F) (old new : F) (form : Form) (found : Result Outcome NoMemory) (given : Status) (out err : Sunk)
+    → IfOk found (λ o. IsAnswer {F = F} see old new form o) → Delivers found given out err → given ≡ status.Usage → ⊥
+form_not_usage see old new form (Err refused) given out err answer delivered is = let e = delivered.0 in cc
+form_not_usage see old new form (Ok o) given out err answer (OutFailed e cut last) is = cc
+form_not_usage see old new form (Ok o) given out err answer (ErrFailed e put cut) is = cc
+form_not_usage see old new form (Ok o) given out err answer (OutWanting e front last) is = cc
+form_not_usage see old new form (Ok o) given out err answer (ErrWanting e put front) is = cc
+form_not_usage see old new form (Ok o) given out err answer (Whole e put last) is =
+    subst (λ (s : Status). CausedBy s o (see.begun new) (see.faults old) (see.faults new)) (sym e ∙ is) answer.cause
 
-check_stands : (o : Option Answer) (found : Result Cond Answer) → IfSome o (λ answer. found ≡ Err answer) → IfSome o (λ answer. check_from found ≡ answer)
-check_stands None found is = tt
-check_stands (Some answer) found is = ap check_from is
+-- what an outcome promises, a front of its text on standard output promises
+promised : (told : Listing) (form : Form) (o : Outcome) (out : Sunk) → IsFront o.out out → Promises told form o → IsPromised told form out
+promised told (Check style cert) o out front acceptance = record {
+  cond = acceptance.cond;
+  decided = acceptance.decided;
+  printed = subst (λ (x : Outcome). IsFront x.out out) acceptance.printed front;
+}
+promised told (Run aux steps) o out front acceptance = tt
 
-pub check_stops : (told : Option Listing) (style cert : List ℕ) (stop : Stop)
-    → Gives {A = Cond} told (λ t. condition_in t style cert) (Err stop) → IfSome told (λ t. Stands stop (check_answer t style cert))
-check_stops None style cert stop given = tt
-check_stops (Some t) style cert stop given = check_stands (answer_of stop) (condition_in t style cert) given
+-- a text on standard output promises what the outcome does
+pub form_safe : {F : Type 0} (see : Ghosts F) (old new : F) (form : Form) (found : Result Outcome NoMemory) (given : Status) (out err : Sunk)
+    → IfOk found (λ o. IsAnswer {F = F} see old new form o) → Delivers found given out err → out.after ≢ out.before
+    → IfSome (see.told old) (λ told. IsPromised told form out)
+form_safe see old new form (Err refused) given out err answer delivered more =
+    absurd (more (delivered.1 ∙ sym (appended_nothing out.before)))
+form_safe see old new form (Ok o) given out err answer delivered more =
+    shown (see.told old) answer.safe
+  where
+    shown : (t : Option Listing) → IfSome t (λ told. o.out ≢ [] → Promises told form o) → IfSome t (λ told. IsPromised told form out)
+    shown None safe = tt
+    shown (Some t) safe =
+        promised t form o out (delivered_front o given out err delivered)
+        (safe (λ none. more (silent o given out err none delivered)))
+
+-- the words `run AUX N` promise nothing of a text
+pub run_promises : (t : Option Listing) (aux : List ℕ) (steps : ℕ) (result : Result Outcome Stop) → IfOk result (λ o. IfSome t (λ told. Promises told (Run aux steps) o))
+run_promises None aux steps (Ok o) = tt
+run_promises (Some t) aux steps (Ok o) = tt
+run_promises t aux steps (Err stop) = tt
+
+-- words of no form are answered by Usage, or the sinks decide
+pub usage_given : (given : Status) (out err : Sunk) → IsDelivered usage given out err
+    → (given ≢ status.NoFile) × ((given ≢ status.ReadFailed) × (given ≡ status.WriteFailed → Rose out.faults out.faults' ⊎ Rose err.faults err.faults'))
+usage_given given out err (Whole e put last) =
+    let said : given ≡ status.Usage = e in
+    (λ is. cc, (λ is. cc, λ is. absurd (cc)))
+usage_given given out err (OutFailed e cut last) = (λ is. cc, (λ is. cc, λ is. inl cut.failed))
+usage_given given out err (ErrFailed e put cut) = (λ is. cc, (λ is. cc, λ is. inr cut.failed))
+usage_given given out err (OutWanting e front last) = (λ is. cc, (λ is. cc, λ is. absurd (cc)))
+usage_given given out err (ErrWanting e put front) = (λ is. cc, (λ is. cc, λ is. absurd (cc)))

@@ -1,8 +1,9 @@
 pub mod ChainLemmas
+pub mod CheckLemmas
+pub mod DeliveryLemmas
 pub mod CommandLemmas
-pub mod GivesLemmas
-pub mod JudgeLemmas
+pub mod ReadsLemmas
 pub mod ReadingLemmas
-pub mod RunnerLemmas
+pub mod RunLemmas
 pub mod Sound
 pub mod StraightLemmas

@@ -11,7 +11,8 @@ use Rattle.name_table.specs.declared.names.NameId.{NameId}
 use Rattle.bst_meaning.specs.declared.condition.NamesLine.{NamesLine}
 use Rattle.bst_meaning.specs.declared.condition.Cond.{Cond}
 use Rattle.bst_run.specs.Certificate.{IsCertificate, yes_or_no}
-use Rattle.bst_run.specs.Reading.{after, number_from, within, is_digit, loosely_read}
+use Rattle.bv_base.specs.Runs.{is_digit}
+use Rattle.bst_run.specs.Reading.{after, number_from, within, loosely_read}
 
 -- more digits make no smaller number
 number_from_ge : (n : ℕ) (bytes : List ℕ) → n ≤ (number_from n bytes).0

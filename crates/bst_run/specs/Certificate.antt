@@ -4,6 +4,7 @@ use Rattle.std.specs.Prelude.{◌≡◌, ℕ, ◌≤◌, Bool, true, false, List
 use Rattle.std.specs.Fmt.{decimal}
 use Rattle.bst_meaning.specs.declared.condition.Cond.{Cond}
 
+-- a choice
 abbrev pub yes_or_no : Bool → List ℕ
 yes_or_no true = codes "yes"
 yes_or_no false = codes "no"
@@ -18,6 +19,7 @@ condition_text cond =
     ++ (codes "\nothertype " ++ (yes_or_no cond.other
     ++ codes "\nend\n")))))))))
 
+-- the one spelling of the short certificate with this condition
 abbrev pub certificate_text : Cond → List ℕ
 certificate_text cond = codes "bstcert 1\n" ++ (condition_text cond ++ codes "done\n")
 

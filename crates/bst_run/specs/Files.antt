@@ -3,19 +3,16 @@ use Rattle.std.specs.Prelude.{ℕ, nat_eq, nat_lt, if◌then◌else◌, List, �
 use Rattle.std.specs.FinMap.{get}
 use Rattle.std.specs.List.{ends_with}
 use Rattle.bv_base.specs.Outside.{Listing}
-use Rattle.bst_run.specs.Report.{Answer, FileAbsent, FileTooLong}
-
--- what is wanted first, and what is wanted of its value; an answer ends both
-abbrev pub then_do : {A B : Type 0} → Result A Answer → (A → Result B Answer) → Result B Answer
-then_do (Ok value) next = next value
-then_do (Err answer) next = Err answer
+use Rattle.bst_run.specs.declared.outcome.Outcome.{Outcome}
+use Rattle.bst_run.specs.Report.{absent, too_long}
 
 -- the bytes of a file that is there and has at most so many
-abbrev pub whole_file : ℕ → List ℕ → Option (List ℕ) → Result (List ℕ) Answer
-whole_file limit name None = Err (FileAbsent name)
-whole_file limit name (Some bytes) = if nat_lt limit (length bytes) then Err (FileTooLong name) else Ok bytes
+abbrev pub whole_file : ℕ → List ℕ → Option (List ℕ) → Result (List ℕ) Outcome
+whole_file limit name None = Err (absent name)
+whole_file limit name (Some bytes) = if nat_lt limit (length bytes) then Err (too_long name) else Ok bytes
 
-abbrev pub file_in : Listing → ℕ → List ℕ → Result (List ℕ) Answer
+-- the bytes of the file of this name
+abbrev pub file_in : Listing → ℕ → List ℕ → Result (List ℕ) Outcome
 file_in told limit name = whole_file limit name (get told name)
 
 -- the name of a file, which ends so

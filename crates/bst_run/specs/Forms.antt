@@ -27,9 +27,11 @@ whole _ = None
 abbrev pub is_short : List ℕ → Bool
 is_short bytes = nat_le 1 (length bytes) && (nat_le (length bytes) 9 && not (has_leading_zero bytes))
 
+-- the number of steps that a word writes
 abbrev pub steps_of : List ℕ → Option ℕ
 steps_of bytes = if is_short bytes then whole (number bytes) else None
 
+-- the words `run AUX N`
 abbrev pub run_form : List ℕ → List ℕ → Option Form
 run_form aux steps = option_map (Run aux) (steps_of steps)
 

@@ -5,6 +5,7 @@ pub mod Walk
 pub mod DataFaults
 pub mod Report
 pub mod Stops
+pub mod Reads
 pub mod Files
 pub mod Forms
 pub mod Requests
@@ -12,4 +13,5 @@ pub mod FileNames
 pub mod AuxChain
 pub mod Sources
 pub mod Ran
+pub mod Delivery
 pub mod Top

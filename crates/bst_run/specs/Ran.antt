@@ -1,8 +1,7 @@
 -- What a run answers (docs/COMMANDS.md, "A run").
-use Rattle.std.specs.Prelude.{◌≡◌, ℕ, List, [], ◌∷◌, ◌++◌, codes, Option, None, Some, Result, Ok, Err}
+use Rattle.std.specs.Prelude.{ℕ, List, [], ◌∷◌, ◌++◌, codes, Option, None, Some, Result, Ok, Err}
 use Rattle.std.specs.List.{flat_map}
 use Rattle.bv_base.specs.Outside.{Listing}
-use Rattle.bv_base.specs.declared.status.Status.{Status}
 use Rattle.bv_base.specs.declared.status.Status.TheVariants as status
 use Rattle.name_table.specs.declared.style.Style.{Style}
 use Rattle.bst_meaning.specs.Config.{Config}
@@ -13,11 +12,10 @@ use Rattle.bst_step.specs.declared.machine.Turn.TheVariants.{Went, Ended, Faulte
 use Rattle.bst_step.specs.Machine.{turn_of, key_at}
 use Rattle.entry_list.specs.declared.joined.Joined.{Joined}
 use Rattle.entry_list.specs.Joining.{joined}
-use Rattle.bst_run.specs.declared.runner.Ending.{Ending}
-use Rattle.bst_run.specs.declared.runner.Ending.TheVariants.{Done, Fault, Budget}
-use Rattle.bst_run.specs.declared.runner.Outcome.{Outcome}
-use Rattle.bst_run.specs.declared.sources.Sources.{Sources}
-use Rattle.bst_run.specs.Report.{Answer, Finished, Faults, OutOfSteps, status_of, output, error_text}
+use Rattle.bv_base.specs.Answers.{then_do}
+use Rattle.bst_run.specs.declared.files.sources.Sources.{Sources}
+use Rattle.bst_run.specs.declared.outcome.Outcome.{Outcome}
+use Rattle.bst_run.specs.Report.{fault_line, budget_line}
 use Rattle.bst_run.specs.Sources.{sources_of}
 
 -- the key of the visited entry, and `-` where none is visited
@@ -29,40 +27,27 @@ key_text (Some position) c = key_at position c.entries
 abbrev pub ended_lines : List (List ℕ) → List ℕ
 ended_lines lines = flat_map (λ line. line ++ 10 ∷ []) lines
 
--- what a configuration answers after so many steps, with these lines in its log
-abbrev pub answered : ℕ → List ℕ → Turn → Config → Answer
-answered steps log Ended c = Finished (lines_of c) log
-answered steps log Went c = OutOfSteps (lines_of c) log steps
-answered steps log (Faulted fault site) c = Faults (lines_of c) log fault site.place (key_text site.entry c)
+-- what a configuration answers after so many steps: the finished lines, and this log with the last line behind it
+abbrev pub answered : ℕ → List ℕ → Turn → Config → Outcome
+answered steps log Ended c = record { status = status.Done; out = lines_of c; err = log }
+answered steps log Went c = record { status = status.Budget; out = lines_of c; err = log ++ budget_line steps }
+answered steps log (Faulted fault site) c =
+    record { status = status.Fault; out = lines_of c; err = log ++ fault_line fault site.place (key_text site.entry c) }
 
 -- the log has the warnings of the databases, those of the joining and then the lines that the run logged
-abbrev pub answer_at : ℕ → List (List ℕ) → List (List ℕ) → Config → Answer
+abbrev pub answer_at : ℕ → List (List ℕ) → List (List ℕ) → Config → Outcome
 answer_at steps reading joining c =
     answered steps (ended_lines reading ++ (ended_lines joining ++ ended_lines c.log)) (turn_of c) c
 
 -- the first steps of a style over the joined entries
-abbrev pub run_joined : ℕ → Style → List (List ℕ) → Joined → Answer
+abbrev pub run_joined : ℕ → Style → List (List ℕ) → Joined → Outcome
 run_joined steps style reading found = answer_at steps reading found.warnings (run style found.list steps)
 
-abbrev pub run_over : ℕ → Sources → Answer
+-- the first steps of a style over what was read
+abbrev pub run_over : ℕ → Sources → Outcome
 run_over steps sources =
     run_joined steps sources.style sources.database.warnings (joined sources.style sources.items sources.database)
 
-abbrev pub run_from : ℕ → Result Sources Answer → Answer
-run_from steps (Ok sources) = run_over steps sources
-run_from steps (Err answer) = answer
-
 -- the words `run AUX N`
-abbrev pub run_answer : Listing → List ℕ → ℕ → Answer
-run_answer told aux steps = run_from steps (sources_of told aux)
-
-abbrev pub ending_status : Ending → Status
-ending_status Done = status.Done
-ending_status Fault = status.Fault
-ending_status Budget = status.Budget
-
--- an outcome has the status and the texts of an answer
-pub record IsOutcome (outcome : Outcome) (answer : Answer) : Type 0 where
-  pub ending : ending_status outcome.ending ≡ status_of answer
-  pub lines : outcome.lines.items ≡ output answer
-  pub log : outcome.log.items ≡ error_text answer
+abbrev pub run_outcome : Listing → List ℕ → ℕ → Result Outcome Outcome
+run_outcome told aux steps = then_do (sources_of told aux) (λ sources. Ok (run_over steps sources))

@@ -3,15 +3,13 @@
 use Rattle.std.specs.Prelude.{ℕ, ◌+◌, ◌-◌, ◌*◌, Bool, ◌&&◌, nat_le, nat_eq, if◌then◌else◌, List, [], ◌∷◌, codes, take, drop, length, Option, None, Some, is_some}
 use Rattle.std.specs.Option.{option_and_then}
 use Rattle.std.specs.Cmp.Lexicographic.{pointwise}
+use Rattle.bv_base.specs.Runs.{is_digit}
 use Rattle.bst_meaning.specs.declared.condition.Cond.{Cond}
 use Rattle.bst_run.specs.Certificate.{certificate_text}
 
 -- what follows a prefix, where the bytes begin with it
 abbrev pub after : List ℕ → List ℕ → Option (List ℕ)
 after prefix bytes = if pointwise nat_eq (take (length prefix) bytes) prefix then Some (drop (length prefix) bytes) else None
-
-abbrev pub is_digit : ℕ → Bool
-is_digit b = nat_le 48 b && nat_le b 57
 
 -- the number that digits write after the number so far, and what follows them
 abbrev pub number_from : ℕ → List ℕ → ℕ × List ℕ
@@ -22,6 +20,7 @@ number_from n (d ∷ bytes) = if is_digit d then number_from (10 * n + (d - 48))
 abbrev pub within : ℕ × List ℕ → Option (ℕ × List ℕ)
 within found = if nat_le found.0 1073741824 then Some found else None
 
+-- the number at the start of bytes, and what follows it
 abbrev pub number : List ℕ → Option (ℕ × List ℕ)
 number bytes = within (number_from 0 bytes)
 

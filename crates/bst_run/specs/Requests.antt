@@ -7,7 +7,7 @@ use Rattle.aux_read.specs.declared.aux.AuxItem.TheVariants.{Input}
 use Rattle.aux_read.specs.declared.fault.AuxFault.TheVariants.{SecondStyle, SecondData}
 use Rattle.bst_run.specs.declared.data_fault.DataFault.{DataFault}
 use Rattle.bst_run.specs.declared.data_fault.DataFault.TheVariants.{Aux as AuxFile, TooDeep}
-use Rattle.bst_run.specs.declared.requests.Requests.{Requests}
+use Rattle.bst_run.specs.declared.files.requests.Requests.{Requests}
 use Rattle.bst_run.specs.DataFaults.{place_of}
 
 -- before the first file
@@ -29,6 +29,7 @@ abbrev pub second_style_by : Option (List ℕ) → Option (List ℕ) → Aux →
 second_style_by (Some before) (Some style) aux = Some (AuxFile (SecondStyle aux.style_place))
 second_style_by before found aux = None
 
+-- a second style
 abbrev pub second_style : Requests → Aux → Option DataFault
 second_style before aux = second_style_by before.style aux.style aux
 
@@ -37,6 +38,7 @@ abbrev pub second_databases_by : List (List ℕ) → List (List ℕ) → Aux →
 second_databases_by (before ∷ _) (database ∷ _) aux = Some (AuxFile (SecondData aux.data_place))
 second_databases_by before found aux = None
 
+-- a second time databases
 abbrev pub second_databases : Requests → Aux → Option DataFault
 second_databases before aux = second_databases_by before.databases aux.databases aux
 
@@ -56,6 +58,7 @@ abbrev pub first_of : DataFault → Option DataFault → DataFault
 first_of a None = a
 first_of a (Some b) = if nat_lt (place_of b).line (place_of a).line then b else a
 
+-- the one of two faults that stands first
 abbrev pub first_fault : Option DataFault → Option DataFault → Option DataFault
 first_fault None b = b
 first_fault (Some a) b = Some (first_of a b)

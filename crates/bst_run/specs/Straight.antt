@@ -30,6 +30,7 @@ is_straight_token style (Str text) = true
 is_straight_token style (Call name) = is_straight_call (kind_of style name)
 is_straight_token style _ = false
 
+-- a body of such tokens
 abbrev pub is_straight_body : Style → Body → Bool
 is_straight_body style body = list_all (λ t. is_straight_token style t.token) body.tokens
 

@@ -18,6 +18,7 @@ use Rattle.bst_run.specs.declared.refusal.Reason.{Reason}
 use Rattle.bst_run.specs.declared.refusal.Reason.TheVariants.{EmptyPop, StackLeft}
 use Rattle.bst_run.specs.declared.refusal.Refusal.{Refusal}
 
+-- a rule fails at a place
 abbrev pub refused : Place → Reason → Result ℕ Refusal
 refused place reason = Err (record { place = place; reason = reason })
 
@@ -30,6 +31,7 @@ walk_built_in Write place zero = refused place (EmptyPop 1)
 walk_built_in Write place (suc strings) = Ok strings
 walk_built_in _ place strings = Ok strings
 
+-- a call of a name, which is one of these built-in functions
 abbrev pub walk_call : Option Kind → Place → ℕ → Result ℕ Refusal
 walk_call (Some (BuiltinKind op)) place strings = walk_built_in op place strings
 walk_call _ place strings = Ok strings
@@ -45,6 +47,7 @@ abbrev pub then_walk : Result ℕ Refusal → (ℕ → Result ℕ Refusal) → R
 then_walk (Ok strings) more = more strings
 then_walk (Err refusal) more = Err refusal
 
+-- the tokens of a body in order
 abbrev pub walk_tokens : Style → List TokenAt → ℕ → Result ℕ Refusal
 walk_tokens style [] strings = Ok strings
 walk_tokens style (t ∷ tokens) strings = then_walk (walk_token style t.token t.place strings) (walk_tokens style tokens)
@@ -59,6 +62,7 @@ abbrev pub walk_function : Style → Option Kind → Place → Result ℕ Refusa
 walk_function style (Some (Wizard body)) place = then_walk (walk_tokens style (tokens_of style body) zero) (end_call place)
 walk_function style _ place = Ok zero
 
+-- EXECUTE calls its function; no other command does
 abbrev pub walk_command : Style → Command → Place → Result ℕ Refusal
 walk_command style (Execute name) place = walk_function style (kind_of style name) place
 walk_command style _ place = Ok zero
@@ -74,6 +78,7 @@ abbrev pub refusal_of : Result ℕ Refusal → Option Refusal
 refusal_of (Ok strings) = None
 refusal_of (Err refusal) = Some refusal
 
+-- the first rule that fails on a style, if one does
 abbrev pub first_refusal : Style → Option Refusal
 first_refusal style = refusal_of (walk_commands style style.commands)
 

@@ -28,11 +28,11 @@ impl DataFault {
         ensures { result ≡ faults.place_of self }
     {
         match self {
-            DataFault::Aux(fault) => aux_place(fault),
+            DataFault::Aux(fault) => fault.place(),
             DataFault::TooDeep(place) | DataFault::NoStyle(place) | DataFault::NoData(place) => {
                 place
             }
-            DataFault::Bib(fault) => bib_place(fault),
+            DataFault::Bib(fault) => fault.place(),
         }
     }
 
@@ -41,39 +41,11 @@ impl DataFault {
         ensures { result.now ≡ faults.name_of self }
     {
         match self {
-            DataFault::Aux(AuxFault::BadCommand(_)) => "BadCommand",
-            DataFault::Aux(AuxFault::SecondStyle(_)) => "SecondStyle",
-            DataFault::Aux(AuxFault::SecondData(_)) => "SecondData",
+            DataFault::Aux(fault) => fault.name(),
             DataFault::TooDeep(_) => "TooDeep",
             DataFault::NoStyle(_) => "NoStyle",
             DataFault::NoData(_) => "NoData",
-            DataFault::Bib(BibFault::Expected(_)) => "Expected",
-            DataFault::Bib(BibFault::EndOfFile(_)) => "EndOfFile",
-            DataFault::Bib(BibFault::Unbalanced(_)) => "Unbalanced",
-            DataFault::Bib(BibFault::RepeatedKey(_)) => "RepeatedKey",
-            DataFault::Aux(AuxFault::NoMemory) | DataFault::Bib(BibFault::NoMemory) => "NoMemory",
+            DataFault::Bib(fault) => fault.name(),
         }
-    }
-}
-
-fn aux_place(fault: AuxFault) -> Place
-    ensures { result ≡ faults.aux_place fault }
-{
-    match fault {
-        AuxFault::BadCommand(place) | AuxFault::SecondStyle(place) | AuxFault::SecondData(place) =>
-            place,
-        AuxFault::NoMemory => Place::START,
-    }
-}
-
-fn bib_place(fault: BibFault) -> Place
-    ensures { result ≡ faults.bib_place fault }
-{
-    match fault {
-        BibFault::Expected(place)
-        | BibFault::EndOfFile(place)
-        | BibFault::Unbalanced(place)
-        | BibFault::RepeatedKey(place) => place,
-        BibFault::NoMemory => Place::START,
     }
 }

@@ -1,17 +1,16 @@
 //! The program: it reads the words, decides or runs, and ends with the answer's number.
 #![tactic(auto)]
 
-mod aux_files;
 mod certificate;
+mod check;
 mod command;
 mod data_fault;
-mod judge;
+mod deliver;
+mod files;
+mod outcome;
 mod refusal;
 mod report;
-mod requests;
-mod runner;
-mod source_file;
-mod sources;
+mod run;
 mod stop;
 mod straight;
 #[cfg(test)]

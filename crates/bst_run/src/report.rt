@@ -1,114 +1,106 @@
-//! The texts of the answers.
+//! The outcomes that are told, with their texts.
 
-ghost use Rattle.std.specs.Prelude.{◌≡◌, ◌++◌, IfOk};
+ghost use Rattle.std.specs.Prelude.{◌≡◌, IfOk};
 ghost use Rattle.std.specs.String.{string_bytes};
 ghost use Rattle.bst_run.specs.Report as report;
-ghost use Rattle.bst_run.specs.Stops as stops;
 
 use crate::certificate::condition_text;
 use crate::data_fault::DataFault;
+use crate::outcome::Outcome;
 use crate::refusal::{Reason, Refusal};
-use crate::stop::Stop;
-use bst_lex::lexeme::LexFault;
 use bst_meaning::condition::Cond;
 use bst_meaning::fault::Fault;
 use bst_parse::fault::StyleFault;
 use bv_base::memory::NoMemory;
 use bv_base::place::Place;
 use bv_base::status::Status;
+use bv_base::text::Text;
 use std::alloc::Global;
 
 /// The line for words of none of the forms.
-pub const USAGE: &str =
+const USAGE: &str =
     "usage: check STYLE CERT; infer STYLE [COND]; run AUX N [CERT]; gen SEED COUNT\n";
 
-/// The text that accepts a style and prints the condition.
-pub fn accepted_text(alloc: Global, cond: &Cond) -> Result<String, NoMemory>
-    ensures { IfOk result (λ text. string_bytes text ≡ report.output (report.Accepts cond.now)) }
+/// The words have none of the forms.
+pub fn usage(alloc: Global) -> Result<Outcome, NoMemory>
+    ensures { IfOk result (λ outcome. outcome ≡ report.usage) }
 {
-    let condition = condition_text(alloc, cond)?;
-    Ok(format!(in alloc; "accepted\nlist 1\n{condition}")?)
+    let line = String::from_str(alloc, USAGE)?;
+    Ok(last_line(alloc, Status::Usage, line))
 }
 
-/// The last line of a run that has come to an execution error.
-pub fn fault_line(
-    alloc: Global,
-    fault: Fault,
-    place: Place,
-    key: &[u8],
-) -> Result<Vec<u8>, NoMemory>
-    ensures { IfOk result (λ text. text.items ≡ report.fault_line fault place key.now) }
+/// No file has this name.
+pub fn absent(alloc: Global, name: &str) -> Result<Outcome, NoMemory>
+    ensures { IfOk result (λ outcome. outcome ≡ report.absent name.now) }
 {
-    let line = place.line;
-    let column = place.column;
-    let name = run_fault_name(fault);
-    let mut text = format!(in alloc; "fault {line}:{column} {name} ")?.into_bytes();
-    text.extend_from_slice(key)?;
-    text.push(b'\n')?;
-    Ok(text)
+    let line = format!(in alloc; "no file {name}\n")?;
+    Ok(last_line(alloc, Status::NoFile, line))
 }
 
-/// The last line of a run that has taken its steps.
-pub fn budget_line(alloc: Global, steps: u32) -> Result<String, NoMemory>
-    ensures { IfOk result (λ text. string_bytes text ≡ report.budget_line steps) }
+/// The file of this name couldn't be begun or read.
+pub fn unread(alloc: Global, name: &str) -> Result<Outcome, NoMemory>
+    ensures { IfOk result (λ outcome. outcome ≡ report.unread name.now) }
 {
-    Ok(format!(in alloc; "budget {steps}\n")?)
+    let line = format!(in alloc; "read failed {name}\n")?;
+    Ok(last_line(alloc, Status::ReadFailed, line))
 }
 
-/// The status of a stop.
-pub fn stop_status(stop: &Stop) -> Status
-    ensures { result ≡ stops.stop_status stop.now }
+/// The file of this name has more bytes than its limit.
+pub fn too_long(alloc: Global, name: &str) -> Result<Outcome, NoMemory>
+    ensures { IfOk result (λ outcome. outcome ≡ report.too_long name.now) }
 {
-    match stop {
-        Stop::NoFile(_) => Status::NoFile,
-        Stop::ReadFailed(_) => Status::ReadFailed,
-        Stop::TooLong(_) => Status::TooLong,
-        Stop::BadStyle(_) => Status::BadStyle,
-        Stop::BadData(_, _) => Status::BadData,
-        Stop::NotBuilt => Status::NotBuilt,
-        Stop::Refused(_) => Status::Refused,
-        Stop::NoMemory => Status::NoMemory,
-    }
+    let line = format!(in alloc; "too long {name}\n")?;
+    Ok(last_line(alloc, Status::TooLong, line))
 }
 
-/// The last line of a stop.
-pub fn stop_line(alloc: Global, stop: &Stop) -> Result<String, NoMemory>
-    ensures { IfOk result (λ text. string_bytes text ≡ stops.stop_line stop.now) }
+/// The bytes of a style are at fault.
+pub fn bad_style(alloc: Global, fault: StyleFault) -> Result<Outcome, NoMemory>
+    ensures { IfOk result (λ outcome. outcome ≡ report.bad_style fault) }
 {
-    match stop {
-        Stop::NoFile(name) => Ok(format!(in alloc; "no file {name}\n")?),
-        Stop::ReadFailed(name) => Ok(format!(in alloc; "read failed {name}\n")?),
-        Stop::TooLong(name) => Ok(format!(in alloc; "too long {name}\n")?),
-        Stop::BadStyle(fault) => bad_style_line(alloc, *fault),
-        Stop::BadData(name, fault) => bad_data_line(alloc, name, *fault),
-        Stop::NotBuilt => Ok(format!(in alloc; "not built\n")?),
-        Stop::Refused(refusal) => refused_line(alloc, *refusal),
-        Stop::NoMemory => Ok(String::new(alloc)),
-    }
+    let line = bad_style_line(alloc, fault)?;
+    Ok(last_line(alloc, Status::BadStyle, line))
 }
 
 fn bad_style_line(alloc: Global, fault: StyleFault) -> Result<String, NoMemory>
-    ensures { IfOk result (λ text. string_bytes text ≡ report.error_text (report.FaultyStyle fault)) }
+    ensures { IfOk result (λ text. string_bytes text ≡ report.bad_style_line fault) }
 {
-    let place = fault_place(fault);
+    let place = fault.place();
     let line = place.line;
     let column = place.column;
-    let name = fault_name(fault);
+    let name = fault.name();
     Ok(format!(in alloc; "bad style {line}:{column} {name}\n")?)
 }
 
-fn bad_data_line(alloc: Global, name: &str, fault: DataFault) -> Result<String, NoMemory>
-    ensures { IfOk result (λ text. string_bytes text ≡ report.error_text (report.FaultyData name.now fault)) }
+/// A data file is at fault.
+pub fn bad_data(alloc: Global, name: &str, fault: DataFault) -> Result<Outcome, NoMemory>
+    ensures { IfOk result (λ outcome. outcome ≡ report.bad_data name.now fault) }
 {
     let place = fault.place();
     let line = place.line;
     let column = place.column;
     let fault = fault.name();
-    Ok(format!(in alloc; "bad data {name} {line}:{column} {fault}\n")?)
+    let line = format!(in alloc; "bad data {name} {line}:{column} {fault}\n")?;
+    Ok(last_line(alloc, Status::BadData, line))
+}
+
+/// The checker for the style or the certificate isn't built yet.
+pub fn not_built(alloc: Global) -> Result<Outcome, NoMemory>
+    ensures { IfOk result (λ outcome. outcome ≡ report.not_built) }
+{
+    let line = String::from_str(alloc, "not built\n")?;
+    Ok(last_line(alloc, Status::NotBuilt, line))
+}
+
+/// A rule fails.
+pub fn refused(alloc: Global, refusal: Refusal) -> Result<Outcome, NoMemory>
+    ensures { IfOk result (λ outcome. outcome ≡ report.refused refusal) }
+{
+    let line = refused_line(alloc, refusal)?;
+    Ok(last_line(alloc, Status::Refused, line))
 }
 
 fn refused_line(alloc: Global, refusal: Refusal) -> Result<String, NoMemory>
-    ensures { IfOk result (λ text. string_bytes text ≡ report.error_text (report.Refuses refusal)) }
+    ensures { IfOk result (λ text. string_bytes text ≡ report.refused_line refusal) }
 {
     let line = refusal.place.line;
     let column = refusal.place.column;
@@ -123,91 +115,51 @@ fn refused_line(alloc: Global, refusal: Refusal) -> Result<String, NoMemory>
     }
 }
 
-fn run_fault_name(fault: Fault) -> &'static str
-    ensures { result.now ≡ report.run_fault_name fault }
+/// The rules hold: the style is safe under the condition that is printed.
+pub fn accepted(alloc: Global, cond: &Cond) -> Result<Outcome, NoMemory>
+    ensures { IfOk result (λ outcome. outcome ≡ report.accepted cond.now) }
 {
-    match fault {
-        Fault::EmptyPop => "EmptyPop",
-        Fault::WrongKind => "WrongKind",
-        Fault::NotVariable => "NotVariable",
-        Fault::NoEntry => "NoEntry",
-        Fault::BadCase => "BadCase",
-        Fault::NotOneByte => "NotOneByte",
-        Fault::NotAscii => "NotAscii",
-        Fault::BadNameIndex => "BadNameIndex",
-        Fault::BadName => "BadName",
-        Fault::BadPattern => "BadPattern",
-        Fault::IntRange => "IntRange",
-        Fault::StackLeft => "StackLeft",
+    let condition = condition_text(alloc, cond)?;
+    let text = format!(in alloc; "accepted\nlist 1\n{condition}")?;
+    Ok(Outcome {
+        status: Status::Done,
+        out: Text::from_vec(text.into_bytes()),
+        err: Text::from_vec(Vec::new(alloc)),
+    })
+}
+
+/// The outcome with this status whose last line stands alone.
+fn last_line(alloc: Global, status: Status, line: String) -> Outcome
+    ensures { result ≡ report.last_line status (string_bytes line) }
+{
+    Outcome {
+        status,
+        out: Text::from_vec(Vec::new(alloc)),
+        err: Text::from_vec(line.into_bytes()),
     }
 }
 
-fn fault_name(fault: StyleFault) -> &'static str
-    ensures { result.now ≡ report.fault_name fault }
+/// The last line of a run that has come to an execution error.
+pub fn fault_line(
+    alloc: Global,
+    fault: Fault,
+    place: Place,
+    key: &[u8],
+) -> Result<Vec<u8>, NoMemory>
+    ensures { IfOk result (λ text. text.items ≡ report.fault_line fault place key.now) }
 {
-    match fault {
-        StyleFault::Lex(inner) => lex_fault_name(inner),
-        StyleFault::UnknownCommand(_) => "UnknownCommand",
-        StyleFault::UnknownName(_) => "UnknownName",
-        StyleFault::SelfUse(_) => "SelfUse",
-        StyleFault::AlreadyDefined(_) => "AlreadyDefined",
-        StyleFault::SecondEntry(_) => "SecondEntry",
-        StyleFault::SecondRead(_) => "SecondRead",
-        StyleFault::ReadBeforeEntry(_) => "ReadBeforeEntry",
-        StyleFault::MacroAfterRead(_) => "MacroAfterRead",
-        StyleFault::CommandBeforeRead(_) => "CommandBeforeRead",
-        StyleFault::NotCallable(_) => "NotCallable",
-        StyleFault::Expected(_, _) => "Expected",
-        StyleFault::EndOfFile(_) => "EndOfFile",
-        StyleFault::TooDeep(_) => "TooDeep",
-        StyleFault::TooMany(_) => "TooMany",
-        StyleFault::NoMemory => "NoMemory",
-    }
+    let line = place.line;
+    let column = place.column;
+    let name = fault.name();
+    let mut text = format!(in alloc; "fault {line}:{column} {name} ")?.into_bytes();
+    text.extend_from_slice(key)?;
+    text.push(b'\n')?;
+    Ok(text)
 }
 
-fn lex_fault_name(fault: LexFault) -> &'static str
-    ensures { result.now ≡ report.lex_fault_name fault }
+/// The last line of a run that has taken its steps.
+pub fn budget_line(alloc: Global, steps: u32) -> Result<String, NoMemory>
+    ensures { IfOk result (λ text. string_bytes text ≡ report.budget_line steps) }
 {
-    match fault {
-        LexFault::NoEndQuote(_) => "NoEndQuote",
-        LexFault::BadInteger(_) => "BadInteger",
-        LexFault::StuffAfterToken(_) => "StuffAfterToken",
-        LexFault::IllegalByte(_) => "IllegalByte",
-        LexFault::IntegerRange(_) => "IntegerRange",
-    }
-}
-
-fn fault_place(fault: StyleFault) -> Place
-    ensures { result ≡ report.fault_place fault }
-{
-    match fault {
-        StyleFault::Lex(inner) => lex_fault_place(inner),
-        StyleFault::UnknownCommand(place)
-        | StyleFault::UnknownName(place)
-        | StyleFault::SelfUse(place)
-        | StyleFault::AlreadyDefined(place)
-        | StyleFault::SecondEntry(place)
-        | StyleFault::SecondRead(place)
-        | StyleFault::ReadBeforeEntry(place)
-        | StyleFault::MacroAfterRead(place)
-        | StyleFault::CommandBeforeRead(place)
-        | StyleFault::NotCallable(place)
-        | StyleFault::Expected(place, _)
-        | StyleFault::EndOfFile(place)
-        | StyleFault::TooDeep(place)
-        | StyleFault::TooMany(place) => place,
-        StyleFault::NoMemory => Place::START,
-    }
-}
-
-fn lex_fault_place(fault: LexFault) -> Place
-    ensures { result ≡ report.lex_fault_place fault }
-{
-    match fault {
-        LexFault::NoEndQuote(place)
-        | LexFault::BadInteger(place)
-        | LexFault::StuffAfterToken(place)
-        | LexFault::IllegalByte(place)
-        | LexFault::IntegerRange(place) => place,
-    }
+    Ok(format!(in alloc; "budget {steps}\n")?)
 }

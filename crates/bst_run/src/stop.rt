@@ -1,25 +1,24 @@
-//! Where a call stops before it has decided or run.
+//! Where a command stops before it has done what it is for.
 
-ghost use Rattle.std.specs.Prelude.{◌≡◌, IfSome};
-ghost use Rattle.bst_run.specs.Report.{FaultyData};
-ghost use Rattle.bst_run.specs.Stops as stops;
+ghost use Rattle.std.specs.Prelude.{◌≡◌};
 
-use crate::data_fault::DataFault;
-use crate::refusal::Refusal;
-use bst_parse::fault::StyleFault;
+use crate::outcome::Outcome;
 use bv_base::memory::NoMemory;
-use std::alloc::{AllocError, Global};
+use std::alloc::AllocError;
 
-/// Why a call stops before it has decided or run. The name of a file is the one that was begun.
+/// Why a command stops: the files decide what is told, or the cause lies outside. The name of a file is the one that was
+/// begun.
 #[derive(Drop)]
 pub enum Stop {
-    NoFile(String),
-    ReadFailed(String),
+    /// The bytes of the files decide this outcome, which is a last line alone.
+    Told(Outcome),
+    /// No file has this name.
+    Absent(String),
+    /// The file couldn't be begun or read.
+    Failed(String),
+    /// The file has more bytes than its limit.
     TooLong(String),
-    BadStyle(StyleFault),
-    BadData(String, DataFault),
-    NotBuilt,
-    Refused(Refusal),
+    /// Want of memory.
     NoMemory,
 }
 
@@ -40,16 +39,5 @@ impl From<AllocError> for Stop {
 
     fn from(_refused: AllocError) -> Stop {
         Stop::NoMemory
-    }
-}
-
-/// The stop for a fault of a data file.
-pub fn bad_data(alloc: Global, name: &str, fault: DataFault) -> Stop
-    ensures stands { IfSome (stops.answer_of result) (λ answer. answer ≡ FaultyData name.now fault) }
-    ensures inside { stops.IsInside result }
-{
-    match String::from_str(alloc, name) {
-        Ok(name) => Stop::BadData(name, fault),
-        Err(_) => Stop::NoMemory,
     }
 }

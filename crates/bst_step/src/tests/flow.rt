@@ -10,7 +10,7 @@ use std::process::Abort;
 use std::test::Fail;
 
 /// Styles of one line, the fault that their runs come to, its column, and the number and the key of its entry.
-const FAULTS: [(&[u8], Fault, u32, Option<u64>, &[u8]); 29] = [
+static FAULTS: [(&[u8], Fault, u32, Option<u64>, &[u8]); 29] = [
     (
         b"f{ #1 { \"a\" #1 + } { } if$ } READ EXECUTE f",
         Fault::WrongKind,

@@ -51,7 +51,7 @@ fn faults(alloc: Global, words: Words<'_>, fault: Fault) -> Result<bool, NoMemor
 }
 
 /// How many operands the built-in functions take.
-const COUNTS: [(&[u8], u8); 29] = [
+static COUNTS: [(&[u8], u8); 29] = [
     (b"=", 2),
     (b">", 2),
     (b"<", 2),
@@ -114,7 +114,7 @@ fn missing_fields(name: &[u8], count: u8) -> Words<'_> {
 
 /// For each operand of the built-in functions what stands before it, what stands behind it, and which it may be: `#` an
 /// integer, `"` a string, `m` a missing field, `'` a function.
-const KINDS: [(&[u8], &[u8], &[u8]); 56] = [
+static KINDS: [(&[u8], &[u8], &[u8]); 56] = [
     (b"", b"#1 =", b"#"),
     (b"#1", b"=", b"#"),
     (b"", b"\"t\" =", b"\""),
@@ -211,7 +211,7 @@ fn operand_of(kind: u8) -> &'static [u8] {
 }
 
 /// The further faults, each of the last token.
-const FURTHER: [(&[u8], Fault); 60] = [
+static FURTHER: [(&[u8], Fault); 60] = [
     // The order of the faults of an assignment.
     (b"#1 'skip$ :=", Fault::NotVariable),
     (b"#1 'title :=", Fault::NotVariable),
@@ -302,7 +302,7 @@ fn expect_faults(rt: &impl Abort, alloc: Global, rows: &[(&[u8], Fault)]) -> Res
 }
 
 /// What bodies log for the first entry.
-const LOGGED: [(&[u8], &[u8]); 86] = [
+static LOGGED: [(&[u8], &[u8]); 86] = [
     (b"#2 #2 = top$", b"1"),
     (b"#2 #-2 = top$", b"0"),
     (b"\"a\" \"a\" = top$", b"1"),

@@ -52,7 +52,7 @@ const LEFT: Turn = Turn::Faulted(
 );
 
 /// Styles of one line, a number of steps, what they come to, and the lines that are written then.
-const STEPS: [(&[u8], u64, Turn, &[u8]); 36] = [
+static STEPS: [(&[u8], u64, Turn, &[u8]); 36] = [
     (b"", 0, Turn::Ended, b""),
     (b"", 1, Turn::Ended, b""),
     (b"f{ }", 0, Turn::Ended, b""),
@@ -142,7 +142,7 @@ const KEYS: &[u8] =
     b"title.key{ title missing$ { \"\" } { title } if$ 'sort.key$ := } no.key{ \"\" 'sort.key$ := } cite.key{ cite$ 'sort.key$ := } w{ cite$ write$ }";
 
 /// Commands, and the line of keys that they write.
-const ORDERS: [(&[u8], &[u8]); 10] = [
+static ORDERS: [(&[u8], &[u8]); 10] = [
     (b"READ ITERATE w", b"A1B2C3D4E5\n"),
     (b"READ REVERSE w", b"E5D4C3B2A1\n"),
     (b"READ ITERATE w REVERSE w", b"A1B2C3D4E5E5D4C3B2A1\n"),

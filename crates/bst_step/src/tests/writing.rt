@@ -23,7 +23,7 @@ fn run_of_body(alloc: Global, body: &[u8], command: &[u8]) -> Result<Report, NoM
 }
 
 /// What is logged where strings of so many bytes are assigned, and then the length and the end of what the variable has.
-const ASSIGNED: [(&[u8], &[u8]); 14] = [
+static ASSIGNED: [(&[u8], &[u8]); 14] = [
     (b"#250 a 's := s text.length$ top$", b"250\n"),
     (
         b"#251 a 's := s text.length$ top$",
@@ -92,7 +92,7 @@ fn expect_logs(rt: &impl Abort, alloc: Global, rows: &[(&[u8], &[u8])]) -> Resul
 }
 
 /// Lines that bodies write: each run of equal bytes as its length and the byte, and `|` for a line's end.
-const LINES: [(&[u8], &[u8]); 30] = [
+static LINES: [(&[u8], &[u8]); 30] = [
     (b"newline$", b"|"),
     (b"\"a\" write$", b""),
     (b"\"a\" write$ newline$ newline$ \"b\" write$", b"1a||"),

@@ -1,0 +1,55 @@
+-- From the machine to what a run answers.
+use Rattle.std.proofs.Common.{◌≡◌, ℕ, List, ◌++◌, Result, refl, ◌∙◌, ap, subst}
+use Rattle.std.specs.Prelude.{IfOk}
+use Rattle.bv_base.specs.declared.memory.NoMemory.{NoMemory}
+use Rattle.name_table.specs.declared.style.Style.{Style}
+use Rattle.bst_meaning.specs.declared.entry.EntryList.{EntryList}
+use Rattle.bst_meaning.specs.Config.{Config, opening}
+use Rattle.bst_meaning.specs.Machine.{steps, run}
+use Rattle.bst_step.specs.declared.machine.Turn.{Turn}
+use Rattle.bst_step.specs.declared.machine.Turn.TheVariants.{Went, Ended, Faulted}
+use Rattle.bst_run.specs.Stops.{IsDecided}
+use Rattle.bst_step.specs.Machine.{turn_of}
+use Rattle.entry_list.specs.declared.joined.Joined.{Joined}
+use Rattle.entry_list.specs.Joining.{joined}
+use Rattle.bst_run.specs.declared.outcome.Outcome.{Outcome}
+use Rattle.bst_run.specs.declared.files.sources.Sources.{Sources}
+use Rattle.bst_run.specs.Ran.{answered, answer_at, ended_lines, run_joined, run_over}
+
+-- the steps that a machine took are those of the run
+pub ran_is : (style style' : Style) (n n' : ℕ) (c c' : Config) (list : EntryList)
+    → c' ≡ steps style n c → style ≡ style' → n ≡ n' → c ≡ opening style' list → c' ≡ run style' list n'
+ran_is style style' n n' c c' list moved e f opened =
+    moved ∙ ap (λ (s : Style). steps s n c) e ∙ ap (λ (m : ℕ). steps style' m c) f ∙ ap (λ (x : Config). steps style' n' x) opened
+
+-- what a machine answers is what its configuration does
+pub outcome_at : (count : ℕ) (result : Result Outcome NoMemory) (log : List ℕ) (turn : Turn) (reading reading' joining joining' : List (List ℕ)) (c c' : Config)
+    → log ≡ ended_lines reading' ++ (ended_lines joining' ++ ended_lines c.log) → reading' ≡ reading → joining' ≡ joining
+    → turn ≡ turn_of c → c ≡ c'
+    → IfOk result (λ o. o ≡ (answered count log turn c))
+    → IfOk result (λ o. o ≡ (answer_at count reading joining c'))
+outcome_at count result log turn reading reading' joining joining' c c' whole e f is same h =
+    subst (λ (x : Config). IfOk result (λ o. o ≡ (answer_at count reading joining x))) same
+    (subst (λ (r : List (List ℕ)). IfOk result (λ o. o ≡ (answer_at count r joining c))) e
+    (subst (λ (j : List (List ℕ)). IfOk result (λ o. o ≡ (answer_at count reading' j c))) f
+    (subst (λ (t : Turn). IfOk result (λ o. o ≡ (answered count (ended_lines reading' ++ (ended_lines joining' ++ ended_lines c.log)) t c))) is
+    (subst (λ (l : List ℕ). IfOk result (λ o. o ≡ (answered count l turn c))) whole h))))
+
+-- the joined entries are those of the sources
+pub joined_outcome : (count : ℕ) (sources : Sources) (reading reading' : List (List ℕ)) (found : Joined) (result : Result Outcome NoMemory)
+    → found ≡ joined sources.style sources.items sources.database → reading' ≡ reading → reading ≡ sources.database.warnings
+    → IfOk result (λ o. o ≡ (run_joined count sources.style reading' found))
+    → IfOk result (λ o. o ≡ (run_over count sources))
+joined_outcome count sources reading reading' found result is same warned h =
+    subst (λ (j : Joined). IfOk result (λ o. o ≡ (run_joined count sources.style sources.database.warnings j))) is
+    (subst (λ (r : List (List ℕ)). IfOk result (λ o. o ≡ (run_joined count sources.style r found))) (same ∙ warned) h)
+
+-- a run ends with a status that the files decide
+answered_decided : (count : ℕ) (log : List ℕ) (turn : Turn) (c : Config) → IsDecided (answered count log turn c).status
+answered_decided count log Ended c = tt
+answered_decided count log Went c = tt
+answered_decided count log (Faulted fault site) c = tt
+
+-- what is read is run to such a status
+pub run_decided : (count : ℕ) (sources : Sources) (outcome : Outcome) → outcome ≡ run_over count sources → IsDecided outcome.status
+run_decided count sources outcome is = rw is (answered_decided _ _ _ _)

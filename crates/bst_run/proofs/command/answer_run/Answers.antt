@@ -1,0 +1,12 @@
+use Rattle.std.proofs.Common.{refl}
+use Rattle.bst_run.specs.Forms.{Run}
+use Rattle.bst_run.specs.Ran.{run_outcome}
+use Rattle.bst_run.proofs.CommandLemmas.{told_answer, run_promises}
+use Rattle.bst_run.proofs.command.answer_run.Goals as goal
+
+pub returns : goal.returns
+returns g c =
+    told_answer g.F.Files c.args.files.now c.run-found.new.files (Run c.args.aux.now c.args.steps)
+    (λ t. run_outcome t c.args.aux.now c.args.steps) c.run-found.result c.told.result
+    c.run-found.ensures.reads c.run-found.ensures.decided
+    (run_promises (g.F.Files.told c.args.files.now) c.args.aux.now c.args.steps c.run-found.result) (λ t. refl) c.told.ensures

@@ -1,0 +1,28 @@
+use Rattle.bst_run.proofs.CommandLemmas.{form_not_usage, form_answered, no_file_shown, read_failed_shown, write_failed_shown, form_safe}
+use Rattle.bst_run.specs.Delivery.{sunk}
+use Rattle.bst_run.specs.Forms.{form_in}
+use Rattle.bst_run.proofs.command.carry_out.Goals as goal
+
+pub returns-clause-not_usage : goal.returns-clause-not_usage
+returns-clause-not_usage g c = λ is.
+    form_not_usage g.F.Files c.args.files.now c.answer-outcome.new.files (form_in c.args.form) c.answer-outcome.result c.deliver.result (sunk g.O.Sink c.args.out.now c.deliver.new.out) (sunk g.E.Sink c.args.err.now c.deliver.new.err) c.answer-outcome.ensures c.deliver.ensures is
+
+pub returns-clause-answered : goal.returns-clause-answered
+returns-clause-answered g c =
+    form_answered g.F.Files c.args.files.now c.answer-outcome.new.files (form_in c.args.form) c.answer-outcome.result c.deliver.result (sunk g.O.Sink c.args.out.now c.deliver.new.out) (sunk g.E.Sink c.args.err.now c.deliver.new.err) c.answer-outcome.ensures c.deliver.ensures
+
+pub returns-clause-no_file : goal.returns-clause-no_file
+returns-clause-no_file g c = λ is.
+    no_file_shown g.F.Files c.args.files.now c.answer-outcome.new.files (form_in c.args.form) c.answer-outcome.result c.deliver.result (sunk g.O.Sink c.args.out.now c.deliver.new.out) (sunk g.E.Sink c.args.err.now c.deliver.new.err) c.answer-outcome.ensures c.deliver.ensures is
+
+pub returns-clause-read_failed : goal.returns-clause-read_failed
+returns-clause-read_failed g c = λ is.
+    read_failed_shown g.F.Files c.args.files.now c.answer-outcome.new.files (form_in c.args.form) c.answer-outcome.result c.deliver.result (sunk g.O.Sink c.args.out.now c.deliver.new.out) (sunk g.E.Sink c.args.err.now c.deliver.new.err) c.answer-outcome.ensures c.deliver.ensures is
+
+pub returns-clause-write_failed : goal.returns-clause-write_failed
+returns-clause-write_failed g c = λ is.
+    write_failed_shown g.F.Files c.args.files.now c.answer-outcome.new.files (form_in c.args.form) c.answer-outcome.result c.deliver.result (sunk g.O.Sink c.args.out.now c.deliver.new.out) (sunk g.E.Sink c.args.err.now c.deliver.new.err) c.answer-outcome.ensures c.deliver.ensures is
+
+pub returns-clause-safe : goal.returns-clause-safe
+returns-clause-safe g c = λ more.
+    form_safe g.F.Files c.args.files.now c.answer-outcome.new.files (form_in c.args.form) c.answer-outcome.result c.deliver.result (sunk g.O.Sink c.args.out.now c.deliver.new.out) (sunk g.E.Sink c.args.err.now c.deliver.new.err) c.answer-outcome.ensures c.deliver.ensures more

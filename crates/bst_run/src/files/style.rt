@@ -1,0 +1,26 @@
+//! Styles that are read.
+
+ghost use Rattle.std.specs.Prelude.{◌≤◌, length, IfErr};
+ghost use Rattle.bst_parse.specs.Reading.{style_of};
+ghost use Rattle.bst_run.specs.Sources.{read_style};
+ghost use Rattle.bst_run.specs.Stops.{Decides, IsInside};
+
+use crate::report::bad_style;
+use crate::stop::Stop;
+use bst_parse::fault::StyleFault;
+use bst_parse::parse::parse;
+use name_table::style::Style;
+use std::alloc::Global;
+
+/// The style that the bytes are.
+pub fn style_from(alloc: Global, source: &[u8]) -> Result<Style, Stop>
+    requires { length source.now ≤ 4194304 }
+    ensures decides { Decides (read_style (style_of source.now)) result }
+    ensures inside { IfErr result IsInside }
+{
+    match parse(alloc, source) {
+        Ok(style) => Ok(style),
+        Err(StyleFault::NoMemory) => Err(Stop::NoMemory),
+        Err(fault) => Err(Stop::Told(bad_style(alloc, fault)?)),
+    }
+}

@@ -1,0 +1,155 @@
+//! A run of a style over the entries that an `.aux` file asks for.
+
+ghost use Rattle.std.specs.Prelude.{◌≡◌, ◌++◌, IfOk, OnOk};
+ghost use Rattle.bib_read.specs.Additions.{AreKeyed};
+ghost use Rattle.bst_step.specs.Machine.{configuration};
+ghost use Rattle.entry_list.specs.Joining.{joined};
+ghost use Rattle.entry_list.specs.Keys.{AreCitations};
+ghost use Rattle.bst_run.specs.Ran as rule;
+ghost use Rattle.bst_run.specs.Reads.{Reads};
+ghost use Rattle.bst_run.specs.Stops.{IsDecided};
+
+use crate::files::sources::{Sources, sources_of};
+use crate::outcome::Outcome;
+use crate::report::{budget_line, fault_line};
+use crate::stop::Stop;
+use aux_read::aux::AuxItem;
+use bib_read::database::Database;
+use bst_step::machine::{Machine, Turn};
+use bv_base::files::Files;
+use bv_base::memory::NoMemory;
+use bv_base::seq::Seq;
+use bv_base::status::Status;
+use bv_base::text::Text;
+use entry_list::join::join;
+use entry_list::joined::Joined;
+use name_table::style::Style;
+use std::alloc::Global;
+
+/// Reads what the `.aux` file of this name asks for, and takes the first steps of the style over it.
+pub fn run<F: Files>(alloc: Global, files: &mut F, aux: &str, steps: u32) -> Result<Outcome, Stop>
+    ensures reads { Reads ⟦<F as Files>⟧ files.old files.new (λ told. rule.run_outcome told aux.now steps) result }
+    ensures decided { IfOk result (λ outcome. IsDecided outcome.status) }
+{
+    let sources = sources_of(alloc, files, aux)?;
+    Ok(run_over(alloc, sources, steps)?)
+}
+
+/// Joins the citations and the databases, and takes the first steps of the style over them.
+fn run_over(alloc: Global, sources: Sources, steps: u32) -> Result<Outcome, NoMemory>
+    requires cited { AreCitations sources.items }
+    requires keyed { AreKeyed sources.database.entries }
+    ensures { IfOk result (λ outcome. outcome ≡ rule.run_over steps sources) }
+{
+    let Sources {
+        style,
+        items,
+        database,
+    } = sources;
+    let (found, reading) = join_all(alloc, &style, items, database)?;
+    run_joined(alloc, &style, reading.as_slice(), steps, found)
+}
+
+/// The joined entries, and the warnings of the databases. What was read of the databases ends here, so that no run
+/// holds it.
+fn join_all(
+    alloc: Global,
+    style: &Style,
+    items: Seq<AuxItem>,
+    database: Database,
+) -> Result<(Joined, Seq<Text>), NoMemory>
+    requires cited { AreCitations items }
+    requires keyed { AreKeyed database.entries }
+    ensures found { IfOk result (λ both. both.0 ≡ joined style.now items database) }
+    ensures reading { IfOk result (λ both. both.1 ≡ database.warnings) }
+{
+    let found = join(alloc, style, items.as_slice(), &database)?;
+    let Database { warnings, .. } = database;
+    Ok((found, warnings))
+}
+
+/// Takes the first steps of the style over the joined entries.
+fn run_joined(
+    alloc: Global,
+    style: &Style,
+    reading: &[Text],
+    steps: u32,
+    found: Joined,
+) -> Result<Outcome, NoMemory>
+    ensures { IfOk result (λ outcome. outcome ≡ rule.run_joined steps style.now reading.now found) }
+{
+    let Joined { list, warnings } = found;
+    let mut machine = Machine::new(alloc, style, list)?;
+    let turn = machine.run(u64::from(steps))?;
+    let log = whole_log(alloc, reading, warnings.as_slice(), &machine)?;
+    outcome_of(alloc, &machine, turn, steps, log)
+}
+
+/// The log: the warnings of the databases, those of the joining, and the lines that the run logged.
+fn whole_log(
+    alloc: Global,
+    reading: &[Text],
+    joining: &[Text],
+    machine: &Machine<'_>,
+) -> Result<Vec<u8>, NoMemory>
+    ensures { IfOk result (λ log. log.items ≡
+        rule.ended_lines reading.now ++ (rule.ended_lines joining.now ++ rule.ended_lines (configuration machine.now).log)) }
+{
+    let mut log = Vec::new(alloc);
+    add_lines(&mut log, reading)?;
+    add_lines(&mut log, joining)?;
+    log.extend_from_slice(machine.log()?.as_slice())?;
+    Ok(log)
+}
+
+/// What a machine answers that has come to this, with this log.
+fn outcome_of(
+    alloc: Global,
+    machine: &Machine<'_>,
+    turn: Turn,
+    steps: u32,
+    log: Vec<u8>,
+) -> Result<Outcome, NoMemory>
+    ensures { IfOk result (λ outcome. outcome ≡ rule.answered steps log.items turn (configuration machine.now)) }
+{
+    let lines = machine.lines()?;
+    let mut log = log;
+    let status = match turn {
+        Turn::Ended => Status::Done,
+        Turn::Went => {
+            log.extend_from_slice(budget_line(alloc, steps)?.as_bytes())?;
+            Status::Budget
+        }
+        Turn::Faulted(fault, site) => {
+            let key = key_text(machine, site.entry);
+            log.extend_from_slice(fault_line(alloc, fault, site.place, key)?.as_slice())?;
+            Status::Fault
+        }
+    };
+    Ok(Outcome {
+        status,
+        out: Text::from_vec(lines),
+        err: Text::from_vec(log),
+    })
+}
+
+/// The key of the visited entry, and `-` where none is visited.
+fn key_text<'a>(machine: &'a Machine<'_>, entry: Option<u64>) -> &'a [u8]
+    ensures { result.now ≡ rule.key_text entry (configuration machine.now) }
+{
+    match entry {
+        Some(position) => machine.key(position),
+        None => b"-",
+    }
+}
+
+/// Adds lines, each with its line end.
+fn add_lines(text: &mut Vec<u8>, lines: &[Text]) -> Result<(), NoMemory>
+    ensures { OnOk result (text.new.items ≡ text.old.items ++ rule.ended_lines lines.now) }
+{
+    for line in lines {
+        text.extend_from_slice(line.as_slice())?;
+        text.push(b'\n')?;
+    }
+    Ok(())
+}
