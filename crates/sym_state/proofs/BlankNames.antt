@@ -2,6 +2,7 @@
 use Rattle.std.proofs.Common.{◌≡◌, ℕ, zero, suc, ◌+◌, ◌-◌, ◌⊎◌, inl, inr, Bool, true, false, cond, ap, sym, ◌∙◌, subst, refl, List, [], ◌∷◌, length, take, drop, arith, nat_eq, ◌&&◌}
 use Rattle.std.specs.Prelude.{is_ok}
 use Rattle.std.specs.List.{list_all}
+use Rattle.std.proofs.Math.Bool.{and-false}
 use Rattle.std.proofs.lemmas.Bool.{and_parts, and_from}
 use Rattle.std.proofs.lemmas.Bool.Decides.{nat_tests}
 use Rattle.bv_base.specs.Bytes.{is_white, lower}
@@ -41,10 +42,6 @@ white_no_comma b e = elim (white_is b e) [
   ]
 ]
 
-and_false : (a : Bool) → (a && false) ≡ false
-and_false true = refl
-and_false false = refl
-
 -- no `and` begins with what is white
 no_and : (b : ℕ) (bytes : List ℕ) → is_white b ≡ true → begins_and (b ∷ bytes) ≡ false
 no_and b [] e = refl
@@ -54,7 +51,7 @@ no_and b (n ∷ d ∷ w ∷ bytes) e = ap (λ (t : Bool). t && nat_eq (lower n) 
 
 no_separator : (level : ℕ) (after : Bool) (b : ℕ) (bytes : List ℕ) → is_white b ≡ true → begins_separator level after (b ∷ bytes) ≡ false
 no_separator level after b bytes e =
-    ap (λ (t : Bool). nat_eq level 0 && after && t) (no_and b bytes e) ∙ and_false (nat_eq level 0 && after)
+    ap (λ (t : Bool). nat_eq level 0 && after && t) (no_and b bytes e) ∙ and-false (nat_eq level 0 && after)
 
 blank_separators : (at level : ℕ) (after : Bool) (bytes : List ℕ) → list_all is_white bytes ≡ true → separators at level after bytes ≡ []
 blank_separators at level after [] e = refl
@@ -82,7 +79,7 @@ blank_commas at level (b ∷ bytes) e =
     let both = and_parts (is_white b) (list_all is_white bytes) e in
     let more = commas (at + 1) (next_level level b) bytes in
     ap (λ (t : Bool). cond (nat_eq level 0 && t) (at ∷ more) more) (white_no_comma b both.0)
-    ∙ ap (λ (t : Bool). cond t (at ∷ more) more) (and_false (nat_eq level 0))
+    ∙ ap (λ (t : Bool). cond t (at ∷ more) more) (and-false (nat_eq level 0))
     ∙ blank_commas (at + 1) (next_level level b) bytes both.1
 
 blank_end : (level : ℕ) (bytes : List ℕ) → list_all is_white bytes ≡ true → ends_in_comma level bytes ≡ false
@@ -90,7 +87,7 @@ blank_end level [] e = refl
 blank_end level (b ∷ bytes) e =
     let both = and_parts (is_white b) (list_all is_white bytes) e in
     elim (list_all is_joint bytes) as (λ t. cond t (nat_eq level 0 && nat_eq b 44) (ends_in_comma (next_level level b) bytes) ≡ false) [
-      | true ↦ ap (λ (t : Bool). nat_eq level 0 && t) (white_no_comma b both.0) ∙ and_false (nat_eq level 0)
+      | true ↦ ap (λ (t : Bool). nat_eq level 0 && t) (white_no_comma b both.0) ∙ and-false (nat_eq level 0)
       | false ↦ blank_end (next_level level b) bytes both.1
     ]
 

@@ -76,29 +76,17 @@ fn first_line_failing(
     let fields = vars + piece.vars.as_slice().len() as u32;
     let facts = fields + piece.fields.as_slice().len() as u32;
     let rows = facts + piece.facts.as_slice().len() as u32;
-    if let Some(line) = first_unbound(
-        matching,
-        state.vars.as_slice(),
-        vars,
-        piece.vars.as_slice(),
-    ) {
-        return Ok(Some(line));
+    let line = first_unbound(matching, state.vars.as_slice(), vars, piece.vars.as_slice());
+    if line.is_some() {
+        return Ok(line);
     }
-    if let Some(line) = first_unbound(
-        matching,
-        state.fields.as_slice(),
-        fields,
-        piece.fields.as_slice(),
-    ) {
-        return Ok(Some(line));
+    let line = first_unbound(matching, state.fields.as_slice(), fields, piece.fields.as_slice());
+    if line.is_some() {
+        return Ok(line);
     }
-    if let Some(line) = first_unknown(
-        matching,
-        state.facts.as_slice(),
-        facts,
-        piece.facts.as_slice(),
-    ) {
-        return Ok(Some(line));
+    let line = first_unknown(matching, state.facts.as_slice(), facts, piece.facts.as_slice());
+    if line.is_some() {
+        return Ok(line);
     }
     first_unshown(
         alloc,
