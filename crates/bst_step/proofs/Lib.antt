@@ -5,3 +5,4 @@ pub mod StableOrder
 pub mod SortSteps
 pub mod OpeningSteps
 pub mod RestSteps
+pub mod BrokenLines

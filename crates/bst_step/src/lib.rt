@@ -8,6 +8,7 @@ mod effects;
 mod entries;
 mod flow;
 mod frames;
+pub mod laws;
 mod lines;
 mod logs;
 pub mod machine;

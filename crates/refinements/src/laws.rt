@@ -1,6 +1,6 @@
 //! What the cases of a test cover.
 
-ghost use Rattle.std.specs.Prelude.{◌≡◌, ℤ, List, Some, Ok};
+ghost use Rattle.std.specs.Prelude.{◌≡◌, ◌≤◌, ℤ, List, Some, Ok, drop, length};
 ghost use Rattle.bv_base.specs.declared.place.Place.{Place};
 ghost use Rattle.name_table.specs.declared.builtin.Builtin.{Builtin};
 ghost use Rattle.name_table.specs.declared.style.Style.{Style};
@@ -15,7 +15,7 @@ ghost use Rattle.sym_state.specs.declared.state.State.{State};
 ghost use Rattle.sym_state.specs.declared.symbol.Sym.{Sym};
 ghost use Rattle.sym_state.specs.declared.test.Test.{Test};
 ghost use Rattle.sym_state.specs.declared.test.Test.TheVariants.{Above};
-ghost use Rattle.sym_state.specs.Cases.{Cases, split_of};
+ghost use Rattle.sym_state.specs.Cases.{Cases, needs_of, split_of};
 ghost use Rattle.sym_state.specs.Stands.{Stands};
 ghost use Rattle.sym_state.specs.Symbols.{Valuation};
 ghost use Rattle.sym_state.specs.WellMade.{WellMade};
@@ -37,4 +37,12 @@ pub fn one_case_stands()
         (s : Sym) (n : ℤ) (hints : List Hint) (cases : Cases) → Stands style admits list v state c below
         → v.value s.0 ≡ Int n → split_of admits state (Above s) hints ≡ Ok cases
         → OneStands style admits list v state c below s (is_positive n) cases.states }
+{}
+
+/// A test that has cases takes as many hints as `needs` tells, and leaves the others.
+pub fn tests_take_what_they_need()
+    ensures there { (admits : Cond) (state : State) (test : Test) (hints : List Hint) (cases : Cases)
+        → split_of admits state test hints ≡ Ok cases → needs_of state test ≤ length hints }
+    ensures left { (admits : Cond) (state : State) (test : Test) (hints : List Hint) (cases : Cases)
+        → split_of admits state test hints ≡ Ok cases → cases.hints ≡ drop (needs_of state test) hints }
 {}

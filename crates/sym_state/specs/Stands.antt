@@ -75,12 +75,6 @@ pub record Stands (style : Style) (cond : Cond) (list : EntryList) (v : Valuatio
   pub vars : AllByRecursion (IsBound style v c) state.vars
   pub fields : AllByRecursion (IsBound style v c) state.fields
 
--- a state stands for a configuration where it does so by some assignment
-pub record StandsFor (style : Style) (cond : Cond) (list : EntryList) (state : State) (c : Config) : Type 0 where
-  pub assignment : Valuation
-  pub below : List Value
-  pub stands : Stands style cond list assignment state c below
-
 -- a piece holds of a configuration by an assignment to its own symbols, where these values lie below its stack
 pub record PieceHolds (style : Style) (v : Valuation) (piece : Piece) (c : Config) (below : List Value) : Type 0 where
   pub stack : c.stack ≡ values_of v piece.stack ++ below

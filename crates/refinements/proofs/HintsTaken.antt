@@ -1,0 +1,163 @@
+-- A test that has cases takes as many hints as it needs.
+use Rattle.std.proofs.Common.{◌≡◌, ℕ, ◌+◌, ◌≤◌, Bool, true, false, cond, ◌&&◌, List, [], ◌∷◌, ◌++◌, Option, None, Some, Ok, Err, length, length-drop, drop, drop-drop, reverse, refl, sym, ap, subst, ◌∙◌, arith}
+use Rattle.std.specs.Prelude.{ℤ}
+use Rattle.lin_facts.specs.declared.row.Row.{Row}
+use Rattle.bst_meaning.specs.declared.condition.Cond.{Cond}
+use Rattle.sym_state.specs.declared.demand.DemandKind.TheVariants.{WrongKind}
+use Rattle.sym_state.specs.declared.hint.Hint.{Hint}
+use Rattle.sym_state.specs.declared.hint.Hint.TheVariants.{Apply, Case, Drop, Keep, Loop, Plain, Step, Walk}
+use Rattle.sym_state.specs.declared.state.State.{State}
+use Rattle.sym_state.specs.declared.symbol.Fact.{Fact}
+use Rattle.sym_state.specs.declared.symbol.Kinds.{Kinds}
+use Rattle.sym_state.specs.declared.symbol.Kinds.TheVariants.{Any, Func, Int, Missing, Optional, Str}
+use Rattle.sym_state.specs.declared.symbol.Sym.{Sym}
+use Rattle.sym_state.specs.declared.test.Test.{Test}
+use Rattle.sym_state.specs.declared.test.Test.TheVariants.{Above, Empty, Equal, Greater, Less, Missing as IsMissing}
+use Rattle.sym_state.specs.Cases.{Cases, One, Split, above_cases, absurdity, at_least_rows, before, empty_cases, equal_by, equal_decided, equal_rows, followed_by, given, greater_decided, hints_of, hints_on, integer_cases, less_decided, less_rows, missing_cases, needs_of, passed_both, refused, split_of, text_cases, texts_decided, top_integers, weighed, weighed_both}
+use Rattle.sym_state.specs.Decided.{emptiness_said, exact_integer, first_said, includes, known_kind}
+use Rattle.sym_state.specs.Demands.{is_of_kind}
+use Rattle.sym_state.specs.References.{shows}
+use Rattle.sym_state.specs.declared.demand.EffectFault.TheVariants.{NotEntailed}
+use Rattle.refinements.proofs.Taking.{field_cases, integers_cases, pair_cases, taken_one, taken_two}
+
+-- so many hints are taken, and the others are left
+pub record Took (n : ℕ) (hints : List Hint) (cases : Cases) : Type 0 where
+  pub there : n ≤ length hints
+  pub left : cases.hints ≡ drop n hints
+
+none_took : (states : List State) (hints : List Hint) (cases : Cases) → given states hints ≡ Ok cases → Took 0 hints cases
+none_took states hints cases e =
+    let same : record { states = states; hints = hints } ≡ cases = cc in
+    record { there = omega arith; left = sym (ap (λ (c : Cases). c.hints) same) }
+
+one_took : (admits : Cond) (state : State) (hints : List Hint) (cases : Cases) → weighed admits state hints ≡ Ok cases → Took 1 hints cases
+one_took admits state [] cases e = absurd (cc)
+one_took admits state (Keep ∷ hints) cases e =
+    let none = none_took (state ∷ []) hints cases e in record { there = omega arith; left = none.left }
+one_took admits state (Drop proof ∷ hints) cases e = by (shows admits state proof absurdity) e
+  where
+    by : (t : Bool) → cond t (given [] hints) (Err (NotEntailed 0)) ≡ Ok cases → Took 1 (Drop proof ∷ hints) cases
+    by true e = let none = none_took [] hints cases e in record { there = omega arith; left = none.left }
+    by false e = absurd (cc)
+one_took admits state (Apply n ∷ hints) cases e = absurd (cc)
+one_took admits state (Walk ∷ hints) cases e = absurd (cc)
+one_took admits state (Loop n ∷ hints) cases e = absurd (cc)
+one_took admits state (Case n ∷ hints) cases e = absurd (cc)
+one_took admits state (Plain ∷ hints) cases e = absurd (cc)
+one_took admits state (Step proof ∷ hints) cases e = absurd (cc)
+
+both_took : (admits : Cond) (first second : State) (hints : List Hint) (cases : Cases) → weighed_both admits first second hints ≡ Ok cases
+    → Took 2 hints cases
+both_took admits first second hints cases = by (weighed admits first hints) refl
+  where
+    after : (kept : Cases) → weighed admits first hints ≡ Ok kept → (r : Split) → weighed admits second kept.hints ≡ r
+        → before kept.states r ≡ Ok cases → Took 2 hints cases
+    after kept one (Err fault) other e = absurd (cc)
+    after kept one (Ok more) other e =
+        let a = one_took admits first hints kept one in
+        let b = one_took admits second kept.hints more other in
+        let long = ap length a.left ∙ length-drop 1 hints in
+        let some = a.there in
+        let same : record { states = kept.states ++ more.states; hints = more.hints } ≡ cases = cc in
+        record {
+          there = omega (arith, b.there);
+          left = sym (ap (λ (c : Cases). c.hints) same) ∙ b.left ∙ ap (drop 1) a.left ∙ drop-drop 1 1 hints;
+        }
+
+    by : (r : Split) → weighed admits first hints ≡ r → followed_by r (weighed admits second) ≡ Ok cases → Took 2 hints cases
+    by (Err fault) is e = absurd (cc)
+    by (Ok kept) is e = after kept is (weighed admits second kept.hints) refl e
+
+integer_took : (admits : Cond) (found : Option Bool) (holds refuted : List Row) (rest : State) (hints : List Hint) (cases : Cases)
+    → integer_cases admits found holds refuted rest hints ≡ Ok cases → Took (hints_of found) hints cases
+integer_took admits (Some answer) holds refuted rest hints cases e = none_took _ hints cases e
+integer_took admits None holds refuted rest hints cases e = both_took admits _ _ hints cases e
+
+text_took : (found : Option Bool) (facts : List Fact) (rest : State) (hints : List Hint) (cases : Cases)
+    → text_cases found facts rest hints ≡ Ok cases → Took 0 hints cases
+text_took (Some answer) facts rest hints cases e = none_took _ hints cases e
+text_took None facts rest hints cases e = none_took _ hints cases e
+
+-- the hints of a test on two symbols that are on top
+needed : (state : State) (rule : Sym → Sym → Option Bool) (a b : Sym) (rest : List Sym) → reverse state.stack ≡ b ∷ (a ∷ rest)
+    → is_of_kind state Int b ≡ true → is_of_kind state Int a ≡ true
+    → hints_on rule (top_integers state (reverse state.stack)) ≡ hints_of (rule a b)
+needed state rule a b rest tops upper lower =
+    ap (λ (l : List Sym). hints_on rule (top_integers state l)) tops
+    ∙ ap (λ (t : Bool). hints_on rule (cond (t && is_of_kind state Int a) (Some (a, b)) None)) upper
+    ∙ ap (λ (t : Bool). hints_on rule (cond t (Some (a, b)) None)) lower
+
+not_needed : (state : State) (rule : Sym → Sym → Option Bool) (a b : Sym) (rest : List Sym) → reverse state.stack ≡ b ∷ (a ∷ rest)
+    → is_of_kind state Int b ≡ false → hints_on rule (top_integers state (reverse state.stack)) ≡ 0
+not_needed state rule a b rest tops upper =
+    ap (λ (l : List Sym). hints_on rule (top_integers state l)) tops
+    ∙ ap (λ (t : Bool). hints_on rule (cond (t && is_of_kind state Int a) (Some (a, b)) None)) upper
+
+equal_took : (admits : Cond) (state : State) (kind : Kinds) (a b : Sym) (rest : List Sym) (hints : List Hint) (cases : Cases)
+    → reverse state.stack ≡ b ∷ (a ∷ rest) → known_kind state.facts b.0 ≡ kind
+    → equal_by admits state kind (taken_two a b rest state) hints ≡ Ok cases → Took (needs_of state Equal) hints cases
+equal_took admits state Int a b rest hints cases tops is e = by (is_of_kind state Int a) refl e
+  where
+    by : (t : Bool) → is_of_kind state Int a ≡ t
+        → cond t (integer_cases admits (equal_decided state.facts a b) (equal_rows a b) [] (taken_two a b rest state).rest hints) (refused WrongKind 2) ≡ Ok cases
+        → Took (needs_of state Equal) hints cases
+    by true lower e =
+        subst (λ (n : ℕ). Took n hints cases) (sym (needed state (equal_decided state.facts) a b rest tops (ap (includes Int) is) lower))
+        (integer_took admits (equal_decided state.facts a b) (equal_rows a b) [] (taken_two a b rest state).rest hints cases e)
+    by false lower e = absurd (cc)
+equal_took admits state Str a b rest hints cases tops is e = by (is_of_kind state Str a) e
+  where
+    by : (t : Bool)
+        → cond t (text_cases (texts_decided state.facts a b) (passed_both state.facts a b) (taken_two a b rest state).rest hints) (refused WrongKind 2) ≡ Ok cases
+        → Took (needs_of state Equal) hints cases
+    by true e =
+        subst (λ (n : ℕ). Took n hints cases) (sym (not_needed state (equal_decided state.facts) a b rest tops (ap (includes Int) is)))
+        (text_took (texts_decided state.facts a b) (passed_both state.facts a b) (taken_two a b rest state).rest hints cases e)
+    by false e = absurd (cc)
+equal_took admits state Missing a b rest hints cases tops is e = absurd (cc)
+equal_took admits state Optional a b rest hints cases tops is e = absurd (cc)
+equal_took admits state Func a b rest hints cases tops is e = absurd (cc)
+equal_took admits state Any a b rest hints cases tops is e = absurd (cc)
+
+empty_took : (found : Option Bool) (one : One) (hints : List Hint) (cases : Cases) → empty_cases found one hints ≡ Ok cases → Took 0 hints cases
+empty_took (Some answer) one hints cases e = none_took _ hints cases e
+empty_took None one hints cases e = none_took _ hints cases e
+
+missing_took : (kind : Kinds) (one : One) (hints : List Hint) (cases : Cases) → missing_cases kind one hints ≡ Ok cases → Took 0 hints cases
+missing_took Missing one hints cases e = none_took _ hints cases e
+missing_took Str one hints cases e = none_took _ hints cases e
+missing_took Int one hints cases e = none_took _ hints cases e
+missing_took Optional one hints cases e = none_took _ hints cases e
+missing_took Func one hints cases e = none_took _ hints cases e
+missing_took Any one hints cases e = none_took _ hints cases e
+
+above_took : (admits : Cond) (state : State) (s : Sym) (found : Option ℤ) (hints : List Hint) (cases : Cases)
+    → above_cases admits state s found hints ≡ Ok cases → Took (hints_of found) hints cases
+above_took admits state s (Some n) hints cases e = none_took _ hints cases e
+above_took admits state s None hints cases e = both_took admits _ _ hints cases e
+
+-- a test that has cases takes the hints that it needs, and leaves the others
+pub test_took : (admits : Cond) (state : State) (test : Test) (hints : List Hint) (cases : Cases)
+    → split_of admits state test hints ≡ Ok cases → Took (needs_of state test) hints cases
+test_took admits state Empty hints cases e =
+    let f = field_cases state (λ one. empty_cases (first_said emptiness_said one.operand.0 state.facts) one hints) cases e in
+    empty_took (first_said emptiness_said f.operand.0 state.facts) (taken_one f.operand f.rest state) hints cases f.given
+test_took admits state IsMissing hints cases e =
+    let f = field_cases state (λ one. missing_cases (known_kind state.facts one.operand.0) one hints) cases e in
+    missing_took (known_kind state.facts f.operand.0) (taken_one f.operand f.rest state) hints cases f.given
+test_took admits state Equal hints cases e =
+    let f = pair_cases state (λ two. equal_by admits state (known_kind state.facts two.upper.0) two hints) cases e in
+    equal_took admits state (known_kind state.facts f.upper.0) f.lower f.upper f.rest hints cases f.tops refl f.given
+test_took admits state Less hints cases e =
+    let f = integers_cases state (λ two. integer_cases admits (less_decided state.facts two.lower two.upper) (less_rows two.lower two.upper) (at_least_rows two.lower two.upper) two.rest hints) cases e in
+    let a = f.pair.lower in
+    let b = f.pair.upper in
+    subst (λ (n : ℕ). Took n hints cases) (sym (needed state (less_decided state.facts) a b f.pair.rest f.pair.tops f.upper_kind f.lower_kind))
+    (integer_took admits (less_decided state.facts a b) (less_rows a b) (at_least_rows a b) (taken_two a b f.pair.rest state).rest hints cases f.pair.given)
+test_took admits state Greater hints cases e =
+    let f = integers_cases state (λ two. integer_cases admits (greater_decided state.facts two.lower two.upper) (less_rows two.upper two.lower) (at_least_rows two.upper two.lower) two.rest hints) cases e in
+    let a = f.pair.lower in
+    let b = f.pair.upper in
+    subst (λ (n : ℕ). Took n hints cases) (sym (needed state (greater_decided state.facts) a b f.pair.rest f.pair.tops f.upper_kind f.lower_kind))
+    (integer_took admits (greater_decided state.facts a b) (less_rows b a) (at_least_rows b a) (taken_two a b f.pair.rest state).rest hints cases f.pair.given)
+test_took admits state (Above s) hints cases e = above_took admits state s (exact_integer state.facts s.0) hints cases e
