@@ -44,18 +44,34 @@ static OPENING: [Opening; 12] = [
     opening!(b"global.max$" NameId(40) => Kind::IntGlobal),
 ];
 
+/// The names of every style. Nothing is told of them, so that no proof of a test sees all of them.
+fn opened(alloc: Global) -> Result<Names, NoMemory> {
+    Names::opening(alloc)
+}
+
+/// Names, and the id with which each is found.
+static FOUND: [(&[u8], Option<NameId>); 6] = [
+    (b"title", None),
+    (b"Skip$", None),
+    (b"crossref", Some(CROSSREF)),
+    (b"sort.key$", Some(SORT_KEY)),
+    (b"entry.max$", Some(ENTRY_MAX)),
+    (b"global.max$", Some(GLOBAL_MAX)),
+];
+
 #[test]
 fn opening_names(rt: HostRuntime) -> Result<(), Fail> {
-    let names = Names::opening(rt.alloc())?;
+    let names = opened(rt.alloc())?;
     assert_eq!(rt; names.len(), 41);
     have_names(&rt, &names, &OPENING);
-    assert_eq!(rt; names.find(b"title"), None);
-    assert_eq!(rt; names.find(b"Skip$"), None);
-    assert_eq!(rt; names.find(b"crossref"), Some(CROSSREF));
-    assert_eq!(rt; names.find(b"sort.key$"), Some(SORT_KEY));
-    assert_eq!(rt; names.find(b"entry.max$"), Some(ENTRY_MAX));
-    assert_eq!(rt; names.find(b"global.max$"), Some(GLOBAL_MAX));
+    are_found(&rt, &names, &FOUND);
     Ok(())
+}
+
+fn are_found(rt: &impl Abort, names: &Names, rows: &[(&[u8], Option<NameId>)]) {
+    for (name, id) in rows {
+        assert_eq!(rt; names.find(name), *id);
+    }
 }
 
 fn have_names(rt: &impl Abort, names: &Names, rows: &[Opening]) {
@@ -69,22 +85,37 @@ fn have_names(rt: &impl Abort, names: &Names, rows: &[Opening]) {
     }
 }
 
+/// A definition of a name, and its answer.
+type Definition<'a> = (&'a [u8], Kind, Result<NameId, DefineFault>);
+
+static DEFINITIONS: [Definition; 4] = [
+    (b"title", Kind::Field, Ok(NameId(41))),
+    (b"f", Kind::Wizard(BodyId(0)), Ok(NameId(42))),
+    (
+        b"title",
+        Kind::IntEntry,
+        Err(DefineFault::AlreadyDefined(NameId(41))),
+    ),
+    (
+        b"skip$",
+        Kind::Field,
+        Err(DefineFault::AlreadyDefined(SKIP)),
+    ),
+];
+
 #[test]
 fn definitions(rt: HostRuntime) -> Result<(), Fail> {
-    let mut names = Names::opening(rt.alloc())?;
-    assert_eq!(rt; names.define(b"title", Kind::Field), Ok(NameId(41)));
-    assert_eq!(rt; names.define(b"f", Kind::Wizard(BodyId(0))), Ok(NameId(42)));
-    assert_eq!(rt;
-        names.define(b"title", Kind::IntEntry),
-        Err(DefineFault::AlreadyDefined(NameId(41)))
-    );
-    assert_eq!(rt;
-        names.define(b"skip$", Kind::Field),
-        Err(DefineFault::AlreadyDefined(SKIP))
-    );
+    let mut names = opened(rt.alloc())?;
+    are_answered(&rt, &mut names, &DEFINITIONS);
     assert_eq!(rt; names.find(b"f"), Some(NameId(42)));
     assert_eq!(rt; names.len(), 43);
     Ok(())
+}
+
+fn are_answered(rt: &impl Abort, names: &mut Names, rows: &[Definition]) {
+    for (name, kind, answer) in rows {
+        assert_eq!(rt; names.define(name, *kind), *answer);
+    }
 }
 
 /// What a type of entries enters after these commands.
@@ -136,7 +167,7 @@ fn types_before_and_after_read(rt: HostRuntime) -> Result<(), Fail> {
 
 /// A style with two functions and these commands, all at one place.
 fn style_of(alloc: Global, commands: &[Command]) -> Result<Style, NoMemory> {
-    let mut names = Names::opening(alloc)?;
+    let mut names = opened(alloc)?;
     let _article = names.define(b"article", Kind::Wizard(BodyId(0)));
     let _default = names.define(b"default.type", Kind::Wizard(BodyId(1)));
     let mut list = Seq::new(alloc);
