@@ -134,7 +134,7 @@ pub fn state_of(alloc: Global, shape: Shape, known: &[(u32, Known)]) -> Result<S
 {
     Ok(State {
         alloc,
-        stack: Seq::from_vec(symbols(alloc, shape.stack)?),
+        stack: symbols(alloc, shape.stack)?,
         whole: shape.whole,
         at_entry: shape.at_entry,
         vars: Seq::from_vec(shape.vars.to_vec(alloc)?),
@@ -156,7 +156,7 @@ pub fn piece(
     ensures { IfOk result (λ piece. All IsBounded piece.rows) }
 {
     Ok(Piece {
-        stack: Seq::from_vec(symbols(alloc, stack)?),
+        stack: symbols(alloc, stack)?,
         vars: Seq::from_vec(vars.to_vec(alloc)?),
         fields: Seq::from_vec(fields.to_vec(alloc)?),
         facts: Seq::from_vec(facts(alloc, known)?),
@@ -164,8 +164,8 @@ pub fn piece(
     })
 }
 
-fn symbols(alloc: Global, numbers: &[u32]) -> Result<Vec<Sym>, NoMemory> {
-    let mut symbols = Vec::new(alloc);
+fn symbols(alloc: Global, numbers: &[u32]) -> Result<Seq<Sym>, NoMemory> {
+    let mut symbols = Seq::new(alloc);
     for number in numbers {
         symbols.push(Sym(*number))?;
     }

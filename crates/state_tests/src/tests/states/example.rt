@@ -18,7 +18,7 @@ use std::alloc::Global;
 use std::test::Fail;
 use sym_state::entails::entails;
 use sym_state::piece::Piece;
-use sym_state::proof::{Reference, Use};
+use sym_state::proof::Use;
 use sym_state::shows::shows;
 use sym_state::start::start;
 use sym_state::state::State;
@@ -28,16 +28,7 @@ use sym_state::symbol::{Fact, Kinds, Sym};
 static NAMES: [(&'static [u8], Kind); 2] = [(b"n", Kind::IntGlobal), (b"s", Kind::StrGlobal)];
 
 /// Row 0 and the exact integer of symbol 0.
-static USES: [Use; 2] = [
-    Use {
-        reference: Reference::Row(0),
-        times: 1,
-    },
-    Use {
-        reference: Reference::ExactLow(Sym(0)),
-        times: 1,
-    },
-];
+static USES: [Use; 2] = [using!(Row 0), using!(ExactLow Sym(0))];
 
 #[test]
 fn the_worked_example(rt: HostRuntime) -> Result<(), Fail> {
