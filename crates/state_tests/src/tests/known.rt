@@ -46,6 +46,13 @@ pub enum Setting {
     TopOfStack,
 }
 
+/// A name of a style.
+#[derive(Clone, Copy)]
+pub struct Named {
+    pub name: &'static [u8],
+    pub kind: Kind,
+}
+
 /// What a state has beside what is known of its symbols.
 #[derive(Clone, Copy)]
 pub struct Shape {
@@ -82,7 +89,7 @@ pub fn condition(alloc: Global) -> Cond {
 }
 
 /// A style with these names beside those of every style.
-pub fn style(alloc: Global, more: &[(&'static [u8], Kind)]) -> Result<Style, NoMemory>
+pub fn style(alloc: Global, more: &[Named]) -> Result<Style, NoMemory>
     ensures { IfOk result (λ style. length style.names ≤ 65536) }
 {
     let mut names = Names::opening(alloc)?;
@@ -96,9 +103,9 @@ pub fn style(alloc: Global, more: &[(&'static [u8], Kind)]) -> Result<Style, NoM
     })
 }
 
-fn define(names: &mut Names, more: &[(&'static [u8], Kind)]) -> Result<(), NoMemory> {
-    for (name, kind) in more {
-        if names.define(name, *kind).is_err() {
+fn define(names: &mut Names, more: &[Named]) -> Result<(), NoMemory> {
+    for named in more {
+        if names.define(named.name, named.kind).is_err() {
             return Err(NoMemory);
         }
     }

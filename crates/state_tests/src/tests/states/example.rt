@@ -8,7 +8,7 @@ ghost use Rattle.sym_state.specs.Starting.{IsNumbered, IsFit, symbols_of};
 ghost use Rattle.sym_state.specs.WellMade.{HasBounds, IsBounded};
 
 use crate::tests::hints::proof;
-use crate::tests::known::{condition, style};
+use crate::tests::known::{Named, condition, style};
 use crate::tests::rows::{Form, row};
 use bv_base::memory::NoMemory;
 use bv_base::seq::Seq;
@@ -25,7 +25,16 @@ use sym_state::state::State;
 use sym_state::symbol::{Fact, Kinds, Sym};
 
 /// A global integer and a global string.
-static NAMES: [(&'static [u8], Kind); 2] = [(b"n", Kind::IntGlobal), (b"s", Kind::StrGlobal)];
+static NAMES: [Named; 2] = [
+    Named {
+        name: b"n",
+        kind: Kind::IntGlobal,
+    },
+    Named {
+        name: b"s",
+        kind: Kind::StrGlobal,
+    },
+];
 
 /// Row 0 and the exact integer of symbol 0.
 static USES: [Use; 2] = [using!(Row 0), using!(ExactLow Sym(0))];
