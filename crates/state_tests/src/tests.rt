@@ -10,6 +10,19 @@ macro_rules! bind {
     };
 }
 
+/// A reference that a proof uses once, or so many times.
+macro_rules! using {
+    ($reference:ident $of:expr) => {
+        using!(1, $reference $of)
+    };
+    ($times:literal, $reference:ident $of:expr) => {
+        sym_state::proof::Use {
+            reference: sym_state::proof::Reference::$reference($of),
+            times: $times,
+        }
+    };
+}
+
 mod cases;
 mod effects;
 mod hints;

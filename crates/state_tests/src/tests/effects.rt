@@ -20,7 +20,7 @@ use crate::tests::effects::known::{
     STR,
 };
 use crate::tests::hints::{Given, hints};
-use crate::tests::known::{Known, Setting, condition, state, style};
+use crate::tests::known::{Known, Named, Setting, condition, state, style};
 use crate::tests::lines::{add_fault, add_left, add_state};
 use bst_meaning::condition::Cond;
 use builtin_effects::effect::effect;
@@ -37,10 +37,19 @@ use sym_state::state::State;
 use sym_state::symbol::Kinds;
 
 /// A global string, an integer of entries and a function.
-static NAMES: [(&'static [u8], Kind); 3] = [
-    (b"s", Kind::StrGlobal),
-    (b"i", Kind::IntEntry),
-    (b"f", Kind::Wizard(BodyId(0))),
+static NAMES: [Named; 3] = [
+    Named {
+        name: b"s",
+        kind: Kind::StrGlobal,
+    },
+    Named {
+        name: b"i",
+        kind: Kind::IntEntry,
+    },
+    Named {
+        name: b"f",
+        kind: Kind::Wizard(BodyId(0)),
+    },
 ];
 
 /// An example.

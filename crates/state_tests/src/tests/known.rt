@@ -46,6 +46,13 @@ pub enum Setting {
     TopOfStack,
 }
 
+/// A name of a style.
+#[derive(Clone, Copy)]
+pub struct Named {
+    pub name: &'static [u8],
+    pub kind: Kind,
+}
+
 /// What a state has beside what is known of its symbols.
 #[derive(Clone, Copy)]
 pub struct Shape {
@@ -82,7 +89,7 @@ pub fn condition(alloc: Global) -> Cond {
 }
 
 /// A style with these names beside those of every style.
-pub fn style(alloc: Global, more: &[(&'static [u8], Kind)]) -> Result<Style, NoMemory>
+pub fn style(alloc: Global, more: &[Named]) -> Result<Style, NoMemory>
     ensures { IfOk result (λ style. length style.names ≤ 65536) }
 {
     let mut names = Names::opening(alloc)?;
@@ -96,9 +103,9 @@ pub fn style(alloc: Global, more: &[(&'static [u8], Kind)]) -> Result<Style, NoM
     })
 }
 
-fn define(names: &mut Names, more: &[(&'static [u8], Kind)]) -> Result<(), NoMemory> {
-    for (name, kind) in more {
-        if names.define(name, *kind).is_err() {
+fn define(names: &mut Names, more: &[Named]) -> Result<(), NoMemory> {
+    for named in more {
+        if names.define(named.name, named.kind).is_err() {
             return Err(NoMemory);
         }
     }
@@ -134,7 +141,7 @@ pub fn state_of(alloc: Global, shape: Shape, known: &[(u32, Known)]) -> Result<S
 {
     Ok(State {
         alloc,
-        stack: Seq::from_vec(symbols(alloc, shape.stack)?),
+        stack: symbols(alloc, shape.stack)?,
         whole: shape.whole,
         at_entry: shape.at_entry,
         vars: Seq::from_vec(shape.vars.to_vec(alloc)?),
@@ -156,7 +163,7 @@ pub fn piece(
     ensures { IfOk result (λ piece. All IsBounded piece.rows) }
 {
     Ok(Piece {
-        stack: Seq::from_vec(symbols(alloc, stack)?),
+        stack: symbols(alloc, stack)?,
         vars: Seq::from_vec(vars.to_vec(alloc)?),
         fields: Seq::from_vec(fields.to_vec(alloc)?),
         facts: Seq::from_vec(facts(alloc, known)?),
@@ -164,8 +171,8 @@ pub fn piece(
     })
 }
 
-fn symbols(alloc: Global, numbers: &[u32]) -> Result<Vec<Sym>, NoMemory> {
-    let mut symbols = Vec::new(alloc);
+fn symbols(alloc: Global, numbers: &[u32]) -> Result<Seq<Sym>, NoMemory> {
+    let mut symbols = Seq::new(alloc);
     for number in numbers {
         symbols.push(Sym(*number))?;
     }

@@ -1,7 +1,7 @@
 //! The hints of the tables.
 
 use crate::tests::hints::Given;
-use sym_state::proof::{Reference, Use};
+use sym_state::proof::Use;
 use sym_state::symbol::Sym;
 
 pub const KEEP: Given = Given::Keep;
@@ -61,71 +61,32 @@ pub const NOTHING: Given = Given::Drop(1, &[]);
 pub const STEP: Given = Given::Step(1, &[ROW_0, ROW_1]);
 
 /// Rows of a state.
-const ROW_0: Use = Use {
-    reference: Reference::Row(0),
-    times: 1,
-};
+const ROW_0: Use = using!(Row 0);
 
-const ROW_1: Use = Use {
-    reference: Reference::Row(1),
-    times: 1,
-};
+const ROW_1: Use = using!(Row 1);
 
-const ROW_2: Use = Use {
-    reference: Reference::Row(2),
-    times: 1,
-};
+const ROW_2: Use = using!(Row 2);
 
-const ROW_3: Use = Use {
-    reference: Reference::Row(3),
-    times: 1,
-};
+const ROW_3: Use = using!(Row 3);
 
-const TWICE_ROW_1: Use = Use {
-    reference: Reference::Row(1),
-    times: 2,
-};
+const TWICE_ROW_1: Use = using!(2, Row 1);
 
-const TWICE_ROW_2: Use = Use {
-    reference: Reference::Row(2),
-    times: 2,
-};
+const TWICE_ROW_2: Use = using!(2, Row 2);
 
 /// Symbol 1 has 32 bits.
-const LEAST_1: Use = Use {
-    reference: Reference::ValueLow(Sym(1)),
-    times: 1,
-};
+const LEAST_1: Use = using!(ValueLow Sym(1));
 
-const GREATEST_1: Use = Use {
-    reference: Reference::ValueHigh(Sym(1)),
-    times: 1,
-};
+const GREATEST_1: Use = using!(ValueHigh Sym(1));
 
 /// Symbol 1 is exactly known.
-const LOW_1: Use = Use {
-    reference: Reference::ExactLow(Sym(1)),
-    times: 1,
-};
+const LOW_1: Use = using!(ExactLow Sym(1));
 
-const HIGH_1: Use = Use {
-    reference: Reference::ExactHigh(Sym(1)),
-    times: 1,
-};
+const HIGH_1: Use = using!(ExactHigh Sym(1));
 
 /// Symbol 2 is an exact text.
-const TEXT_HIGH_2: Use = Use {
-    reference: Reference::TextHigh(Sym(2)),
-    times: 1,
-};
+const TEXT_HIGH_2: Use = using!(TextHigh Sym(2));
 
 /// Symbol 10, the result of a test, is exactly known.
-const LOW_10: Use = Use {
-    reference: Reference::ExactLow(Sym(10)),
-    times: 1,
-};
+const LOW_10: Use = using!(ExactLow Sym(10));
 
-const HIGH_10: Use = Use {
-    reference: Reference::ExactHigh(Sym(10)),
-    times: 1,
-};
+const HIGH_10: Use = using!(ExactHigh Sym(10));

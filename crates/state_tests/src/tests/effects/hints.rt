@@ -7,7 +7,7 @@ use sym_state::symbol::Sym;
 /// A step by references, each taken once, with the divisor 1.
 macro_rules! step {
     ($($reference:ident $sym:expr),*) => {
-        Given::Step(1, &[$(Use { reference: Reference::$reference($sym), times: 1 }),*])
+        Given::Step(1, &[$(using!($reference $sym)),*])
     };
 }
 
@@ -20,29 +20,11 @@ pub const ROW_0: Given = step!(Row 0);
 
 pub const ROW_1: Given = step!(Row 1);
 
-pub const TWICE_ROW_0: Given = Given::Step(
-    1,
-    &[Use {
-        reference: Reference::Row(0),
-        times: 2,
-    }],
-);
+pub const TWICE_ROW_0: Given = Given::Step(1, &[using!(2, Row 0)]);
 
-pub const WIDE_ROW_0: Given = Given::Step(
-    1,
-    &[Use {
-        reference: Reference::Row(0),
-        times: 1028,
-    }],
-);
+pub const WIDE_ROW_0: Given = Given::Step(1, &[using!(1028, Row 0)]);
 
-pub const HALF_ROW_1: Given = Given::Step(
-    2,
-    &[Use {
-        reference: Reference::Row(1),
-        times: 1,
-    }],
-);
+pub const HALF_ROW_1: Given = Given::Step(2, &[using!(1, Row 1)]);
 
 pub const BOTH_ROWS: Given = step!(Row 0, Row 1);
 

@@ -8,7 +8,7 @@ ghost use Rattle.sym_state.specs.Starting.{IsNumbered, IsFit, symbols_of};
 ghost use Rattle.sym_state.specs.WellMade.{HasBounds, IsBounded};
 
 use crate::tests::hints::proof;
-use crate::tests::known::{condition, style};
+use crate::tests::known::{Named, condition, style};
 use crate::tests::rows::{Form, row};
 use bv_base::memory::NoMemory;
 use bv_base::seq::Seq;
@@ -18,26 +18,26 @@ use std::alloc::Global;
 use std::test::Fail;
 use sym_state::entails::entails;
 use sym_state::piece::Piece;
-use sym_state::proof::{Reference, Use};
+use sym_state::proof::Use;
 use sym_state::shows::shows;
 use sym_state::start::start;
 use sym_state::state::State;
 use sym_state::symbol::{Fact, Kinds, Sym};
 
 /// A global integer and a global string.
-static NAMES: [(&'static [u8], Kind); 2] = [(b"n", Kind::IntGlobal), (b"s", Kind::StrGlobal)];
-
-/// Row 0 and the exact integer of symbol 0.
-static USES: [Use; 2] = [
-    Use {
-        reference: Reference::Row(0),
-        times: 1,
+static NAMES: [Named; 2] = [
+    Named {
+        name: b"n",
+        kind: Kind::IntGlobal,
     },
-    Use {
-        reference: Reference::ExactLow(Sym(0)),
-        times: 1,
+    Named {
+        name: b"s",
+        kind: Kind::StrGlobal,
     },
 ];
+
+/// Row 0 and the exact integer of symbol 0.
+static USES: [Use; 2] = [using!(Row 0), using!(ExactLow Sym(0))];
 
 #[test]
 fn the_worked_example(rt: HostRuntime) -> Result<(), Fail> {
