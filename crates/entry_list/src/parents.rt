@@ -50,10 +50,19 @@ fn push_parent<'a>(
     ensures { OnOk result (found.new.items
         ≡ found.old.items ++ option_to_list (option_map keys.own (naming.parent_of table.now entry.now))) }
 {
-    let Some(parent) = parent_of(table, entry)? else {
+    let parent = parent_of(table, entry)?;
+    push_own(found, parent)
+}
+
+/// Adds an entry under its own key, where there is one.
+fn push_own<'a>(found: &mut Vec<Chosen<'a>>, entry: Option<&'a RawEntry>) -> Result<(), NoMemory>
+    ensures { OnOk result (found.new.items
+        ≡ found.old.items ++ option_to_list (option_map keys.own (option_map (λ e. e.now) entry.entry))) }
+{
+    let Some(own) = entry else {
         return Ok(());
     };
-    found.push(Chosen::own(parent))?;
+    found.push(Chosen::own(own))?;
     Ok(())
 }
 
