@@ -7,3 +7,4 @@ pub mod ReadingLemmas
 pub mod RunLemmas
 pub mod Sound
 pub mod StraightLemmas
+pub mod TreeLemmas

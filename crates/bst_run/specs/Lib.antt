@@ -11,6 +11,7 @@ pub mod Forms
 pub mod Requests
 pub mod FileNames
 pub mod AuxChain
+pub mod InputTrees
 pub mod Sources
 pub mod Ran
 pub mod Delivery

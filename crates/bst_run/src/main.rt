@@ -7,6 +7,7 @@ mod command;
 mod data_fault;
 mod deliver;
 mod files;
+pub mod laws;
 mod outcome;
 mod refusal;
 mod report;
