@@ -1,5 +1,5 @@
 -- From what a command's words come to and what was delivered to what is promised of a call.
-use Rattle.std.proofs.Common.{◌≡◌, ◌≢◌, ℕ, ◌⊎◌, List, [], ◌∷◌, true, false, Option, None, Some, Result, Ok, Err, refl, sym, ◌∙◌, ap, subst, inl, inr}
+use Rattle.std.proofs.Common.{◌≡◌, ◌≢◌, ℕ, ◌⊎◌, List, [], true, false, Option, None, Some, Result, Ok, Err, refl, sym, ◌∙◌, ap, subst, inl, inr}
 use Rattle.std.specs.Prelude.{IfSome, IfOk, IfErr}
 use Rattle.std.specs.String.{string_bytes}
 use Rattle.bv_base.specs.Outside.{Listing, Begun, Rose, appended}
@@ -15,7 +15,7 @@ use Rattle.bst_run.specs.Forms.{Form, Check, Run}
 use Rattle.bst_run.specs.Reads.{Reads}
 use Rattle.bst_run.specs.Report.{usage, absent, unread, too_long}
 use Rattle.bst_run.specs.Stops.{Gives, HasCause, IsDecided, told_of}
-use Rattle.bst_run.specs.Top.{CausedBy, IsWanted, IsAnswer, IsAnswered, IsAcceptance, IsSafelyAccepted, Promises, IsPromised, ended, outcome_in}
+use Rattle.bst_run.specs.Top.{CausedBy, IsWanted, IsAnswer, IsAnswered, Promises, IsPromised, ended, outcome_in}
 use Rattle.bst_run.proofs.DeliveryLemmas.{appended_nothing, delivered_front, silent, wanting}
 
 -- a status that the files decide has no cause outside

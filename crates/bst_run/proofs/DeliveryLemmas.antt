@@ -1,5 +1,5 @@
 -- What comes of an outcome that is delivered.
-use Rattle.std.proofs.Common.{◌≡◌, ℕ, zero, suc, List, [], ◌∷◌, length, take, Option, None, Some, Result, Ok, Err, refl, sym, ◌∙◌, ap, arith, append-nil}
+use Rattle.std.proofs.Common.{◌≡◌, ℕ, zero, suc, List, [], length, take, Option, None, Some, refl, sym, ◌∙◌, ap, arith, append-nil}
 use Rattle.std.proofs.Math.Seq.{take_all}
 use Rattle.bv_base.specs.Outside.{appended}
 use Rattle.bv_base.specs.declared.status.Status.{Status}

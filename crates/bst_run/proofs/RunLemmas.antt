@@ -1,5 +1,5 @@
 -- From the machine to what a run answers.
-use Rattle.std.proofs.Common.{◌≡◌, ℕ, List, ◌++◌, Result, refl, ◌∙◌, ap, subst}
+use Rattle.std.proofs.Common.{◌≡◌, ℕ, List, ◌++◌, Result, ◌∙◌, ap, subst}
 use Rattle.std.specs.Prelude.{IfOk}
 use Rattle.bv_base.specs.declared.memory.NoMemory.{NoMemory}
 use Rattle.name_table.specs.declared.style.Style.{Style}

@@ -1,5 +1,5 @@
 -- Where a command stops, and what each stop stands for (docs/COMMANDS.md, "Answers").
-use Rattle.std.specs.Prelude.{◌≡◌, ℕ, List, [], Option, None, Some, IfSome, Result, Ok, Err}
+use Rattle.std.specs.Prelude.{◌≡◌, ℕ, [], Option, None, Some, IfSome, Result, Ok, Err}
 use Rattle.std.specs.String.{string_bytes}
 use Rattle.bv_base.specs.Outside.{Listing, Begun, Rose, opened, missing}
 use Rattle.bv_base.specs.declared.status.Status.{Status}

@@ -1,5 +1,5 @@
 -- The whole command line (docs/COMMANDS.md): from the words and the files to the answer, and what an answer means.
-use Rattle.std.specs.Prelude.{◌≡◌, ◌≢◌, ℕ, ◌⊎◌, Bool, true, false, ◌||◌, not, nat_lt, if◌then◌else◌, List, [], length, Option, None, Some, IfSome, Result, Ok, Err}
+use Rattle.std.specs.Prelude.{◌≡◌, ◌≢◌, ℕ, ◌⊎◌, true, false, ◌||◌, not, nat_lt, if◌then◌else◌, List, [], length, Option, None, Some, IfSome, Result, Ok, Err}
 use Rattle.std.specs.FinMap.{get}
 use Rattle.bv_base.specs.Outside.{Listing, Begun, Rose}
 use Rattle.bv_base.specs.declared.files.Files.{Ghosts}
