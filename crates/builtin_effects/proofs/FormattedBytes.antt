@@ -10,12 +10,12 @@ use Rattle.name_split.specs.declared.spans.Parts.{Parts}
 use Rattle.name_split.specs.declared.spans.Span.{Span}
 use Rattle.name_split.specs.declared.tokens.Token.{Token}
 use Rattle.name_split.specs.AllParts.{all_have_parts, names_ok}
-use Rattle.name_split.specs.Formatted.{BadPattern, Manner, behind_between, between_of, but_last_byte, characters, ends_with, first_is, formatted, group_written, initial, is_alone, joined, joint_text, name_written, part_of, part_written, pattern_written, period, span_written, tied, token_bytes, token_text, tokens_written}
+use Rattle.name_split.specs.Formatted.{BadPattern, Manner, behind_between, between_of, but_last_byte, characters, ends_with, formatted, group_written, initial, is_alone, joined, joint_text, name_written, part_of, part_written, pattern_written, period, span_written, tied, token_bytes, token_text, tokens_written}
 use Rattle.name_split.specs.Names.{names_of}
 use Rattle.name_split.specs.Parts.{parts_of}
 use Rattle.name_split.specs.Patterns.{before_run, letter_runs, pattern_ok}
 use Rattle.name_split.specs.Spans.{slice}
-use Rattle.name_split.specs.Tokens.{tokens_of}
+use Rattle.name_split.specs.Tokens.{first_is, tokens_of}
 use Rattle.builtin_effects.proofs.ByteTexts.{bytes_joined, bytes_taken, bytes_dropped}
 
 -- a choice of two strings of bytes, a byte and a slice of one
