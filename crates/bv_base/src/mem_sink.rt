@@ -68,6 +68,8 @@ impl Sink for MemSink {
         ensures whole { IfOk result (λ n. n ≡ length piece.now) }
         ensures after { self.new ≡ after_put self.old piece.now result }
         ensures failed { IsErrOf result PutAnswer.Failed → Rose self.old.faults self.new.faults }
+        ensures wanting { IsErrOf result PutAnswer.NoMemory → self.new.faults ≡ self.old.faults }
+        ensures steady { IfOk result (λ n. 0 < n → self.new.faults ≡ self.old.faults) }
         ensures count { self.old.faults ≤ self.new.faults }
     {
         self.calls = self.calls.saturating_add(1);

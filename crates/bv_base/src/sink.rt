@@ -28,5 +28,7 @@ pub trait Sink {
         ensures stuck { IfOk result (λ n. n ≡ 0 → 0 < length piece.now → Rose (faults self.old) (faults self.new)) }
         ensures kept { OnErr result (written self.new ≡ written self.old) }
         ensures failed { IsErrOf result PutAnswer.Failed → Rose (faults self.old) (faults self.new) }
+        ensures wanting { IsErrOf result PutAnswer.NoMemory → faults self.new ≡ faults self.old }
+        ensures steady { IfOk result (λ n. 0 < n → faults self.new ≡ faults self.old) }
         ensures count { faults self.old ≤ faults self.new };
 }

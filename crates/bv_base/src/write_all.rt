@@ -1,6 +1,6 @@
 //! Writing a whole text.
 
-ghost use Rattle.std.specs.Prelude.{◌≡◌, ◌≤◌, ℕ, length, take, OnOk, OnErr, IsErrOf};
+ghost use Rattle.std.specs.Prelude.{◌≡◌, ◌≢◌, ◌≤◌, ℕ, length, take, OnOk, OnErr, IsErrOf};
 ghost use Rattle.bv_base.specs.Outside.{Rose, appended};
 
 use crate::sink::{PutAnswer, Sink};
@@ -10,6 +10,7 @@ pub fn write_all<S: Sink>(sink: &mut S, text: &[u8]) -> Result<(), PutAnswer>
     ensures done { OnOk result (S.written sink.new ≡ appended (S.written sink.old) text.now) }
     ensures prefix { OnErr result ((n : ℕ) × (n ≤ length text.now) × (S.written sink.new ≡ appended (S.written sink.old) (take n text.now))) }
     ensures failed { IsErrOf result PutAnswer.Failed → Rose (S.faults sink.old) (S.faults sink.new) }
+    ensures steady { S.faults sink.new ≢ S.faults sink.old → IsErrOf result PutAnswer.Failed }
     ensures count { S.faults sink.old ≤ S.faults sink.new }
 {
     let mut done = 0;

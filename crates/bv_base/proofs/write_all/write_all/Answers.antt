@@ -1,5 +1,5 @@
 -- The piece that was taken follows the bytes taken before.
-use Rattle.std.proofs.Common.{arith}
+use Rattle.std.proofs.Common.{arith, rules}
 use Rattle.bv_base.proofs.Appended.{appended_more}
 use Rattle.bv_base.proofs.write_all.write_all.Goals as goal
 
@@ -9,5 +9,5 @@ loop-done-preserved g c =
     record {
       within = omega (arith, c.in_ok-count.ensures.within);
       taken = rw (c.in_ok-count.ensures.taken, c.loop-done.invariant.taken, c.split_at.ensures.back) more;
-      count = omega (arith, c.put.ensures.count);
+      steady = search rules;
     }

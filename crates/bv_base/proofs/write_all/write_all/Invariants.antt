@@ -7,7 +7,7 @@ abbrev pub invariant-loop-done : goal.invariant-loop-done
 invariant-loop-done g l = record {
   within : l.done ≤ length l.text;
   taken : g.S.Sink.written l.sink ≡ appended (g.S.Sink.written l.initial.sink) (take l.done l.text);
-  count : g.S.Sink.faults l.initial.sink ≤ g.S.Sink.faults l.sink;
+  steady : g.S.Sink.faults l.sink ≡ g.S.Sink.faults l.initial.sink;
 }
 
 abbrev pub decreases-loop-done : goal.decreases-loop-done
