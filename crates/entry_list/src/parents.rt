@@ -50,19 +50,10 @@ fn push_parent<'a>(
     ensures { OnOk result (found.new.items
         ≡ found.old.items ++ option_to_list (option_map keys.own (naming.parent_of table.now entry.now))) }
 {
-    let parent = parent_of(table, entry)?;
-    push_own(found, parent)
-}
-
-/// Adds an entry under its own key, where there is one.
-fn push_own<'a>(found: &mut Vec<Chosen<'a>>, entry: Option<&'a RawEntry>) -> Result<(), NoMemory>
-    ensures { OnOk result (found.new.items
-        ≡ found.old.items ++ option_to_list (option_map keys.own (option_map (λ e. e.now) entry.entry))) }
-{
-    let Some(own) = entry else {
+    let Some(parent) = parent_of(table, entry)? else {
         return Ok(());
     };
-    found.push(Chosen::own(own))?;
+    found.push(Chosen::own(parent))?;
     Ok(())
 }
 
