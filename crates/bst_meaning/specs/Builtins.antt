@@ -14,6 +14,7 @@ use Rattle.name_table.specs.declared.style.Style.{Style}
 use Rattle.name_table.specs.declared.style.TypeTarget.{TypeTarget}
 use Rattle.name_table.specs.declared.style.TypeTarget.TheVariants.{Function, Default, Skip}
 use Rattle.name_table.specs.Names.{text_at}
+use Rattle.name_table.specs.Opening.{skip}
 use Rattle.name_table.specs.TypeTarget.{target_of, type_function}
 use Rattle.name_split.specs.Names.{names_of}
 use Rattle.name_split.specs.Formatted.{Misfit, formatted}
@@ -30,6 +31,7 @@ use Rattle.text_ops.specs.TextLength.{text_length_of}
 use Rattle.text_ops.specs.TextPrefix.{text_prefix_of}
 use Rattle.text_ops.specs.Width.{width_of}
 use Rattle.bst_meaning.specs.declared.entry.Entry.{Entry}
+use Rattle.bst_meaning.specs.declared.value.TheConstants.{ENTRY_SIZE, GLOBAL_SIZE}
 use Rattle.bst_meaning.specs.declared.value.Target.{Target}
 use Rattle.bst_meaning.specs.declared.value.Target.TheVariants.{Named, Block}
 use Rattle.bst_meaning.specs.declared.value.Value.{Value}
@@ -183,10 +185,10 @@ at_entry (Some entry) rule = rule entry
 -- `:=` of a value to what the function names, by its kind
 abbrev pub assign_to : Context → Option Kind → NameId → Value → List Value → Result Effect Fault
 assign_to context (Some IntGlobal) name value stack = as_integer value (λ n. assigned_integer name n stack)
-assign_to context (Some StrGlobal) name value stack = as_string value (λ bytes. assigned_string context.style name 20000 bytes stack)
+assign_to context (Some StrGlobal) name value stack = as_string value (λ bytes. assigned_string context.style name GLOBAL_SIZE bytes stack)
 assign_to context (Some IntEntry) name value stack = at_entry context.entry (λ _. as_integer value (λ n. assigned_integer name n stack))
 assign_to context (Some StrEntry) name value stack =
-    at_entry context.entry (λ _. as_string value (λ bytes. assigned_string context.style name 250 bytes stack))
+    at_entry context.entry (λ _. as_string value (λ bytes. assigned_string context.style name ENTRY_SIZE bytes stack))
 assign_to context _ name value stack = Err NotVariable
 
 -- a value is assigned to what is named; a block isn't a variable
@@ -203,7 +205,7 @@ assign context stack = two_operands stack (λ value target rest.
 abbrev pub type_entered : TypeTarget → NameId
 type_entered (Function name) = name
 type_entered (Default name) = name
-type_entered Skip = record { 0 = 25 }
+type_entered Skip = skip
 
 -- `type$`: the type's name where the style defines it
 abbrev pub type_name : Style → List ℕ → List ℕ

@@ -9,6 +9,8 @@ use Rattle.name_table.specs.declared.style.Command.{Command}
 use Rattle.name_table.specs.declared.style.Command.TheVariants.{Execute, Iterate, Read, Reverse, Sort}
 use Rattle.name_table.specs.declared.style.CommandAt.{CommandAt}
 use Rattle.name_table.specs.declared.style.Style.{Style}
+use Rattle.name_table.specs.Opening.{entry_max, global_max}
+use Rattle.bst_meaning.specs.declared.value.TheConstants.{ENTRY_SIZE, GLOBAL_SIZE}
 use Rattle.bst_meaning.specs.declared.value.Target.{Target}
 use Rattle.bst_meaning.specs.declared.value.Value.{Value}
 use Rattle.bst_meaning.specs.declared.value.Value.TheVariants.{Int, Str}
@@ -89,7 +91,7 @@ is_step _ = false
 
 -- entry.max$ and global.max$ open with the sizes that they name, every other integer with 0
 abbrev pub opening_integer : ℕ → ℤ
-opening_integer id = if nat_eq id 39 then pos 250 else (if nat_eq id 40 then pos 20000 else pos 0)
+opening_integer id = if nat_eq id entry_max.0 then pos ENTRY_SIZE else (if nat_eq id global_max.0 then pos GLOBAL_SIZE else pos 0)
 
 -- the variable of the whole style that a name declares, as it opens
 abbrev pub opening_global : ℕ → Kind → List Variable → List Variable

@@ -2,6 +2,7 @@
 use Rattle.std.specs.Prelude.{ℕ, nat_eq, if◌then◌else◌, List, [], ◌∷◌}
 use Rattle.std.specs.Ordering.{nat_cmp, is_le}
 use Rattle.std.specs.Cmp.Lexicographic.{slice_cmp}
+use Rattle.name_table.specs.Opening.{sort_key as key_name}
 use Rattle.bst_meaning.specs.declared.value.Value.{Value}
 use Rattle.bst_meaning.specs.declared.value.Value.TheVariants.{Str}
 use Rattle.bst_meaning.specs.Config.{EntryState, Variable}
@@ -18,7 +19,7 @@ string_at id (variable ∷ variables) = if nat_eq variable.name.0 id then string
 
 -- the bytes of `sort.key$`
 abbrev pub sort_key : EntryState → List ℕ
-sort_key entry = string_at 38 entry.variables
+sort_key entry = string_at key_name.0 entry.variables
 
 -- before the first entry whose key isn't below its own
 abbrev pub inserted : EntryState → List EntryState → List EntryState

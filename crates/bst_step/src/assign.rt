@@ -16,18 +16,12 @@ use crate::surroundings::Surroundings;
 use crate::texts::joined;
 use bst_meaning::fault::Fault;
 use bst_meaning::style_parts::kind_of;
-use bst_meaning::value::{Target, Value};
+use bst_meaning::value::{ENTRY_SIZE, GLOBAL_SIZE, Target, Value};
 use bv_base::memory::NoMemory;
 use bv_base::text::Text;
 use name_table::names::{Kind, NameId};
 use name_table::style::Style;
 use std::alloc::Global;
-
-/// The most bytes of a string variable of an entry.
-const ENTRY_SIZE: u32 = 250;
-
-/// The most bytes of a string variable of the whole style.
-const GLOBAL_SIZE: u32 = 20000;
 
 /// `:=`
 pub fn assign(around: Surroundings, stack: &Stack<Value>) -> Result<Outcome, Stop>

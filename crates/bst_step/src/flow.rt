@@ -15,11 +15,8 @@ use crate::stop::Stop;
 use bst_meaning::entry::Entry;
 use bst_meaning::fault::Fault;
 use bst_meaning::value::{Target, Value};
-use name_table::names::NameId;
+use name_table::opening::SKIP;
 use name_table::style::{Style, TypeTarget};
-
-/// The id of `skip$` in every style.
-const SKIP: NameId = NameId(25);
 
 /// `if$`
 pub fn if_else(stack: &Stack<Value>) -> Result<Outcome, Stop>

@@ -11,9 +11,10 @@ use crate::stack::Stack;
 use crate::state::{EntryState, State};
 use crate::variables::Variable;
 use bst_meaning::entry::{Entry, EntryList};
-use bst_meaning::value::Value;
+use bst_meaning::value::{ENTRY_SIZE, GLOBAL_SIZE, Value};
 use bv_base::memory::NoMemory;
 use bv_base::text::Text;
+use name_table::opening::{ENTRY_MAX, GLOBAL_MAX};
 use name_table::names::{Kind, NameId, Names};
 use name_table::style::{Command, CommandAt, Style};
 use std::alloc::Global;
@@ -74,10 +75,12 @@ fn step_commands(alloc: Global, commands: &[CommandAt]) -> Result<Stack<CommandA
 fn opening_integer(id: u32) -> i32
     ensures { result ≡ config.opening_integer id }
 {
-    match id {
-        39 => 250,
-        40 => 20000,
-        _ => 0,
+    if id == ENTRY_MAX.0 {
+        ENTRY_SIZE as i32
+    } else if id == GLOBAL_MAX.0 {
+        GLOBAL_SIZE as i32
+    } else {
+        0
     }
 }
 

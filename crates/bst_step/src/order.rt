@@ -7,10 +7,7 @@ ghost use Rattle.bst_step.specs.State.{state_of};
 use crate::state::EntryState;
 use bst_meaning::value::Value;
 use bv_base::memory::NoMemory;
-use name_table::names::NameId;
-
-/// The id of `sort.key$` in every style.
-const SORT_KEY: NameId = NameId(38);
+use name_table::opening::SORT_KEY;
 
 /// Orders the entries by their sort keys. Equal keys keep their order.
 pub fn sort_entries(entries: &mut Vec<EntryState>) -> Result<(), NoMemory>

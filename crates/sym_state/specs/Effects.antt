@@ -11,6 +11,7 @@ use Rattle.name_table.specs.declared.names.NameId.{NameId}
 use Rattle.name_table.specs.declared.names.Kind.{Kind}
 use Rattle.name_table.specs.declared.names.Kind.TheVariants.{IntEntry, StrEntry, IntGlobal, StrGlobal}
 use Rattle.name_table.specs.declared.style.Style.{Style}
+use Rattle.bst_meaning.specs.declared.value.TheConstants.{ENTRY_SIZE, GLOBAL_SIZE}
 use Rattle.bst_meaning.specs.Builtins.{case_of}
 use Rattle.bst_meaning.specs.Operands.{has_32_bits}
 use Rattle.bst_meaning.specs.StyleParts.{kind_of}
@@ -108,10 +109,10 @@ string_assigned cond state name size a rest hints =
 -- the variable's kind says what it takes
 abbrev pub assigned : Cond → State → Option Kind → NameId → Sym → State → List Hint → Outcome
 assigned cond state (Some IntGlobal) name a rest hints = of_kind state Int 2 a (gives hints (with_bind name a rest))
-assigned cond state (Some StrGlobal) name a rest hints = of_kind state Str 2 a (string_assigned cond state name 20000 a rest hints)
+assigned cond state (Some StrGlobal) name a rest hints = of_kind state Str 2 a (string_assigned cond state name GLOBAL_SIZE a rest hints)
 assigned cond state (Some IntEntry) name a rest hints = at_entry state (of_kind state Int 2 a (gives hints (with_bind name a rest)))
 assigned cond state (Some StrEntry) name a rest hints =
-    at_entry state (of_kind state Str 2 a (string_assigned cond state name 250 a rest hints))
+    at_entry state (of_kind state Str 2 a (string_assigned cond state name ENTRY_SIZE a rest hints))
 assigned cond state _ name a rest hints = unmet NotVariable 1
 
 -- a function by name is the variable

@@ -6,6 +6,7 @@ use Rattle.name_table.specs.declared.names.Kind.{Kind}
 use Rattle.name_table.specs.declared.names.Kind.TheVariants.{Field, IntEntry, StrEntry, IntGlobal, StrGlobal}
 use Rattle.name_table.specs.declared.names.NameId.{NameId}
 use Rattle.name_table.specs.declared.style.Style.{Style}
+use Rattle.bst_meaning.specs.declared.value.TheConstants.{ENTRY_SIZE, GLOBAL_SIZE}
 use Rattle.bst_meaning.specs.Config.{Config}
 use Rattle.bst_meaning.specs.StyleParts.{kind_of}
 use Rattle.bst_meaning.specs.declared.condition.Cond.{Cond}
@@ -30,8 +31,8 @@ pub record IsFieldValue (cond : Cond) (name : NameId) (value : Value) : Type 0 w
 abbrev pub IsOfItsKind : Cond → Option Kind → NameId → Value → Type 0
 IsOfItsKind cond (Some IntEntry) name value = has_kind Int value ≡ true
 IsOfItsKind cond (Some IntGlobal) name value = has_kind Int value ≡ true
-IsOfItsKind cond (Some StrEntry) name value = (has_kind Str value ≡ true) × (length_of value ≤ℤ pos 250)
-IsOfItsKind cond (Some StrGlobal) name value = (has_kind Str value ≡ true) × (length_of value ≤ℤ pos 20000)
+IsOfItsKind cond (Some StrEntry) name value = (has_kind Str value ≡ true) × (length_of value ≤ℤ pos ENTRY_SIZE)
+IsOfItsKind cond (Some StrGlobal) name value = (has_kind Str value ≡ true) × (length_of value ≤ℤ pos GLOBAL_SIZE)
 IsOfItsKind cond (Some Field) name value = IsFieldValue cond name value
 IsOfItsKind cond _ name value = Unit {0}
 

@@ -9,6 +9,7 @@ use Rattle.name_table.specs.declared.names.NameId.{NameId}
 use Rattle.name_table.specs.declared.names.Kind.{Kind}
 use Rattle.name_table.specs.declared.names.Kind.TheVariants.{Field, IntEntry, StrEntry, IntGlobal, StrGlobal}
 use Rattle.name_table.specs.declared.style.Style.{Style}
+use Rattle.bst_meaning.specs.declared.value.TheConstants.{ENTRY_SIZE, GLOBAL_SIZE}
 use Rattle.bst_meaning.specs.declared.condition.NamesLine.{NamesLine}
 use Rattle.bst_meaning.specs.declared.condition.Cond.{Cond}
 use Rattle.bst_meaning.specs.StyleParts.{kind_of}
@@ -114,8 +115,8 @@ own_facts cond _ bind = []
 
 -- its rows: a string is no longer than its variable's size, a field no longer than the condition says
 abbrev pub own_rows : Cond → Option Kind → Bind → List Row
-own_rows cond (Some StrEntry) bind = at_most (Length bind.sym.0) (pos 250) ∷ []
-own_rows cond (Some StrGlobal) bind = at_most (Length bind.sym.0) (pos 20000) ∷ []
+own_rows cond (Some StrEntry) bind = at_most (Length bind.sym.0) (pos ENTRY_SIZE) ∷ []
+own_rows cond (Some StrGlobal) bind = at_most (Length bind.sym.0) (pos GLOBAL_SIZE) ∷ []
 own_rows cond (Some Field) bind =
     at_most (Length bind.sym.0) (pos cond.length) ∷ name_rows (most_names bind.name cond.names) bind.sym
 own_rows cond _ bind = []

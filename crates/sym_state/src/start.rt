@@ -18,6 +18,7 @@ use crate::references::at_most;
 use crate::state::State;
 use crate::symbol::{Bind, Fact, Kinds, Sym};
 use bst_meaning::condition::{Cond, NamesLine};
+use bst_meaning::value::{ENTRY_SIZE, GLOBAL_SIZE};
 use bv_base::memory::NoMemory;
 use bv_base::seq::Seq;
 use lin_facts::row::{Row, Term};
@@ -252,8 +253,8 @@ fn push_rows(
 {
     let length = Term::Length(bind.sym.0);
     match kind {
-        Kind::StrEntry => rows.push(at_most(alloc, length, 250)?)?,
-        Kind::StrGlobal => rows.push(at_most(alloc, length, 20000)?)?,
+        Kind::StrEntry => rows.push(at_most(alloc, length, ENTRY_SIZE as i64)?)?,
+        Kind::StrGlobal => rows.push(at_most(alloc, length, GLOBAL_SIZE as i64)?)?,
         Kind::Field => {
             rows.push(at_most(alloc, length, cond.length as i64)?)?;
             push_name_row(alloc, rows, cond, bind)?;
