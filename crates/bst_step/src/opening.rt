@@ -14,8 +14,8 @@ use bst_meaning::entry::{Entry, EntryList};
 use bst_meaning::value::{ENTRY_SIZE, GLOBAL_SIZE, Value};
 use bv_base::memory::NoMemory;
 use bv_base::text::Text;
-use name_table::opening::{ENTRY_MAX, GLOBAL_MAX};
 use name_table::names::{Kind, NameId, Names};
+use name_table::opening::{ENTRY_MAX, GLOBAL_MAX};
 use name_table::style::{Command, CommandAt, Style};
 use std::alloc::Global;
 

@@ -80,11 +80,21 @@ fn first_line_failing(
     if line.is_some() {
         return Ok(line);
     }
-    let line = first_unbound(matching, state.fields.as_slice(), fields, piece.fields.as_slice());
+    let line = first_unbound(
+        matching,
+        state.fields.as_slice(),
+        fields,
+        piece.fields.as_slice(),
+    );
     if line.is_some() {
         return Ok(line);
     }
-    let line = first_unknown(matching, state.facts.as_slice(), facts, piece.facts.as_slice());
+    let line = first_unknown(
+        matching,
+        state.facts.as_slice(),
+        facts,
+        piece.facts.as_slice(),
+    );
     if line.is_some() {
         return Ok(line);
     }
