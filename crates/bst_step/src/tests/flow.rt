@@ -1,10 +1,11 @@
 //! Where faults stand, inside what is entered.
 
-use crate::machine::{Site, Turn};
-use crate::tests::program::{ENOUGH, run, style_of};
+use crate::machine::{Machine, Site, Turn};
+use crate::tests::program::{ENOUGH, machine_of, style_of};
 use bst_meaning::fault::Fault;
 use bv_base::memory::NoMemory;
 use bv_base::place::Place;
+use name_table::style::Style;
 use std::alloc::Global;
 use std::process::Abort;
 use std::test::Fail;
@@ -211,12 +212,34 @@ fn expect_sites(
     rows: &[(&[u8], Fault, u32, Option<u64>, &[u8])],
 ) -> Result<(), NoMemory> {
     for (words, fault, column, entry, key) in rows {
-        let style = style_of(alloc, words)?;
-        let report = run(alloc, &style, ENOUGH)?;
-        assert!(rt; report.turn == Turn::Faulted(*fault, site(*column, *entry)));
-        assert!(rt; report.key.as_slice() == *key);
+        let (style, _) = style_of(alloc, &[words])?;
+        expect_site(rt, alloc, &style, *fault, site(*column, *entry), key)?;
     }
     Ok(())
+}
+
+/// Expects a run to come to a fault at a site whose entry has this key.
+fn expect_site(
+    rt: &impl Abort,
+    alloc: Global,
+    style: &Style,
+    fault: Fault,
+    site: Site,
+    key: &[u8],
+) -> Result<(), NoMemory> {
+    let mut machine = machine_of(alloc, style)?;
+    let turn = machine.run(ENOUGH)?;
+    assert!(rt; turn == Turn::Faulted(fault, site));
+    assert!(rt; key_of(&machine, site.entry) == key);
+    Ok(())
+}
+
+/// The key of an entry, where there is one.
+fn key_of<'a>(machine: &'a Machine<'_>, entry: Option<u64>) -> &'a [u8] {
+    match entry {
+        Some(at) => machine.key(at),
+        None => b"",
+    }
 }
 
 /// A site in the first line.

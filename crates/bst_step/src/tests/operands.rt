@@ -1,10 +1,11 @@
 //! The operands of the built-in functions, their faults, and what they give.
 
 use crate::machine::{Site, Turn};
-use crate::tests::program::{ENOUGH, Program, Report, run};
+use crate::tests::program::{ENOUGH, log_of, machine_of, style_of};
 use bst_meaning::fault::Fault;
 use bv_base::memory::NoMemory;
 use bv_base::place::Place;
+use name_table::style::Style;
 use std::alloc::Global;
 use std::process::Abort;
 use std::test::Fail;
@@ -20,34 +21,39 @@ struct Words<'a> {
     behind: &'a [u8],
 }
 
-/// A run of a function that is executed, or called for each entry, and the place of its last token.
-fn run_of_body(
-    alloc: Global,
-    words: Words<'_>,
-    command: &[u8],
-) -> Result<(Report, Place), NoMemory> {
-    let mut body = words.before.to_vec(alloc)?;
-    body.push(b' ')?;
-    body.extend_from_slice(words.operand)?;
-    body.push(b' ')?;
-    body.extend_from_slice(words.behind)?;
-    let mut program = Program::new(alloc)?;
-    program.line(1, BEFORE)?;
-    program.line(2, body.as_slice())?;
-    let last = program.last;
-    program.line(3, command)?;
-    let style = program.style();
-    Ok((run(alloc, &style, ENOUGH)?, last))
-}
-
 /// Whether a run of a body comes to this fault of its last token. The first entry is visited, but for NoEntry none is.
 fn faults(alloc: Global, words: Words<'_>, fault: Fault) -> Result<bool, NoMemory> {
-    let (command, entry) = match fault {
+    let (commands, entry) = visit_for(fault);
+    let (style, place) = style_of_body(alloc, words, commands)?;
+    Ok(turn_of(alloc, &style)? == Turn::Faulted(fault, Site { place, entry }))
+}
+
+/// The style of a function that is visited, and the place of its last token.
+fn style_of_body<'a>(
+    alloc: Global,
+    words: Words<'a>,
+    commands: &'a [u8],
+) -> Result<(Style, Place), NoMemory> {
+    let Words {
+        before,
+        operand,
+        behind,
+    } = words;
+    style_of(alloc, &[BEFORE, before, operand, behind, commands])
+}
+
+/// The commands for a fault, and the entry that they visit first.
+fn visit_for(fault: Fault) -> (&'static [u8], Option<u64>) {
+    match fault {
         Fault::NoEntry => (b"} READ EXECUTE f", None),
         _ => (b"} READ ITERATE f", Some(0)),
-    };
-    let (report, place) = run_of_body(alloc, words, command)?;
-    Ok(report.turn == Turn::Faulted(fault, Site { place, entry }))
+    }
+}
+
+/// What a run comes to.
+fn turn_of(alloc: Global, style: &Style) -> Result<Turn, NoMemory> {
+    let mut machine = machine_of(alloc, style)?;
+    machine.run(ENOUGH)
 }
 
 /// How many operands the built-in functions take.
@@ -429,17 +435,23 @@ fn built_ins_give_their_values(rt: HostRuntime) -> Result<(), Fail> {
 
 /// Expects runs of bodies for the first entry to log these lines.
 fn expect_logs(rt: &impl Abort, alloc: Global, rows: &[(&[u8], &[u8])]) -> Result<(), NoMemory> {
-    for (body, log) in rows {
-        let words = Words {
-            before: b"cite$ \"A1\" = {",
-            operand: body,
-            behind: b"} 'skip$ if$",
-        };
-        let (report, _) = run_of_body(alloc, words, b"} READ ITERATE f")?;
-        assert!(rt; report.turn == Turn::Ended);
-        assert!(rt; is_line_of(report.log.as_slice(), log));
+    for (body, lines) in rows {
+        let log = log_of_body(rt, alloc, body)?;
+        assert!(rt; is_line_of(log.as_slice(), lines));
     }
     Ok(())
+}
+
+/// The log of a run of a body for the first entry.
+fn log_of_body(rt: &impl Abort, alloc: Global, body: &[u8]) -> Result<Vec<u8>, NoMemory> {
+    let lines = [
+        BEFORE,
+        b"cite$ \"A1\" = {",
+        body,
+        b"} 'skip$ if$ } READ ITERATE f",
+    ];
+    let (style, _) = style_of(alloc, &lines)?;
+    log_of(rt, alloc, &style)
 }
 
 /// Whether a log is these lines with a line end behind them.

@@ -1,6 +1,6 @@
 //! Small styles that are written as words, and runs of them over five entries.
 
-use crate::machine::{Machine, Site, Turn};
+use crate::machine::{Machine, Turn};
 use bst_meaning::entry::{Entry, EntryList, FieldValue};
 use bv_base::memory::NoMemory;
 use bv_base::place::Place;
@@ -9,9 +9,10 @@ use bv_base::text::Text;
 use name_table::names::{Kind, NameId, Names};
 use name_table::style::{Body, BodyId, Command, CommandAt, Style, TextId, Token, TokenAt};
 use std::alloc::Global;
+use std::process::Abort;
 
 /// The key, the type and the title of each entry. `-` is a title that is missing.
-const ENTRIES: [(&[u8], &[u8], &[u8]); 5] = [
+static ENTRIES: [(&[u8], &[u8], &[u8]); 5] = [
     (b"A1", b"book", b"b"),
     (b"B2", b"misc", b"-"),
     (b"C3", b"none", b"Z"),
@@ -21,16 +22,6 @@ const ENTRIES: [(&[u8], &[u8], &[u8]); 5] = [
 
 /// Steps enough for every run that ends.
 pub const ENOUGH: u64 = 1000000;
-
-/// What a run has come to.
-#[derive(Drop)]
-pub struct Report {
-    pub turn: Turn,
-    pub lines: Vec<u8>,
-    pub log: Vec<u8>,
-    /// The key of the entry at fault.
-    pub key: Vec<u8>,
-}
 
 /// A style that is being written down. It declares the field `title`, the variables `n` and `s` of each entry and `i`
 /// and `t` of the whole style. What is written are words between single spaces: `f{` begins the function `f`, and all
@@ -48,12 +39,12 @@ pub struct Program {
     /// The last command that wants a name.
     asked: CommandAt,
     /// The place of the last token.
-    pub last: Place,
+    last: Place,
 }
 
 impl Program {
     /// A style that only declares names.
-    pub fn new(alloc: Global) -> Result<Program, NoMemory> {
+    fn new(alloc: Global) -> Result<Program, NoMemory> {
         let mut names = Names::opening(alloc)?;
         let declared: [(&[u8], Kind); 5] = [
             (b"title", Kind::Field),
@@ -81,8 +72,18 @@ impl Program {
         })
     }
 
+    /// Adds the words of lines, which are numbered from 1.
+    fn lines(&mut self, lines: &[&[u8]]) -> Result<(), NoMemory> {
+        let mut line = 0u32;
+        for words in lines {
+            line = line.saturating_add(1);
+            self.line(line, words)?;
+        }
+        Ok(())
+    }
+
     /// Adds the words of a line.
-    pub fn line(&mut self, line: u32, words: &[u8]) -> Result<(), NoMemory> {
+    fn line(&mut self, line: u32, words: &[u8]) -> Result<(), NoMemory> {
         let mut word = Vec::new(self.alloc);
         let mut column = 1u32;
         let mut start = 1u32;
@@ -227,7 +228,7 @@ impl Program {
     }
 
     /// The style that was written.
-    pub fn style(self) -> Style {
+    fn style(self) -> Style {
         let Program {
             alloc,
             names,
@@ -248,7 +249,10 @@ impl Program {
 
 /// Defines a name that isn't there.
 fn define(names: &mut Names, name: &[u8], kind: Kind) -> Result<NameId, NoMemory> {
-    names.define(name, kind).or(Err(NoMemory))
+    match names.define(name, kind) {
+        Ok(id) => Ok(id),
+        Err(_) => Err(NoMemory),
+    }
 }
 
 /// A small number of items.
@@ -270,24 +274,43 @@ fn integer(digits: &[u8]) -> i32 {
     }
 }
 
+/// The style of these lines, and the place of its last token.
+pub fn style_of(alloc: Global, lines: &[&[u8]]) -> Result<(Style, Place), NoMemory> {
+    let mut program = Program::new(alloc)?;
+    program.lines(lines)?;
+    let last = program.last;
+    Ok((program.style(), last))
+}
+
 /// The entries.
 fn list(alloc: Global) -> Result<EntryList, NoMemory> {
     let mut entries = Seq::new(alloc);
-    for (key, entry_type, title) in ENTRIES {
-        entries.push(entry(alloc, key, entry_type, title)?)?;
-    }
+    push_entries(alloc, &mut entries)?;
     Ok(EntryList {
         entries,
         preamble: Text::from_slice(alloc, b"Preamble")?,
     })
 }
 
+/// Adds the entries.
+fn push_entries(alloc: Global, entries: &mut Seq<Entry>) -> Result<(), NoMemory> {
+    for (key, entry_type, title) in &ENTRIES {
+        entries.push(entry(alloc, key, entry_type, title)?)?;
+    }
+    Ok(())
+}
+
 /// An entry.
 fn entry(alloc: Global, key: &[u8], entry_type: &[u8], title: &[u8]) -> Result<Entry, NoMemory> {
-    let title = match title {
-        [b'-'] => None,
-        _ => Some(Text::from_slice(alloc, title)?),
-    };
+    Ok(Entry {
+        key: Text::from_slice(alloc, key)?,
+        entry_type: Text::from_slice(alloc, entry_type)?,
+        fields: fields(alloc, title)?,
+    })
+}
+
+/// The fields of an entry with this title.
+fn fields(alloc: Global, title: &[u8]) -> Result<Seq<FieldValue>, NoMemory> {
     let mut fields = Seq::new(alloc);
     fields.push(FieldValue {
         name: NameId(37),
@@ -295,55 +318,41 @@ fn entry(alloc: Global, key: &[u8], entry_type: &[u8], title: &[u8]) -> Result<E
     })?;
     fields.push(FieldValue {
         name: NameId(41),
-        value: title,
+        value: value_of(alloc, title)?,
     })?;
-    Ok(Entry {
-        key: Text::from_slice(alloc, key)?,
-        entry_type: Text::from_slice(alloc, entry_type)?,
-        fields,
-    })
+    Ok(fields)
 }
 
-/// The style of one line.
-pub fn style_of(alloc: Global, words: &[u8]) -> Result<Style, NoMemory> {
-    let mut program = Program::new(alloc)?;
-    program.line(1, words)?;
-    Ok(program.style())
-}
-
-/// A run of so many steps.
-pub fn run(alloc: Global, style: &Style, n: u64) -> Result<Report, NoMemory> {
-    let mut machine = Machine::new(alloc, style, list(alloc)?)?;
-    let turn = machine.run(n)?;
-    run_so_far(alloc, &machine, turn)
-}
-
-/// A run of so many steps, one by one.
-pub fn run_by_steps(alloc: Global, style: &Style, n: u64) -> Result<Report, NoMemory> {
-    let mut machine = Machine::new(alloc, style, list(alloc)?)?;
-    let mut turn = machine.run(0)?;
-    for _ in 0..n {
-        turn = machine.step()?;
+/// The value of a title.
+fn value_of(alloc: Global, title: &[u8]) -> Result<Option<Text>, NoMemory> {
+    match title {
+        [b'-'] => Ok(None),
+        _ => Ok(Some(Text::from_slice(alloc, title)?)),
     }
-    run_so_far(alloc, &machine, turn)
 }
 
-/// What a machine has come to.
-fn run_so_far(alloc: Global, machine: &Machine<'_>, turn: Turn) -> Result<Report, NoMemory> {
-    let key = match turn {
-        Turn::Faulted(
-            _,
-            Site {
-                entry: Some(at),
-                ..
-            },
-        ) => machine.key(at).to_vec(alloc)?,
-        _ => Vec::new(alloc),
-    };
-    Ok(Report {
-        turn,
-        lines: machine.lines()?,
-        log: machine.log()?,
-        key,
-    })
+/// The machine before its first step.
+pub fn machine_of<'a>(alloc: Global, style: &'a Style) -> Result<Machine<'a>, NoMemory> {
+    Machine::new(alloc, style, list(alloc)?)
+}
+
+/// The log of a run, which ends.
+pub fn log_of(rt: &impl Abort, alloc: Global, style: &Style) -> Result<Vec<u8>, NoMemory> {
+    let mut machine = machine_of(alloc, style)?;
+    end(rt, &mut machine)?;
+    machine.log()
+}
+
+/// The lines that a run writes, which ends.
+pub fn lines_of(rt: &impl Abort, alloc: Global, style: &Style) -> Result<Vec<u8>, NoMemory> {
+    let mut machine = machine_of(alloc, style)?;
+    end(rt, &mut machine)?;
+    machine.lines()
+}
+
+/// Expects a run to end.
+fn end(rt: &impl Abort, machine: &mut Machine<'_>) -> Result<(), NoMemory> {
+    let turn = machine.run(ENOUGH)?;
+    assert!(rt; turn == Turn::Ended);
+    Ok(())
 }

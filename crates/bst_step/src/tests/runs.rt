@@ -1,10 +1,11 @@
 //! How many steps runs take, and in which order they visit entries.
 
-use crate::machine::{Site, Turn};
-use crate::tests::program::{ENOUGH, Report, run, run_by_steps, style_of};
+use crate::machine::{Machine, Site, Turn};
+use crate::tests::program::{lines_of, machine_of, style_of};
 use bst_meaning::fault::Fault;
 use bv_base::memory::NoMemory;
 use bv_base::place::Place;
+use name_table::style::Style;
 use std::alloc::Global;
 use std::process::Abort;
 use std::test::Fail;
@@ -124,17 +125,69 @@ fn expect_turns(
     rows: &[(&[u8], u64, Turn, &[u8])],
 ) -> Result<(), NoMemory> {
     for (words, n, turn, lines) in rows {
-        let style = style_of(alloc, words)?;
-        expect_report(rt, &run(alloc, &style, *n)?, *turn, lines);
-        expect_report(rt, &run_by_steps(alloc, &style, *n)?, *turn, lines);
+        let (style, _) = style_of(alloc, &[words])?;
+        expect_run(rt, alloc, &style, *n, *turn, lines)?;
     }
     Ok(())
 }
 
-/// Expects a run to have come to this turn and these lines.
-fn expect_report(rt: &impl Abort, report: &Report, turn: Turn, lines: &[u8]) {
-    assert!(rt; report.turn == turn);
-    assert!(rt; report.lines.as_slice() == lines);
+/// Expects a run of so many steps, also one by one, to come to this turn and these lines.
+fn expect_run(
+    rt: &impl Abort,
+    alloc: Global,
+    style: &Style,
+    n: u64,
+    turn: Turn,
+    lines: &[u8],
+) -> Result<(), NoMemory> {
+    expect_at_once(rt, alloc, style, n, turn, lines)?;
+    expect_by_steps(rt, alloc, style, n, turn, lines)
+}
+
+/// Expects a run of so many steps to come to this turn and these lines.
+fn expect_at_once(
+    rt: &impl Abort,
+    alloc: Global,
+    style: &Style,
+    n: u64,
+    turn: Turn,
+    lines: &[u8],
+) -> Result<(), NoMemory> {
+    let mut machine = machine_of(alloc, style)?;
+    let came_to = machine.run(n)?;
+    assert!(rt; came_to == turn);
+    expect_lines(rt, &machine, lines)
+}
+
+/// Expects so many steps, one by one, to come to this turn and these lines.
+fn expect_by_steps(
+    rt: &impl Abort,
+    alloc: Global,
+    style: &Style,
+    n: u64,
+    turn: Turn,
+    lines: &[u8],
+) -> Result<(), NoMemory> {
+    let mut machine = machine_of(alloc, style)?;
+    let came_to = step_by_step(&mut machine, n)?;
+    assert!(rt; came_to == turn);
+    expect_lines(rt, &machine, lines)
+}
+
+/// So many steps, one by one.
+fn step_by_step(machine: &mut Machine<'_>, n: u64) -> Result<Turn, NoMemory> {
+    let mut turn = machine.run(0)?;
+    for _ in 0..n {
+        turn = machine.step()?;
+    }
+    Ok(turn)
+}
+
+/// Expects a machine to have written these lines.
+fn expect_lines(rt: &impl Abort, machine: &Machine<'_>, lines: &[u8]) -> Result<(), NoMemory> {
+    let written = machine.lines()?;
+    assert!(rt; written.as_slice() == lines);
+    Ok(())
 }
 
 /// Functions that give the entries sort keys, and one that writes the key of an entry.
@@ -174,13 +227,15 @@ fn entries_are_visited_in_the_order_of_the_list(rt: HostRuntime) -> Result<(), F
 
 /// Expects commands to write these keys.
 fn expect_orders(rt: &impl Abort, alloc: Global, rows: &[(&[u8], &[u8])]) -> Result<(), NoMemory> {
-    for (commands, lines) in rows {
-        let mut words = KEYS.to_vec(alloc)?;
-        words.push(b' ')?;
-        words.extend_from_slice(commands)?;
-        words.extend_from_slice(b" EXECUTE newline$")?;
-        let style = style_of(alloc, words.as_slice())?;
-        expect_report(rt, &run(alloc, &style, ENOUGH)?, Turn::Ended, lines);
+    for (commands, keys) in rows {
+        let lines = lines_of_commands(rt, alloc, commands)?;
+        assert!(rt; lines.as_slice() == *keys);
     }
     Ok(())
+}
+
+/// The lines that commands write.
+fn lines_of_commands(rt: &impl Abort, alloc: Global, commands: &[u8]) -> Result<Vec<u8>, NoMemory> {
+    let (style, _) = style_of(alloc, &[KEYS, commands, b"EXECUTE newline$"])?;
+    lines_of(rt, alloc, &style)
 }

@@ -1,7 +1,6 @@
 //! Strings that are cut, and lines that are broken.
 
-use crate::machine::Turn;
-use crate::tests::program::{ENOUGH, Program, Report, run};
+use crate::tests::program::{lines_of, log_of, style_of};
 use bv_base::memory::NoMemory;
 use std::alloc::Global;
 use std::process::Abort;
@@ -11,16 +10,6 @@ use std::test::Fail;
 /// strings of `a`, of `b` and of spaces with so many bytes, and one that writes such a string of `a`.
 const BEFORE: &[u8] =
     b"d{ duplicate$ * } e{ d d d d d d d } cut{ 'i := e e d #1 i substring$ } a{ 'i := \"a\" i cut } b{ 'i := \"b\" i cut } sp{ 'i := \"_\" i cut } f{";
-
-/// A run of the second line of a style as a function's body, for the first entry in the order of the list.
-fn run_of_body(alloc: Global, body: &[u8], command: &[u8]) -> Result<Report, NoMemory> {
-    let mut program = Program::new(alloc)?;
-    program.line(1, BEFORE)?;
-    program.line(2, body)?;
-    program.line(3, command)?;
-    let style = program.style();
-    run(alloc, &style, ENOUGH)
-}
 
 /// What is logged where strings of so many bytes are assigned, and then the length and the end of what the variable has.
 static ASSIGNED: [(&[u8], &[u8]); 14] = [
@@ -80,15 +69,23 @@ fn strings_are_cut_to_their_variables(rt: HostRuntime) -> Result<(), Fail> {
 
 /// Expects bodies to log this for the first entry.
 fn expect_logs(rt: &impl Abort, alloc: Global, rows: &[(&[u8], &[u8])]) -> Result<(), NoMemory> {
-    for (body, log) in rows {
-        let mut visited = b"cite$ \"A1\" = { ".to_vec(alloc)?;
-        visited.extend_from_slice(body)?;
-        visited.extend_from_slice(b" } 'skip$ if$")?;
-        let report = run_of_body(alloc, visited.as_slice(), b"} READ ITERATE f")?;
-        assert!(rt; report.turn == Turn::Ended);
-        assert!(rt; report.log.as_slice() == *log);
+    for (body, wanted) in rows {
+        let log = log_of_body(rt, alloc, body)?;
+        assert!(rt; log.as_slice() == *wanted);
     }
     Ok(())
+}
+
+/// The log of a run of a body for the first entry.
+fn log_of_body(rt: &impl Abort, alloc: Global, body: &[u8]) -> Result<Vec<u8>, NoMemory> {
+    let lines = [
+        BEFORE,
+        b"cite$ \"A1\" = {",
+        body,
+        b"} 'skip$ if$ } READ ITERATE f",
+    ];
+    let (style, _) = style_of(alloc, &lines)?;
+    log_of(rt, alloc, &style)
 }
 
 /// Lines that bodies write: each run of equal bytes as its length and the byte, and `|` for a line's end.
@@ -153,13 +150,23 @@ fn long_lines_are_broken_at_white_space(rt: HostRuntime) -> Result<(), Fail> {
 
 /// Expects bodies to write these lines.
 fn expect_lines(rt: &impl Abort, alloc: Global, rows: &[(&[u8], &[u8])]) -> Result<(), NoMemory> {
-    for (body, lines) in rows {
-        let report = run_of_body(alloc, body, b"} READ EXECUTE f")?;
-        assert!(rt; report.turn == Turn::Ended);
-        let runs = runs_of(alloc, report.lines.as_slice())?;
-        assert!(rt; runs.as_slice() == *lines);
+    for (body, wanted) in rows {
+        let runs = runs_of_body(rt, alloc, body)?;
+        assert!(rt; runs.as_slice() == *wanted);
     }
     Ok(())
+}
+
+/// The runs of equal bytes of the lines that a body writes.
+fn runs_of_body(rt: &impl Abort, alloc: Global, body: &[u8]) -> Result<Vec<u8>, NoMemory> {
+    let lines = lines_of_body(rt, alloc, body)?;
+    runs_of(alloc, lines.as_slice())
+}
+
+/// The lines that a body writes.
+fn lines_of_body(rt: &impl Abort, alloc: Global, body: &[u8]) -> Result<Vec<u8>, NoMemory> {
+    let (style, _) = style_of(alloc, &[BEFORE, body, b"} READ EXECUTE f"])?;
+    lines_of(rt, alloc, &style)
 }
 
 /// The runs of equal bytes of lines.
