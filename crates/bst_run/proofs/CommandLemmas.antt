@@ -1,6 +1,6 @@
 -- From what a command's words come to and what was delivered to what is promised of a call.
 use Rattle.std.proofs.Common.{◌≡◌, ◌≢◌, ℕ, ◌⊎◌, List, [], true, false, Option, None, Some, Result, Ok, Err, refl, sym, ◌∙◌, ap, subst, inl, inr}
-use Rattle.std.specs.Prelude.{IfSome, IfOk, IfErr}
+use Rattle.std.specs.Prelude.{IfSome, IsSomeAnd, IfOk, IfErr}
 use Rattle.std.specs.String.{string_bytes}
 use Rattle.bv_base.specs.Outside.{Listing, Begun, Rose, appended}
 use Rattle.bv_base.specs.declared.files.Files.{Ghosts}
@@ -132,7 +132,7 @@ module _ {F : Type 0} (see : Ghosts F) (old new : F) (form : Form) where
 -- an answer NoFile names the file that isn't there
 pub no_file_shown : {F : Type 0} (see : Ghosts F) (old new : F) (form : Form) (found : Result Outcome NoMemory) (given : Status) (out err : Sunk)
     → IfOk found (λ o. IsAnswer {F = F} see old new form o) → Delivers found given out err → given ≡ status.NoFile
-    → IfSome (see.begun new) (λ b. (b.absent ≡ true) × (err.after ≡ appended err.before (absent b.name).err))
+    → IsSomeAnd (see.begun new) (λ b. (b.absent ≡ true) × (err.after ≡ appended err.before (absent b.name).err))
 no_file_shown see old new form (Err refused) given out err answer delivered is = let e = delivered.0 in absurd (cc)
 no_file_shown see old new form (Ok o) given out err answer (OutFailed e cut last) is = absurd (cc)
 no_file_shown see old new form (Ok o) given out err answer (ErrFailed e put cut) is = absurd (cc)
@@ -141,15 +141,15 @@ no_file_shown see old new form (Ok o) given out err answer (ErrWanting e put fro
 no_file_shown see old new form (Ok o) given out err answer (Whole e put last) is =
     shown (see.begun new) (subst (λ (s : Status). CausedBy s o (see.begun new) (see.faults old) (see.faults new)) (sym e ∙ is) answer.cause)
   where
-    shown : (begun : Option Begun) → IfSome begun (λ b. (b.absent ≡ true) × (o ≡ absent b.name))
-        → IfSome begun (λ b. (b.absent ≡ true) × (err.after ≡ appended err.before (absent b.name).err))
-    shown None cause = tt
+    shown : (begun : Option Begun) → IsSomeAnd begun (λ b. (b.absent ≡ true) × (o ≡ absent b.name))
+        → IsSomeAnd begun (λ b. (b.absent ≡ true) × (err.after ≡ appended err.before (absent b.name).err))
+    shown None cause = absurd cause
     shown (Some b) cause = (cause.0, last ∙ ap (λ (x : Outcome). appended err.before x.err) cause.1)
 
 -- an answer ReadFailed names the file that couldn't be read
 pub read_failed_shown : {F : Type 0} (see : Ghosts F) (old new : F) (form : Form) (found : Result Outcome NoMemory) (given : Status) (out err : Sunk)
     → IfOk found (λ o. IsAnswer {F = F} see old new form o) → Delivers found given out err → given ≡ status.ReadFailed
-    → Rose (see.faults old) (see.faults new) × IfSome (see.begun new) (λ b. (b.absent ≡ false) × (err.after ≡ appended err.before (unread b.name).err))
+    → Rose (see.faults old) (see.faults new) × IsSomeAnd (see.begun new) (λ b. (b.absent ≡ false) × (err.after ≡ appended err.before (unread b.name).err))
 read_failed_shown see old new form (Err refused) given out err answer delivered is = let e = delivered.0 in absurd (cc)
 read_failed_shown see old new form (Ok o) given out err answer (OutFailed e cut last) is = absurd (cc)
 read_failed_shown see old new form (Ok o) given out err answer (ErrFailed e put cut) is = absurd (cc)
@@ -160,9 +160,9 @@ read_failed_shown see old new form (Ok o) given out err answer (Whole e put last
     subst (λ (s : Status). CausedBy s o (see.begun new) (see.faults old) (see.faults new)) (sym e ∙ is) answer.cause in
     (cause.0, shown (see.begun new) cause.1)
   where
-    shown : (begun : Option Begun) → IfSome begun (λ b. (b.absent ≡ false) × (o ≡ unread b.name))
-        → IfSome begun (λ b. (b.absent ≡ false) × (err.after ≡ appended err.before (unread b.name).err))
-    shown None cause = tt
+    shown : (begun : Option Begun) → IsSomeAnd begun (λ b. (b.absent ≡ false) × (o ≡ unread b.name))
+        → IsSomeAnd begun (λ b. (b.absent ≡ false) × (err.after ≡ appended err.before (unread b.name).err))
+    shown None cause = absurd cause
     shown (Some b) cause = (cause.0, last ∙ ap (λ (x : Outcome). appended err.before x.err) cause.1)
 
 -- an answer WriteFailed comes from a sink

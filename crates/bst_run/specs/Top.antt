@@ -1,5 +1,5 @@
 -- The whole command line (docs/COMMANDS.md): from the words and the files to the answer, and what an answer means.
-use Rattle.std.specs.Prelude.{◌≡◌, ◌≢◌, ℕ, ◌⊎◌, true, false, ◌||◌, not, nat_lt, if◌then◌else◌, List, [], length, Option, None, Some, IfSome, Result, Ok, Err}
+use Rattle.std.specs.Prelude.{◌≡◌, ◌≢◌, ℕ, ◌⊎◌, true, false, ◌||◌, not, nat_lt, if◌then◌else◌, List, [], length, Option, None, Some, IfSome, IsSomeAnd, Result, Ok, Err}
 use Rattle.std.specs.FinMap.{get}
 use Rattle.bv_base.specs.Outside.{Listing, Begun, Rose}
 use Rattle.bv_base.specs.declared.files.Files.{Ghosts}
@@ -88,9 +88,9 @@ Promises told (Run aux steps) outcome = Unit {0}
 
 -- what the outside shows of an outcome with this status, and that neither the words nor a sink decide it
 abbrev pub CausedBy : Status → Outcome → Option Begun → ℕ → ℕ → Type 0
-CausedBy status.NoFile outcome begun faults faults' = IfSome begun (λ b. (b.absent ≡ true) × (outcome ≡ absent b.name))
+CausedBy status.NoFile outcome begun faults faults' = IsSomeAnd begun (λ b. (b.absent ≡ true) × (outcome ≡ absent b.name))
 CausedBy status.ReadFailed outcome begun faults faults' =
-    Rose faults faults' × IfSome begun (λ b. (b.absent ≡ false) × (outcome ≡ unread b.name))
+    Rose faults faults' × IsSomeAnd begun (λ b. (b.absent ≡ false) × (outcome ≡ unread b.name))
 CausedBy status.Usage outcome begun faults faults' = ⊥
 CausedBy status.WriteFailed outcome begun faults faults' = ⊥
 CausedBy status.NoMemory outcome begun faults faults' = ⊥

@@ -1,6 +1,6 @@
 //! The whole command line.
 
-ghost use Rattle.std.specs.Prelude.{◌≡◌, ◌≢◌, ◌⊎◌, None, Some, true, false, IfOk, IfSome};
+ghost use Rattle.std.specs.Prelude.{◌≡◌, ◌≢◌, ◌⊎◌, None, Some, true, false, IfOk, IfSome, IsSomeAnd};
 ghost use Rattle.bv_base.specs.Outside.{Rose, appended};
 ghost use Rattle.bst_run.specs.Delivery.{sunk, IsDelivered};
 ghost use Rattle.bst_run.specs.Forms as forms;
@@ -39,9 +39,9 @@ pub fn command<F: Files, O: Sink, E: Sink>(
     ensures answered { IfSome (forms.form_of words.now) (λ form. IfSome (F.told files.old) (λ told.
         top.IsAnswered (top.outcome_in told form) result (sunk ⟦<O as Sink>⟧ out.old out.new) (sunk ⟦<E as Sink>⟧ err.old err.new))) }
     // What the outside did shows in the answer.
-    ensures no_file { result ≡ Status.NoFile → IfSome (F.begun files.new) (λ begun.
+    ensures no_file { result ≡ Status.NoFile → IsSomeAnd (F.begun files.new) (λ begun.
         (begun.absent ≡ true) × (E.written err.new ≡ appended (E.written err.old) (report.absent begun.name).err)) }
-    ensures read_failed { result ≡ Status.ReadFailed → Rose (F.faults files.old) (F.faults files.new) × IfSome (F.begun files.new) (λ begun.
+    ensures read_failed { result ≡ Status.ReadFailed → Rose (F.faults files.old) (F.faults files.new) × IsSomeAnd (F.begun files.new) (λ begun.
         (begun.absent ≡ false) × (E.written err.new ≡ appended (E.written err.old) (report.unread begun.name).err)) }
     ensures write_failed { result ≡ Status.WriteFailed → Rose (O.faults out.old) (O.faults out.new) ⊎ Rose (E.faults err.old) (E.faults err.new) }
     // Whatever `check` put on `out`, the style is safe under the condition that is printed.
@@ -76,9 +76,9 @@ fn carry_out<F: Files, O: Sink, E: Sink>(
     ensures not_usage { result ≢ Status.Usage }
     ensures answered { IfSome (F.told files.old) (λ told. top.IsAnswered (top.outcome_in told (forms.form_in form.entry)) result
         (sunk ⟦<O as Sink>⟧ out.old out.new) (sunk ⟦<E as Sink>⟧ err.old err.new)) }
-    ensures no_file { result ≡ Status.NoFile → IfSome (F.begun files.new) (λ begun.
+    ensures no_file { result ≡ Status.NoFile → IsSomeAnd (F.begun files.new) (λ begun.
         (begun.absent ≡ true) × (E.written err.new ≡ appended (E.written err.old) (report.absent begun.name).err)) }
-    ensures read_failed { result ≡ Status.ReadFailed → Rose (F.faults files.old) (F.faults files.new) × IfSome (F.begun files.new) (λ begun.
+    ensures read_failed { result ≡ Status.ReadFailed → Rose (F.faults files.old) (F.faults files.new) × IsSomeAnd (F.begun files.new) (λ begun.
         (begun.absent ≡ false) × (E.written err.new ≡ appended (E.written err.old) (report.unread begun.name).err)) }
     ensures write_failed { result ≡ Status.WriteFailed → Rose (O.faults out.old) (O.faults out.new) ⊎ Rose (E.faults err.old) (E.faults err.new) }
     ensures safe { O.written out.new ≢ O.written out.old → IfSome (F.told files.old) (λ told.
