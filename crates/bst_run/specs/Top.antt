@@ -81,7 +81,11 @@ pub record IsAcceptance (told : Listing) (style cert : List ℕ) (outcome : Outc
   pub decided : IsAccepted told style cert cond
   pub printed : outcome ≡ accepted cond
 
--- what an outcome with a text for standard output promises
+-- an outcome says that something was done: its status is Done, or it has a text for standard output
+abbrev pub SaysDone : Outcome → Type 0
+SaysDone outcome = (outcome.status ≡ status.Done) ⊎ (outcome.out ≢ [])
+
+-- what such an outcome promises
 abbrev pub Promises : Listing → Form → Outcome → Type 0
 Promises told (Check style cert) outcome = IsAcceptance told style cert outcome
 Promises told (Run aux steps) outcome = Unit {0}
@@ -104,7 +108,7 @@ IsWanted wanted outcome = (outcome ≡ wanted) ⊎ ((name : List ℕ) × (outcom
 pub record IsAnswer {F : Type 0} (see : Ghosts F) (old new : F) (form : Form) (outcome : Outcome) : Type 0 where
   pub wanted : IfSome (see.told old) (λ told. IsWanted (outcome_in told form) outcome)
   pub cause : CausedBy outcome.status outcome (see.begun new) (see.faults old) (see.faults new)
-  pub safe : IfSome (see.told old) (λ told. outcome.out ≢ [] → Promises told form outcome)
+  pub safe : IfSome (see.told old) (λ told. SaysDone outcome → Promises told form outcome)
 
 -- what a call answers and leaves on its sinks where the words and the files decide this outcome: it is delivered, or the
 -- outcome of a file that couldn't be read
@@ -117,6 +121,12 @@ pub record IsSafelyAccepted (told : Listing) (style cert : List ℕ) (out : Sunk
   pub cond : Cond
   pub decided : IsAccepted told style cert cond
   pub printed : IsFront (accepted cond).out out
+
+-- what the status Done promises: for the words `check STYLE CERT` that the style that the first file holds is safe under the
+-- condition of the second
+abbrev pub IsDoneWell : Listing → Form → Type 0
+IsDoneWell told (Check style cert) = (cond : Cond) × IsAccepted told style cert cond
+IsDoneWell told (Run aux steps) = Unit {0}
 
 -- what a text on standard output promises: for the words `check STYLE CERT` that the style is safe
 abbrev pub IsPromised : Listing → Form → Sunk → Type 0

@@ -44,6 +44,8 @@ pub fn command<F: Files, O: Sink, E: Sink>(
     ensures read_failed { result ≡ Status.ReadFailed → Rose (F.faults files.old) (F.faults files.new) × IsSomeAnd (F.begun files.new) (λ begun.
         (begun.absent ≡ false) × (E.written err.new ≡ appended (E.written err.old) (report.unread begun.name).err)) }
     ensures write_failed { result ≡ Status.WriteFailed → Rose (O.faults out.old) (O.faults out.new) ⊎ Rose (E.faults err.old) (E.faults err.new) }
+    // Where `check` is done, the style is safe under the condition of the certificate, whatever `out` tells.
+    ensures done { result ≡ Status.Done → IfSome (forms.form_of words.now) (λ form. IfSome (F.told files.old) (λ told. top.IsDoneWell told form)) }
     // Whatever `check` put on `out`, the style is safe under the condition that is printed.
     ensures safe { O.written out.new ≢ O.written out.old → IfSome (forms.form_of words.now) (λ form. IfSome (F.told files.old) (λ told.
         top.IsPromised told form (sunk ⟦<O as Sink>⟧ out.old out.new))) }
@@ -81,6 +83,7 @@ fn carry_out<F: Files, O: Sink, E: Sink>(
     ensures read_failed { result ≡ Status.ReadFailed → Rose (F.faults files.old) (F.faults files.new) × IsSomeAnd (F.begun files.new) (λ begun.
         (begun.absent ≡ false) × (E.written err.new ≡ appended (E.written err.old) (report.unread begun.name).err)) }
     ensures write_failed { result ≡ Status.WriteFailed → Rose (O.faults out.old) (O.faults out.new) ⊎ Rose (E.faults err.old) (E.faults err.new) }
+    ensures done { result ≡ Status.Done → IfSome (F.told files.old) (λ told. top.IsDoneWell told (forms.form_in form.entry)) }
     ensures safe { O.written out.new ≢ O.written out.old → IfSome (F.told files.old) (λ told.
         top.IsPromised told (forms.form_in form.entry) (sunk ⟦<O as Sink>⟧ out.old out.new)) }
 {
