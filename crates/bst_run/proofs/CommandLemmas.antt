@@ -158,7 +158,7 @@ no_file_shown see old new form (Ok o) given out err answer (Whole e put last) is
     shown : (begun : Option Begun) → IsSomeAnd begun (λ b. (b.absent ≡ true) × (o ≡ absent b.name))
         → IsSomeAnd begun (λ b. (b.absent ≡ true) × (err.after ≡ appended err.before (absent b.name).err))
     shown None cause = absurd cause
-    shown (Some b) cause = (cause.0, last ∙ ap (λ (x : Outcome). appended err.before x.err) cause.1)
+    shown (Some b) cause = (cause.0, last.taken ∙ ap (λ (x : Outcome). appended err.before x.err) cause.1)
 
 -- an answer ReadFailed names the file that couldn't be read
 pub read_failed_shown : {F : Type 0} (see : Ghosts F) (old new : F) (form : Form) (found : Result Outcome NoMemory) (given : Status) (out err : Sunk)
@@ -177,7 +177,7 @@ read_failed_shown see old new form (Ok o) given out err answer (Whole e put last
     shown : (begun : Option Begun) → IsSomeAnd begun (λ b. (b.absent ≡ false) × (o ≡ unread b.name))
         → IsSomeAnd begun (λ b. (b.absent ≡ false) × (err.after ≡ appended err.before (unread b.name).err))
     shown None cause = absurd cause
-    shown (Some b) cause = (cause.0, last ∙ ap (λ (x : Outcome). appended err.before x.err) cause.1)
+    shown (Some b) cause = (cause.0, last.taken ∙ ap (λ (x : Outcome). appended err.before x.err) cause.1)
 
 -- an answer WriteFailed comes from a sink
 pub write_failed_shown : {F : Type 0} (see : Ghosts F) (old new : F) (form : Form) (found : Result Outcome NoMemory) (given : Status) (out err : Sunk)
@@ -216,7 +216,7 @@ pub form_safe : {F : Type 0} (see : Ghosts F) (old new : F) (form : Form) (found
     → IfOk found (λ o. IsAnswer {F = F} see old new form o) → Delivers found given out err → out.after ≢ out.before
     → IfSome (see.told old) (λ told. IsPromised told form out)
 form_safe see old new form (Err refused) given out err answer delivered more =
-    absurd (more (delivered.1 ∙ sym (appended_nothing out.before)))
+    absurd (more (delivered.1.taken ∙ sym (appended_nothing out.before)))
 form_safe see old new form (Ok o) given out err answer delivered more =
     shown (see.told old) answer.safe
   where
