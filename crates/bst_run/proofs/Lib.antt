@@ -4,7 +4,9 @@ pub mod DeliveryLemmas
 pub mod CommandLemmas
 pub mod ReadsLemmas
 pub mod ReadingLemmas
+pub mod RefusalPlaces
 pub mod RunLemmas
+pub mod SitePlaces
 pub mod Sound
 pub mod StraightLemmas
 pub mod TreeLemmas
