@@ -1,3 +1,5 @@
+pub mod AuxPlaces
+pub mod FileFaultLemmas
 pub mod ChainLemmas
 pub mod CheckLemmas
 pub mod DeliveryLemmas

@@ -1,6 +1,6 @@
 //! What holds of every style that is checked and of the files of every run.
 
-ghost use Rattle.std.specs.Prelude.{◌≡◌, ◌↔◌, ℕ, List, Some, Ok};
+ghost use Rattle.std.specs.Prelude.{◌≡◌, ◌↔◌, ℕ, List, Some, Ok, Err};
 ghost use Rattle.bv_base.specs.Outside.{Listing};
 ghost use Rattle.bst_meaning.specs.Config.{Stopped};
 ghost use Rattle.bst_meaning.specs.Machine.{run};
@@ -8,10 +8,12 @@ ghost use Rattle.bst_meaning.specs.declared.entry.EntryList.{EntryList};
 ghost use Rattle.bst_parse.specs.PlacesStand.{IsOfByte};
 ghost use Rattle.bst_parse.specs.Reading.{style_of};
 ghost use Rattle.name_table.specs.declared.style.Style.{Style};
-ghost use Rattle.bst_run.specs.AuxChain.{needs_after};
+ghost use Rattle.bst_run.specs.AuxChain.{needs_after, needs_of};
+ghost use Rattle.bst_run.specs.FileFaults.{IsFileFault};
 ghost use Rattle.bst_run.specs.InputTrees.{NeedsRead};
 ghost use Rattle.bst_run.specs.Walk.{first_refusal};
 ghost use Rattle.bst_run.specs.declared.files.requests.Needs.{Needs};
+ghost use Rattle.bst_run.specs.declared.outcome.Outcome.{Outcome};
 ghost use Rattle.bst_run.specs.declared.refusal.Refusal.{Refusal};
 
 use bst_parse::laws::places_in_the_text;
@@ -37,3 +39,9 @@ pub fn sites_in_the_text(source: &[u8])
 {
     places_in_the_text(source);
 }
+
+/// What stops the reading of the `.aux` files of a run names a file that isn't there or is too long, or one that is at
+/// fault, and then the fault stands at a byte of that file's text or at its end.
+pub fn faults_in_their_files()
+    ensures { (told : Listing) (name : List ℕ) (outcome : Outcome) → needs_of told name ≡ Err outcome → IsFileFault told outcome }
+{}
