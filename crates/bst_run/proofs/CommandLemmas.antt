@@ -1,6 +1,6 @@
 -- From what a command's words come to and what was delivered to what is promised of a call.
 use Rattle.std.proofs.Common.{◌≡◌, ◌≢◌, ℕ, ◌⊎◌, List, [], true, false, Option, None, Some, Result, Ok, Err, refl, sym, ◌∙◌, ap, subst, inl, inr}
-use Rattle.std.specs.Prelude.{IfSome, IfOk, IfErr}
+use Rattle.std.specs.Prelude.{IfSome, IsSomeAnd, IfOk, IfErr}
 use Rattle.std.specs.String.{string_bytes}
 use Rattle.bv_base.specs.Outside.{Listing, Begun, Rose, appended}
 use Rattle.bv_base.specs.declared.files.Files.{Ghosts}
@@ -14,8 +14,8 @@ use Rattle.bst_run.specs.Delivery.{Sunk, IsFront, IsDelivered, Whole, OutFailed,
 use Rattle.bst_run.specs.Forms.{Form, Check, Run}
 use Rattle.bst_run.specs.Reads.{Reads}
 use Rattle.bst_run.specs.Report.{usage, absent, unread, too_long}
-use Rattle.bst_run.specs.Stops.{Gives, HasCause, IsDecided, told_of}
-use Rattle.bst_run.specs.Top.{CausedBy, IsWanted, IsAnswer, IsAnswered, Promises, IsPromised, ended, outcome_in}
+use Rattle.bst_run.specs.Stops.{Gives, HasCause, IsDecided, IsRefusing, told_of}
+use Rattle.bst_run.specs.Top.{CausedBy, IsWanted, IsAnswer, IsAnswered, Promises, IsPromised, IsDoneWell, SaysDone, ended, outcome_in}
 use Rattle.bst_run.proofs.DeliveryLemmas.{appended_nothing, delivered_front, silent, wanting}
 
 -- a status that the files decide has no cause outside
@@ -27,6 +27,11 @@ decided_cause status.WriteFailed outcome begun f f' decided = absurd decided
 decided_cause status.NoMemory outcome begun f f' decided = absurd decided
 decided_cause _ outcome begun f f' decided = tt
 
+-- a status of a refusal is one that the files decide
+refusing_decided : (given : Status) → IsRefusing given → IsDecided given
+refusing_decided status.Done refusing = absurd refusing
+refusing_decided _ refusing = refusing
+
 -- what the outside shows of a command's result, it shows of the outcome
 told_cause : (result : Result Outcome Stop) (outcome : Outcome) (begun : Option Begun) (f f' : ℕ) → told_of result ≡ Some outcome
     → IfOk result (λ o. IsDecided o.status) → IfErr result (λ stop. HasCause stop begun f f') → CausedBy outcome.status outcome begun f f'
@@ -35,7 +40,7 @@ told_cause (Ok o) outcome begun f f' is decided cause =
     decided_cause outcome.status outcome begun f f' (subst (λ (x : Outcome). IsDecided x.status) same decided)
 told_cause (Err (Told o)) outcome begun f f' is decided cause =
     let same : o ≡ outcome = cc in
-    decided_cause outcome.status outcome begun f f' (subst (λ (x : Outcome). IsDecided x.status) same cause.1)
+    decided_cause outcome.status outcome begun f f' (subst (λ (x : Outcome). IsDecided x.status) same (refusing_decided o.status cause.1))
 told_cause (Err (Absent name)) outcome begun f f' is decided cause =
     let same : absent (string_bytes name) ≡ outcome = cc in
     subst (λ (x : Outcome). CausedBy x.status x begun f f') same (rw cause (refl, refl))
@@ -69,26 +74,35 @@ told_wanted (Some t) wanted (Err (TooLong name)) outcome is gives =
     inl (sym same ∙ sym (ap ended gives))
 told_wanted (Some t) wanted (Err Wanting) outcome is gives = absurd (cc)
 
--- a stop has no text for standard output, so what a command promises of one is promised of the outcome
+-- an outcome without a text for standard output whose status isn't Done doesn't say that something was done
+says_nothing : (o outcome : Outcome) → o ≡ outcome → o.out ≡ [] → (o.status ≡ status.Done → ⊥) → SaysDone outcome → ⊥
+says_nothing o outcome same none other (inl done) = other (ap (λ (x : Outcome). x.status) same ∙ done)
+says_nothing o outcome same none other (inr some) = some (ap (λ (x : Outcome). x.out) (sym same) ∙ none)
+
+-- a status of a refusal isn't Done
+not_done : (given : Status) → IsRefusing given → given ≡ status.Done → ⊥
+not_done given refusing done = subst IsRefusing done refusing
+
+-- a stop doesn't say that something was done, so what a command promises of an outcome that does is promised of the outcome
 told_safe : (t : Option Listing) (form : Form) (result : Result Outcome Stop) (outcome : Outcome) (begun : Option Begun) (f f' : ℕ) → told_of result ≡ Some outcome
     → IfErr result (λ stop. HasCause stop begun f f') → IfOk result (λ o. IfSome t (λ told. Promises told form o))
-    → IfSome t (λ told. outcome.out ≢ [] → Promises told form outcome)
+    → IfSome t (λ told. SaysDone outcome → Promises told form outcome)
 told_safe None form result outcome begun f f' is cause safe = tt
 told_safe (Some t) form (Ok o) outcome begun f f' is cause safe =
     let same : o ≡ outcome = cc in
-    λ some. subst (λ (x : Outcome). Promises t form x) same safe
+    λ says. subst (λ (x : Outcome). Promises t form x) same safe
 told_safe (Some t) form (Err (Told o)) outcome begun f f' is cause safe =
     let same : o ≡ outcome = cc in
-    λ some. absurd (some (ap (λ x. x.out) (sym same) ∙ cause.0))
+    λ says. absurd (says_nothing o outcome same cause.0 (not_done o.status cause.1) says)
 told_safe (Some t) form (Err (Absent name)) outcome begun f f' is cause safe =
     let same : absent (string_bytes name) ≡ outcome = cc in
-    λ some. absurd (some (ap (λ x. x.out) (sym same)))
+    λ says. absurd (says_nothing (absent (string_bytes name)) outcome same refl (λ done. absurd (cc)) says)
 told_safe (Some t) form (Err (Failed name)) outcome begun f f' is cause safe =
     let same : unread (string_bytes name) ≡ outcome = cc in
-    λ some. absurd (some (ap (λ x. x.out) (sym same)))
+    λ says. absurd (says_nothing (unread (string_bytes name)) outcome same refl (λ done. absurd (cc)) says)
 told_safe (Some t) form (Err (TooLong name)) outcome begun f f' is cause safe =
     let same : too_long (string_bytes name) ≡ outcome = cc in
-    λ some. absurd (some (ap (λ x. x.out) (sym same)))
+    λ says. absurd (says_nothing (too_long (string_bytes name)) outcome same refl (λ done. absurd (cc)) says)
 told_safe (Some t) form (Err Wanting) outcome begun f f' is cause safe = absurd (cc)
 
 -- what the words of a form come to
@@ -132,7 +146,7 @@ module _ {F : Type 0} (see : Ghosts F) (old new : F) (form : Form) where
 -- an answer NoFile names the file that isn't there
 pub no_file_shown : {F : Type 0} (see : Ghosts F) (old new : F) (form : Form) (found : Result Outcome NoMemory) (given : Status) (out err : Sunk)
     → IfOk found (λ o. IsAnswer {F = F} see old new form o) → Delivers found given out err → given ≡ status.NoFile
-    → IfSome (see.begun new) (λ b. (b.absent ≡ true) × (err.after ≡ appended err.before (absent b.name).err))
+    → IsSomeAnd (see.begun new) (λ b. (b.absent ≡ true) × (err.after ≡ appended err.before (absent b.name).err))
 no_file_shown see old new form (Err refused) given out err answer delivered is = let e = delivered.0 in absurd (cc)
 no_file_shown see old new form (Ok o) given out err answer (OutFailed e cut last) is = absurd (cc)
 no_file_shown see old new form (Ok o) given out err answer (ErrFailed e put cut) is = absurd (cc)
@@ -141,15 +155,15 @@ no_file_shown see old new form (Ok o) given out err answer (ErrWanting e put fro
 no_file_shown see old new form (Ok o) given out err answer (Whole e put last) is =
     shown (see.begun new) (subst (λ (s : Status). CausedBy s o (see.begun new) (see.faults old) (see.faults new)) (sym e ∙ is) answer.cause)
   where
-    shown : (begun : Option Begun) → IfSome begun (λ b. (b.absent ≡ true) × (o ≡ absent b.name))
-        → IfSome begun (λ b. (b.absent ≡ true) × (err.after ≡ appended err.before (absent b.name).err))
-    shown None cause = tt
-    shown (Some b) cause = (cause.0, last ∙ ap (λ (x : Outcome). appended err.before x.err) cause.1)
+    shown : (begun : Option Begun) → IsSomeAnd begun (λ b. (b.absent ≡ true) × (o ≡ absent b.name))
+        → IsSomeAnd begun (λ b. (b.absent ≡ true) × (err.after ≡ appended err.before (absent b.name).err))
+    shown None cause = absurd cause
+    shown (Some b) cause = (cause.0, last.taken ∙ ap (λ (x : Outcome). appended err.before x.err) cause.1)
 
 -- an answer ReadFailed names the file that couldn't be read
 pub read_failed_shown : {F : Type 0} (see : Ghosts F) (old new : F) (form : Form) (found : Result Outcome NoMemory) (given : Status) (out err : Sunk)
     → IfOk found (λ o. IsAnswer {F = F} see old new form o) → Delivers found given out err → given ≡ status.ReadFailed
-    → Rose (see.faults old) (see.faults new) × IfSome (see.begun new) (λ b. (b.absent ≡ false) × (err.after ≡ appended err.before (unread b.name).err))
+    → Rose (see.faults old) (see.faults new) × IsSomeAnd (see.begun new) (λ b. (b.absent ≡ false) × (err.after ≡ appended err.before (unread b.name).err))
 read_failed_shown see old new form (Err refused) given out err answer delivered is = let e = delivered.0 in absurd (cc)
 read_failed_shown see old new form (Ok o) given out err answer (OutFailed e cut last) is = absurd (cc)
 read_failed_shown see old new form (Ok o) given out err answer (ErrFailed e put cut) is = absurd (cc)
@@ -160,10 +174,10 @@ read_failed_shown see old new form (Ok o) given out err answer (Whole e put last
     subst (λ (s : Status). CausedBy s o (see.begun new) (see.faults old) (see.faults new)) (sym e ∙ is) answer.cause in
     (cause.0, shown (see.begun new) cause.1)
   where
-    shown : (begun : Option Begun) → IfSome begun (λ b. (b.absent ≡ false) × (o ≡ unread b.name))
-        → IfSome begun (λ b. (b.absent ≡ false) × (err.after ≡ appended err.before (unread b.name).err))
-    shown None cause = tt
-    shown (Some b) cause = (cause.0, last ∙ ap (λ (x : Outcome). appended err.before x.err) cause.1)
+    shown : (begun : Option Begun) → IsSomeAnd begun (λ b. (b.absent ≡ false) × (o ≡ unread b.name))
+        → IsSomeAnd begun (λ b. (b.absent ≡ false) × (err.after ≡ appended err.before (unread b.name).err))
+    shown None cause = absurd cause
+    shown (Some b) cause = (cause.0, last.taken ∙ ap (λ (x : Outcome). appended err.before x.err) cause.1)
 
 -- an answer WriteFailed comes from a sink
 pub write_failed_shown : {F : Type 0} (see : Ghosts F) (old new : F) (form : Form) (found : Result Outcome NoMemory) (given : Status) (out err : Sunk)
@@ -202,15 +216,35 @@ pub form_safe : {F : Type 0} (see : Ghosts F) (old new : F) (form : Form) (found
     → IfOk found (λ o. IsAnswer {F = F} see old new form o) → Delivers found given out err → out.after ≢ out.before
     → IfSome (see.told old) (λ told. IsPromised told form out)
 form_safe see old new form (Err refused) given out err answer delivered more =
-    absurd (more (delivered.1 ∙ sym (appended_nothing out.before)))
+    absurd (more (delivered.1.taken ∙ sym (appended_nothing out.before)))
 form_safe see old new form (Ok o) given out err answer delivered more =
     shown (see.told old) answer.safe
   where
-    shown : (t : Option Listing) → IfSome t (λ told. o.out ≢ [] → Promises told form o) → IfSome t (λ told. IsPromised told form out)
+    shown : (t : Option Listing) → IfSome t (λ told. SaysDone o → Promises told form o) → IfSome t (λ told. IsPromised told form out)
     shown None safe = tt
     shown (Some t) safe =
         promised t form o out (delivered_front o given out err delivered)
-        (safe (λ none. more (silent o given out err none delivered)))
+        (safe (inr (λ none. more (silent o given out err none delivered))))
+
+-- what an outcome promises, Done promises
+done_well : (told : Listing) (form : Form) (o : Outcome) → Promises told form o → IsDoneWell told form
+done_well told (Check style cert) o acceptance = (acceptance.cond, acceptance.decided)
+done_well told (Run aux steps) o acceptance = tt
+
+-- the answer Done promises what the outcome does
+pub form_done : {F : Type 0} (see : Ghosts F) (old new : F) (form : Form) (found : Result Outcome NoMemory) (given : Status) (out err : Sunk)
+    → IfOk found (λ o. IsAnswer {F = F} see old new form o) → Delivers found given out err → given ≡ status.Done
+    → IfSome (see.told old) (λ told. IsDoneWell told form)
+form_done see old new form (Err refused) given out err answer delivered is = let e = delivered.0 in absurd (cc)
+form_done see old new form (Ok o) given out err answer (OutFailed e cut last) is = absurd (cc)
+form_done see old new form (Ok o) given out err answer (ErrFailed e put cut) is = absurd (cc)
+form_done see old new form (Ok o) given out err answer (OutWanting e front last) is = absurd (cc)
+form_done see old new form (Ok o) given out err answer (ErrWanting e put front) is = absurd (cc)
+form_done see old new form (Ok o) given out err answer (Whole e put last) is = shown (see.told old) answer.safe
+  where
+    shown : (t : Option Listing) → IfSome t (λ told. SaysDone o → Promises told form o) → IfSome t (λ told. IsDoneWell told form)
+    shown None safe = tt
+    shown (Some t) safe = done_well t form o (safe (inl (sym e ∙ is)))
 
 -- the words `run AUX N` promise nothing of a text
 pub run_promises : (t : Option Listing) (aux : List ℕ) (steps : ℕ) (result : Result Outcome Stop) → IfOk result (λ o. IfSome t (λ told. Promises told (Run aux steps) o))

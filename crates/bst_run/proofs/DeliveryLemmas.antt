@@ -1,11 +1,14 @@
 -- What comes of an outcome that is delivered.
-use Rattle.std.proofs.Common.{◌≡◌, ℕ, zero, suc, List, [], length, take, Option, None, Some, refl, sym, ◌∙◌, ap, arith, append-nil}
+use Rattle.std.proofs.Common.{◌≡◌, ◌≢◌, ◌⊎◌, inl, inr, true, false, ℕ, zero, suc, List, [], length, take, Option, None, Some, Result, Ok, Err, refl, sym, ◌∙◌, ap, arith, append-nil}
+use Rattle.std.proofs.Math.Dec.{eqb}
 use Rattle.std.proofs.Math.Seq.{take_all}
+use Rattle.std.proofs.lemmas.Bool.Decides.{eqb_tells}
 use Rattle.bv_base.specs.Outside.{appended}
+use Rattle.bv_base.specs.declared.memory.NoMemory.{NoMemory}
 use Rattle.bv_base.specs.declared.status.Status.{Status}
 use Rattle.bv_base.specs.declared.status.Status.TheVariants as status
 use Rattle.bst_run.specs.declared.outcome.Outcome.{Outcome}
-use Rattle.bst_run.specs.Delivery.{Sunk, IsPut, IsFront, IsDelivered, Whole, OutFailed, ErrFailed, OutWanting, ErrWanting}
+use Rattle.bst_run.specs.Delivery.{Sunk, IsPut, IsFront, IsDelivered, Whole, OutFailed, ErrFailed, OutWanting, ErrWanting, Delivers}
 
 -- nothing more is written
 pub appended_nothing : (written : Option (List ℕ)) → written ≡ appended written []
@@ -13,25 +16,26 @@ appended_nothing None = refl
 appended_nothing (Some bytes) = ap Some (sym (append-nil bytes))
 
 -- a sink that was left alone has taken nothing
-pub put_nothing : (text : List ℕ) (sink : Sunk) → text ≡ [] → sink.after ≡ sink.before → IsPut text sink
-put_nothing text sink none same = same ∙ appended_nothing sink.before ∙ ap (appended sink.before) (sym none)
+pub put_nothing : (text : List ℕ) (sink : Sunk) → text ≡ [] → sink.after ≡ sink.before → sink.faults' ≡ sink.faults → IsPut text sink
+put_nothing text sink none same steady =
+    record { taken = same ∙ appended_nothing sink.before ∙ ap (appended sink.before) (sym none); steady = steady }
 
 -- where nothing was put, a front was
 front_nothing : (text : List ℕ) (sink : Sunk) → IsPut [] sink → IsFront text sink
-front_nothing text sink put = (0, omega arith, put)
+front_nothing text sink put = (0, omega arith, put.taken)
 
 -- a whole text is a front of itself
 whole_front : (text : List ℕ) (sink : Sunk) → IsPut text sink → IsFront text sink
 whole_front text sink put =
-    (length text, omega arith, put ∙ ap (appended sink.before) (sym (take_all (length text) text (omega arith))))
+    (length text, omega arith, put.taken ∙ ap (appended sink.before) (sym (take_all (length text) text (omega arith))))
 
 -- whatever came of an outcome, a front of its text for standard output was put
 pub delivered_front : (outcome : Outcome) (given : Status) (out err : Sunk) → IsDelivered outcome given out err → IsFront outcome.out out
 delivered_front outcome given out err (Whole e put last) = whole_front outcome.out out put
 delivered_front outcome given out err (OutFailed e cut last) = cut.front
 delivered_front outcome given out err (ErrFailed e put cut) = whole_front outcome.out out put
-delivered_front outcome given out err (OutWanting e front last) = front
-delivered_front outcome given out err (ErrWanting e put front) = whole_front outcome.out out put
+delivered_front outcome given out err (OutWanting e held last) = held.front
+delivered_front outcome given out err (ErrWanting e put held) = whole_front outcome.out out put
 
 -- nothing has no front but itself
 take_nothing : (n : ℕ) → take {A = ℕ} n [] ≡ []
@@ -47,4 +51,41 @@ silent outcome given out err none delivered =
 
 -- memory was wanting before anything was put
 pub wanting : (outcome : Outcome) (given : Status) (out err : Sunk) → given ≡ status.NoMemory → IsPut [] out → IsPut [] err → IsDelivered outcome given out err
-wanting outcome given out err e none last = OutWanting e (front_nothing outcome.out out none) last
+wanting outcome given out err e none last = OutWanting e (record { front = front_nothing outcome.out out none; steady = none.steady }) last
+
+-- where a count didn't change otherwise, it stayed
+pub stayed : (old new : ℕ) → (new ≢ old → ⊥) → new ≡ old
+stayed old new same = by (eqb_tells new old)
+  where
+    by : ((eqb new old ≡ true) × (new ≡ old)) ⊎ ((eqb new old ≡ false) × (new ≢ old)) → new ≡ old
+    by (inl stays) = stays.1
+    by (inr moved) = absurd (same moved.1)
+
+-- where the faults of standard output changed the answer is WriteFailed, and nothing was put on standard error
+pub out_failed : (outcome : Outcome) (given : Status) (out err : Sunk) → IsDelivered outcome given out err → out.faults' ≢ out.faults
+    → (given ≡ status.WriteFailed) × (err.after ≡ err.before)
+out_failed outcome given out err (Whole e put last) failed = absurd (failed put.steady)
+out_failed outcome given out err (OutFailed e cut last) failed = (e, last.taken ∙ sym (appended_nothing err.before))
+out_failed outcome given out err (ErrFailed e put cut) failed = absurd (failed put.steady)
+out_failed outcome given out err (OutWanting e held last) failed = absurd (failed held.steady)
+out_failed outcome given out err (ErrWanting e put held) failed = absurd (failed put.steady)
+
+-- where the faults of standard error changed the answer is WriteFailed
+pub err_failed : (outcome : Outcome) (given : Status) (out err : Sunk) → IsDelivered outcome given out err → err.faults' ≢ err.faults
+    → given ≡ status.WriteFailed
+err_failed outcome given out err (Whole e put last) failed = absurd (failed last.steady)
+err_failed outcome given out err (OutFailed e cut last) failed = e
+err_failed outcome given out err (ErrFailed e put cut) failed = e
+err_failed outcome given out err (OutWanting e held last) failed = absurd (failed last.steady)
+err_failed outcome given out err (ErrWanting e put held) failed = absurd (failed held.steady)
+
+-- the same of an outcome for which memory may have been wanting
+pub failed_out : (found : Result Outcome NoMemory) (given : Status) (out err : Sunk) → Delivers found given out err → out.faults' ≢ out.faults
+    → (given ≡ status.WriteFailed) × (err.after ≡ err.before)
+failed_out (Ok o) given out err delivered = out_failed o given out err delivered
+failed_out (Err refused) given out err delivered = λ failed. absurd (failed delivered.1.steady)
+
+pub failed_err : (found : Result Outcome NoMemory) (given : Status) (out err : Sunk) → Delivers found given out err → err.faults' ≢ err.faults
+    → given ≡ status.WriteFailed
+failed_err (Ok o) given out err delivered = err_failed o given out err delivered
+failed_err (Err refused) given out err delivered = λ failed. absurd (failed delivered.2.steady)

@@ -1,10 +1,14 @@
+pub mod AuxPlaces
+pub mod FileFaultLemmas
 pub mod ChainLemmas
 pub mod CheckLemmas
 pub mod DeliveryLemmas
 pub mod CommandLemmas
 pub mod ReadsLemmas
 pub mod ReadingLemmas
+pub mod RefusalPlaces
 pub mod RunLemmas
+pub mod SitePlaces
 pub mod Sound
 pub mod StraightLemmas
 pub mod TreeLemmas

@@ -18,9 +18,10 @@ pub record Sunk : Type 0 where
 abbrev pub sunk : {S : Type 0} → Ghosts S → S → S → Sunk
 sunk see old new = record { before = see.written old; after = see.written new; faults = see.faults old; faults' = see.faults new }
 
--- the whole text was taken, and nothing else
-abbrev pub IsPut : List ℕ → Sunk → Type 0
-IsPut text sink = sink.after ≡ appended sink.before text
+-- the whole text was taken, and nothing else, and the sink didn't fail
+pub record IsPut (text : List ℕ) (sink : Sunk) : Type 0 where
+  pub taken : sink.after ≡ appended sink.before text
+  pub steady : sink.faults' ≡ sink.faults
 
 -- a front of the text was taken
 abbrev pub IsFront : List ℕ → Sunk → Type 0
@@ -32,6 +33,11 @@ pub record IsCut (text : List ℕ) (sink : Sunk) : Type 0 where
   pub failed : Rose sink.faults sink.faults'
   pub front : IsFront text sink
 
+-- memory was wanting for a text of which a front was taken, and the sink didn't fail
+pub record IsHeld (text : List ℕ) (sink : Sunk) : Type 0 where
+  pub front : IsFront text sink
+  pub steady : sink.faults' ≡ sink.faults
+
 -- what comes of an outcome whose texts are put, that for standard output first
 pub data IsDelivered (outcome : Outcome) (given : Status) (out err : Sunk) : Type 0 where
   -- both texts were taken, and its status is answered
@@ -40,8 +46,8 @@ pub data IsDelivered (outcome : Outcome) (given : Status) (out err : Sunk) : Typ
   OutFailed : given ≡ status.WriteFailed → IsCut outcome.out out → IsPut [] err → IsDelivered outcome given out err
   ErrFailed : given ≡ status.WriteFailed → IsPut outcome.out out → IsCut outcome.err err → IsDelivered outcome given out err
   -- memory was wanting
-  OutWanting : given ≡ status.NoMemory → IsFront outcome.out out → IsPut [] err → IsDelivered outcome given out err
-  ErrWanting : given ≡ status.NoMemory → IsPut outcome.out out → IsFront outcome.err err → IsDelivered outcome given out err
+  OutWanting : given ≡ status.NoMemory → IsHeld outcome.out out → IsPut [] err → IsDelivered outcome given out err
+  ErrWanting : given ≡ status.NoMemory → IsPut outcome.out out → IsHeld outcome.err err → IsDelivered outcome given out err
 
 -- what comes of an outcome for which memory may have been wanting
 abbrev pub Delivers : Result Outcome NoMemory → Status → Sunk → Sunk → Type 0

@@ -9,6 +9,7 @@ pub mod Reads
 pub mod Files
 pub mod Forms
 pub mod Requests
+pub mod FileFaults
 pub mod FileNames
 pub mod AuxChain
 pub mod InputTrees

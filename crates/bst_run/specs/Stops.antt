@@ -36,9 +36,14 @@ IsDecided status.WriteFailed = ⊥
 IsDecided status.NoMemory = ⊥
 IsDecided _ = Unit {0}
 
--- an outcome that the bytes of the files decide, with nothing for standard output
+-- one of them that isn't Done
+abbrev pub IsRefusing : Status → Type 0
+IsRefusing status.Done = ⊥
+IsRefusing given = IsDecided given
+
+-- an outcome that the bytes of the files decide, which isn't Done and has nothing for standard output
 abbrev pub IsRefusal : Outcome → Type 0
-IsRefusal outcome = (outcome.out ≡ []) × IsDecided outcome.status
+IsRefusal outcome = (outcome.out ≡ []) × IsRefusing outcome.status
 
 -- what the outside shows of a stop
 abbrev pub HasCause : Stop → Option Begun → ℕ → ℕ → Type 0

@@ -1,5 +1,5 @@
 -- The whole command line (docs/COMMANDS.md): from the words and the files to the answer, and what an answer means.
-use Rattle.std.specs.Prelude.{◌≡◌, ◌≢◌, ℕ, ◌⊎◌, true, false, ◌||◌, not, nat_lt, if◌then◌else◌, List, [], length, Option, None, Some, IfSome, Result, Ok, Err}
+use Rattle.std.specs.Prelude.{◌≡◌, ◌≢◌, ℕ, ◌⊎◌, true, false, ◌||◌, not, nat_lt, if◌then◌else◌, List, [], length, Option, None, Some, IfSome, IsSomeAnd, Result, Ok, Err}
 use Rattle.std.specs.FinMap.{get}
 use Rattle.bv_base.specs.Outside.{Listing, Begun, Rose}
 use Rattle.bv_base.specs.declared.files.Files.{Ghosts}
@@ -81,16 +81,20 @@ pub record IsAcceptance (told : Listing) (style cert : List ℕ) (outcome : Outc
   pub decided : IsAccepted told style cert cond
   pub printed : outcome ≡ accepted cond
 
--- what an outcome with a text for standard output promises
+-- an outcome says that something was done: its status is Done, or it has a text for standard output
+abbrev pub SaysDone : Outcome → Type 0
+SaysDone outcome = (outcome.status ≡ status.Done) ⊎ (outcome.out ≢ [])
+
+-- what such an outcome promises
 abbrev pub Promises : Listing → Form → Outcome → Type 0
 Promises told (Check style cert) outcome = IsAcceptance told style cert outcome
 Promises told (Run aux steps) outcome = Unit {0}
 
 -- what the outside shows of an outcome with this status, and that neither the words nor a sink decide it
 abbrev pub CausedBy : Status → Outcome → Option Begun → ℕ → ℕ → Type 0
-CausedBy status.NoFile outcome begun faults faults' = IfSome begun (λ b. (b.absent ≡ true) × (outcome ≡ absent b.name))
+CausedBy status.NoFile outcome begun faults faults' = IsSomeAnd begun (λ b. (b.absent ≡ true) × (outcome ≡ absent b.name))
 CausedBy status.ReadFailed outcome begun faults faults' =
-    Rose faults faults' × IfSome begun (λ b. (b.absent ≡ false) × (outcome ≡ unread b.name))
+    Rose faults faults' × IsSomeAnd begun (λ b. (b.absent ≡ false) × (outcome ≡ unread b.name))
 CausedBy status.Usage outcome begun faults faults' = ⊥
 CausedBy status.WriteFailed outcome begun faults faults' = ⊥
 CausedBy status.NoMemory outcome begun faults faults' = ⊥
@@ -104,7 +108,7 @@ IsWanted wanted outcome = (outcome ≡ wanted) ⊎ ((name : List ℕ) × (outcom
 pub record IsAnswer {F : Type 0} (see : Ghosts F) (old new : F) (form : Form) (outcome : Outcome) : Type 0 where
   pub wanted : IfSome (see.told old) (λ told. IsWanted (outcome_in told form) outcome)
   pub cause : CausedBy outcome.status outcome (see.begun new) (see.faults old) (see.faults new)
-  pub safe : IfSome (see.told old) (λ told. outcome.out ≢ [] → Promises told form outcome)
+  pub safe : IfSome (see.told old) (λ told. SaysDone outcome → Promises told form outcome)
 
 -- what a call answers and leaves on its sinks where the words and the files decide this outcome: it is delivered, or the
 -- outcome of a file that couldn't be read
@@ -117,6 +121,12 @@ pub record IsSafelyAccepted (told : Listing) (style cert : List ℕ) (out : Sunk
   pub cond : Cond
   pub decided : IsAccepted told style cert cond
   pub printed : IsFront (accepted cond).out out
+
+-- what the status Done promises: for the words `check STYLE CERT` that the style that the first file holds is safe under the
+-- condition of the second
+abbrev pub IsDoneWell : Listing → Form → Type 0
+IsDoneWell told (Check style cert) = (cond : Cond) × IsAccepted told style cert cond
+IsDoneWell told (Run aux steps) = Unit {0}
 
 -- what a text on standard output promises: for the words `check STYLE CERT` that the style is safe
 abbrev pub IsPromised : Listing → Form → Sunk → Type 0

@@ -1,6 +1,6 @@
 //! The whole command line.
 
-ghost use Rattle.std.specs.Prelude.{◌≡◌, ◌≢◌, ◌⊎◌, None, Some, true, false, IfOk, IfSome};
+ghost use Rattle.std.specs.Prelude.{◌≡◌, ◌≢◌, ◌⊎◌, None, Some, true, false, IfOk, IfSome, IsSomeAnd};
 ghost use Rattle.bv_base.specs.Outside.{Rose, appended};
 ghost use Rattle.bst_run.specs.Delivery.{sunk, IsDelivered};
 ghost use Rattle.bst_run.specs.Forms as forms;
@@ -39,11 +39,17 @@ pub fn command<F: Files, O: Sink, E: Sink>(
     ensures answered { IfSome (forms.form_of words.now) (λ form. IfSome (F.told files.old) (λ told.
         top.IsAnswered (top.outcome_in told form) result (sunk ⟦<O as Sink>⟧ out.old out.new) (sunk ⟦<E as Sink>⟧ err.old err.new))) }
     // What the outside did shows in the answer.
-    ensures no_file { result ≡ Status.NoFile → IfSome (F.begun files.new) (λ begun.
+    ensures no_file { result ≡ Status.NoFile → IsSomeAnd (F.begun files.new) (λ begun.
         (begun.absent ≡ true) × (E.written err.new ≡ appended (E.written err.old) (report.absent begun.name).err)) }
-    ensures read_failed { result ≡ Status.ReadFailed → Rose (F.faults files.old) (F.faults files.new) × IfSome (F.begun files.new) (λ begun.
+    ensures read_failed { result ≡ Status.ReadFailed → Rose (F.faults files.old) (F.faults files.new) × IsSomeAnd (F.begun files.new) (λ begun.
         (begun.absent ≡ false) × (E.written err.new ≡ appended (E.written err.old) (report.unread begun.name).err)) }
     ensures write_failed { result ≡ Status.WriteFailed → Rose (O.faults out.old) (O.faults out.new) ⊎ Rose (E.faults err.old) (E.faults err.new) }
+    // Where the faults of a sink rose the answer is WriteFailed, and where those of `out` did nothing was put on `err`.
+    ensures out_failed { O.faults out.new ≢ O.faults out.old → result ≡ Status.WriteFailed }
+    ensures err_failed { E.faults err.new ≢ E.faults err.old → result ≡ Status.WriteFailed }
+    ensures out_first { O.faults out.new ≢ O.faults out.old → E.written err.new ≡ E.written err.old }
+    // Where `check` is done, the style is safe under the condition of the certificate, whatever `out` tells.
+    ensures done { result ≡ Status.Done → IfSome (forms.form_of words.now) (λ form. IfSome (F.told files.old) (λ told. top.IsDoneWell told form)) }
     // Whatever `check` put on `out`, the style is safe under the condition that is printed.
     ensures safe { O.written out.new ≢ O.written out.old → IfSome (forms.form_of words.now) (λ form. IfSome (F.told files.old) (λ told.
         top.IsPromised told form (sunk ⟦<O as Sink>⟧ out.old out.new))) }
@@ -61,6 +67,9 @@ fn refuse<O: Sink, E: Sink>(alloc: Global, out: &mut O, err: &mut E) -> Status
     ensures not_absent { result ≢ Status.NoFile }
     ensures not_unread { result ≢ Status.ReadFailed }
     ensures write_failed { result ≡ Status.WriteFailed → Rose (O.faults out.old) (O.faults out.new) ⊎ Rose (E.faults err.old) (E.faults err.new) }
+    ensures out_failed { O.faults out.new ≢ O.faults out.old → result ≡ Status.WriteFailed }
+    ensures err_failed { E.faults err.new ≢ E.faults err.old → result ≡ Status.WriteFailed }
+    ensures out_first { O.faults out.new ≢ O.faults out.old → E.written err.new ≡ E.written err.old }
 {
     deliver(usage(alloc), out, err)
 }
@@ -76,11 +85,15 @@ fn carry_out<F: Files, O: Sink, E: Sink>(
     ensures not_usage { result ≢ Status.Usage }
     ensures answered { IfSome (F.told files.old) (λ told. top.IsAnswered (top.outcome_in told (forms.form_in form.entry)) result
         (sunk ⟦<O as Sink>⟧ out.old out.new) (sunk ⟦<E as Sink>⟧ err.old err.new)) }
-    ensures no_file { result ≡ Status.NoFile → IfSome (F.begun files.new) (λ begun.
+    ensures no_file { result ≡ Status.NoFile → IsSomeAnd (F.begun files.new) (λ begun.
         (begun.absent ≡ true) × (E.written err.new ≡ appended (E.written err.old) (report.absent begun.name).err)) }
-    ensures read_failed { result ≡ Status.ReadFailed → Rose (F.faults files.old) (F.faults files.new) × IfSome (F.begun files.new) (λ begun.
+    ensures read_failed { result ≡ Status.ReadFailed → Rose (F.faults files.old) (F.faults files.new) × IsSomeAnd (F.begun files.new) (λ begun.
         (begun.absent ≡ false) × (E.written err.new ≡ appended (E.written err.old) (report.unread begun.name).err)) }
     ensures write_failed { result ≡ Status.WriteFailed → Rose (O.faults out.old) (O.faults out.new) ⊎ Rose (E.faults err.old) (E.faults err.new) }
+    ensures out_failed { O.faults out.new ≢ O.faults out.old → result ≡ Status.WriteFailed }
+    ensures err_failed { E.faults err.new ≢ E.faults err.old → result ≡ Status.WriteFailed }
+    ensures out_first { O.faults out.new ≢ O.faults out.old → E.written err.new ≡ E.written err.old }
+    ensures done { result ≡ Status.Done → IfSome (F.told files.old) (λ told. top.IsDoneWell told (forms.form_in form.entry)) }
     ensures safe { O.written out.new ≢ O.written out.old → IfSome (F.told files.old) (λ told.
         top.IsPromised told (forms.form_in form.entry) (sunk ⟦<O as Sink>⟧ out.old out.new)) }
 {

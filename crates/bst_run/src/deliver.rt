@@ -1,7 +1,7 @@
 //! How an outcome is delivered.
 
-ghost use Rattle.std.specs.Prelude.{OnOk, OnErr, IsErrOf};
-ghost use Rattle.bst_run.specs.Delivery.{sunk, IsPut, IsFront, IsCut, IsDelivered, Delivers};
+ghost use Rattle.std.specs.Prelude.{OnOk, IsErrOf};
+ghost use Rattle.bst_run.specs.Delivery.{sunk, IsPut, IsCut, IsHeld, IsDelivered, Delivers};
 
 use crate::outcome::Outcome;
 use bv_base::memory::NoMemory;
@@ -43,7 +43,7 @@ fn put_texts<O: Sink, E: Sink>(outcome: &Outcome, out: &mut O, err: &mut E) -> S
 fn put<S: Sink>(sink: &mut S, text: &[u8]) -> Result<(), PutAnswer>
     ensures done { OnOk result (IsPut text.now (sunk ⟦<S as Sink>⟧ sink.old sink.new)) }
     ensures failed { IsErrOf result PutAnswer.Failed → IsCut text.now (sunk ⟦<S as Sink>⟧ sink.old sink.new) }
-    ensures front { OnErr result (IsFront text.now (sunk ⟦<S as Sink>⟧ sink.old sink.new)) }
+    ensures wanting { IsErrOf result PutAnswer.NoMemory → IsHeld text.now (sunk ⟦<S as Sink>⟧ sink.old sink.new) }
 {
     if text.is_empty() {
         return Ok(());
