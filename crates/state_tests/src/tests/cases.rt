@@ -34,6 +34,11 @@ mod integers;
 mod known;
 mod strings;
 
+ghost use Rattle.std.specs.Prelude.{◌≡◌};
+ghost use Rattle.std.specs.List.{All};
+ghost use Rattle.sym_state.specs.Demands.{HasFewUses};
+ghost use Rattle.sym_state.specs.WellMade.{HasBounds};
+
 use crate::tests::cases::faults::{DEMANDS, HINTS, LEFT, MIXED, ORDERED};
 use crate::tests::cases::integers::{ABOVE, EQUAL, GREATER, LESS};
 use crate::tests::cases::strings::{EMPTY, MISSING, TEXTS};
@@ -125,30 +130,71 @@ fn ordered_values_that_are_no_integers(rt: HostRuntime) -> Result<(), Fail> {
 fn compare(rt: &impl Abort, alloc: Global, examples: &[Example]) -> Result<(), NoMemory> {
     let cond = condition(alloc);
     for example in examples {
-        let line = line(rt, alloc, &cond, *example)?;
-        let (stack, test) = (example.stack, example.test);
-        assert_eq!(rt; line.as_str(), example.want, "{test:?} on {stack:?}");
+        compare_one(rt, alloc, &cond, *example)?;
     }
     Ok(())
 }
 
-/// What comes of an example.
-fn line(rt: &impl Abort, alloc: Global, cond: &Cond, example: Example) -> Result<String, NoMemory> {
-    let (stack, test) = (example.stack, example.test);
-    let state = state(alloc, Setting::Entry, stack, example.known)?;
-    let list = hints(alloc, example.hints)?;
-    let mut left = Hints::new(list.as_slice());
-    assert_eq!(rt; needs(&state, test), example.needs, "{test:?} on {stack:?}");
-    let answer = split(&state, cond, test, &mut left);
+/// Whether what comes of an example is what is wanted.
+fn compare_one(
+    rt: &impl Abort,
+    alloc: Global,
+    cond: &Cond,
+    example: Example,
+) -> Result<(), NoMemory> {
     let mut line = String::new(alloc);
-    add_answer(&mut line, &state, &answer)?;
-    add_left(
-        &mut line,
-        answer.is_ok(),
-        example.hints.len(),
-        left.rest().len(),
+    add_line(&mut line, cond, example)?;
+    let (stack, test) = (example.stack, example.test);
+    assert_eq!(rt; line.as_str(), example.want, "{test:?} on {stack:?}");
+    Ok(())
+}
+
+/// Adds what comes of an example, and before it how many hints are needed where they aren't so many as is wanted.
+fn add_line(line: &mut String, cond: &Cond, example: Example) -> Result<(), NoMemory> {
+    let state = state(
+        *line.allocator(),
+        Setting::Entry,
+        example.stack,
+        example.known,
     )?;
-    Ok(line)
+    let needed = needs(&state, example.test);
+    if needed != example.needs {
+        write!(line, "needs {needed}: ")?;
+    }
+    add_cases(line, cond, &state, example)
+}
+
+/// Adds what comes of a state by an example's test and hints.
+fn add_cases(
+    line: &mut String,
+    cond: &Cond,
+    state: &State,
+    example: Example,
+) -> Result<(), NoMemory>
+    requires bounds { HasBounds state.now }
+    requires next { state.now.next ≡ 10 }
+{
+    let list = hints(state.alloc, example.hints)?;
+    let mut left = Hints::new(list.as_slice());
+    let is_ok = add_split(line, cond, state, example.test, &mut left)?;
+    add_left(line, is_ok, example.hints.len(), left.rest().len())
+}
+
+/// Adds what comes of a split, and answers whether there are cases.
+fn add_split(
+    line: &mut String,
+    cond: &Cond,
+    state: &State,
+    test: Test,
+    hints: &mut Hints<'_>,
+) -> Result<bool, NoMemory>
+    requires bounds { HasBounds state.now }
+    requires next { state.now.next ≡ 10 }
+    requires proofs { All HasFewUses hints.old }
+{
+    let answer = split(state, cond, test, hints);
+    add_answer(line, state, &answer)?;
+    Ok(answer.is_ok())
 }
 
 /// Adds the states of cases, or the fault.

@@ -4,8 +4,11 @@
 //! symbols first), names that are bound anew, and how many hints are left, where any are. Or it is the fault, and how many
 //! hints are left, where it took any.
 
-ghost use Rattle.std.specs.Prelude.{◌≡◌};
+ghost use Rattle.std.specs.Prelude.{◌≡◌, true};
+ghost use Rattle.std.specs.List.{All};
+ghost use Rattle.sym_state.specs.Demands.{HasFewUses};
 ghost use Rattle.sym_state.specs.Effects as rule;
+ghost use Rattle.sym_state.specs.WellMade.{HasBounds};
 
 mod hints;
 mod known;
@@ -347,39 +350,89 @@ fn compare(
     examples: &[Example],
 ) -> Result<(), NoMemory> {
     let style = style(alloc, &NAMES)?;
+    compare_by(rt, alloc, &style, setting, examples)
+}
+
+/// The same by a style.
+fn compare_by(
+    rt: &impl Abort,
+    alloc: Global,
+    style: &Style,
+    setting: Setting,
+    examples: &[Example],
+) -> Result<(), NoMemory> {
     let cond = condition(alloc);
     for example in examples {
-        let line = line(rt, alloc, &style, &cond, setting, *example)?;
-        let (stack, op) = (example.stack, example.op);
-        assert_eq!(rt; line.as_str(), example.want, "{op:?} on {stack:?}");
+        compare_one(rt, alloc, style, &cond, setting, *example)?;
     }
     Ok(())
 }
 
-/// What comes of an example.
-fn line(
+/// Whether what comes of an example is what is wanted.
+fn compare_one(
     rt: &impl Abort,
     alloc: Global,
     style: &Style,
     cond: &Cond,
     setting: Setting,
     example: Example,
-) -> Result<String, NoMemory> {
-    let state = state(alloc, setting, example.stack, example.known)?;
-    let list = hints(alloc, example.hints)?;
-    let mut left = Hints::new(list.as_slice());
-    let op = example.op;
-    assert!(rt; is_plain(op));
-    let answer = effect(style, &state, cond, op, &mut left);
+) -> Result<(), NoMemory> {
     let mut line = String::new(alloc);
-    add_answer(&mut line, &state, &answer)?;
-    add_left(
-        &mut line,
-        answer.is_ok(),
-        example.hints.len(),
-        left.rest().len(),
-    )?;
-    Ok(line)
+    add_line(rt, &mut line, style, cond, setting, example)?;
+    let (stack, op) = (example.stack, example.op);
+    assert_eq!(rt; line.as_str(), example.want, "{op:?} on {stack:?}");
+    Ok(())
+}
+
+/// Adds what comes of an example.
+fn add_line(
+    rt: &impl Abort,
+    line: &mut String,
+    style: &Style,
+    cond: &Cond,
+    setting: Setting,
+    example: Example,
+) -> Result<(), NoMemory> {
+    let state = state(*line.allocator(), setting, example.stack, example.known)?;
+    add_outcome(rt, line, style, cond, &state, example)
+}
+
+/// Adds what comes of a state by an example's built-in function and hints.
+fn add_outcome(
+    rt: &impl Abort,
+    line: &mut String,
+    style: &Style,
+    cond: &Cond,
+    state: &State,
+    example: Example,
+) -> Result<(), NoMemory>
+    requires bounds { HasBounds state.now }
+    requires next { state.now.next ≡ 10 }
+{
+    assert!(rt; is_plain(example.op));
+    let list = hints(state.alloc, example.hints)?;
+    let mut left = Hints::new(list.as_slice());
+    let is_ok = add_effect(line, style, cond, state, example.op, &mut left)?;
+    add_left(line, is_ok, example.hints.len(), left.rest().len())
+}
+
+/// Adds what comes of an effect, and answers whether there is a state.
+fn add_effect(
+    line: &mut String,
+    style: &Style,
+    cond: &Cond,
+    state: &State,
+    op: Builtin,
+    hints: &mut Hints<'_>,
+) -> Result<bool, NoMemory>
+    requires bounds { HasBounds state.now }
+    requires next { state.now.next ≡ 10 }
+    requires plain { rule.is_plain op ≡ true }
+    requires proofs { All HasFewUses hints.old }
+{
+    let answer = effect(style, state, cond, op, hints);
+    add_answer(line, state, &answer)?;
+    Ok(answer.is_ok())
 }
 
 /// Adds the state that is given, or the fault.

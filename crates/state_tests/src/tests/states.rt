@@ -1,8 +1,9 @@
 //! References, pieces and states, worked out by hand from docs/STATES.md.
 
-ghost use Rattle.std.specs.Prelude.{◌≤◌, IfOk};
+ghost use Rattle.std.specs.Prelude.{◌≤◌, length, IfOk};
+ghost use Rattle.std.specs.List.{All};
 ghost use Rattle.sym_state.specs.Entailing.{line_count};
-ghost use Rattle.sym_state.specs.WellMade.{HasBounds};
+ghost use Rattle.sym_state.specs.WellMade.{HasBounds, IsBounded};
 
 mod changes;
 mod claims;
@@ -11,11 +12,16 @@ mod greatest;
 mod places;
 mod references;
 
-use crate::tests::known::{Known, Shape, state_of};
+use crate::tests::hints::proof;
+use crate::tests::known::{Known, Shape, condition, state_of};
+use crate::tests::rows::{Form, row};
 use bv_base::memory::NoMemory;
 use std::alloc::Global;
 use std::process::Abort;
+use sym_state::entails::entails;
 use sym_state::piece::Piece;
+use sym_state::proof::{Proof, Use};
+use sym_state::shows::shows;
 use sym_state::state::State;
 use sym_state::symbol::{Bind, Kinds};
 
@@ -51,6 +57,27 @@ fn known_state(alloc: Global, at_entry: bool) -> Result<State, NoMemory>
     state_of(alloc, shape, &KNOWN)
 }
 
+/// The first line of a piece that fails, where so many symbols are kept and no row is shown.
+fn line_failing(
+    rt: &impl Abort,
+    state: &State,
+    piece: &Piece,
+    kept: u32,
+) -> Result<Option<u32>, NoMemory>
+    requires state { HasBounds state.now }
+    requires rows { All IsBounded piece.now.rows }
+{
+    assert_short(rt, piece);
+    entails(
+        state.alloc,
+        state,
+        &condition(state.alloc),
+        piece,
+        kept,
+        &[],
+    )
+}
+
 /// Asserts that a piece has few lines.
 fn assert_short(rt: &impl Abort, piece: &Piece)
     ensures { line_count piece.now ≤ 2147483648 }
@@ -59,4 +86,21 @@ fn assert_short(rt: &impl Abort, piece: &Piece)
     assert!(rt; piece.fields.as_slice().len() < 100);
     assert!(rt; piece.facts.as_slice().len() < 100);
     assert!(rt; piece.rows.as_slice().len() < 100);
+}
+
+/// Whether at most 64 uses of what a state has show a row.
+fn is_shown(state: &State, uses: &[Use], goal: Form) -> Result<bool, NoMemory>
+    requires { HasBounds state.now }
+{
+    let proof = proof(state.alloc, 1, uses)?;
+    is_row_shown(state, &proof, goal)
+}
+
+/// Whether a proof shows a row.
+fn is_row_shown(state: &State, proof: &Proof, goal: Form) -> Result<bool, NoMemory>
+    requires state { HasBounds state.now }
+    requires proof { length proof.now.uses ≤ 64 }
+{
+    let goal = row(state.alloc, goal)?;
+    shows(state.alloc, state, &condition(state.alloc), proof, &goal)
 }

@@ -1,12 +1,13 @@
 //! Which facts follow from one.
 
-use crate::tests::known::{Known, condition, piece};
-use crate::tests::states::{assert_short, known_state};
+ghost use Rattle.sym_state.specs.WellMade.{HasBounds};
+
+use crate::tests::known::{Known, piece};
+use crate::tests::states::{known_state, line_failing};
 use bv_base::memory::NoMemory;
-use std::alloc::Global;
 use std::process::Abort;
 use std::test::Fail;
-use sym_state::entails::entails;
+use sym_state::state::State;
 use sym_state::symbol::Kinds;
 
 /// A claim on a symbol, and whether it is known.
@@ -56,22 +57,25 @@ static CLAIMS: [Example; 23] = [
 
 #[test]
 fn facts_follow_from_one(rt: HostRuntime) -> Result<(), Fail> {
-    Ok(compare(&rt, rt.alloc(), &CLAIMS)?)
+    let known = known_state(rt.alloc(), false)?;
+    Ok(compare(&rt, &known, &CLAIMS)?)
 }
 
-/// Whether each claim is known where it is wanted.
-fn compare(rt: &impl Abort, alloc: Global, examples: &[Example]) -> Result<(), NoMemory> {
+/// Whether each claim is known of the state where it is wanted.
+fn compare(rt: &impl Abort, known: &State, examples: &[Example]) -> Result<(), NoMemory>
+    requires { HasBounds known.now }
+{
     for example in examples {
-        let (name, found) = (example.name, is_entailed(rt, alloc, *example)?);
+        let (name, found) = (example.name, is_entailed(rt, known, *example)?);
         assert_eq!(rt; found, example.want, "{name}");
     }
     Ok(())
 }
 
 /// Whether the claim is known.
-fn is_entailed(rt: &impl Abort, alloc: Global, example: Example) -> Result<bool, NoMemory> {
-    let state = known_state(alloc, false)?;
-    let piece = piece(alloc, &[], &[], &[], &[example.claim])?;
-    assert_short(rt, &piece);
-    Ok(entails(alloc, &state, &condition(alloc), &piece, 7, &[])?.is_none())
+fn is_entailed(rt: &impl Abort, known: &State, example: Example) -> Result<bool, NoMemory>
+    requires { HasBounds known.now }
+{
+    let piece = piece(known.alloc, &[], &[], &[], &[example.claim])?;
+    Ok(line_failing(rt, known, &piece, 7)?.is_none())
 }

@@ -10,6 +10,7 @@ ghost use Rattle.sym_state.specs.WellMade.{HasBounds, IsBounded};
 use crate::tests::hints::proof;
 use crate::tests::known::{Named, condition, style};
 use crate::tests::rows::{Form, row};
+use crate::tests::states::is_shown;
 use bv_base::memory::NoMemory;
 use bv_base::seq::Seq;
 use lin_facts::row::Term;
@@ -19,10 +20,9 @@ use std::test::Fail;
 use sym_state::entails::entails;
 use sym_state::piece::Piece;
 use sym_state::proof::Use;
-use sym_state::shows::shows;
 use sym_state::start::start;
 use sym_state::state::State;
-use sym_state::symbol::{Fact, Kinds, Sym};
+use sym_state::symbol::{Bind, Fact, Kinds, Sym};
 
 /// A global integer and a global string.
 static NAMES: [Named; 2] = [
@@ -41,25 +41,36 @@ static USES: [Use; 2] = [using!(Row 0), using!(ExactLow Sym(0))];
 
 #[test]
 fn the_worked_example(rt: HostRuntime) -> Result<(), Fail> {
-    let a = rt.alloc();
-    let state = started(a)?;
-    assert_eq!(rt; state.next, 4);
-    assert_eq!(rt;
-        state.vars.as_slice(),
-        [bind!(39, 1), bind!(40, 2), bind!(41, 0), bind!(42, 3)].as_slice()
-    );
-    assert_eq!(rt; state.facts.as_slice().len(), 5);
+    let state = started(rt.alloc())?;
+    assert_eq!(rt; state.vars.as_slice(), BINDS.as_slice());
+    assert_eq!(rt; (state.next, state.facts.as_slice().len()), (4, 5));
     Ok(())
 }
 
+static BINDS: [Bind; 4] = [bind!(39, 1), bind!(40, 2), bind!(41, 0), bind!(42, 3)];
+
 #[test]
 fn what_it_shows(rt: HostRuntime) -> Result<(), Fail> {
-    let a = rt.alloc();
-    assert_eq!(rt; is_shown(a, 19903)?, true);
-    assert_eq!(rt; is_shown(a, 19902)?, false);
-    assert_eq!(rt; line_of(a, Kinds::Str, 2)?, None);
-    assert_eq!(rt; line_of(a, Kinds::Int, 2)?, Some(3));
-    assert_eq!(rt; line_of(a, Kinds::Str, 1)?, Some(4));
+    let state = started(rt.alloc())?;
+    let shown = [
+        is_shown(&state, &USES, goal(19903))?,
+        is_shown(&state, &USES, goal(19902))?,
+    ];
+    assert_eq!(rt; shown, [true, false]);
+    Ok(())
+}
+
+/// The row of a constant and the value of `n` less the length of `s`.
+fn goal(constant: i32) -> Form {
+    Form(constant, (1, Term::Value(0)), (-1, Term::Length(3)))
+}
+
+#[test]
+fn what_it_entails(rt: HostRuntime) -> Result<(), Fail> {
+    let state = started(rt.alloc())?;
+    assert_eq!(rt; line_of(&state, Kinds::Str, 2)?, None);
+    assert_eq!(rt; line_of(&state, Kinds::Int, 2)?, Some(3));
+    assert_eq!(rt; line_of(&state, Kinds::Str, 1)?, Some(4));
     Ok(())
 }
 
@@ -92,21 +103,29 @@ pub fn started(alloc: Global) -> Result<State, NoMemory>
     start(alloc, &style, &cond, &pieces, true, false)
 }
 
-/// Whether that state shows a constant and the value of `n` less the length of `s`.
-fn is_shown(alloc: Global, constant: i32) -> Result<bool, NoMemory> {
-    let state = started(alloc)?;
-    let proof = proof(alloc, 1, &USES)?;
-    let goal = Form(constant, (1, Term::Value(0)), (-1, Term::Length(3)));
-    let goal = row(alloc, goal)?;
-    shows(alloc, &state, &condition(alloc), &proof, &goal)
+/// The first line that fails of the example's piece, with a kind for `s`, and with so many uses.
+fn line_of(state: &State, kind: Kinds, uses: usize) -> Result<Option<u32>, NoMemory>
+    requires { HasBounds state.now }
+{
+    let piece = ending(state.alloc, kind)?;
+    line_by(state, &piece, &USES[..uses.min(2)])
 }
 
-/// The first line that fails of the example's piece, with a kind for `s`, and with so many uses.
-fn line_of(alloc: Global, kind: Kinds, uses: usize) -> Result<Option<u32>, NoMemory> {
-    let state = started(alloc)?;
-    let piece = ending(alloc, kind)?;
-    let proofs = [proof(alloc, 1, &USES[..uses.min(2)])?];
-    entails(alloc, &state, &condition(alloc), &piece, 0, &proofs)
+/// The first line of a piece that fails, where its row is shown by these uses.
+fn line_by(state: &State, piece: &Piece, uses: &[Use]) -> Result<Option<u32>, NoMemory>
+    requires state { HasBounds state.now }
+    requires rows { All IsBounded piece.now.rows }
+    requires lines { line_count piece.now ≤ 5 }
+{
+    let proofs = [proof(state.alloc, 1, uses)?];
+    entails(
+        state.alloc,
+        state,
+        &condition(state.alloc),
+        piece,
+        0,
+        &proofs,
+    )
 }
 
 /// The piece at the example's end.

@@ -1,12 +1,13 @@
 //! Which line of a piece fails first, where it has a stack and names alone.
 
-use crate::tests::known::{condition, piece};
-use crate::tests::states::{assert_short, known_state};
+ghost use Rattle.sym_state.specs.WellMade.{HasBounds};
+
+use crate::tests::known::piece;
+use crate::tests::states::{known_state, line_failing};
 use bv_base::memory::NoMemory;
-use std::alloc::Global;
 use std::process::Abort;
 use std::test::Fail;
-use sym_state::entails::entails;
+use sym_state::state::State;
 use sym_state::symbol::Bind;
 
 /// How many symbols are kept, the places of a piece, and the first line that fails.
@@ -54,22 +55,25 @@ static FIELDS: [Bind; 1] = [bind!(37, 9)];
 
 #[test]
 fn places_agree_line_by_line(rt: HostRuntime) -> Result<(), Fail> {
-    Ok(compare(&rt, rt.alloc(), &PLACES)?)
+    let known = known_state(rt.alloc(), true)?;
+    Ok(compare(&rt, &known, &PLACES)?)
 }
 
 /// Whether the line of each example is what is wanted.
-fn compare(rt: &impl Abort, alloc: Global, examples: &[Example]) -> Result<(), NoMemory> {
+fn compare(rt: &impl Abort, known: &State, examples: &[Example]) -> Result<(), NoMemory>
+    requires { HasBounds known.now }
+{
     for example in examples {
-        let (name, found) = (example.name, line_of(rt, alloc, *example)?);
+        let (name, found) = (example.name, line_of(rt, known, *example)?);
         assert_eq!(rt; found, example.want, "{name}");
     }
     Ok(())
 }
 
 /// The first line that fails.
-fn line_of(rt: &impl Abort, alloc: Global, example: Example) -> Result<Option<u32>, NoMemory> {
-    let state = known_state(alloc, true)?;
-    let piece = piece(alloc, example.stack, example.vars, &FIELDS, &[])?;
-    assert_short(rt, &piece);
-    entails(alloc, &state, &condition(alloc), &piece, example.kept, &[])
+fn line_of(rt: &impl Abort, known: &State, example: Example) -> Result<Option<u32>, NoMemory>
+    requires { HasBounds known.now }
+{
+    let piece = piece(known.alloc, example.stack, example.vars, &FIELDS, &[])?;
+    line_failing(rt, known, &piece, example.kept)
 }

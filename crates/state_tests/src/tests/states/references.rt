@@ -1,16 +1,13 @@
 //! What each reference shows.
 
-use crate::tests::hints::proof;
-use crate::tests::known::condition;
-use crate::tests::rows::{Form, NO_PART, row};
-use crate::tests::states::known_state;
+use crate::tests::rows::{Form, NO_PART};
+use crate::tests::states::{is_shown, known_state};
 use bv_base::memory::NoMemory;
 use lin_facts::row::Term;
 use std::alloc::Global;
 use std::process::Abort;
 use std::test::Fail;
 use sym_state::proof::{Reference, Use};
-use sym_state::shows::shows;
 use sym_state::symbol::Sym;
 
 /// A reference, at an entry or not, with a goal and whether it shows it.
@@ -97,7 +94,5 @@ fn shown(alloc: Global, example: Example) -> Result<bool, NoMemory> {
         reference: example.reference,
         times: 1,
     }];
-    let proof = proof(alloc, 1, &once)?;
-    let goal = row(alloc, example.goal)?;
-    shows(alloc, &state, &condition(alloc), &proof, &goal)
+    is_shown(&state, &once, example.goal)
 }
