@@ -2,6 +2,7 @@
 
 use bv_base::memory::NoMemory;
 use lin_facts::row::{Row, Term};
+use name_table::names::NameId;
 use std::fmt::Debug;
 use sym_state::demand::EffectFault;
 use sym_state::facts::subject;
@@ -97,24 +98,32 @@ impl Said for Bind {
 
 impl Said for Fact {
     fn say(&self, line: &mut String) -> Result<(), NoMemory> {
-        let s = subject(self).0;
+        let (word, s) = (word_of(self), subject(self).0);
+        write!(line, "{word} {s}")?;
         match self {
-            Fact::Is(_, kind) => write!(line, "is {s} {kind:?}")?,
-            Fact::Int(_, n) => write!(line, "int {s} {n}")?,
+            Fact::Is(_, kind) => write!(line, " {kind:?}")?,
+            Fact::Int(_, n) => write!(line, " {n}")?,
             Fact::Text(_, text) => {
                 let bytes = text.as_slice();
-                write!(line, "text {s} {bytes:?}")?
+                write!(line, " {bytes:?}")?
             }
-            Fact::Call(_, name) => {
-                let name = name.0;
-                write!(line, "call {s} {name}")?
-            }
-            Fact::Block(_, number) => write!(line, "block {s} {number}")?,
-            Fact::Blank(_) => write!(line, "blank {s}")?,
-            Fact::Nonblank(_) => write!(line, "nonblank {s}")?,
-            Fact::Wellformed(_) => write!(line, "wellformed {s}")?,
+            Fact::Call(_, NameId(number)) | Fact::Block(_, number) => write!(line, " {number}")?,
+            _ => {}
         }
         Ok(())
+    }
+}
+
+fn word_of(fact: &Fact) -> &'static str {
+    match fact {
+        Fact::Is(..) => "is",
+        Fact::Int(..) => "int",
+        Fact::Text(..) => "text",
+        Fact::Call(..) => "call",
+        Fact::Block(..) => "block",
+        Fact::Blank(_) => "blank",
+        Fact::Nonblank(_) => "nonblank",
+        Fact::Wellformed(_) => "wellformed",
     }
 }
 
