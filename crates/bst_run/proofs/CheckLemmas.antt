@@ -15,6 +15,7 @@ use Rattle.bst_run.specs.Walk.{first_refusal}
 use Rattle.bst_run.specs.Report.{not_built, too_long}
 use Rattle.bst_run.specs.Reading.{certificate_of}
 use Rattle.bv_base.specs.Answers.{then_do}
+use Rattle.bv_base.specs.declared.limits.TheConstants.{STYLE_BYTES}
 use Rattle.bst_run.specs.Files.{whole_file, file_in}
 use Rattle.bst_run.specs.Sources.{read_style}
 use Rattle.bst_run.specs.Reads.{Reads}
@@ -35,23 +36,23 @@ decides bytes style (Some c) condition is small straight =
 -- the files are read in turn
 pub condition_reads : {F : Type 0} (see : Ghosts F) (old mid new : F) (style_name cert_name bytes bytes' bytes'' text text' : List ℕ) (style : Style) (result : Result Cond Stop)
     → bytes' ≡ bytes → bytes'' ≡ bytes → text' ≡ text
-    → Reads {F = F} {A = List ℕ} see old mid (λ t. file_in t 4194304 style_name) (Ok bytes) → Decides {A = Style} (read_style (style_of bytes')) (Ok style)
-    → Reads {F = F} {A = List ℕ} see mid new (λ t. file_in t 4194304 cert_name) (Ok text)
+    → Reads {F = F} {A = List ℕ} see old mid (λ t. file_in t STYLE_BYTES style_name) (Ok bytes) → Decides {A = Style} (read_style (style_of bytes')) (Ok style)
+    → Reads {F = F} {A = List ℕ} see mid new (λ t. file_in t STYLE_BYTES cert_name) (Ok text)
     → Decides {A = Cond} (judged bytes'' style (certificate_of text')) result → IfErr result IsInside
     → Reads {F = F} {A = Cond} see old new (λ t. condition_in t style_name cert_name) result
 condition_reads see old mid new style_name cert_name bytes bytes' bytes'' text text' style result e e' f style_file read cert_file decides inside =
-    reads_next see old mid new (λ t. file_in t 4194304 style_name) bytes (λ t b. then_do (read_style (style_of b)) (after_style t cert_name b)) result style_file
+    reads_next see old mid new (λ t. file_in t STYLE_BYTES style_name) bytes (λ t b. then_do (read_style (style_of b)) (after_style t cert_name b)) result style_file
     (reads_next see mid mid new (λ t. read_style (style_of bytes)) style (λ t. after_style t cert_name bytes) result
     (reads_nothing see mid (read_style (style_of bytes)) (Ok style) (subst (λ (b : List ℕ). Decides {A = Style} (read_style (style_of b)) (Ok style)) e read) tt)
-    (reads_next see mid new new (λ t. file_in t 4194304 cert_name) text (λ t x. judged bytes style (certificate_of x)) result cert_file
+    (reads_next see mid new new (λ t. file_in t STYLE_BYTES cert_name) text (λ t x. judged bytes style (certificate_of x)) result cert_file
     (reads_nothing see new (judged bytes style (certificate_of text)) result
     (subst (λ (b : List ℕ). Decides {A = Cond} (judged b style (certificate_of text)) result) e'
     (subst (λ (x : List ℕ). Decides {A = Cond} (judged bytes'' style (certificate_of x)) result) f decides)) inside)))
 
 -- a file that was read is there
-there : (name bytes : List ℕ) (file : Option (List ℕ)) → whole_file 4194304 name file ≡ Ok bytes → file ≡ Some bytes
+there : (name bytes : List ℕ) (file : Option (List ℕ)) → whole_file STYLE_BYTES name file ≡ Ok bytes → file ≡ Some bytes
 there name bytes None is = absurd (cc)
-there name bytes (Some b) is = by_length (nat_lt 4194304 (length b)) is
+there name bytes (Some b) is = by_length (nat_lt STYLE_BYTES (length b)) is
   where
     by_length : (long : _) → cond long (Err (too_long name)) (Ok b) ≡ Ok bytes → Some b ≡ Some bytes
     by_length true is = absurd (cc)
@@ -66,16 +67,16 @@ is_style (Err fault) style is = absurd (cc)
 
 pub accepts : (told told' : Option Listing) (style_name cert_name bytes bytes' bytes'' text text' : List ℕ) (style : Style) (result : Result Cond Stop)
     → told' ≡ told → bytes' ≡ bytes → bytes'' ≡ bytes → text' ≡ text
-    → Gives {A = List ℕ} told (λ t. file_in t 4194304 style_name) (Ok bytes) → Decides {A = Style} (read_style (style_of bytes')) (Ok style)
-    → Gives {A = List ℕ} told' (λ t. file_in t 4194304 cert_name) (Ok text)
+    → Gives {A = List ℕ} told (λ t. file_in t STYLE_BYTES style_name) (Ok bytes) → Decides {A = Style} (read_style (style_of bytes')) (Ok style)
+    → Gives {A = List ℕ} told' (λ t. file_in t STYLE_BYTES cert_name) (Ok text)
     → Gives {A = Cond} told (λ t. condition_in t style_name cert_name) result
     → IfOk result (IsDecidedWell bytes'' style text')
     → IfOk result (λ c. IfSome told (λ t. IsAccepted t style_name cert_name c))
 accepts told told' style_name cert_name bytes bytes' bytes'' text text' style (Err stop) same e e' f style_file read cert_file given well = tt
 accepts None told' style_name cert_name bytes bytes' bytes'' text text' style (Ok c) same e e' f style_file read cert_file given well = tt
 accepts (Some t) told' style_name cert_name bytes bytes' bytes'' text text' style (Ok c) same e e' f style_file read cert_file given well =
-    let there_now : Gives {A = List ℕ} (Some t) (λ u. file_in u 4194304 cert_name) (Ok text) =
-    subst (λ (o : Option Listing). Gives {A = List ℕ} o (λ u. file_in u 4194304 cert_name) (Ok text)) same cert_file in
+    let there_now : Gives {A = List ℕ} (Some t) (λ u. file_in u STYLE_BYTES cert_name) (Ok text) =
+    subst (λ (o : Option Listing). Gives {A = List ℕ} o (λ u. file_in u STYLE_BYTES cert_name) (Ok text)) same cert_file in
     let decided_well : IsDecidedWell bytes style text c =
     subst (λ (b : List ℕ). IsDecidedWell b style text c) e' (subst (λ (x : List ℕ). IsDecidedWell bytes'' style x c) f well) in
     record {

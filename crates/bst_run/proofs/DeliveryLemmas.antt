@@ -3,12 +3,12 @@ use Rattle.std.proofs.Common.{◌≡◌, ◌≢◌, ◌⊎◌, inl, inr, true, f
 use Rattle.std.proofs.Math.Dec.{eqb}
 use Rattle.std.proofs.Math.Seq.{take_all}
 use Rattle.std.proofs.lemmas.Bool.Decides.{eqb_tells}
-use Rattle.bv_base.specs.Outside.{appended}
+use Rattle.bv_base.specs.Outside.{Rose, appended}
 use Rattle.bv_base.specs.declared.memory.NoMemory.{NoMemory}
 use Rattle.bv_base.specs.declared.status.Status.{Status}
 use Rattle.bv_base.specs.declared.status.Status.TheVariants as status
 use Rattle.bst_run.specs.declared.outcome.Outcome.{Outcome}
-use Rattle.bst_run.specs.Delivery.{Sunk, IsPut, IsFront, IsDelivered, Whole, OutFailed, ErrFailed, OutWanting, ErrWanting, Delivers}
+use Rattle.bst_run.specs.Delivery.{Sunk, IsPut, IsFront, IsDelivered, Whole, OutFailed, ErrFailed, OutWanting, ErrWanting, Delivers, TellsOfSinks}
 
 -- nothing more is written
 pub appended_nothing : (written : Option (List ℕ)) → written ≡ appended written []
@@ -79,13 +79,18 @@ err_failed outcome given out err (ErrFailed e put cut) failed = e
 err_failed outcome given out err (OutWanting e held last) failed = absurd (failed last.steady)
 err_failed outcome given out err (ErrWanting e put held) failed = absurd (failed held.steady)
 
--- the same of an outcome for which memory may have been wanting
-pub failed_out : (found : Result Outcome NoMemory) (given : Status) (out err : Sunk) → Delivers found given out err → out.faults' ≢ out.faults
-    → (given ≡ status.WriteFailed) × (err.after ≡ err.before)
-failed_out (Ok o) given out err delivered = out_failed o given out err delivered
-failed_out (Err refused) given out err delivered = λ failed. absurd (failed delivered.1.steady)
-
-pub failed_err : (found : Result Outcome NoMemory) (given : Status) (out err : Sunk) → Delivers found given out err → err.faults' ≢ err.faults
-    → given ≡ status.WriteFailed
-failed_err (Ok o) given out err delivered = err_failed o given out err delivered
-failed_err (Err refused) given out err delivered = λ failed. absurd (failed delivered.2.steady)
+-- what is told of the sinks, where an answer WriteFailed comes from one
+pub sinks_told : (found : Result Outcome NoMemory) (given : Status) (out err : Sunk) → Delivers found given out err
+    → (given ≡ status.WriteFailed → Rose out.faults out.faults' ⊎ Rose err.faults err.faults') → TellsOfSinks given out err
+sinks_told (Ok o) given out err delivered risen = record {
+  write_failed = risen;
+  out_failed = λ failed. (out_failed o given out err delivered failed).0;
+  err_failed = err_failed o given out err delivered;
+  out_first = λ failed. (out_failed o given out err delivered failed).1;
+}
+sinks_told (Err refused) given out err delivered risen = record {
+  write_failed = risen;
+  out_failed = λ failed. absurd (failed delivered.1.steady);
+  err_failed = λ failed. absurd (failed delivered.2.steady);
+  out_first = λ failed. absurd (failed delivered.1.steady);
+}

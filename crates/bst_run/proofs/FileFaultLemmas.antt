@@ -5,6 +5,7 @@ use Rattle.std.specs.FinMap.{get}
 use Rattle.std.proofs.lemmas.Bool.Decides.{nat_tests}
 use Rattle.bv_base.specs.Answers.{then_do}
 use Rattle.bv_base.specs.Outside.{Listing}
+use Rattle.bv_base.specs.declared.limits.TheConstants.{DATA_BYTES}
 use Rattle.bv_base.specs.Places.{after_bytes, first_place}
 use Rattle.name_table.specs.Sound.{Each}
 use Rattle.aux_read.proofs.FaultsStand.{fault_stands}
@@ -73,29 +74,29 @@ then_faulty P (Err outcome) next first rest = first
 
 module _ (told : Listing) where
   -- a file that can't be read
-  file_faulty : (name : List ℕ) → IfErr (file_in told 16777216 name) (IsFileFault told)
+  file_faulty : (name : List ℕ) → IfErr (file_in told DATA_BYTES name) (IsFileFault told)
   file_faulty name = by (get told name) refl
     where
-      sized : (bytes : List ℕ) → get told name ≡ Some bytes → (t : Bool) → nat_lt 16777216 (length bytes) ≡ t
+      sized : (bytes : List ℕ) → get told name ≡ Some bytes → (t : Bool) → nat_lt DATA_BYTES (length bytes) ≡ t
           → IfErr (cond t (Err (too_long name)) (Ok bytes)) (IsFileFault told)
       sized bytes is true long = Long name bytes is (grind (arith, nat_tests)) refl
       sized bytes is false short = tt
 
-      by : (o : Option (List ℕ)) → get told name ≡ o → IfErr (whole_file 16777216 name o) (IsFileFault told)
+      by : (o : Option (List ℕ)) → get told name ≡ o → IfErr (whole_file DATA_BYTES name o) (IsFileFault told)
       by None is = Missing name is refl
-      by (Some bytes) is = sized bytes is (nat_lt 16777216 (length bytes)) refl
+      by (Some bytes) is = sized bytes is (nat_lt DATA_BYTES (length bytes)) refl
 
   -- a file that was read is there
-  file_there : (name text : List ℕ) → file_in told 16777216 name ≡ Ok text → get told name ≡ Some text
+  file_there : (name text : List ℕ) → file_in told DATA_BYTES name ≡ Ok text → get told name ≡ Some text
   file_there name text e = by (get told name) e
     where
       sized : (bytes : List ℕ) (t : Bool) → cond t (Err (too_long name)) (Ok bytes) ≡ Ok text → Some bytes ≡ Some text
       sized bytes true e = absurd (cc)
       sized bytes false e = cc
 
-      by : (o : Option (List ℕ)) → whole_file 16777216 name o ≡ Ok text → o ≡ Some text
+      by : (o : Option (List ℕ)) → whole_file DATA_BYTES name o ≡ Ok text → o ≡ Some text
       by None e = absurd (cc)
-      by (Some bytes) e = sized bytes (nat_lt 16777216 (length bytes)) e
+      by (Some bytes) e = sized bytes (nat_lt DATA_BYTES (length bytes)) e
 
   -- a text that isn't read
   text_faulty : (name text : List ℕ) → get told name ≡ Some text → IfErr (aux_in name text) (IsFileFault told)
@@ -137,9 +138,9 @@ module _ (told : Listing) where
   named_faulty : (levels : ℕ) (name : List ℕ) (before : Requests) (aux : Aux) → aux_file told name ≡ Ok aux
       → ((n : List ℕ) (r : Requests) → IfErr (take_input levels told n r) (IsFileFault told))
       → IfErr (take_aux levels (take_input levels told) name before aux) (IsFileFault told)
-  named_faulty levels name before aux e each = by (file_in told 16777216 name) refl e
+  named_faulty levels name before aux e each = by (file_in told DATA_BYTES name) refl e
     where
-      by : (r : Result (List ℕ) Outcome) → file_in told 16777216 name ≡ r → then_do r (aux_in name) ≡ Ok aux
+      by : (r : Result (List ℕ) Outcome) → file_in told DATA_BYTES name ≡ r → then_do r (aux_in name) ≡ Ok aux
           → IfErr (take_aux levels (take_input levels told) name before aux) (IsFileFault told)
       by (Ok text) is read =
           aux_faulty levels (take_input levels told) name text before aux (file_there name text is) (text_stands name text aux read) each
@@ -149,7 +150,7 @@ module _ (told : Listing) where
   input_faulty zero name before = tt
   input_faulty (suc levels) name before =
       then_faulty (IsFileFault told) (aux_file told name) (take_aux levels (take_input levels told) name before)
-      (then_faulty (IsFileFault told) (file_in told 16777216 name) (aux_in name) (file_faulty name)
+      (then_faulty (IsFileFault told) (file_in told DATA_BYTES name) (aux_in name) (file_faulty name)
       (λ text read. text_faulty name text (file_there name text read)))
       (λ aux read. named_faulty levels name before aux read (input_faulty levels))
 
@@ -170,6 +171,6 @@ module _ (told : Listing) where
 
   pub needs_faulty : (name : List ℕ) (outcome : Outcome) → needs_of told name ≡ Err outcome → IsFileFault told outcome
   needs_faulty name outcome e =
-      let all = then_faulty (IsFileFault told) (file_in told 16777216 name) (needs_after told name) (file_faulty name)
+      let all = then_faulty (IsFileFault told) (file_in told DATA_BYTES name) (needs_after told name) (file_faulty name)
       (λ text read. after_faulty name text (file_there name text read)) in
       subst (λ (r : Result Needs Outcome). IfErr r (IsFileFault told)) e all

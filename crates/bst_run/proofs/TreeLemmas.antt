@@ -6,6 +6,7 @@ use Rattle.std.proofs.lemmas.List.{append-nil}
 use Rattle.bv_base.specs.Answers.{then_do}
 use Rattle.bv_base.specs.Outside.{Listing}
 use Rattle.bv_base.specs.declared.place.Place.{Place}
+use Rattle.bv_base.specs.declared.limits.TheConstants.{DATA_BYTES}
 use Rattle.aux_read.proofs.BothWays.{of_reads, reads_of}
 use Rattle.aux_read.specs.Meaning.{AuxReads}
 use Rattle.aux_read.specs.Reading.{aux_of}
@@ -46,24 +47,24 @@ text_in name text aux reads = ap (read_aux name) (of_reads text aux reads)
 
 asks_of : (told : Listing) (name : List ℕ) (aux : Aux) → aux_file told name ≡ Ok aux → Asks told name aux
 asks_of told name aux e =
-    let has = then_has (file_in told 16777216 name) (aux_in name) aux e in
+    let has = then_has (file_in told DATA_BYTES name) (aux_in name) aux e in
     by has.value (text_reads name has.value aux has.gives) (get told name) refl has.is
   where
-    short : (text bytes : List ℕ) → AuxReads text aux → get told name ≡ Some bytes → (t : Bool) → nat_lt 16777216 (length bytes) ≡ t
+    short : (text bytes : List ℕ) → AuxReads text aux → get told name ≡ Some bytes → (t : Bool) → nat_lt DATA_BYTES (length bytes) ≡ t
         → cond t (Err (too_long name)) (Ok bytes) ≡ Ok text → Asks told name aux
     short text bytes reads is true long e = absurd (cc)
     short text bytes reads is false long e =
         let same : text ≡ bytes = cc in
-        record { text = bytes; there = is; short = ltb-false 16777216 (length bytes) long; reads = subst (λ (t : List ℕ). AuxReads t aux) same reads }
+        record { text = bytes; there = is; short = ltb-false DATA_BYTES (length bytes) long; reads = subst (λ (t : List ℕ). AuxReads t aux) same reads }
 
-    by : (text : List ℕ) → AuxReads text aux → (o : Option (List ℕ)) → get told name ≡ o → whole_file 16777216 name o ≡ Ok text → Asks told name aux
+    by : (text : List ℕ) → AuxReads text aux → (o : Option (List ℕ)) → get told name ≡ o → whole_file DATA_BYTES name o ≡ Ok text → Asks told name aux
     by text reads None is e = absurd (cc)
-    by text reads (Some bytes) is e = short text bytes reads is (nat_lt 16777216 (length bytes)) refl e
+    by text reads (Some bytes) is e = short text bytes reads is (nat_lt DATA_BYTES (length bytes)) refl e
 
 file_asks : (told : Listing) (name : List ℕ) (aux : Aux) → Asks told name aux → aux_file told name ≡ Ok aux
 file_asks told name aux asks =
-    ap (λ (o : Option (List ℕ)). then_do (whole_file 16777216 name o) (aux_in name)) asks.there
-    ∙ ap (λ (t : Bool). then_do {A = List ℕ} {E = Outcome} (cond t (Err (too_long name)) (Ok asks.text)) (aux_in name)) (le-ltb 16777216 (length asks.text) asks.short)
+    ap (λ (o : Option (List ℕ)). then_do (whole_file DATA_BYTES name o) (aux_in name)) asks.there
+    ∙ ap (λ (t : Bool). then_do {A = List ℕ} {E = Outcome} (cond t (Err (too_long name)) (Ok asks.text)) (aux_in name)) (le-ltb DATA_BYTES (length asks.text) asks.short)
     ∙ text_in name asks.text aux asks.reads
 
 -- no fault

@@ -8,6 +8,7 @@ use Rattle.aux_read.specs.declared.fault.AuxFault.{AuxFault}
 use Rattle.aux_read.specs.Reading.{aux_of}
 use Rattle.bv_base.specs.Places.{after_bytes, first_place}
 use Rattle.bv_base.specs.Answers.{then_do}
+use Rattle.bv_base.specs.declared.limits.TheConstants.{DATA_BYTES}
 use Rattle.bst_run.specs.declared.data_fault.DataFault.{DataFault}
 use Rattle.bst_run.specs.declared.data_fault.DataFault.TheVariants.{Aux as AuxFile, NoStyle, NoData}
 use Rattle.bst_run.specs.declared.files.requests.Needs.{Needs}
@@ -53,7 +54,7 @@ take_aux levels input name before aux =
 
 -- what the file of this name asks for by itself
 abbrev pub aux_file : Listing → List ℕ → Result Aux Outcome
-aux_file told name = then_do (file_in told 16777216 name) (aux_in name)
+aux_file told name = then_do (file_in told DATA_BYTES name) (aux_in name)
 
 -- an input, which is one of so many levels that may lie below the file that names it; where there is none, that file is at fault
 abbrev pub take_input : ℕ → Listing → List ℕ → Requests → Result Requests Outcome
@@ -83,4 +84,4 @@ needs_after told name text = needs_within 16 told name text
 
 -- what the .aux file of this name and its inputs ask for
 abbrev pub needs_of : Listing → List ℕ → Result Needs Outcome
-needs_of told name = then_do (file_in told 16777216 name) (needs_after told name)
+needs_of told name = then_do (file_in told DATA_BYTES name) (needs_after told name)

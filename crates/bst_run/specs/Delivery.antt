@@ -1,5 +1,5 @@
 -- What a call leaves on standard output and standard error (docs/COMMANDS.md, "Answers").
-use Rattle.std.specs.Prelude.{◌≡◌, ◌<◌, ◌≤◌, ℕ, List, [], length, take, Option, Result, Ok, Err}
+use Rattle.std.specs.Prelude.{◌≡◌, ◌≢◌, ◌⊎◌, ◌<◌, ◌≤◌, ℕ, List, [], length, take, Option, Result, Ok, Err}
 use Rattle.bv_base.specs.Outside.{Rose, appended}
 use Rattle.bv_base.specs.declared.memory.NoMemory.{NoMemory}
 use Rattle.bv_base.specs.declared.sink.Sink.{Ghosts}
@@ -53,3 +53,11 @@ pub data IsDelivered (outcome : Outcome) (given : Status) (out err : Sunk) : Typ
 abbrev pub Delivers : Result Outcome NoMemory → Status → Sunk → Sunk → Type 0
 Delivers (Ok outcome) given out err = IsDelivered outcome given out err
 Delivers (Err _) given out err = (given ≡ status.NoMemory) × IsPut [] out × IsPut [] err
+
+-- what an answer tells of the sinks: it is WriteFailed where the faults of one rose and nowhere else, and where those of standard
+-- output did nothing was put on standard error
+pub record TellsOfSinks (given : Status) (out err : Sunk) : Type 0 where
+  pub write_failed : given ≡ status.WriteFailed → Rose out.faults out.faults' ⊎ Rose err.faults err.faults'
+  pub out_failed : out.faults' ≢ out.faults → given ≡ status.WriteFailed
+  pub err_failed : err.faults' ≢ err.faults → given ≡ status.WriteFailed
+  pub out_first : out.faults' ≢ out.faults → err.after ≡ err.before

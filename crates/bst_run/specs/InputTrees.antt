@@ -7,13 +7,14 @@ use Rattle.aux_read.specs.declared.aux.Aux.{Aux}
 use Rattle.aux_read.specs.declared.aux.AuxItem.{AuxItem}
 use Rattle.aux_read.specs.declared.aux.AuxItem.TheVariants.{All, Cite, Input}
 use Rattle.bv_base.specs.declared.place.Place.{Place}
+use Rattle.bv_base.specs.declared.limits.TheConstants.{DATA_BYTES}
 use Rattle.bst_run.specs.declared.files.requests.Needs.{Needs}
 
--- the file of this name is there, has at most 16777216 bytes, and asks for this
+-- the file of this name is there, has at most DATA_BYTES bytes, and asks for this
 pub record Asks (told : Listing) (name : List ℕ) (aux : Aux) : Type 0 where
   pub text : List ℕ
   pub there : get told name ≡ Some text
-  pub short : length text ≤ 16777216
+  pub short : length text ≤ DATA_BYTES
   pub reads : AuxReads text aux
 
 -- items, where inputs may nest so deep: the files that they name, each before those that its own items name, and the

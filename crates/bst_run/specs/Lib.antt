@@ -3,6 +3,7 @@ pub mod Reading
 pub mod Straight
 pub mod Walk
 pub mod DataFaults
+pub mod Refusals
 pub mod Report
 pub mod Stops
 pub mod Reads

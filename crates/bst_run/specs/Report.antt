@@ -12,11 +12,10 @@ use Rattle.bst_meaning.specs.declared.fault.Fault.{Fault}
 use Rattle.bst_meaning.specs.Faults as run
 use Rattle.bst_run.specs.declared.outcome.Outcome.{Outcome}
 use Rattle.bst_run.specs.declared.data_fault.DataFault.{DataFault}
-use Rattle.bst_run.specs.declared.refusal.Reason.{Reason}
-use Rattle.bst_run.specs.declared.refusal.Reason.TheVariants.{EmptyPop, StackLeft}
 use Rattle.bst_run.specs.declared.refusal.Refusal.{Refusal}
 use Rattle.bst_run.specs.Certificate.{condition_text}
 use Rattle.bst_run.specs.DataFaults.{name_of, place_of}
+use Rattle.bst_run.specs.Refusals.{reason_text}
 
 -- the outcome with this status whose last line stands alone
 abbrev pub last_line : Status → List ℕ → Outcome
@@ -41,11 +40,6 @@ too_long name = last_line status.TooLong (codes "too long " ++ (name ++ codes "\
 -- LINE:COLUMN
 abbrev pub place_text : Place → List ℕ
 place_text place = decimal place.line ++ (codes ":" ++ decimal place.column)
-
--- a demand is followed by the number of the operand at fault, counted from 1 at the top of the stack
-abbrev pub reason_text : Reason → List ℕ
-reason_text (EmptyPop operand) = codes "EmptyPop " ++ decimal operand
-reason_text StackLeft = codes "StackLeft"
 
 -- the last line of a run that has come to an execution error
 abbrev pub fault_line : Fault → Place → List ℕ → List ℕ

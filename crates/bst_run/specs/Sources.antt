@@ -8,6 +8,7 @@ use Rattle.bib_read.specs.Reading.{opening, database_of}
 use Rattle.bst_parse.specs.declared.fault.StyleFault.{StyleFault}
 use Rattle.bst_parse.specs.Reading.{style_of}
 use Rattle.bv_base.specs.Answers.{then_do}
+use Rattle.bv_base.specs.declared.limits.TheConstants.{DATA_BYTES, STYLE_BYTES}
 use Rattle.bst_run.specs.declared.data_fault.DataFault.TheVariants.{Bib}
 use Rattle.bst_run.specs.declared.files.requests.Needs.{Needs}
 use Rattle.bst_run.specs.declared.files.sources.Sources.{Sources}
@@ -24,7 +25,7 @@ read_style (Err fault) = Err (bad_style fault)
 -- the style of this name
 abbrev pub style_named : Listing → List ℕ → Result Style Outcome
 style_named told name =
-    then_do (file_in told 4194304 (with_ending name (codes ".bst"))) (λ text. read_style (style_of text))
+    then_do (file_in told STYLE_BYTES (with_ending name (codes ".bst"))) (λ text. read_style (style_of text))
 
 -- the database that was read from a file of this name
 abbrev pub read_database : List ℕ → Result Database BibFault → Result Database Outcome
@@ -34,7 +35,7 @@ read_database name (Err fault) = Err (bad_data name (Bib fault))
 -- what the database in a file adds to those before it
 abbrev pub database_in : Listing → List ℕ → Database → Result Database Outcome
 database_in told name before =
-    then_do (file_in told 16777216 name) (λ text. read_database name (database_of text before))
+    then_do (file_in told DATA_BYTES name) (λ text. read_database name (database_of text before))
 
 -- what the database of this name adds
 abbrev pub database_named : Listing → List ℕ → Database → Result Database Outcome

@@ -10,6 +10,7 @@ use Rattle.bst_parse.specs.Reading.{style_of}
 use Rattle.bst_meaning.specs.declared.condition.Cond.{Cond}
 use Rattle.bst_meaning.specs.Safe.{Safe}
 use Rattle.bv_base.specs.Answers.{then_do}
+use Rattle.bv_base.specs.declared.limits.TheConstants.{STYLE_BYTES}
 use Rattle.bst_run.specs.declared.outcome.Outcome.{Outcome}
 use Rattle.bst_run.specs.declared.refusal.Refusal.{Refusal}
 use Rattle.bst_run.specs.Certificate.{IsCertificate}
@@ -36,12 +37,12 @@ judged bytes style (Some cond) =
 
 -- the style is read, and then the certificate
 abbrev pub after_style : Listing → List ℕ → List ℕ → Style → Result Cond Outcome
-after_style told cert bytes style = then_do (file_in told 4194304 cert) (λ text. judged bytes style (certificate_of text))
+after_style told cert bytes style = then_do (file_in told STYLE_BYTES cert) (λ text. judged bytes style (certificate_of text))
 
 -- the condition of a certificate whose rules hold
 abbrev pub condition_in : Listing → List ℕ → List ℕ → Result Cond Outcome
 condition_in told style cert =
-    then_do (file_in told 4194304 style) (λ bytes. then_do (read_style (style_of bytes)) (after_style told cert bytes))
+    then_do (file_in told STYLE_BYTES style) (λ bytes. then_do (read_style (style_of bytes)) (after_style told cert bytes))
 
 -- the words `check STYLE CERT`
 abbrev pub check_outcome : Listing → List ℕ → List ℕ → Result Outcome Outcome

@@ -8,7 +8,7 @@ ghost use Rattle.bst_run.specs.Reading.{certificate_of};
 
 use crate::certificate::read_short;
 use crate::files::style::style_from;
-use crate::files::whole::{MOST_STYLE_BYTES, file_of};
+use crate::files::whole::style_file;
 use crate::outcome::Outcome;
 use crate::report::{accepted, not_built, refused};
 use crate::stop::Stop;
@@ -49,9 +49,9 @@ fn judge<F: Files>(
         top.IsAccepted told style_name.now cert_name.now cond)) }
     ensures reads { Reads ⟦<F as Files>⟧ files.old files.new (λ told. top.condition_in told style_name.now cert_name.now) result }
 {
-    let source = file_of(alloc, files, style_name, MOST_STYLE_BYTES)?;
+    let source = style_file(alloc, files, style_name)?;
     let style = style_from(alloc, source.as_slice())?;
-    let text = file_of(alloc, files, cert_name, MOST_STYLE_BYTES)?;
+    let text = style_file(alloc, files, cert_name)?;
     decide(alloc, source.as_slice(), &style, text.as_slice())
 }
 

@@ -2,7 +2,7 @@
 
 ghost use Rattle.std.specs.Prelude.{◌≡◌, ◌≢◌, ◌⊎◌, None, Some, true, false, IfOk, IfSome, IsSomeAnd};
 ghost use Rattle.bv_base.specs.Outside.{Rose, appended};
-ghost use Rattle.bst_run.specs.Delivery.{sunk, IsDelivered};
+ghost use Rattle.bst_run.specs.Delivery.{sunk, IsDelivered, TellsOfSinks};
 ghost use Rattle.bst_run.specs.Forms as forms;
 ghost use Rattle.bst_run.specs.Report as report;
 ghost use Rattle.bst_run.specs.Stops.{told_of};
@@ -66,10 +66,7 @@ fn refuse<O: Sink, E: Sink>(alloc: Global, out: &mut O, err: &mut E) -> Status
     ensures silent { O.written out.new ≡ O.written out.old }
     ensures not_absent { result ≢ Status.NoFile }
     ensures not_unread { result ≢ Status.ReadFailed }
-    ensures write_failed { result ≡ Status.WriteFailed → Rose (O.faults out.old) (O.faults out.new) ⊎ Rose (E.faults err.old) (E.faults err.new) }
-    ensures out_failed { O.faults out.new ≢ O.faults out.old → result ≡ Status.WriteFailed }
-    ensures err_failed { E.faults err.new ≢ E.faults err.old → result ≡ Status.WriteFailed }
-    ensures out_first { O.faults out.new ≢ O.faults out.old → E.written err.new ≡ E.written err.old }
+    ensures sinks { TellsOfSinks result (sunk ⟦<O as Sink>⟧ out.old out.new) (sunk ⟦<E as Sink>⟧ err.old err.new) }
 {
     deliver(usage(alloc), out, err)
 }
@@ -89,10 +86,7 @@ fn carry_out<F: Files, O: Sink, E: Sink>(
         (begun.absent ≡ true) × (E.written err.new ≡ appended (E.written err.old) (report.absent begun.name).err)) }
     ensures read_failed { result ≡ Status.ReadFailed → Rose (F.faults files.old) (F.faults files.new) × IsSomeAnd (F.begun files.new) (λ begun.
         (begun.absent ≡ false) × (E.written err.new ≡ appended (E.written err.old) (report.unread begun.name).err)) }
-    ensures write_failed { result ≡ Status.WriteFailed → Rose (O.faults out.old) (O.faults out.new) ⊎ Rose (E.faults err.old) (E.faults err.new) }
-    ensures out_failed { O.faults out.new ≢ O.faults out.old → result ≡ Status.WriteFailed }
-    ensures err_failed { E.faults err.new ≢ E.faults err.old → result ≡ Status.WriteFailed }
-    ensures out_first { O.faults out.new ≢ O.faults out.old → E.written err.new ≡ E.written err.old }
+    ensures sinks { TellsOfSinks result (sunk ⟦<O as Sink>⟧ out.old out.new) (sunk ⟦<E as Sink>⟧ err.old err.new) }
     ensures done { result ≡ Status.Done → IfSome (F.told files.old) (λ told. top.IsDoneWell told (forms.form_in form.entry)) }
     ensures safe { O.written out.new ≢ O.written out.old → IfSome (F.told files.old) (λ told.
         top.IsPromised told (forms.form_in form.entry) (sunk ⟦<O as Sink>⟧ out.old out.new)) }

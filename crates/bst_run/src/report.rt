@@ -104,14 +104,12 @@ fn refused_line(alloc: Global, refusal: Refusal) -> Result<String, NoMemory>
 {
     let line = refusal.place.line;
     let column = refusal.place.column;
+    let name = refusal.reason.name();
     match refusal.reason {
         Reason::EmptyPop(operand) => {
-            Ok(format!(in alloc; "refused {line}:{column} EmptyPop {operand}\n")?)
+            Ok(format!(in alloc; "refused {line}:{column} {name} {operand}\n")?)
         }
-        Reason::StackLeft => {
-            let name = "StackLeft";
-            Ok(format!(in alloc; "refused {line}:{column} {name}\n")?)
-        }
+        Reason::StackLeft => Ok(format!(in alloc; "refused {line}:{column} {name}\n")?),
     }
 }
 

@@ -12,13 +12,14 @@ ghost use Rattle.bst_run.specs.Stops as stops;
 use crate::data_fault::DataFault;
 use crate::files::names::text_of;
 use crate::files::requests::{Needs, Requests, fault_after, first_databases, first_style};
-use crate::files::whole::{MOST_DATA_BYTES, file_of};
+use crate::files::whole::data_file;
 use crate::report::bad_data;
 use crate::stop::Stop;
 use aux_read::aux::{Aux, AuxItem};
 use aux_read::fault::AuxFault;
 use aux_read::read::read;
 use bv_base::files::Files;
+use bv_base::limits::DATA_BYTES;
 use bv_base::place::Place;
 use bv_base::text::Text;
 use std::alloc::Global;
@@ -32,7 +33,7 @@ pub fn needs_of<F: Files>(alloc: Global, files: &mut F, name: &str) -> Result<Ne
     ensures cited { IfOk result (λ needs. AreCitations needs.items) }
     ensures named { IfOk result NeedsFiles }
 {
-    let text = file_of(alloc, files, name, MOST_DATA_BYTES)?;
+    let text = data_file(alloc, files, name)?;
     needs_after(alloc, files, name, text.as_slice())
 }
 
@@ -43,7 +44,7 @@ fn needs_after<F: Files>(
     name: &str,
     text: &[u8],
 ) -> Result<Needs, Stop>
-    requires { length text.now ≤ 16777216 }
+    requires { length text.now ≤ DATA_BYTES }
     ensures reads { Reads ⟦<F as Files>⟧ files.old files.new (λ told. chain.needs_after told name.now text.now) result }
     ensures cited { IfOk result (λ needs. AreCitations needs.items) }
     ensures named { IfOk result NeedsFiles }
@@ -129,13 +130,13 @@ fn aux_file<F: Files>(alloc: Global, files: &mut F, name: &str) -> Result<Aux, S
     ensures keys { IfOk result (λ aux. HaveKeys aux.items) }
     ensures named { IfOk result GivesFileNames }
 {
-    let text = file_of(alloc, files, name, MOST_DATA_BYTES)?;
+    let text = data_file(alloc, files, name)?;
     aux_from(alloc, name, text.as_slice())
 }
 
 /// What a file that was read asks for.
 fn aux_from(alloc: Global, name: &str, text: &[u8]) -> Result<Aux, Stop>
-    requires { length text.now ≤ 16777216 }
+    requires { length text.now ≤ DATA_BYTES }
     ensures decides { stops.Decides (chain.aux_in name.now text.now) result }
     ensures keys { IfOk result (λ aux. HaveKeys aux.items) }
     ensures named { IfOk result GivesFileNames }
@@ -150,7 +151,7 @@ fn aux_from(alloc: Global, name: &str, text: &[u8]) -> Result<Aux, Stop>
 
 /// What all the files ask for, where they name a style and databases. Else the first file is at fault at its end.
 fn complete(alloc: Global, name: &str, text: &[u8], requests: Requests) -> Result<Needs, Stop>
-    requires short { length text.now ≤ 16777216 }
+    requires short { length text.now ≤ DATA_BYTES }
     requires named { NamesFiles requests }
     ensures decides { stops.Decides (chain.complete name.now text.now requests) result }
     ensures same { IfOk result (λ needs. needs.items ≡ requests.items) }

@@ -15,7 +15,7 @@ use crate::files::aux_chain::needs_of;
 use crate::files::names::{text_of, with_ending};
 use crate::files::requests::Needs;
 use crate::files::style::style_from;
-use crate::files::whole::{MOST_DATA_BYTES, MOST_STYLE_BYTES, file_of};
+use crate::files::whole::{data_file, style_file};
 use crate::report::bad_data;
 use crate::stop::Stop;
 use aux_read::aux::AuxItem;
@@ -23,6 +23,7 @@ use bib_read::database::Database;
 use bib_read::fault::BibFault;
 use bib_read::read::{opening, read};
 use bv_base::files::Files;
+use bv_base::limits::DATA_BYTES;
 use bv_base::seq::Seq;
 use bv_base::text::Text;
 use name_table::style::Style;
@@ -75,7 +76,7 @@ fn style_named<F: Files>(alloc: Global, files: &mut F, name: &Text) -> Result<St
     ensures reads { Reads ⟦<F as Files>⟧ files.old files.new (λ told. rule.style_named told name.now) result }
 {
     let name = with_ending(alloc, text_of(name), ".bst")?;
-    let text = file_of(alloc, files, name.as_str(), MOST_STYLE_BYTES)?;
+    let text = style_file(alloc, files, name.as_str())?;
     style_from(alloc, text.as_slice())
 }
 
@@ -111,7 +112,7 @@ fn database_named<F: Files>(
     ensures keyed { IfOk result (λ database. AreKeyed database.entries) }
 {
     let name = with_ending(alloc, text_of(name), ".bib")?;
-    let text = file_of(alloc, files, name.as_str(), MOST_DATA_BYTES)?;
+    let text = data_file(alloc, files, name.as_str())?;
     database_from(alloc, name.as_str(), text.as_slice(), before)
 }
 
@@ -122,7 +123,7 @@ fn database_from(
     text: &[u8],
     before: &Database,
 ) -> Result<Database, Stop>
-    requires short { length text.now ≤ 16777216 }
+    requires short { length text.now ≤ DATA_BYTES }
     requires keyed { AreKeyed before.now.entries }
     ensures decides { stops.Decides (rule.read_database name.now (database_of text.now before.now)) result }
     ensures keyed { IfOk result (λ database. AreKeyed database.entries) }

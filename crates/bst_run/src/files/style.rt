@@ -9,12 +9,13 @@ use crate::report::bad_style;
 use crate::stop::Stop;
 use bst_parse::fault::StyleFault;
 use bst_parse::parse::parse;
+use bv_base::limits::STYLE_BYTES;
 use name_table::style::Style;
 use std::alloc::Global;
 
 /// The style that the bytes are.
 pub fn style_from(alloc: Global, source: &[u8]) -> Result<Style, Stop>
-    requires { length source.now ≤ 4194304 }
+    requires { length source.now ≤ STYLE_BYTES }
     ensures decides { Decides (read_style (style_of source.now)) result }
     ensures inside { IfErr result IsInside }
 {

@@ -6,18 +6,29 @@ ghost use Rattle.bst_run.specs.Reads.{Reads};
 
 use crate::stop::Stop;
 use bv_base::files::Files;
+use bv_base::limits::{DATA_BYTES, STYLE_BYTES};
 use bv_base::read_file::{FileAnswer, read_file};
 use bv_base::text::Text;
 use std::alloc::Global;
 
-/// The most bytes of a style or a certificate.
-pub const MOST_STYLE_BYTES: u32 = 4_194_304;
+/// The whole file of a style or a certificate.
+pub fn style_file<F: Files>(alloc: Global, files: &mut F, name: &str) -> Result<Text, Stop>
+    ensures reads { Reads ⟦<F as Files>⟧ files.old files.new (λ told. file.file_in told STYLE_BYTES name.now) result }
+    ensures short { IfOk result (λ text. length text ≤ STYLE_BYTES) }
+{
+    file_of(alloc, files, name, STYLE_BYTES as u32)
+}
 
-/// The most bytes of a data file.
-pub const MOST_DATA_BYTES: u32 = 16_777_216;
+/// The whole file of an `.aux` file or a database.
+pub fn data_file<F: Files>(alloc: Global, files: &mut F, name: &str) -> Result<Text, Stop>
+    ensures reads { Reads ⟦<F as Files>⟧ files.old files.new (λ told. file.file_in told DATA_BYTES name.now) result }
+    ensures short { IfOk result (λ text. length text ≤ DATA_BYTES) }
+{
+    file_of(alloc, files, name, DATA_BYTES as u32)
+}
 
 /// A whole file of at most `limit` bytes.
-pub fn file_of<F: Files>(alloc: Global, files: &mut F, name: &str, limit: u32) -> Result<Text, Stop>
+fn file_of<F: Files>(alloc: Global, files: &mut F, name: &str, limit: u32) -> Result<Text, Stop>
     ensures reads { Reads ⟦<F as Files>⟧ files.old files.new (λ told. file.file_in told limit name.now) result }
     ensures short { IfOk result (λ text. length text ≤ limit) }
 {

@@ -1,6 +1,7 @@
 //! Styles and certificates that are checked.
 
 use crate::tests::{Example, Failing, File};
+use bv_base::limits::STYLE_BYTES;
 use bv_base::status::Status;
 
 /// A straight style that joins two texts and writes them.
@@ -102,11 +103,11 @@ pub static LONG_STYLES: [(usize, Example); 4] = [
         answered!(["check", "a.bst", "b.cert"], &[], Failing::Nothing => NotBuilt, "", "not built\n"),
     ),
     (
-        4_194_304,
+        STYLE_BYTES,
         answered!(["check", "a.bst", "b.cert"], &[], Failing::Nothing => NotBuilt, "", "not built\n"),
     ),
     (
-        4_194_305,
+        STYLE_BYTES + 1,
         answered!(["check", "a.bst", "b.cert"], &[], Failing::Nothing => TooLong, "", "too long a.bst\n"),
     ),
 ];

@@ -1,5 +1,5 @@
 use Rattle.bst_run.proofs.CommandLemmas.{form_not_usage, form_answered, no_file_shown, read_failed_shown, write_failed_shown, form_safe, form_done}
-use Rattle.bst_run.proofs.DeliveryLemmas.{failed_out, failed_err}
+use Rattle.bst_run.proofs.DeliveryLemmas.{sinks_told}
 use Rattle.bst_run.specs.Delivery.{sunk}
 use Rattle.bst_run.specs.Forms.{form_in}
 use Rattle.bst_run.proofs.command.carry_out.Goals as goal
@@ -20,10 +20,6 @@ pub returns-clause-read_failed : goal.returns-clause-read_failed
 returns-clause-read_failed g c = λ is.
     read_failed_shown g.F.Files c.args.files.now c.answer-outcome.new.files (form_in c.args.form) c.answer-outcome.result c.deliver.result (sunk g.O.Sink c.args.out.now c.deliver.new.out) (sunk g.E.Sink c.args.err.now c.deliver.new.err) c.answer-outcome.ensures c.deliver.ensures is
 
-pub returns-clause-write_failed : goal.returns-clause-write_failed
-returns-clause-write_failed g c = λ is.
-    write_failed_shown g.F.Files c.args.files.now c.answer-outcome.new.files (form_in c.args.form) c.answer-outcome.result c.deliver.result (sunk g.O.Sink c.args.out.now c.deliver.new.out) (sunk g.E.Sink c.args.err.now c.deliver.new.err) c.answer-outcome.ensures c.deliver.ensures is
-
 pub returns-clause-safe : goal.returns-clause-safe
 returns-clause-safe g c = λ more.
     form_safe g.F.Files c.args.files.now c.answer-outcome.new.files (form_in c.args.form) c.answer-outcome.result c.deliver.result (sunk g.O.Sink c.args.out.now c.deliver.new.out) (sunk g.E.Sink c.args.err.now c.deliver.new.err) c.answer-outcome.ensures c.deliver.ensures more
@@ -32,14 +28,7 @@ pub returns-clause-done : goal.returns-clause-done
 returns-clause-done g c = λ is.
     form_done g.F.Files c.args.files.now c.answer-outcome.new.files (form_in c.args.form) c.answer-outcome.result c.deliver.result (sunk g.O.Sink c.args.out.now c.deliver.new.out) (sunk g.E.Sink c.args.err.now c.deliver.new.err) c.answer-outcome.ensures c.deliver.ensures is
 
-pub returns-clause-out_failed : goal.returns-clause-out_failed
-returns-clause-out_failed g c = λ failed.
-    (failed_out c.answer-outcome.result c.deliver.result (sunk g.O.Sink c.args.out.now c.deliver.new.out) (sunk g.E.Sink c.args.err.now c.deliver.new.err) c.deliver.ensures failed).0
-
-pub returns-clause-err_failed : goal.returns-clause-err_failed
-returns-clause-err_failed g c = λ failed.
-    failed_err c.answer-outcome.result c.deliver.result (sunk g.O.Sink c.args.out.now c.deliver.new.out) (sunk g.E.Sink c.args.err.now c.deliver.new.err) c.deliver.ensures failed
-
-pub returns-clause-out_first : goal.returns-clause-out_first
-returns-clause-out_first g c = λ failed.
-    (failed_out c.answer-outcome.result c.deliver.result (sunk g.O.Sink c.args.out.now c.deliver.new.out) (sunk g.E.Sink c.args.err.now c.deliver.new.err) c.deliver.ensures failed).1
+pub returns-clause-sinks : goal.returns-clause-sinks
+returns-clause-sinks g c =
+    sinks_told c.answer-outcome.result c.deliver.result (sunk g.O.Sink c.args.out.now c.deliver.new.out) (sunk g.E.Sink c.args.err.now c.deliver.new.err) c.deliver.ensures
+    (write_failed_shown g.F.Files c.args.files.now c.answer-outcome.new.files (form_in c.args.form) c.answer-outcome.result c.deliver.result (sunk g.O.Sink c.args.out.now c.deliver.new.out) (sunk g.E.Sink c.args.err.now c.deliver.new.err) c.answer-outcome.ensures c.deliver.ensures)
