@@ -1,15 +1,12 @@
 //! `:=`.
 
 ghost use Rattle.std.specs.Prelude.{◌≡◌, ◌<◌, true, List, Err, MatchResult, option_map};
-ghost use Rattle.std.specs.List.{All};
-ghost use Rattle.bst_meaning.specs.StyleParts as parts;
 ghost use Rattle.sym_state.specs.declared.hint.Hint.{Hint};
 ghost use Rattle.sym_state.specs.Changes as change;
 ghost use Rattle.sym_state.specs.declared.symbol.Kinds.TheVariants.{Int};
 ghost use Rattle.sym_state.specs.Demands as demands;
-ghost use Rattle.sym_state.specs.Demands.{HasFewUses};
+ghost use Rattle.sym_state.specs.Demands.{IsReady};
 ghost use Rattle.sym_state.specs.Effects as rule;
-ghost use Rattle.sym_state.specs.WellMade.{HasBounds};
 ghost use Rattle.builtin_effects.specs.Given.{Gives};
 ghost use Rattle.builtin_effects.specs.Taken.{without};
 
@@ -17,10 +14,10 @@ use crate::operands::{demand, of_kind, two, unmet};
 use crate::results::{Said, with_symbol, without};
 use crate::steps::choice;
 use bst_meaning::condition::Cond;
+use bst_meaning::style_parts::kind_of;
 use lin_facts::row::Term;
 use name_table::names::{Kind, NameId};
 use name_table::style::Style;
-use std::alloc::Global;
 use sym_state::demand::{DemandKind, EffectFault};
 use sym_state::facts::{exact_name, exact_text};
 use sym_state::hint::Hints;
@@ -30,39 +27,24 @@ use sym_state::symbol::{Kinds, Sym};
 
 /// `:=`
 pub fn assign(
-    alloc: Global,
     style: &Style,
     state: &State,
     cond: &Cond,
     hints: &mut Hints<'_>,
 ) -> Result<State, EffectFault>
-    requires state { HasBounds state.now }
-    requires next { state.now.next < 4294967295 }
-    requires hints { All HasFewUses hints.old }
+    requires { IsReady state.now hints.old }
     ensures { Gives result hints.new (rule.assign style.now cond.now state.now hints.old) }
 {
     let (a, f) = two(state)?;
     of_kind(state, Kinds::Func, 1, f)?;
     match exact_name(state.facts.as_slice(), f) {
-        Some(name) => assigned(alloc, state, cond, kind_of(style, name), name, a, hints),
+        Some(name) => assigned(state, cond, kind_of(style, name), name, a, hints),
         None => Err(unmet(DemandKind::NotVariable, 1)),
-    }
-}
-
-/// What a name stands for.
-fn kind_of(style: &Style, name: NameId) -> Option<Kind>
-    ensures { result ≡ parts.kind_of style.now name }
-{
-    if name.0 < style.names.len() {
-        Some(style.names.kind(name))
-    } else {
-        None
     }
 }
 
 /// A symbol is assigned to a name, by the kind of the name.
 fn assigned(
-    alloc: Global,
     state: &State,
     cond: &Cond,
     kind: Option<Kind>,
@@ -70,16 +52,14 @@ fn assigned(
     a: Sym,
     hints: &mut Hints<'_>,
 ) -> Result<State, EffectFault>
-    requires state { HasBounds state.now }
-    requires next { state.now.next < 4294967295 }
-    requires hints { All HasFewUses hints.old }
+    requires { IsReady state.now hints.old }
     ensures { Gives result hints.new (rule.assigned cond.now state.now kind name a (without 2 state.now) hints.old) }
 {
     match kind {
         Some(Kind::IntGlobal) => integer_assigned(state, name, a),
         Some(Kind::StrGlobal) => {
             of_kind(state, Kinds::Str, 2, a)?;
-            string_assigned(alloc, state, cond, name, 20000, a, hints)
+            string_assigned(state, cond, name, 20000, a, hints)
         }
         Some(Kind::IntEntry) => {
             at_entry(state)?;
@@ -88,7 +68,7 @@ fn assigned(
         Some(Kind::StrEntry) => {
             at_entry(state)?;
             of_kind(state, Kinds::Str, 2, a)?;
-            string_assigned(alloc, state, cond, name, 250, a, hints)
+            string_assigned(state, cond, name, 250, a, hints)
         }
         _ => Err(unmet(DemandKind::NotVariable, 1)),
     }
@@ -105,7 +85,6 @@ fn integer_assigned(state: &State, name: NameId, a: Sym) -> Result<State, Effect
 
 /// A string is assigned: one that may be longer than its variable is another one once it is cut.
 fn string_assigned(
-    alloc: Global,
     state: &State,
     cond: &Cond,
     name: NameId,
@@ -113,19 +92,17 @@ fn string_assigned(
     a: Sym,
     hints: &mut Hints<'_>,
 ) -> Result<State, EffectFault>
-    requires state { HasBounds state.now }
-    requires next { state.now.next < 4294967295 }
-    requires hints { All HasFewUses hints.old }
+    requires { IsReady state.now hints.old }
     ensures { Gives result hints.new (rule.string_assigned cond.now state.now name size a (without 2 state.now) hints.old) }
 {
     if fits_exactly(exact_text(state.facts.as_slice(), a), size) {
         return bound(state, name, a);
     }
-    let row = at_most(alloc, Term::Length(a.0), size as i64)?;
-    if choice(alloc, state, cond, true, &row, hints)? {
+    let row = at_most(state.alloc, Term::Length(a.0), size as i64)?;
+    if choice(state, cond, true, &row, hints)? {
         bound(state, name, a)
     } else {
-        cut_bound(alloc, state, name, size)
+        cut_bound(state, name, size)
     }
 }
 
@@ -149,17 +126,13 @@ fn bound(state: &State, name: NameId, a: Sym) -> Result<State, EffectFault>
 }
 
 /// The variable is bound to a new string, of which no more is known than that it is cut.
-fn cut_bound(alloc: Global, state: &State, name: NameId, size: u32) -> Result<State, EffectFault>
+fn cut_bound(state: &State, name: NameId, size: u32) -> Result<State, EffectFault>
     requires { state.now.next < 4294967295 }
     ensures { (hints : List Hint) → Gives result hints (rule.cut_bound name size hints (without 2 state.now)) }
 {
     let r = Sym(state.next);
-    let said = Said {
-        fact: None,
-        first: Some(at_most(alloc, Term::Length(r.0), size as i64)?),
-        second: None,
-    };
-    let mut after = with_symbol(state, 2, Kinds::Str, said)?;
+    let row = at_most(state.alloc, Term::Length(r.0), size as i64)?;
+    let mut after = with_symbol(state, 2, Kinds::Str, Said::row(Some(row)))?;
     after.bind(name, r)?;
     Ok(after)
 }

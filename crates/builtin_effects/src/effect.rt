@@ -3,7 +3,7 @@
 ghost use Rattle.std.specs.Prelude.{◌≡◌, ◌≢◌, ◌<◌, ◌≤◌, ◌^◌, true, Ok, Err, OnErr, IfOk, IfErr};
 ghost use Rattle.std.specs.List.{All};
 ghost use Rattle.sym_state.specs.declared.demand.EffectFault.TheVariants.{NoMemory as WantOfMemory};
-ghost use Rattle.sym_state.specs.Demands.{HasFewUses};
+ghost use Rattle.sym_state.specs.Demands.{HasFewUses, IsReady};
 ghost use Rattle.sym_state.specs.Effects.{effect_of, is_plain};
 ghost use Rattle.sym_state.specs.WellMade.{HasBounds, WellMade};
 ghost use Rattle.builtin_effects.specs.Given.{Gives};
@@ -59,39 +59,36 @@ fn effect_by(
     op: Builtin,
     hints: &mut Hints<'_>,
 ) -> Result<State, EffectFault>
-    requires state { HasBounds state.now }
-    requires next { state.now.next < 4294967295 }
-    requires hints { All HasFewUses hints.old }
+    requires { IsReady state.now hints.old }
     ensures { Gives result hints.new (effect_of style.now cond.now state.now op hints.old) }
 {
-    let alloc = state.alloc;
     match op {
-        Builtin::Plus => numbers::plus(alloc, state, cond, hints),
-        Builtin::Minus => numbers::minus(alloc, state, cond, hints),
-        Builtin::Join => texts::join(alloc, state),
-        Builtin::Assign => assign(alloc, style, state, cond, hints),
-        Builtin::AddPeriod => texts::add_period(alloc, state),
-        Builtin::ChangeCase => texts::change_case(alloc, state),
-        Builtin::ChrToInt => numbers::chr_to_int(alloc, state, cond, hints),
-        Builtin::Cite => surroundings::cite(alloc, state, cond),
+        Builtin::Plus => numbers::plus(state, cond, hints),
+        Builtin::Minus => numbers::minus(state, cond, hints),
+        Builtin::Join => texts::join(state),
+        Builtin::Assign => assign(style, state, cond, hints),
+        Builtin::AddPeriod => texts::add_period(state),
+        Builtin::ChangeCase => texts::change_case(state),
+        Builtin::ChrToInt => numbers::chr_to_int(state, cond, hints),
+        Builtin::Cite => surroundings::cite(state, cond),
         Builtin::Duplicate => moves::duplicate(state),
-        Builtin::FormatName => texts::format_name(alloc, state, cond, hints),
-        Builtin::IntToChr => numbers::int_to_chr(alloc, state, cond, hints),
-        Builtin::IntToStr => numbers::int_to_str(alloc, state),
+        Builtin::FormatName => texts::format_name(state, cond, hints),
+        Builtin::IntToChr => numbers::int_to_chr(state, cond, hints),
+        Builtin::IntToStr => numbers::int_to_str(state),
         Builtin::Newline | Builtin::Skip => moves::same(state),
-        Builtin::NumNames => numbers::num_names(alloc, state, cond, hints),
+        Builtin::NumNames => numbers::num_names(state, cond, hints),
         Builtin::Pop | Builtin::Top => moves::pop(state),
-        Builtin::Preamble => surroundings::preamble(alloc, state, cond),
-        Builtin::Purify => texts::purify(alloc, state),
-        Builtin::Quote => surroundings::quote(alloc, state),
+        Builtin::Preamble => surroundings::preamble(state, cond),
+        Builtin::Purify => texts::purify(state),
+        Builtin::Quote => surroundings::quote(state),
         Builtin::Stack => moves::log_stack(state),
-        Builtin::Substring => substring(alloc, state, cond, hints),
+        Builtin::Substring => substring(state, cond, hints),
         Builtin::Swap => moves::swap(state),
-        Builtin::TextLength => numbers::text_length(alloc, state, cond, hints),
+        Builtin::TextLength => numbers::text_length(state, cond, hints),
         Builtin::TextPrefix => texts::text_prefix(state),
         Builtin::TypeName => surroundings::type_name(state),
         Builtin::Warning | Builtin::Write => moves::pop_string(state),
-        Builtin::Width => numbers::width(alloc, state, cond, hints),
+        Builtin::Width => numbers::width(state, cond, hints),
         _ => Err(unmet(DemandKind::WrongKind, 0)),
     }
 }

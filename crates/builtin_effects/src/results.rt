@@ -1,6 +1,6 @@
 //! Results (docs/EFFECTS.md, "Results"): states with a new symbol, with what is said of it.
 
-ghost use Rattle.std.specs.Prelude.{◌≡◌, ◌<◌, ◌++◌, drop, reverse, OnOk, IfOk};
+ghost use Rattle.std.specs.Prelude.{◌≡◌, ◌<◌, ◌++◌, None, Some, drop, reverse, OnOk, IfOk};
 ghost use Rattle.std.specs.Option.{option_to_list};
 ghost use Rattle.sym_state.specs.Results as rule;
 ghost use Rattle.builtin_effects.specs.Given.{facts_of, rows_of};
@@ -20,6 +20,41 @@ pub struct Said {
     pub fact: Option<Fact>,
     pub first: Option<Row>,
     pub second: Option<Row>,
+}
+
+impl Said {
+    /// A fact alone.
+    pub fn fact(fact: Fact) -> Said
+        ensures { result ≡ record { fact = Some fact; first = None; second = None } }
+    {
+        Said {
+            fact: Some(fact),
+            first: None,
+            second: None,
+        }
+    }
+
+    /// Two rows alone.
+    pub fn rows(first: Row, second: Row) -> Said
+        ensures { result ≡ record { fact = None; first = Some first; second = Some second } }
+    {
+        Said {
+            fact: None,
+            first: Some(first),
+            second: Some(second),
+        }
+    }
+
+    /// One row alone, where there is one.
+    pub fn row(first: Option<Row>) -> Said
+        ensures { result ≡ record { fact = None; first = first; second = None } }
+    {
+        Said {
+            fact: None,
+            first,
+            second: None,
+        }
+    }
 }
 
 /// A state without so many of its topmost operands, and with a new symbol on top.

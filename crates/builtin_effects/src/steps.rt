@@ -5,12 +5,11 @@ ghost use Rattle.std.specs.List.{All};
 ghost use Rattle.sym_state.specs.declared.demand.EffectFault.TheVariants.{NoMemory as WantOfMemory};
 ghost use Rattle.sym_state.specs.declared.hint.Hint.{Hint};
 ghost use Rattle.sym_state.specs.Demands as rule;
-ghost use Rattle.sym_state.specs.Demands.{Outcome, HasFewUses};
+ghost use Rattle.sym_state.specs.Demands.{Outcome, HasFewUses, IsReady};
 ghost use Rattle.sym_state.specs.WellMade.{HasBounds, IsBounded};
 
 use bst_meaning::condition::Cond;
 use lin_facts::row::Row;
-use std::alloc::Global;
 use sym_state::demand::EffectFault;
 use sym_state::hint::{Hint, Hints};
 use sym_state::shows::shows;
@@ -18,30 +17,27 @@ use sym_state::state::State;
 
 /// Takes a step that shows a row; where it doesn't, this is the fault.
 pub fn step(
-    alloc: Global,
     state: &State,
     cond: &Cond,
     row: &Row,
     fault: EffectFault,
     hints: &mut Hints<'_>,
 ) -> Result<(), EffectFault>
-    requires state { HasBounds state.now }
+    requires ready { IsReady state.now hints.old }
     requires row { IsBounded row.now }
-    requires hints { All HasFewUses hints.old }
-    ensures few { All HasFewUses hints.new }
+    ensures ready { IsReady state.now hints.new }
     ensures taken { MatchResult result
         (λ _. (next : List Hint → Outcome) → rule.step cond.now state.now row.now fault hints.old next ≡ next hints.new)
         (λ f. f ≢ WantOfMemory → (next : List Hint → Outcome) → rule.step cond.now state.now row.now fault hints.old next ≡ Err f) }
 {
     match taken(hints) {
-        Some(hint) => step_by(alloc, state, cond, row, fault, hint),
+        Some(hint) => step_by(state, cond, row, fault, hint),
         None => Err(EffectFault::HintsShort),
     }
 }
 
 /// Whether a hint is a step that shows a row; where it doesn't, this is the fault.
 fn step_by(
-    alloc: Global,
     state: &State,
     cond: &Cond,
     row: &Row,
@@ -58,19 +54,13 @@ fn step_by(
 {
     match hint {
         Hint::Step(proof) => {
-            if shows(alloc, state, cond, proof, row)? {
+            if shows(state.alloc, state, cond, proof, row)? {
                 Ok(())
             } else {
                 Err(fault)
             }
         }
-        Hint::Apply(_) => Err(EffectFault::WrongHint),
-        Hint::Walk => Err(EffectFault::WrongHint),
-        Hint::Loop(_) => Err(EffectFault::WrongHint),
-        Hint::Case(_) => Err(EffectFault::WrongHint),
-        Hint::Plain => Err(EffectFault::WrongHint),
-        Hint::Keep => Err(EffectFault::WrongHint),
-        Hint::Drop(_) => Err(EffectFault::WrongHint),
+        _ => Err(EffectFault::WrongHint),
     }
 }
 
@@ -89,7 +79,6 @@ fn taken<'a>(hints: &mut Hints<'a>) -> Option<&'a Hint>
 
 /// Takes two steps for one demand.
 pub fn two_steps(
-    alloc: Global,
     state: &State,
     cond: &Cond,
     first: &Row,
@@ -97,32 +86,27 @@ pub fn two_steps(
     fault: EffectFault,
     hints: &mut Hints<'_>,
 ) -> Result<(), EffectFault>
-    requires state { HasBounds state.now }
+    requires ready { IsReady state.now hints.old }
     requires first { IsBounded first.now }
     requires second { IsBounded second.now }
-    requires hints { All HasFewUses hints.old }
-    ensures few { All HasFewUses hints.new }
-    ensures taken { MatchResult result
+    ensures { MatchResult result
         (λ _. (next : List Hint → Outcome) → rule.two_steps cond.now state.now first.now second.now fault hints.old next ≡ next hints.new)
         (λ f. f ≢ WantOfMemory → (next : List Hint → Outcome) → rule.two_steps cond.now state.now first.now second.now fault hints.old next ≡ Err f) }
 {
-    step(alloc, state, cond, first, fault, hints)?;
-    step(alloc, state, cond, second, fault, hints)
+    step(state, cond, first, fault, hints)?;
+    step(state, cond, second, fault, hints)
 }
 
 /// Takes `plain`, or a step that shows a row where one is wanted, and says whether it took the step.
 pub fn choice(
-    alloc: Global,
     state: &State,
     cond: &Cond,
     wanted: bool,
     row: &Row,
     hints: &mut Hints<'_>,
 ) -> Result<bool, EffectFault>
-    requires state { HasBounds state.now }
+    requires ready { IsReady state.now hints.old }
     requires row { IsBounded row.now }
-    requires hints { All HasFewUses hints.old }
-    ensures few { All HasFewUses hints.new }
     ensures taken { MatchResult result
         (λ by_step. (first second : List Hint → Outcome) → rule.choice cond.now state.now wanted row.now hints.old first second
         ≡ (if by_step then first hints.new else second hints.new))
@@ -130,14 +114,13 @@ pub fn choice(
         → rule.choice cond.now state.now wanted row.now hints.old first second ≡ Err f) }
 {
     match taken(hints) {
-        Some(hint) => choice_by(alloc, state, cond, wanted, row, hint),
+        Some(hint) => choice_by(state, cond, wanted, row, hint),
         None => Err(EffectFault::HintsShort),
     }
 }
 
 /// Whether a hint is a step that shows a row where one is wanted, or else `plain`.
 fn choice_by(
-    alloc: Global,
     state: &State,
     cond: &Cond,
     wanted: bool,
@@ -158,18 +141,13 @@ fn choice_by(
             if !wanted {
                 return Err(EffectFault::WrongHint);
             }
-            if shows(alloc, state, cond, proof, row)? {
+            if shows(state.alloc, state, cond, proof, row)? {
                 Ok(true)
             } else {
                 Err(EffectFault::NotEntailed(0))
             }
         }
         Hint::Plain => Ok(false),
-        Hint::Apply(_) => Err(EffectFault::WrongHint),
-        Hint::Walk => Err(EffectFault::WrongHint),
-        Hint::Loop(_) => Err(EffectFault::WrongHint),
-        Hint::Case(_) => Err(EffectFault::WrongHint),
-        Hint::Keep => Err(EffectFault::WrongHint),
-        Hint::Drop(_) => Err(EffectFault::WrongHint),
+        _ => Err(EffectFault::WrongHint),
     }
 }

@@ -1,14 +1,13 @@
 //! `substring$`.
 
 ghost use Rattle.std.specs.Prelude.{◌≡◌, ◌<◌, ◌≤◌, ◌+◌, ◌-◌, ◌&&◌, pos, List, IfOk};
-ghost use Rattle.std.specs.List.{All};
 ghost use Rattle.std.specs.Option.{option_to_list};
 ghost use Rattle.sym_state.specs.declared.hint.Hint.{Hint};
-ghost use Rattle.sym_state.specs.Demands.{HasFewUses};
+ghost use Rattle.sym_state.specs.Demands.{IsReady};
 ghost use Rattle.lin_facts.specs.declared.row.Term.TheVariants.{Length};
 ghost use Rattle.sym_state.specs.Effects as rule;
 ghost use Rattle.sym_state.specs.References as references;
-ghost use Rattle.sym_state.specs.WellMade.{HasBounds, IsBounded};
+ghost use Rattle.sym_state.specs.WellMade.{IsBounded};
 ghost use Rattle.builtin_effects.specs.Given.{Gives};
 ghost use Rattle.builtin_effects.specs.Taken.{without};
 
@@ -27,15 +26,8 @@ use sym_state::state::State;
 use sym_state::symbol::{Kinds, Sym};
 
 /// `substring$`
-pub fn substring(
-    alloc: Global,
-    state: &State,
-    cond: &Cond,
-    hints: &mut Hints<'_>,
-) -> Result<State, EffectFault>
-    requires state { HasBounds state.now }
-    requires next { state.now.next < 4294967295 }
-    requires hints { All HasFewUses hints.old }
+pub fn substring(state: &State, cond: &Cond, hints: &mut Hints<'_>) -> Result<State, EffectFault>
+    requires { IsReady state.now hints.old }
     ensures { Gives result hints.new (rule.substring cond.now state.now hints.old) }
 {
     let (a, b, c) = three(state)?;
@@ -44,12 +36,11 @@ pub fn substring(
     of_kind(state, Kinds::Str, 3, a)?;
     let facts = state.facts.as_slice();
     let (start, len) = (exact_integer(facts, b), exact_integer(facts, c));
-    substring_of(alloc, state, cond, a, start, len, hints)
+    substring_of(state, cond, a, start, len, hints)
 }
 
 /// The string from a start, of a length: of that length where a step shows that the string is long enough.
 fn substring_of(
-    alloc: Global,
     state: &State,
     cond: &Cond,
     a: Sym,
@@ -57,17 +48,15 @@ fn substring_of(
     len: Option<i32>,
     hints: &mut Hints<'_>,
 ) -> Result<State, EffectFault>
-    requires state { HasBounds state.now }
-    requires next { state.now.next < 4294967295 }
-    requires hints { All HasFewUses hints.old }
+    requires { IsReady state.now hints.old }
     ensures { Gives result hints.new (rule.substring_of cond.now state.now a start len (without 3 state.now) hints.old) }
 {
-    let row = enough(alloc, a, start, len)?;
+    let row = enough(state.alloc, a, start, len)?;
     let wanted = is_wanted(start, len);
-    if choice(alloc, state, cond, wanted, &row, hints)? {
-        long_enough(alloc, state, len)
+    if choice(state, cond, wanted, &row, hints)? {
+        long_enough(state, len)
     } else {
-        no_longer(alloc, state, a, len)
+        no_longer(state, a, len)
     }
 }
 
@@ -88,25 +77,26 @@ fn is_wanted(start: Option<i32>, len: Option<i32>) -> bool
 }
 
 /// A new string of a length that is known.
-fn long_enough(alloc: Global, state: &State, len: Option<i32>) -> Result<State, EffectFault>
+fn long_enough(state: &State, len: Option<i32>) -> Result<State, EffectFault>
     requires { state.now.next < 4294967295 }
     ensures { (hints : List Hint) → Gives result hints (rule.of_length (rule.known_size len) hints (without 3 state.now)) }
 {
     let r = Term::Length(state.next);
     let size = known_size(len);
-    let said = Said {
-        fact: None,
-        first: Some(at_least(alloc, r, size as i64)?),
-        second: Some(at_most(alloc, r, size as i64)?),
-    };
+    let alloc = state.alloc;
+    let said = Said::rows(
+        at_least(alloc, r, size as i64)?,
+        at_most(alloc, r, size as i64)?,
+    );
     Ok(with_result(state, 3, Kinds::Str, said)?)
 }
 
 /// A new string that is no longer than another, nor than a length that is known.
-fn no_longer(alloc: Global, state: &State, a: Sym, len: Option<i32>) -> Result<State, EffectFault>
+fn no_longer(state: &State, a: Sym, len: Option<i32>) -> Result<State, EffectFault>
     requires { state.now.next < 4294967295 }
     ensures { (hints : List Hint) → Gives result hints (rule.shorter a len hints (without 3 state.now)) }
 {
+    let alloc = state.alloc;
     let r = Sym(state.next);
     let said = Said {
         fact: None,

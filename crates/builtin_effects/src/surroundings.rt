@@ -13,40 +13,35 @@ use crate::results::{Said, with_result};
 use bst_meaning::condition::Cond;
 use bv_base::text::Text;
 use lin_facts::row::Term;
-use std::alloc::Global;
 use sym_state::demand::EffectFault;
 use sym_state::references::at_most;
 use sym_state::state::State;
 use sym_state::symbol::{Fact, Kinds, Sym};
 
 /// `cite$`
-pub fn cite(alloc: Global, state: &State, cond: &Cond) -> Result<State, EffectFault>
+pub fn cite(state: &State, cond: &Cond) -> Result<State, EffectFault>
     requires { state.now.next < 4294967295 }
     ensures { (hints : List Hint) → Gives result hints (rule.at_entry state.now (rule.limited cond.now.key hints state.now)) }
 {
     at_entry(state)?;
-    limited(alloc, state, cond.key)
+    limited(state, cond.key)
 }
 
 /// `preamble$`
-pub fn preamble(alloc: Global, state: &State, cond: &Cond) -> Result<State, EffectFault>
+pub fn preamble(state: &State, cond: &Cond) -> Result<State, EffectFault>
     requires { state.now.next < 4294967295 }
     ensures { (hints : List Hint) → Gives result hints (rule.limited cond.now.preamble hints state.now) }
 {
-    limited(alloc, state, cond.preamble)
+    limited(state, cond.preamble)
 }
 
 /// A new string that is no longer than the condition says.
-fn limited(alloc: Global, state: &State, limit: u32) -> Result<State, EffectFault>
+fn limited(state: &State, limit: u32) -> Result<State, EffectFault>
     requires { state.now.next < 4294967295 }
     ensures { (hints : List Hint) → Gives result hints (rule.limited limit hints state.now) }
 {
-    let said = Said {
-        fact: None,
-        first: Some(at_most(alloc, Term::Length(state.next), limit as i64)?),
-        second: None,
-    };
-    Ok(with_result(state, 0, Kinds::Str, said)?)
+    let row = at_most(state.alloc, Term::Length(state.next), limit as i64)?;
+    Ok(with_result(state, 0, Kinds::Str, Said::row(Some(row)))?)
 }
 
 /// `type$`
@@ -56,24 +51,15 @@ pub fn type_name(state: &State) -> Result<State, EffectFault>
         (rule.at_entry state.now (gives hints (results.with_result Str [] [] state.now))) }
 {
     at_entry(state)?;
-    let said = Said {
-        fact: None,
-        first: None,
-        second: None,
-    };
-    Ok(with_result(state, 0, Kinds::Str, said)?)
+    Ok(with_result(state, 0, Kinds::Str, Said::row(None))?)
 }
 
 /// `quote$`
-pub fn quote(alloc: Global, state: &State) -> Result<State, EffectFault>
+pub fn quote(state: &State) -> Result<State, EffectFault>
     requires { state.now.next < 4294967295 }
     ensures { (hints : List Hint) → Gives result hints (rule.quote hints state.now) }
 {
-    let text = Text::from_slice(alloc, b"\"")?;
-    let said = Said {
-        fact: Some(Fact::Text(Sym(state.next), text)),
-        first: None,
-        second: None,
-    };
+    let text = Text::from_slice(state.alloc, b"\"")?;
+    let said = Said::fact(Fact::Text(Sym(state.next), text));
     Ok(with_result(state, 0, Kinds::Str, said)?)
 }

@@ -1,6 +1,7 @@
 -- What built-in functions demand of a state, and the hints that they take (docs/EFFECTS.md, "Demands" and "Steps"). Demands come
 -- in the order of the machine's faults: an operand that isn't there, the kinds from the top operand down, and then the others.
-use Rattle.std.specs.Prelude.{ℕ, ◌≤◌, Bool, if◌then◌else◌, List, [], ◌∷◌, length, reverse, Result, Ok, Err}
+use Rattle.std.specs.Prelude.{ℕ, ◌<◌, ◌≤◌, Bool, if◌then◌else◌, List, [], ◌∷◌, length, reverse, Result, Ok, Err}
+use Rattle.std.specs.List.{All}
 use Rattle.lin_facts.specs.declared.row.Row.{Row}
 use Rattle.bst_meaning.specs.declared.condition.Cond.{Cond}
 use Rattle.sym_state.specs.declared.demand.DemandKind.{DemandKind}
@@ -14,6 +15,7 @@ use Rattle.sym_state.specs.declared.symbol.Sym.{Sym}
 use Rattle.sym_state.specs.declared.symbol.Kinds.{Kinds}
 use Rattle.sym_state.specs.Decided.{includes, known_kind}
 use Rattle.sym_state.specs.References.{shows}
+use Rattle.sym_state.specs.WellMade.{HasBounds}
 
 -- what a built-in function gives of a state: the state after it, and the hints that are left
 pub record After : Type 0 where
@@ -83,6 +85,12 @@ abbrev pub HasFewUses : Hint → Type 0
 HasFewUses (Step proof) = length proof.uses ≤ 64
 HasFewUses (Drop proof) = length proof.uses ≤ 64
 HasFewUses _ = Unit {0}
+
+-- a state and hints that an effect or a test may take: texts and rows within their bounds, room for a symbol, short proofs
+pub record IsReady (state : State) (hints : List Hint) : Type 0 where
+  pub bounds : HasBounds state
+  pub room : state.next < 4294967295
+  pub proofs : All HasFewUses hints
 
 -- the next hint is a step that shows a row, or else this fault; a hint of another sort is wrong
 abbrev pub step_by : Cond → State → Row → EffectFault → Hint → List Hint → (List Hint → Outcome) → Outcome
