@@ -1,11 +1,12 @@
 //! The cases of tests on integers, each of which takes a hint where the test isn't decided.
 
-ghost use Rattle.std.specs.Prelude.{◌≡◌, ◌≢◌, ◌<◌, [], ◌∷◌, None, true, false, Ok, Err, IfOk, IfErr};
+ghost use Rattle.std.specs.Prelude.{◌≡◌, ◌<◌, [], ◌∷◌, None, IfOk};
 ghost use Rattle.std.specs.List.{All};
 ghost use Rattle.sym_state.specs.Cases as rule;
 ghost use Rattle.sym_state.specs.Decided as decided;
 ghost use Rattle.sym_state.specs.WellMade.{HasBounds, IsBounded};
-ghost use Rattle.sym_state.specs.declared.demand.EffectFault.TheVariants.{NoMemory as WantOfMemory};
+ghost use Rattle.sym_state.specs.Demands.{IsReady};
+ghost use Rattle.refinements.specs.Given.{Gives};
 
 use crate::cases::{decided, with_case, with_truth};
 use crate::deciding::{equal_decided, greater_decided, less_decided};
@@ -25,11 +26,8 @@ use sym_state::symbol::{Kinds, Sym};
 
 /// The cases of `<`.
 pub fn less(state: &State, cond: &Cond, hints: &mut Hints<'_>) -> Result<Vec<State>, EffectFault>
-    requires bounds { HasBounds state.now }
-    requires room { state.now.next < 4294967295 }
-    requires proofs { All rule.HasFewUses hints.old }
-    ensures ok { IfOk result (λ states. rule.less cond.now state.now hints.old ≡ Ok (record { states = states.items; hints = hints.new })) }
-    ensures fault { IfErr result (λ fault. fault ≢ WantOfMemory → rule.less cond.now state.now hints.old ≡ Err fault) }
+    requires { IsReady state.now hints.old }
+    ensures { Gives result hints.new (rule.less cond.now state.now hints.old) }
 {
     let (a, b, rest) = integers_of(state)?;
     match less_decided(state.facts.as_slice(), a, b) {
@@ -40,11 +38,8 @@ pub fn less(state: &State, cond: &Cond, hints: &mut Hints<'_>) -> Result<Vec<Sta
 
 /// The cases of `>`.
 pub fn greater(state: &State, cond: &Cond, hints: &mut Hints<'_>) -> Result<Vec<State>, EffectFault>
-    requires bounds { HasBounds state.now }
-    requires room { state.now.next < 4294967295 }
-    requires proofs { All rule.HasFewUses hints.old }
-    ensures ok { IfOk result (λ states. rule.greater cond.now state.now hints.old ≡ Ok (record { states = states.items; hints = hints.new })) }
-    ensures fault { IfErr result (λ fault. fault ≢ WantOfMemory → rule.greater cond.now state.now hints.old ≡ Err fault) }
+    requires { IsReady state.now hints.old }
+    ensures { Gives result hints.new (rule.greater cond.now state.now hints.old) }
 {
     let (a, b, rest) = integers_of(state)?;
     match greater_decided(state.facts.as_slice(), a, b) {
@@ -61,13 +56,8 @@ fn ordered(
     rest: State,
     hints: &mut Hints<'_>,
 ) -> Result<Vec<State>, EffectFault>
-    requires bounds { HasBounds rest }
-    requires room { rest.next < 4294967295 }
-    requires proofs { All rule.HasFewUses hints.old }
-    ensures ok { IfOk result (λ states. rule.integer_cases cond.now None (rule.less_rows a b) (rule.at_least_rows a b) rest hints.old
-        ≡ Ok (record { states = states.items; hints = hints.new })) }
-    ensures fault { IfErr result (λ fault. fault ≢ WantOfMemory →
-        rule.integer_cases cond.now None (rule.less_rows a b) (rule.at_least_rows a b) rest hints.old ≡ Err fault) }
+    requires { IsReady rest hints.old }
+    ensures { Gives result hints.new (rule.integer_cases cond.now None (rule.less_rows a b) (rule.at_least_rows a b) rest hints.old) }
 {
     let alloc = rest.alloc;
     let holds = one_row(
@@ -89,15 +79,10 @@ fn truths(
     rest: State,
     hints: &mut Hints<'_>,
 ) -> Result<Vec<State>, EffectFault>
-    requires bounds { HasBounds rest }
-    requires room { rest.next < 4294967295 }
+    requires ready { IsReady rest hints.old }
     requires holds { All IsBounded holds.items }
     requires fails { All IsBounded fails.items }
-    requires proofs { All rule.HasFewUses hints.old }
-    ensures ok { IfOk result (λ states. rule.integer_cases cond.now None holds.items fails.items rest hints.old
-        ≡ Ok (record { states = states.items; hints = hints.new })) }
-    ensures fault { IfErr result (λ fault. fault ≢ WantOfMemory →
-        rule.integer_cases cond.now None holds.items fails.items rest hints.old ≡ Err fault) }
+    ensures { Gives result hints.new (rule.integer_cases cond.now None holds.items fails.items rest hints.old) }
 {
     let second = truth_case(false, fails, rest.branch()?)?;
     let first = truth_case(true, holds, rest)?;
@@ -128,11 +113,8 @@ fn one_row(row: Row, alloc: Global) -> Result<Vec<Row>, NoMemory>
 
 /// The cases of `=`, which compares two integers or two strings.
 pub fn equal(state: &State, cond: &Cond, hints: &mut Hints<'_>) -> Result<Vec<State>, EffectFault>
-    requires bounds { HasBounds state.now }
-    requires room { state.now.next < 4294967295 }
-    requires proofs { All rule.HasFewUses hints.old }
-    ensures ok { IfOk result (λ states. rule.equal cond.now state.now hints.old ≡ Ok (record { states = states.items; hints = hints.new })) }
-    ensures fault { IfErr result (λ fault. fault ≢ WantOfMemory → rule.equal cond.now state.now hints.old ≡ Err fault) }
+    requires { IsReady state.now hints.old }
+    ensures { Gives result hints.new (rule.equal cond.now state.now hints.old) }
 {
     let (a, b, rest) = two_of(state)?;
     match known_kind(state.facts.as_slice(), b) {
@@ -161,13 +143,8 @@ fn equal_integers(
     rest: State,
     hints: &mut Hints<'_>,
 ) -> Result<Vec<State>, EffectFault>
-    requires bounds { HasBounds rest }
-    requires room { rest.next < 4294967295 }
-    requires proofs { All rule.HasFewUses hints.old }
-    ensures ok { IfOk result (λ states. rule.integer_cases cond.now (rule.equal_decided state.now.facts a b) (rule.equal_rows a b) [] rest hints.old
-        ≡ Ok (record { states = states.items; hints = hints.new })) }
-    ensures fault { IfErr result (λ fault. fault ≢ WantOfMemory →
-        rule.integer_cases cond.now (rule.equal_decided state.now.facts a b) (rule.equal_rows a b) [] rest hints.old ≡ Err fault) }
+    requires { IsReady rest hints.old }
+    ensures { Gives result hints.new (rule.integer_cases cond.now (rule.equal_decided state.now.facts a b) (rule.equal_rows a b) [] rest hints.old) }
 {
     match equal_decided(state.facts.as_slice(), a, b) {
         Some(answer) => Ok(decided(answer, rest)?),
@@ -196,12 +173,8 @@ pub fn above(
     sym: Sym,
     hints: &mut Hints<'_>,
 ) -> Result<Vec<State>, EffectFault>
-    requires bounds { HasBounds state.now }
-    requires proofs { All rule.HasFewUses hints.old }
-    ensures ok { IfOk result (λ states. rule.above_cases cond.now state.now sym (decided.exact_integer state.now.facts sym.0) hints.old
-        ≡ Ok (record { states = states.items; hints = hints.new })) }
-    ensures fault { IfErr result (λ fault. fault ≢ WantOfMemory →
-        rule.above_cases cond.now state.now sym (decided.exact_integer state.now.facts sym.0) hints.old ≡ Err fault) }
+    requires { IsReady state.now hints.old }
+    ensures { Gives result hints.new (rule.above_cases cond.now state.now sym (decided.exact_integer state.now.facts sym.0) hints.old) }
 {
     match exact_integer(state.facts.as_slice(), sym) {
         Some(_) => Ok(one(state.branch()?)?),
@@ -216,11 +189,8 @@ fn signs(
     sym: Sym,
     hints: &mut Hints<'_>,
 ) -> Result<Vec<State>, EffectFault>
-    requires bounds { HasBounds state.now }
-    requires proofs { All rule.HasFewUses hints.old }
-    ensures ok { IfOk result (λ states. rule.above_cases cond.now state.now sym None hints.old
-        ≡ Ok (record { states = states.items; hints = hints.new })) }
-    ensures fault { IfErr result (λ fault. fault ≢ WantOfMemory → rule.above_cases cond.now state.now sym None hints.old ≡ Err fault) }
+    requires { IsReady state.now hints.old }
+    ensures { Gives result hints.new (rule.above_cases cond.now state.now sym None hints.old) }
 {
     let alloc = state.alloc;
     let first = sign_case(state, at_least(alloc, Term::Value(sym.0), 1)?)?;

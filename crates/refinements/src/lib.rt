@@ -7,8 +7,11 @@ ghost use Rattle.name_table.specs.declared.style.Style.{Style};
 ghost use Rattle.sym_state.specs.Cases as rule;
 ghost use Rattle.sym_state.specs.WellMade.{HasBounds, WellMade};
 ghost use Rattle.sym_state.specs.declared.demand.EffectFault.TheVariants.{NoMemory as WantOfMemory};
+ghost use Rattle.sym_state.specs.Demands.{IsReady};
+ghost use Rattle.refinements.specs.Given.{Gives};
 
 use crate::integers::{above, equal, greater, less};
+pub use crate::laws::{one_case_covers, one_case_stands, tests_take_what_they_need};
 use crate::needed::{above_needs, equal_needs, greater_needs, less_needs};
 use crate::strings::{empty, missing};
 use bst_meaning::condition::Cond;
@@ -17,14 +20,14 @@ use sym_state::hint::Hints;
 use sym_state::state::State;
 pub use sym_state::test::Test;
 
-pub mod cases;
-pub mod deciding;
-pub mod integers;
-pub mod laws;
-pub mod needed;
-pub mod operands;
-pub mod strings;
-pub mod weighing;
+mod cases;
+mod deciding;
+mod integers;
+mod laws;
+mod needed;
+mod operands;
+mod strings;
+mod weighing;
 
 /// The states of the cases of a test, that of 1 or of an integer above 0 first. A test that is decided has one case. The
 /// integer of `Above` is one: the caller has made that demand. The hints are taken one after the other, and each is
@@ -56,11 +59,8 @@ fn cases_of(
     test: Test,
     hints: &mut Hints<'_>,
 ) -> Result<Vec<State>, EffectFault>
-    requires bounds { HasBounds state.now }
-    requires room { state.now.next < 4294967295 }
-    requires proofs { All rule.HasFewUses hints.old }
-    ensures ok { IfOk result (λ states. rule.split_of cond.now state.now test hints.old ≡ Ok (record { states = states.items; hints = hints.new })) }
-    ensures fault { IfErr result (λ fault. fault ≢ WantOfMemory → rule.split_of cond.now state.now test hints.old ≡ Err fault) }
+    requires { IsReady state.now hints.old }
+    ensures { Gives result hints.new (rule.split_of cond.now state.now test hints.old) }
 {
     match test {
         Test::Empty => empty(state, hints),

@@ -1,9 +1,9 @@
 //! The cases of tests on strings and missing fields, which take no hint.
 
-ghost use Rattle.std.specs.Prelude.{◌≡◌, ◌≢◌, ◌<◌, [], ◌∷◌, Ok, Err, IfOk, IfErr};
+ghost use Rattle.std.specs.Prelude.{◌≡◌, ◌<◌, [], Ok, IfOk};
 ghost use Rattle.sym_state.specs.Cases as rule;
 ghost use Rattle.sym_state.specs.Decided.{exact_text};
-ghost use Rattle.sym_state.specs.declared.demand.EffectFault.TheVariants.{NoMemory as WantOfMemory};
+ghost use Rattle.refinements.specs.Given.{Gives};
 
 use crate::cases::{both, decided};
 use crate::deciding::texts_decided;
@@ -20,8 +20,7 @@ use sym_state::symbol::{Fact, Kinds, Sym};
 /// The cases of `empty$`.
 pub fn empty(state: &State, hints: &Hints<'_>) -> Result<Vec<State>, EffectFault>
     requires { state.now.next < 4294967295 }
-    ensures ok { IfOk result (λ states. rule.empty state.now hints.now ≡ Ok (record { states = states.items; hints = hints.now })) }
-    ensures fault { IfErr result (λ fault. fault ≢ WantOfMemory → rule.empty state.now hints.now ≡ Err fault) }
+    ensures { Gives result hints.now (rule.empty state.now hints.now) }
 {
     let (operand, rest) = field_of(state)?;
     let known = known_emptiness(state.facts.as_slice(), operand);
@@ -47,8 +46,7 @@ fn empty_cases(known: Option<bool>, operand: Sym, rest: State) -> Result<Vec<Sta
 /// The cases of `missing$`.
 pub fn missing(state: &State, hints: &Hints<'_>) -> Result<Vec<State>, EffectFault>
     requires { state.now.next < 4294967295 }
-    ensures ok { IfOk result (λ states. rule.missing state.now hints.now ≡ Ok (record { states = states.items; hints = hints.now })) }
-    ensures fault { IfErr result (λ fault. fault ≢ WantOfMemory → rule.missing state.now hints.now ≡ Err fault) }
+    ensures { Gives result hints.now (rule.missing state.now hints.now) }
 {
     let (operand, rest) = field_of(state)?;
     let known = known_kind(state.facts.as_slice(), operand);

@@ -1,11 +1,11 @@
 //! Cases that a hint keeps or drops.
 
-ghost use Rattle.std.specs.Prelude.{◌≡◌, ◌≢◌, ◌≤◌, [], ◌∷◌, ◌++◌, length, Ok, Err, IfOk, IfErr};
+ghost use Rattle.std.specs.Prelude.{◌≡◌, ◌≤◌, [], ◌∷◌, ◌++◌, length, IfOk};
 ghost use Rattle.std.specs.List.{All};
 ghost use Rattle.sym_state.specs.Cases as rule;
 ghost use Rattle.sym_state.specs.References.{shows};
 ghost use Rattle.sym_state.specs.WellMade.{HasBounds, IsBounded};
-ghost use Rattle.sym_state.specs.declared.demand.EffectFault.TheVariants.{NoMemory as WantOfMemory};
+ghost use Rattle.refinements.specs.Given.{Gives};
 
 use bst_meaning::condition::Cond;
 use bv_base::memory::NoMemory;
@@ -28,8 +28,7 @@ pub fn weighed_both(
     requires first { HasBounds first }
     requires second { HasBounds second }
     requires proofs { All rule.HasFewUses hints.old }
-    ensures ok { IfOk result (λ states. rule.weighed_both cond.now first second hints.old ≡ Ok (record { states = states.items; hints = hints.new })) }
-    ensures fault { IfErr result (λ fault. fault ≢ WantOfMemory → rule.weighed_both cond.now first second hints.old ≡ Err fault) }
+    ensures { Gives result hints.new (rule.weighed_both cond.now first second hints.old) }
 {
     let kept = weighed(cond, first, hints)?;
     let others = weighed(cond, second, hints)?;
@@ -50,8 +49,7 @@ fn joined(first: Vec<State>, second: Vec<State>) -> Result<Vec<State>, NoMemory>
 fn weighed(cond: &Cond, state: State, hints: &mut Hints<'_>) -> Result<Vec<State>, EffectFault>
     requires state { HasBounds state }
     requires proofs { All rule.HasFewUses hints.old }
-    ensures ok { IfOk result (λ states. rule.weighed cond.now state hints.old ≡ Ok (record { states = states.items; hints = hints.new })) }
-    ensures fault { IfErr result (λ fault. fault ≢ WantOfMemory → rule.weighed cond.now state hints.old ≡ Err fault) }
+    ensures cases { Gives result hints.new (rule.weighed cond.now state hints.old) }
     ensures proofs { IfOk result (λ _. All rule.HasFewUses hints.new) }
 {
     let alloc = state.alloc;
