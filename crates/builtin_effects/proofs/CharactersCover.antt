@@ -106,8 +106,8 @@ chr_to_int_covers s hints after e =
     elim (one_byte (exact_text s.state.facts t.a.0)) as (λ (o : Option ℕ). one_byte (exact_text s.state.facts t.a.0) ≡ o
     → byte_number s.admits s.state t.a (without t.rest s.state) o hints ≡ Ok after → CoversAt s op.ChrToInt after.state) [
       | Some b ↦ λ is found.
-          exact_byte s t.a t.rest t.text.bytes b hints after t.tops t.others t.text.is t.text.fine (one_byte_is (exact_text s.state.facts t.a.0) b is) found
-      | None ↦ λ is found. shown_byte s t.a t.rest t.text.bytes hints after t.tops t.others t.text.is t.text.fine found
+          exact_byte s t.a t.rest t.known.bytes b hints after t.tops t.others t.known.is t.known.fine (one_byte_is (exact_text s.state.facts t.a.0) b is) found
+      | None ↦ λ is found. shown_byte s t.a t.rest t.known.bytes hints after t.tops t.others t.known.is t.known.fine found
     ] refl t.given
 
 -- `int.to.chr$`
@@ -137,15 +137,15 @@ ascii_put s hints after t =
     let high = at_most (ValueOf t.a.0) (pos 127) in
     let u = steps_ok s.admits s.state low high (fails NotAscii 1) hints
     (λ left. gives left (with_result Str [] (first ∷ second ∷ []) (without t.rest s.state))) after t.given in
-    let number_is : numbers s.v (ValueOf t.a.0) ≡ t.number.n = ap integer_of t.number.is in
+    let number_is : numbers s.v (ValueOf t.a.0) ≡ t.known.n = ap integer_of t.known.is in
     let least = at_least_says (numbers s.v) (ValueOf t.a.0) (pos 0) (row_met s u.one low u.first_shown) in
     let most = at_most_says (numbers s.v) (ValueOf t.a.0) (pos 127) (row_met s u.other high u.second_shown) in
-    let ascii = is_ascii t.number.n (subst (λ (k : ℤ). pos 0 ≤ℤ k) number_is least) (subst (λ (k : ℤ). k ≤ℤ pos 127) number_is most) in
+    let ascii = is_ascii t.known.n (subst (λ (k : ℤ). pos 0 ≤ℤ k) number_is least) (subst (λ (k : ℤ). k ≤ℤ pos 127) number_is most) in
     let b : ℕ = ascii.byte in
     let value : Value = StrValue (b ∷ []) in
     let w = numbers (after_value s value) in
     let wr : w r ≡ pos 1 = term_new_length s value in
-    let byte_is : s.v.value t.a.0 ≡ IntValue (pos b) = t.number.is ∙ ap (λ (k : ℤ). IntValue k) ascii.is in
+    let byte_is : s.v.value t.a.0 ≡ IntValue (pos b) = t.known.is ∙ ap (λ (k : ℤ). IntValue k) ascii.is in
     put s op.IntToChr t.rest Str [] (first ∷ second ∷ []) value u.left after t.others
     (one_then s op.IntToChr t.a t.rest (IntValue (pos b)) (pushed value (lower s t.rest)) t.tops byte_is
     (ascii_pushed b (lower s t.rest) ascii.below))
@@ -166,12 +166,12 @@ int_to_str_covers s hints after e =
     let t = number_operand s (λ a rest.
     gives hints (with_result Str (Nonblank (next_of rest) ∷ []) (at_least (LengthOf rest.next) (pos 1) ∷ at_most (LengthOf rest.next) (pos 11) ∷ []) rest))
     after e in
-    let n : ℤ = t.number.n in
+    let n : ℤ = t.known.n in
     let value : Value = StrValue (numeral n) in
     let w = numbers (after_value s value) in
     let wr : w r ≡ pos (length (numeral n)) = term_new_length s value in
-    let sizes = numeral_sizes n t.number.bits in
+    let sizes = numeral_sizes n t.known.bits in
     put s op.IntToStr t.rest Str (Nonblank (next_of s.state) ∷ []) (first ∷ second ∷ []) value hints after t.others
-    (one_given s op.IntToStr t.a t.rest (IntValue n) t.tops t.number.is) (numeral_bytes n) refl
+    (one_given s op.IntToStr t.a t.rest (IntValue n) t.tops t.known.is) (numeral_bytes n) refl
     (ap emptiness (value_new s value) ∙ ap (λ (b : Bool). Some b) (numeral_nonblank n), tt)
     (at_least_holds w r (pos 1) (omega (arith, ints, wr, sizes.0)), (at_most_holds w r (pos 11) (omega (arith, ints, wr, sizes.1)), tt)) t.given

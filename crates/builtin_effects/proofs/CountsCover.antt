@@ -45,8 +45,8 @@ names_counted s hints after t =
     let second = exceeds names r (pos 0) in
     let u = step_ok s.admits s.state (at_most names (pos 2147483647)) (fails IntRange 0) hints
     (λ left. gives left (with_result Int [] (first ∷ second ∷ []) (without t.rest s.state))) after t.given in
-    let n : ℕ = length (names_of t.text.bytes) in
-    let count_is : numbers s.v names ≡ pos n = ap name_count_of t.text.is in
+    let n : ℕ = length (names_of t.known.bytes) in
+    let count_is : numbers s.v names ≡ pos n = ap name_count_of t.known.is in
     let most = at_most_says (numbers s.v) names (pos 2147483647) (row_met s u.proof (at_most names (pos 2147483647)) u.shown) in
     let bits = number_bits n (omega (arith, ints, most, count_is)) in
     let value : Value = IntValue (pos n) in
@@ -54,7 +54,7 @@ names_counted s hints after t =
     let wr : w r ≡ pos n = term_new_value s value in
     let wn : w names ≡ pos n = term_old s value names t.old ∙ count_is in
     put s op.NumNames t.rest Int [] (first ∷ second ∷ []) value u.left after t.others
-    (one_then s op.NumNames t.a t.rest (StrValue t.text.bytes) (pushed value (lower s t.rest)) t.tops t.text.is (in_range (pos n) (lower s t.rest) bits)) bits refl tt
+    (one_then s op.NumNames t.a t.rest (StrValue t.known.bytes) (pushed value (lower s t.rest)) t.tops t.known.is (in_range (pos n) (lower s t.rest) bits)) bits refl tt
     (exceeds_holds w r names (pos 0) (omega (arith, ints, wr, wn)), (exceeds_holds w names r (pos 0) (omega (arith, ints, wr, wn)), tt)) u.given
 
 pub num_names_covers : (s : Spot) (hints : List Hint) (after : After) → effect_of s.style s.admits s.state op.NumNames hints ≡ Ok after
@@ -74,17 +74,17 @@ characters_counted s hints after t =
     let second = exceeds bytes r (pos 0) in
     let u = step_ok s.admits s.state (at_most bytes (pos 2147483647)) (fails IntRange 0) hints
     (λ left. gives left (with_result Int [] (first ∷ second ∷ []) (without t.rest s.state))) after t.given in
-    let n : ℕ = text_length_of t.text.bytes in
-    let few = text_length_shorter t.text.bytes in
-    let length_is : numbers s.v bytes ≡ pos (length t.text.bytes) = ap length_of t.text.is in
+    let n : ℕ = text_length_of t.known.bytes in
+    let few = text_length_shorter t.known.bytes in
+    let length_is : numbers s.v bytes ≡ pos (length t.known.bytes) = ap length_of t.known.is in
     let most = at_most_says (numbers s.v) bytes (pos 2147483647) (row_met s u.proof (at_most bytes (pos 2147483647)) u.shown) in
     let bits = number_bits n (omega (arith, ints, most, length_is, few)) in
     let value : Value = IntValue (pos n) in
     let w = numbers (after_value s value) in
     let wr : w r ≡ pos n = term_new_value s value in
-    let wl : w bytes ≡ pos (length t.text.bytes) = term_old s value bytes t.old ∙ length_is in
+    let wl : w bytes ≡ pos (length t.known.bytes) = term_old s value bytes t.old ∙ length_is in
     put s op.TextLength t.rest Int [] (first ∷ second ∷ []) value u.left after t.others
-    (one_then s op.TextLength t.a t.rest (StrValue t.text.bytes) (pushed value (lower s t.rest)) t.tops t.text.is (in_range (pos n) (lower s t.rest) bits)) bits refl tt
+    (one_then s op.TextLength t.a t.rest (StrValue t.known.bytes) (pushed value (lower s t.rest)) t.tops t.known.is (in_range (pos n) (lower s t.rest) bits)) bits refl tt
     (at_least_holds w r (pos 0) (omega (arith, ints, wr)), (exceeds_holds w bytes r (pos 0) (omega (arith, ints, wr, wl, few)), tt)) u.given
 
 pub text_length_covers : (s : Spot) (hints : List Hint) (after : After) → effect_of s.style s.admits s.state op.TextLength hints ≡ Ok after
@@ -114,10 +114,10 @@ width_measured s hints after t =
     let second = sum_of_two (pos 0) (pos 1028) bytes (negsuc 0) r in
     let u = step_ok s.admits s.state enough (fails IntRange 0) hints
     (λ left. gives left (with_result Int [] (first ∷ second ∷ []) (without t.rest s.state))) after t.given in
-    let n : ℕ = width_of t.text.bytes in
-    let l : ℕ = length t.text.bytes in
-    let few = width_bounded t.text.bytes in
-    let length_is : numbers s.v bytes ≡ pos l = ap length_of t.text.is in
+    let n : ℕ = width_of t.known.bytes in
+    let l : ℕ = length t.known.bytes in
+    let few = width_bounded t.known.bytes in
+    let length_is : numbers s.v bytes ≡ pos l = ap length_of t.known.is in
     let wide : negsuc 1027 *ℤ numbers s.v bytes ≡ neg_ℤ (pos (1028 * l)) = ap (λ (k : ℤ). negsuc 1027 *ℤ k) length_is ∙ scaled_back l in
     let none = zero_mul (numbers s.v bytes) in
     let most = two_says (numbers s.v) (pos 2147483647) (negsuc 1027) bytes (pos 0) bytes (row_met s u.proof enough u.shown) in
@@ -128,7 +128,7 @@ width_measured s hints after t =
     let wl : w bytes ≡ pos l = term_old s value bytes t.old ∙ length_is in
     let whole : pos 1028 *ℤ w bytes ≡ pos (1028 * l) = ap (λ (k : ℤ). pos 1028 *ℤ k) wl ∙ scaled l in
     put s op.Width t.rest Int [] (first ∷ second ∷ []) value u.left after t.others
-    (one_then s op.Width t.a t.rest (StrValue t.text.bytes) (pushed value (lower s t.rest)) t.tops t.text.is (in_range (pos n) (lower s t.rest) bits)) bits refl tt (
+    (one_then s op.Width t.a t.rest (StrValue t.known.bytes) (pushed value (lower s t.rest)) t.tops t.known.is (in_range (pos n) (lower s t.rest) bits)) bits refl tt (
       at_least_holds w r (pos 0) (omega (arith, ints, wr)),
       (two_holds w (pos 0) (pos 1028) bytes (negsuc 0) r (omega (arith, ints, wr, whole, few, minus (w r))), tt),
     ) u.given

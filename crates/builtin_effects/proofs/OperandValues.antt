@@ -7,9 +7,10 @@ use Rattle.bst_meaning.specs.Entries.{IsByteList}
 use Rattle.bst_meaning.specs.Operands.{has_32_bits}
 use Rattle.sym_state.specs.declared.demand.DemandKind.TheVariants.{WrongKind}
 use Rattle.sym_state.specs.declared.state.State.{State}
+use Rattle.sym_state.specs.declared.symbol.Kinds.{Kinds}
 use Rattle.sym_state.specs.declared.symbol.Kinds.TheVariants.{Int, Str}
 use Rattle.sym_state.specs.declared.symbol.Sym.{Sym}
-use Rattle.sym_state.specs.Demands.{After, Outcome, is_of_kind, of_kind}
+use Rattle.sym_state.specs.Demands.{After, Outcome, is_of_kind, of_kind, one_operand}
 use Rattle.sym_state.specs.Effects.{integer, string}
 use Rattle.sym_state.specs.Symbols.{IsValue}
 use Rattle.sym_state.proofs.KnownKinds.{integer_is, string_is}
@@ -45,50 +46,41 @@ number_met s a e =
       bits = subst (λ (x : Value). IsValue x) found.1 (s.stands.satisfied.values a.0);
     }
 
--- one string
-pub record TextOperand (s : Spot) (rule : Sym → State → Outcome) (after : After) : Type 0 where
+-- one operand of which its kind says this
+pub record OneOperand (s : Spot) (Is : Sym → Type 0) (rule : Sym → State → Outcome) (after : After) : Type 0 where
   pub a : Sym
   pub rest : List Sym
   pub tops : reverse s.state.stack ≡ a ∷ rest
   pub old : a.0 < s.state.next
   pub others : Old s rest
-  pub text : IsText s a
+  pub known : Is a
   pub given : rule a (without rest s.state) ≡ Ok after
+
+operand : (s : Spot) (kind : Kinds) (Is : Sym → Type 0) (rule : Sym → State → Outcome) (after : After) → ((a : Sym) → is_of_kind s.state kind a ≡ true → Is a)
+    → one_operand s.state (λ a rest. of_kind s.state kind 1 a (rule a rest)) ≡ Ok after → OneOperand s Is rule after
+operand s kind Is rule after said e =
+    let one = one_ok s.state (λ a rest. of_kind s.state kind 1 a (rule a rest)) after e in
+    let met = demand_ok (is_of_kind s.state kind one.a) WrongKind 1 (rule one.a (without one.rest s.state)) after one.given in
+    let old = tops_old s (one.a ∷ one.rest) one.tops in record {
+      a = one.a;
+      rest = one.rest;
+      tops = one.tops;
+      old = first_old s one.a one.rest old;
+      others = others_old s one.a one.rest old;
+      known = said one.a met.0;
+      given = met.1;
+    }
+
+-- one string
+abbrev pub TextOperand : Spot → (Sym → State → Outcome) → After → Type 0
+TextOperand s rule after = OneOperand s (IsText s) rule after
 
 pub text_operand : (s : Spot) (rule : Sym → State → Outcome) (after : After) → string s.state rule ≡ Ok after → TextOperand s rule after
-text_operand s rule after e =
-    let one = one_ok s.state (λ a rest. of_kind s.state Str 1 a (rule a rest)) after e in
-    let met = demand_ok (is_of_kind s.state Str one.a) WrongKind 1 (rule one.a (without one.rest s.state)) after one.given in
-    let old = tops_old s (one.a ∷ one.rest) one.tops in record {
-      a = one.a;
-      rest = one.rest;
-      tops = one.tops;
-      old = first_old s one.a one.rest old;
-      others = others_old s one.a one.rest old;
-      text = text_met s one.a met.0;
-      given = met.1;
-    }
+text_operand s rule after e = operand s Str (IsText s) rule after (text_met s) e
 
 -- one integer
-pub record NumberOperand (s : Spot) (rule : Sym → State → Outcome) (after : After) : Type 0 where
-  pub a : Sym
-  pub rest : List Sym
-  pub tops : reverse s.state.stack ≡ a ∷ rest
-  pub old : a.0 < s.state.next
-  pub others : Old s rest
-  pub number : IsNumber s a
-  pub given : rule a (without rest s.state) ≡ Ok after
+abbrev pub NumberOperand : Spot → (Sym → State → Outcome) → After → Type 0
+NumberOperand s rule after = OneOperand s (IsNumber s) rule after
 
 pub number_operand : (s : Spot) (rule : Sym → State → Outcome) (after : After) → integer s.state rule ≡ Ok after → NumberOperand s rule after
-number_operand s rule after e =
-    let one = one_ok s.state (λ a rest. of_kind s.state Int 1 a (rule a rest)) after e in
-    let met = demand_ok (is_of_kind s.state Int one.a) WrongKind 1 (rule one.a (without one.rest s.state)) after one.given in
-    let old = tops_old s (one.a ∷ one.rest) one.tops in record {
-      a = one.a;
-      rest = one.rest;
-      tops = one.tops;
-      old = first_old s one.a one.rest old;
-      others = others_old s one.a one.rest old;
-      number = number_met s one.a met.0;
-      given = met.1;
-    }
+number_operand s rule after e = operand s Int (IsNumber s) rule after (number_met s) e

@@ -131,17 +131,17 @@ add_period_covers s hints after e =
     let t = text_operand s (λ a rest. gives hints (with_result Str (nonblank_where (is_known_nonblank s.state.facts a.0) (next_of rest))
     (exceeds (LengthOf rest.next) (LengthOf a.0) (pos 0) ∷ exceeds (LengthOf a.0) (LengthOf rest.next) (negsuc 0) ∷ []) rest)) after e in
     let la = LengthOf t.a.0 in
-    let x : List ℕ = t.text.bytes in
+    let x : List ℕ = t.known.bytes in
     let known : Bool = is_known_nonblank s.state.facts t.a.0 in
     let value : Value = StrValue (with_period x) in
     let w = numbers (after_value s value) in
     let wr : w r ≡ pos (length (with_period x)) = term_new_length s value in
-    let wa : w la ≡ pos (length x) = term_old s value la t.old ∙ ap length_of t.text.is in
+    let wa : w la ≡ pos (length x) = term_old s value la t.old ∙ ap length_of t.known.is in
     let least = with_period_longer x in
     let most = with_period_shorter x in
     put s op.AddPeriod t.rest Str (nonblank_where known (next_of s.state)) (exceeds r la (pos 0) ∷ exceeds la r (negsuc 0) ∷ []) value hints after t.others
-    (one_given s op.AddPeriod t.a t.rest (StrValue x) t.tops t.text.is) (with_period_bytes x t.text.fine) refl
-    (nonblank_holds s (with_period x) known (λ h. with_period_nonblank x (known_nonblank s t.a x t.text.is h)))
+    (one_given s op.AddPeriod t.a t.rest (StrValue x) t.tops t.known.is) (with_period_bytes x t.known.fine) refl
+    (nonblank_holds s (with_period x) known (λ h. with_period_nonblank x (known_nonblank s t.a x t.known.is h)))
     (exceeds_holds w r la (pos 0) (omega (arith, ints, wr, wa, least)), (exceeds_holds w la r (negsuc 0) (omega (arith, ints, wr, wa, most)), tt)) t.given
 
 -- a new string that is no longer than another
@@ -163,9 +163,9 @@ pub purify_covers : (s : Spot) (hints : List Hint) (after : After) → effect_of
     → CoversAt s op.Purify after.state
 purify_covers s hints after e =
     let t = text_operand s (λ a rest. no_longer a hints rest) after e in
-    let x : List ℕ = t.text.bytes in
-    shorter_put s op.Purify t.a t.rest x (purified x) hints after t.old t.others t.text.is (purified_bytes x t.text.fine) (purified_shorter x)
-    (one_given s op.Purify t.a t.rest (StrValue x) t.tops t.text.is) t.given
+    let x : List ℕ = t.known.bytes in
+    shorter_put s op.Purify t.a t.rest x (purified x) hints after t.old t.others t.known.is (purified_bytes x t.known.fine) (purified_shorter x)
+    (one_given s op.Purify t.a t.rest (StrValue x) t.tops t.known.is) t.given
 
 -- `change.case$`
 record HasMode (found : Option (List ℕ)) : Type 0 where

@@ -10,7 +10,7 @@ ghost use Rattle.sym_state.specs.Effects as rule;
 ghost use Rattle.builtin_effects.specs.Given.{Gives};
 ghost use Rattle.builtin_effects.specs.Taken.{without};
 
-use crate::operands::{demand, of_kind, two, unmet};
+use crate::operands::{demand, of_kind, two};
 use crate::results::{Said, with_symbol, without};
 use crate::steps::choice;
 use bst_meaning::condition::Cond;
@@ -39,7 +39,7 @@ pub fn assign(
     of_kind(state, Kinds::Func, 1, f)?;
     match exact_name(state.facts.as_slice(), f) {
         Some(name) => assigned(state, cond, kind_of(style, name), name, a, hints),
-        None => Err(unmet(DemandKind::NotVariable, 1)),
+        None => Err(EffectFault::unmet(DemandKind::NotVariable, 1)),
     }
 }
 
@@ -70,7 +70,7 @@ fn assigned(
             of_kind(state, Kinds::Str, 2, a)?;
             string_assigned(state, cond, name, 250, a, hints)
         }
-        _ => Err(unmet(DemandKind::NotVariable, 1)),
+        _ => Err(EffectFault::unmet(DemandKind::NotVariable, 1)),
     }
 }
 

@@ -9,7 +9,6 @@ ghost use Rattle.sym_state.specs.WellMade.{HasBounds, WellMade};
 ghost use Rattle.builtin_effects.specs.Given.{Gives};
 
 use crate::assign::assign;
-use crate::operands::unmet;
 use crate::substring::substring;
 use crate::{moves, numbers, surroundings, texts};
 use bst_meaning::condition::Cond;
@@ -57,38 +56,38 @@ fn effect_by(
     state: &State,
     cond: &Cond,
     op: Builtin,
-    hints: &mut Hints<'_>,
+    cursor: &mut Hints<'_>,
 ) -> Result<State, EffectFault>
-    requires { IsReady state.now hints.old }
-    ensures { Gives result hints.new (effect_of style.now cond.now state.now op hints.old) }
+    requires { IsReady state.now cursor.old }
+    ensures { Gives result cursor.new (effect_of style.now cond.now state.now op cursor.old) }
 {
     match op {
-        Builtin::Plus => numbers::plus(state, cond, hints),
-        Builtin::Minus => numbers::minus(state, cond, hints),
+        Builtin::Plus => numbers::plus(state, cond, cursor),
+        Builtin::Minus => numbers::minus(state, cond, cursor),
         Builtin::Join => texts::join(state),
-        Builtin::Assign => assign(style, state, cond, hints),
+        Builtin::Assign => assign(style, state, cond, cursor),
         Builtin::AddPeriod => texts::add_period(state),
         Builtin::ChangeCase => texts::change_case(state),
-        Builtin::ChrToInt => numbers::chr_to_int(state, cond, hints),
+        Builtin::ChrToInt => numbers::chr_to_int(state, cond, cursor),
         Builtin::Cite => surroundings::cite(state, cond),
         Builtin::Duplicate => moves::duplicate(state),
-        Builtin::FormatName => texts::format_name(state, cond, hints),
-        Builtin::IntToChr => numbers::int_to_chr(state, cond, hints),
+        Builtin::FormatName => texts::format_name(state, cond, cursor),
+        Builtin::IntToChr => numbers::int_to_chr(state, cond, cursor),
         Builtin::IntToStr => numbers::int_to_str(state),
         Builtin::Newline | Builtin::Skip => moves::same(state),
-        Builtin::NumNames => numbers::num_names(state, cond, hints),
+        Builtin::NumNames => numbers::num_names(state, cond, cursor),
         Builtin::Pop | Builtin::Top => moves::pop(state),
         Builtin::Preamble => surroundings::preamble(state, cond),
         Builtin::Purify => texts::purify(state),
         Builtin::Quote => surroundings::quote(state),
         Builtin::Stack => moves::log_stack(state),
-        Builtin::Substring => substring(state, cond, hints),
+        Builtin::Substring => substring(state, cond, cursor),
         Builtin::Swap => moves::swap(state),
-        Builtin::TextLength => numbers::text_length(state, cond, hints),
+        Builtin::TextLength => numbers::text_length(state, cond, cursor),
         Builtin::TextPrefix => texts::text_prefix(state),
         Builtin::TypeName => surroundings::type_name(state),
         Builtin::Warning | Builtin::Write => moves::pop_string(state),
-        Builtin::Width => numbers::width(state, cond, hints),
-        _ => Err(unmet(DemandKind::WrongKind, 0)),
+        Builtin::Width => numbers::width(state, cond, cursor),
+        _ => Err(EffectFault::unmet(DemandKind::WrongKind, 0)),
     }
 }

@@ -1,14 +1,16 @@
 //! The effects of the built-in functions on symbolic states (docs/EFFECTS.md).
 #![tactic(auto)]
 
-pub mod assign;
+mod assign;
 pub mod effect;
-pub mod laws;
-pub mod moves;
-pub mod numbers;
-pub mod operands;
-pub mod results;
-pub mod steps;
-pub mod substring;
-pub mod surroundings;
-pub mod texts;
+mod laws;
+mod moves;
+mod numbers;
+mod operands;
+mod results;
+mod steps;
+mod substring;
+mod surroundings;
+mod texts;
+
+pub use crate::laws::{effects_cover, effects_keep};

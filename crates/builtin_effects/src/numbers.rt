@@ -16,7 +16,7 @@ ghost use Rattle.sym_state.specs.WellMade.{IsBounded};
 ghost use Rattle.builtin_effects.specs.Given.{Gives, facts_of, rows_of};
 ghost use Rattle.builtin_effects.specs.Taken.{without};
 
-use crate::operands::{of_kind, one, two, unmet};
+use crate::operands::{of_kind, one, two};
 use crate::results::{Said, part, with_result};
 use crate::steps::{step, two_steps};
 use bst_meaning::condition::Cond;
@@ -42,7 +42,7 @@ pub fn plus(state: &State, cond: &Cond, hints: &mut Hints<'_>) -> Result<State, 
     match (exact_integer(facts, a), exact_integer(facts, b)) {
         (Some(m), Some(n)) => match m.checked_add(n) {
             Some(sum) => Ok(with_result(state, 2, Kinds::Int, exactly(state, sum))?),
-            None => Err(unmet(DemandKind::IntRange, 0)),
+            None => Err(EffectFault::unmet(DemandKind::IntRange, 0)),
         },
         _ => unknown_sum(state, cond, a, part(1, upper), part(-1, upper), hints),
     }
@@ -61,7 +61,7 @@ pub fn minus(state: &State, cond: &Cond, hints: &mut Hints<'_>) -> Result<State,
     match (exact_integer(facts, a), exact_integer(facts, b)) {
         (Some(m), Some(n)) => match m.checked_sub(n) {
             Some(difference) => Ok(with_result(state, 2, Kinds::Int, exactly(state, difference))?),
-            None => Err(unmet(DemandKind::IntRange, 0)),
+            None => Err(EffectFault::unmet(DemandKind::IntRange, 0)),
         },
         _ => unknown_sum(state, cond, a, part(-1, upper), part(1, upper), hints),
     }
@@ -101,7 +101,7 @@ fn unknown_sum(
         cond,
         &low,
         &high,
-        unmet(DemandKind::IntRange, 0),
+        EffectFault::unmet(DemandKind::IntRange, 0),
         hints,
     )?;
     let r = Term::Value(state.next);
@@ -154,7 +154,7 @@ fn unknown_byte(
         cond,
         &low,
         &high,
-        unmet(DemandKind::NotOneByte, 1),
+        EffectFault::unmet(DemandKind::NotOneByte, 1),
         hints,
     )?;
     let r = Term::Value(state.next);
@@ -178,7 +178,7 @@ pub fn int_to_chr(state: &State, cond: &Cond, hints: &mut Hints<'_>) -> Result<S
         cond,
         &low,
         &high,
-        unmet(DemandKind::NotAscii, 1),
+        EffectFault::unmet(DemandKind::NotAscii, 1),
         hints,
     )?;
     let r = Term::Length(state.next);
@@ -267,6 +267,12 @@ fn counted(
     ensures { Gives result hints.new (demands.step cond.now state.now high.now (demands.fails IntRange 0) hints.old
         (λ left. demands.gives left (results.with_result IntKind (facts_of said) (rows_of said) (without 1 state.now)))) }
 {
-    step(state, cond, high, unmet(DemandKind::IntRange, 0), hints)?;
+    step(
+        state,
+        cond,
+        high,
+        EffectFault::unmet(DemandKind::IntRange, 0),
+        hints,
+    )?;
     Ok(with_result(state, 1, Kinds::Int, said)?)
 }

@@ -7,7 +7,7 @@ ghost use Rattle.sym_state.specs.Demands.{Outcome, one_operand, two_operands, th
 ghost use Rattle.sym_state.specs.Demands as rule;
 ghost use Rattle.builtin_effects.specs.Taken.{without};
 
-use sym_state::demand::{Demand, DemandKind, EffectFault};
+use sym_state::demand::{DemandKind, EffectFault};
 use sym_state::facts;
 use sym_state::state::State;
 use sym_state::symbol::{Kinds, Sym};
@@ -20,7 +20,7 @@ pub fn one(state: &State) -> Result<Sym, EffectFault>
 {
     match below(state.stack.as_slice(), 0) {
         Some(a) => Ok(a),
-        None => Err(unmet(DemandKind::EmptyPop, 1)),
+        None => Err(EffectFault::unmet(DemandKind::EmptyPop, 1)),
     }
 }
 
@@ -33,8 +33,8 @@ pub fn two(state: &State) -> Result<(Sym, Sym), EffectFault>
     let stack = state.stack.as_slice();
     match (below(stack, 1), below(stack, 0)) {
         (Some(a), Some(b)) => Ok((a, b)),
-        (None, Some(_)) => Err(unmet(DemandKind::EmptyPop, 2)),
-        _ => Err(unmet(DemandKind::EmptyPop, 1)),
+        (None, Some(_)) => Err(EffectFault::unmet(DemandKind::EmptyPop, 2)),
+        _ => Err(EffectFault::unmet(DemandKind::EmptyPop, 1)),
     }
 }
 
@@ -47,9 +47,9 @@ pub fn three(state: &State) -> Result<(Sym, Sym, Sym), EffectFault>
     let stack = state.stack.as_slice();
     match (below(stack, 2), below(stack, 1), below(stack, 0)) {
         (Some(a), Some(b), Some(c)) => Ok((a, b, c)),
-        (None, Some(_), Some(_)) => Err(unmet(DemandKind::EmptyPop, 3)),
-        (_, None, Some(_)) => Err(unmet(DemandKind::EmptyPop, 2)),
-        _ => Err(unmet(DemandKind::EmptyPop, 1)),
+        (None, Some(_), Some(_)) => Err(EffectFault::unmet(DemandKind::EmptyPop, 3)),
+        (_, None, Some(_)) => Err(EffectFault::unmet(DemandKind::EmptyPop, 2)),
+        _ => Err(EffectFault::unmet(DemandKind::EmptyPop, 1)),
     }
 }
 
@@ -72,15 +72,8 @@ pub fn demand(met: bool, kind: DemandKind, operand: u8) -> Result<(), EffectFaul
     if met {
         Ok(())
     } else {
-        Err(unmet(kind, operand))
+        Err(EffectFault::unmet(kind, operand))
     }
-}
-
-/// A demand that isn't met.
-pub fn unmet(kind: DemandKind, operand: u8) -> EffectFault
-    ensures { result ≡ rule.fails kind operand }
-{
-    EffectFault::Demand(Demand { kind, operand })
 }
 
 /// The symbol so far below the top.

@@ -8,7 +8,7 @@ ghost use Rattle.sym_state.specs.Effects as rule;
 ghost use Rattle.builtin_effects.specs.Given.{Gives};
 ghost use Rattle.builtin_effects.specs.Taken.{without};
 
-use crate::operands::{demand, of_kind, one, three, two, unmet};
+use crate::operands::{demand, of_kind, one, three, two};
 use crate::results::{Said, part, with_result};
 use crate::steps::two_steps;
 use bst_meaning::condition::Cond;
@@ -140,7 +140,7 @@ pub fn format_name(state: &State, cond: &Cond, hints: &mut Hints<'_>) -> Result<
         cond,
         &low,
         &high,
-        unmet(DemandKind::BadNameIndex, 2),
+        EffectFault::unmet(DemandKind::BadNameIndex, 2),
         hints,
     )?;
     let facts = state.facts.as_slice();

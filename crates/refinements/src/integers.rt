@@ -10,7 +10,7 @@ ghost use Rattle.refinements.specs.Given.{Gives};
 
 use crate::cases::{decided, with_case, with_truth};
 use crate::deciding::{equal_decided, greater_decided, less_decided};
-use crate::operands::{integers_of, is_of_kind, two_of, unmet};
+use crate::operands::{integers_of, two_of};
 use crate::strings::equal_texts;
 use crate::weighing::{one, weighed_both};
 use bst_meaning::condition::Cond;
@@ -18,7 +18,7 @@ use bv_base::memory::NoMemory;
 use lin_facts::row::{Row, Term};
 use std::alloc::Global;
 use sym_state::demand::{DemandKind, EffectFault};
-use sym_state::facts::{exact_integer, known_kind};
+use sym_state::facts::{exact_integer, is_of_kind, known_kind};
 use sym_state::hint::Hints;
 use sym_state::references::{at_least, at_most, exceeds};
 use sym_state::state::State;
@@ -119,18 +119,18 @@ pub fn equal(state: &State, cond: &Cond, hints: &mut Hints<'_>) -> Result<Vec<St
     let (a, b, rest) = two_of(state)?;
     match known_kind(state.facts.as_slice(), b) {
         Kinds::Int => {
-            if !is_of_kind(state, Kinds::Int, a) {
-                return Err(unmet(DemandKind::WrongKind, 2));
+            if !is_of_kind(state.facts.as_slice(), Kinds::Int, a) {
+                return Err(EffectFault::unmet(DemandKind::WrongKind, 2));
             }
             equal_integers(state, cond, a, b, rest, hints)
         }
         Kinds::Str => {
-            if !is_of_kind(state, Kinds::Str, a) {
-                return Err(unmet(DemandKind::WrongKind, 2));
+            if !is_of_kind(state.facts.as_slice(), Kinds::Str, a) {
+                return Err(EffectFault::unmet(DemandKind::WrongKind, 2));
             }
             Ok(equal_texts(state, a, b, rest)?)
         }
-        _ => Err(unmet(DemandKind::WrongKind, 1)),
+        _ => Err(EffectFault::unmet(DemandKind::WrongKind, 1)),
     }
 }
 

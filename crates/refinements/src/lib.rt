@@ -57,18 +57,18 @@ fn cases_of(
     state: &State,
     cond: &Cond,
     test: Test,
-    hints: &mut Hints<'_>,
+    cursor: &mut Hints<'_>,
 ) -> Result<Vec<State>, EffectFault>
-    requires { IsReady state.now hints.old }
-    ensures { Gives result hints.new (rule.split_of cond.now state.now test hints.old) }
+    requires { IsReady state.now cursor.old }
+    ensures { Gives result cursor.new (rule.split_of cond.now state.now test cursor.old) }
 {
     match test {
-        Test::Empty => empty(state, hints),
-        Test::Missing => missing(state, hints),
-        Test::Equal => equal(state, cond, hints),
-        Test::Less => less(state, cond, hints),
-        Test::Greater => greater(state, cond, hints),
-        Test::Above(s) => above(state, cond, s, hints),
+        Test::Empty => empty(state, cursor),
+        Test::Missing => missing(state, cursor),
+        Test::Equal => equal(state, cond, cursor),
+        Test::Less => less(state, cond, cursor),
+        Test::Greater => greater(state, cond, cursor),
+        Test::Above(s) => above(state, cond, s, cursor),
     }
 }
 

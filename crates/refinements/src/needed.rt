@@ -7,8 +7,7 @@ ghost use Rattle.sym_state.specs.Demands as demand;
 ghost use Rattle.sym_state.specs.declared.symbol.Kinds.TheVariants.{Int as IntKind};
 
 use crate::deciding::{equal_decided, greater_decided, less_decided};
-use crate::operands::is_of_kind;
-use sym_state::facts::exact_integer;
+use sym_state::facts::{exact_integer, is_of_kind};
 use sym_state::state::State;
 use sym_state::symbol::{Kinds, Sym};
 
@@ -84,5 +83,6 @@ fn top_integers(state: &State) -> Option<(Sym, Sym)>
 fn are_integers(state: &State, lower: Sym, upper: Sym) -> bool
     ensures { result ≡ (demand.is_of_kind state.now IntKind upper && demand.is_of_kind state.now IntKind lower) }
 {
-    is_of_kind(state, Kinds::Int, upper) && is_of_kind(state, Kinds::Int, lower)
+    let facts = state.facts.as_slice();
+    is_of_kind(facts, Kinds::Int, upper) && is_of_kind(facts, Kinds::Int, lower)
 }

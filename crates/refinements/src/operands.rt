@@ -2,12 +2,11 @@
 
 ghost use Rattle.std.specs.Prelude.{◌≡◌, ◌≢◌, ◌<◌, reverse, Ok, Err, IfOk, IfErr};
 ghost use Rattle.sym_state.specs.Cases as rule;
-ghost use Rattle.sym_state.specs.Demands as demand;
 ghost use Rattle.sym_state.specs.WellMade.{HasBounds};
 ghost use Rattle.sym_state.specs.declared.demand.EffectFault.TheVariants.{NoMemory as WantOfMemory};
 
-use sym_state::demand::{Demand, DemandKind, EffectFault};
-use sym_state::facts::{includes, known_kind};
+use sym_state::demand::{DemandKind, EffectFault};
+use sym_state::facts::is_of_kind;
 use sym_state::state::State;
 use sym_state::symbol::{Kinds, Sym};
 
@@ -18,10 +17,10 @@ pub fn field_of(state: &State) -> Result<(Sym, State), EffectFault>
     ensures next { IfOk result (λ taken. taken.1.next ≡ state.now.next) }
 {
     let (operand, rest) = one_of(state)?;
-    if is_of_kind(state, Kinds::Optional, operand) {
+    if is_of_kind(state.facts.as_slice(), Kinds::Optional, operand) {
         Ok((operand, rest))
     } else {
-        Err(unmet(DemandKind::WrongKind, 1))
+        Err(EffectFault::unmet(DemandKind::WrongKind, 1))
     }
 }
 
@@ -33,11 +32,11 @@ pub fn integers_of(state: &State) -> Result<(Sym, Sym, State), EffectFault>
     ensures bounds { HasBounds state.now → IfOk result (λ taken. HasBounds taken.2) }
 {
     let (lower, upper, rest) = two_of(state)?;
-    if !is_of_kind(state, Kinds::Int, upper) {
-        return Err(unmet(DemandKind::WrongKind, 1));
+    if !is_of_kind(state.facts.as_slice(), Kinds::Int, upper) {
+        return Err(EffectFault::unmet(DemandKind::WrongKind, 1));
     }
-    if !is_of_kind(state, Kinds::Int, lower) {
-        return Err(unmet(DemandKind::WrongKind, 2));
+    if !is_of_kind(state.facts.as_slice(), Kinds::Int, lower) {
+        return Err(EffectFault::unmet(DemandKind::WrongKind, 2));
     }
     Ok((lower, upper, rest))
 }
@@ -51,7 +50,7 @@ fn one_of(state: &State) -> Result<(Sym, State), EffectFault>
     let mut rest = state.branch()?;
     match rest.pop() {
         Some(operand) => Ok((operand, rest)),
-        None => Err(unmet(DemandKind::EmptyPop, 1)),
+        None => Err(EffectFault::unmet(DemandKind::EmptyPop, 1)),
     }
 }
 
@@ -64,24 +63,10 @@ pub fn two_of(state: &State) -> Result<(Sym, Sym, State), EffectFault>
 {
     let mut rest = state.branch()?;
     let Some(upper) = rest.pop() else {
-        return Err(unmet(DemandKind::EmptyPop, 1));
+        return Err(EffectFault::unmet(DemandKind::EmptyPop, 1));
     };
     match rest.pop() {
         Some(lower) => Ok((lower, upper, rest)),
-        None => Err(unmet(DemandKind::EmptyPop, 2)),
+        None => Err(EffectFault::unmet(DemandKind::EmptyPop, 2)),
     }
-}
-
-/// Whether a symbol is known to be of a kind.
-pub fn is_of_kind(state: &State, kind: Kinds, sym: Sym) -> bool
-    ensures { result ≡ demand.is_of_kind state.now kind sym }
-{
-    includes(kind, known_kind(state.facts.as_slice(), sym))
-}
-
-/// A demand on an operand isn't met.
-pub fn unmet(kind: DemandKind, operand: u8) -> EffectFault
-    ensures { result ≡ demand.fails kind operand }
-{
-    EffectFault::Demand(Demand { kind, operand })
 }

@@ -46,6 +46,17 @@ pub enum EffectFault {
     NoMemory,
 }
 
+impl EffectFault {
+    ghost use Rattle.sym_state.specs.Demands.{fails};
+
+    /// A demand that isn't met.
+    pub fn unmet(kind: DemandKind, operand: u8) -> EffectFault
+        ensures { result ≡ fails kind operand }
+    {
+        EffectFault::Demand(Demand { kind, operand })
+    }
+}
+
 impl From<NoMemory> for EffectFault {
     ghost use Rattle.sym_state.specs.declared.demand.EffectFault.TheVariants.{NoMemory as WantOfMemory};
 

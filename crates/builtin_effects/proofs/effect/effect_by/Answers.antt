@@ -7,5 +7,5 @@ use Rattle.builtin_effects.proofs.effect.effect_by.Goals as goal
 
 pub returns-in-Duplicate : goal.returns-in-Duplicate
 returns-in-Duplicate c =
-    subst (λ (o : Builtin). Gives c.duplicate.result c.args.hints.now
-    (effect_of c.args.style.now c.args.cond.now c.args.state.now o c.args.hints.now)) (sym c.in-Duplicate.is) (c.duplicate.ensures c.args.hints.now)
+    subst (λ (o : Builtin). Gives c.duplicate.result c.args.cursor.now
+    (effect_of c.args.style.now c.args.cond.now c.args.state.now o c.args.cursor.now)) (sym c.in-Duplicate.is) (c.duplicate.ensures c.args.cursor.now)
