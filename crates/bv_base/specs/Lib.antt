@@ -1,6 +1,5 @@
 pub mod Answers
 pub mod Bytes
-pub mod HostView
 pub mod KeySets
 pub mod Keys
 pub mod Levels

@@ -1,8 +1,10 @@
 -- What a run sees of files and sinks (docs/COMMANDS.md, "Files and sinks").
-use Rattle.std.specs.Prelude.{◌≡◌, ℕ, ◌+◌, ◌<◌, ◌⊎◌, length, drop, IsSomeAnd, Bool, true, false, List, ◌++◌, Option, Some, None, Result, Ok, Err}
+use Rattle.std.specs.Prelude.{◌≡◌, ℕ, ◌+◌, ◌<◌, ◌⊎◌, length, drop, IsSomeAnd, true, false, List, [], ◌∷◌, ◌++◌, Option, Some, None, Result, Ok, Err}
 use Rattle.std.specs.FinMap.{FinMap}
+use Rattle.std.specs.List.{last_or}
 use Rattle.std.specs.Ordering.{nat_cmp}
 use Rattle.std.specs.Cmp.Lexicographic.{slice_cmp}
+use Rattle.bv_base.specs.declared.files.Begun.{Begun}
 use Rattle.bv_base.specs.declared.files.BeginAnswer.{BeginAnswer}
 use Rattle.bv_base.specs.declared.files.BeginAnswer.TheVariants.{Absent, Failed, NoMemory}
 
@@ -10,25 +12,24 @@ use Rattle.bv_base.specs.declared.files.BeginAnswer.TheVariants.{Absent, Failed,
 abbrev pub Listing : Type 0
 Listing = FinMap (slice_cmp nat_cmp) (List ℕ)
 
--- the file that was begun last, and whether it was absent
-pub record Begun : Type 0 where
-  pub name : List ℕ
-  pub absent : Bool
+-- a file of this name was begun that wasn't absent
+abbrev pub opened : List ℕ → Begun
+opened name = record { name = name; absent = false }
 
--- what was begun last: a file of this name, which was there
-abbrev pub opened : List ℕ → Option Begun
-opened name = Some (record { name = name; absent = false })
+-- this name was begun, which no file has
+abbrev pub missing : List ℕ → Begun
+missing name = record { name = name; absent = true }
 
--- what was begun last: this name, which no file has
-abbrev pub missing : List ℕ → Option Begun
-missing name = Some (record { name = name; absent = true })
-
--- what was begun last after a `begin` of this name
-abbrev pub begun_by : Option Begun → List ℕ → Result (Unit {0}) BeginAnswer → Option Begun
-begun_by before name (Ok _) = opened name
-begun_by before name (Err Absent) = missing name
-begun_by before name (Err Failed) = opened name
+-- all that was begun, in order, after a `begin` of this name
+abbrev pub begun_by : List Begun → List ℕ → Result (Unit {0}) BeginAnswer → List Begun
+begun_by before name (Ok _) = before ++ opened name ∷ []
+begun_by before name (Err Absent) = before ++ missing name ∷ []
+begun_by before name (Err Failed) = before ++ opened name ∷ []
 begun_by before name (Err NoMemory) = before
+
+-- what was begun last
+abbrev pub last_begun : List Begun → Option Begun
+last_begun begun = last_or None begun
 
 -- a count of faults rose in a call, or stands at the end of its type
 abbrev pub Rose : ℕ → ℕ → Type 0

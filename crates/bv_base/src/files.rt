@@ -2,8 +2,9 @@
 
 ghost use Rattle.std.specs.Prelude.{◌≡◌, ℕ, ◌<◌, ◌≤◌, List, [], ◌++◌, take, length, Option, Some, None, OnOk, OnErr, IfOk, IfSome, IsErrOf};
 ghost use Rattle.std.specs.FinMap.{get};
-ghost use Rattle.bv_base.specs.Outside.{Listing, Begun, Rose, begun_by};
+ghost use Rattle.bv_base.specs.Outside.{Listing, Rose, begun_by};
 
+use crate::text::Text;
 use std::error::Error;
 use std::fmt;
 
@@ -34,17 +35,26 @@ pub enum BeginAnswer {
     NoMemory,
 }
 
+/// A name that was begun, and whether no file had it.
+#[derive(Debug, Drop)]
+pub struct Begun {
+    pub name: Text,
+    pub absent: bool,
+}
+
 /// Files that are begun by their names and then read from their first byte, one at a time.
 ///
 /// `told` has the bytes of each file, where they are known. `rest` has the bytes of the file that was begun
-/// which aren't read yet. `begun` is what the last `begin` with another answer than NoMemory was given, and
+/// which aren't read yet. `begun` has what each `begin` with another answer than NoMemory was given, in order, and
 /// whether it answered Absent. `faults` counts failures, up to 18446744073709551615.
 pub trait Files {
+    ghost use Rattle.bv_base.specs.declared.files.Begun.{Begun};
+
     ghost told: { Self → Option Listing };
 
     ghost rest: { Self → List ℕ };
 
-    ghost begun: { Self → Option Begun };
+    ghost begun: { Self → List Begun };
 
     ghost faults: { Self → ℕ };
 
@@ -58,7 +68,7 @@ pub trait Files {
         ensures count { faults self.old ≤ faults self.new }
         ensures begun { begun self.new ≡ begun_by (begun self.old) name.now result }
         ensures kept { OnErr result (rest self.new ≡ rest self.old) }
-        ensures unbegun { begun self.old ≡ None → rest self.old ≡ [] };
+        ensures unbegun { begun self.old ≡ [] → rest self.old ≡ [] };
 
     /// Reads the next bytes of the file that was begun, at most as many as `into` has, and answers how many.
     /// 0 is the file's end.
@@ -72,5 +82,5 @@ pub trait Files {
         ensures failed { OnErr result (Rose (faults self.old) (faults self.new)) }
         ensures count { faults self.old ≤ faults self.new }
         ensures kept { OnErr result (rest self.new ≡ rest self.old) }
-        ensures unbegun { begun self.old ≡ None → rest self.old ≡ [] };
+        ensures unbegun { begun self.old ≡ [] → rest self.old ≡ [] };
 }

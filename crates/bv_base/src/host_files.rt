@@ -1,9 +1,8 @@
 //! The files of the machine that the program runs on.
 
 ghost use Rattle.std.specs.Prelude.{◌≡◌, [], None};
-ghost use Rattle.bv_base.specs.HostView.{begun_of};
 
-use crate::files::{BeginAnswer, Failed, Files};
+use crate::files::{BeginAnswer, Begun, Failed, Files};
 use crate::text::Text;
 use std::alloc::Global;
 use std::io::Read;
@@ -15,28 +14,21 @@ pub struct HostFiles<'a, R: rt::Files> {
     alloc: Global,
     host: &'a R,
     file: Option<R::File>,
-    begun: Option<HostBegun>,
+    begun: Vec<Begun>,
     faults: u64,
 }
 
-/// The name that was begun last, and whether no file has it.
-#[derive(Drop)]
-struct HostBegun {
-    name: Text,
-    absent: bool,
-}
-
 impl<'a, R: rt::Files> HostFiles<'a, R> {
-    /// No file is begun, and nothing has failed.
+    /// No file was begun, and nothing has failed.
     pub fn new(alloc: Global, host: &'a R) -> HostFiles<'a, R>
-        ensures begun { result.begun ≡ None }
+        ensures begun { result.begun.items ≡ [] }
         ensures faults { result.faults ≡ 0 }
     {
         HostFiles {
             alloc,
             host,
             file: None,
-            begun: None,
+            begun: Vec::new(alloc),
             faults: 0,
         }
     }
@@ -47,19 +39,23 @@ impl<'a, R: rt::Files> Files for HostFiles<'a, R> {
 
     ghost rest = { λ _. [] };
 
-    ghost begun = { λ h. begun_of h.begun };
+    ghost begun = { λ h. h.begun.items };
 
     ghost faults = { λ h. h.faults };
 
-    /// Absent is an error of the kind NotFound, and Failed every other error.
+    /// Absent is an error of the kind NotFound, and Failed every other error. Where memory is wanting no file is
+    /// opened.
     fn begin(&mut self, name: &str) -> Result<(), BeginAnswer> {
         let Ok(text) = Text::from_slice(self.alloc, name.as_bytes()) else {
             return Err(BeginAnswer::NoMemory);
         };
+        if self.begun.reserve(1).is_err() {
+            return Err(BeginAnswer::NoMemory);
+        }
         match fs::open(self.host, name) {
             Ok(file) => {
                 self.file = Some(file);
-                self.begun = Some(HostBegun {
+                self.begun.push_reserved(Begun {
                     name: text,
                     absent: false,
                 });
@@ -67,7 +63,7 @@ impl<'a, R: rt::Files> Files for HostFiles<'a, R> {
             }
             Err(error) => {
                 let absent = error.kind() == io::ErrorKind::NotFound;
-                self.begun = Some(HostBegun { name: text, absent });
+                self.begun.push_reserved(Begun { name: text, absent });
                 if absent {
                     return Err(BeginAnswer::Absent);
                 }

@@ -4,7 +4,7 @@ ghost use Rattle.std.specs.Prelude.{◌≡◌, ◌<◌, ◌≤◌, [], ◌∷◌
 ghost use Rattle.std.specs.FinMap.{get, insert};
 ghost use Rattle.bv_base.specs.MemoryView.{listing_of};
 
-use crate::files::{BeginAnswer, Failed, Files};
+use crate::files::{BeginAnswer, Begun, Failed, Files};
 use crate::memory::NoMemory;
 use crate::text::Text;
 use std::alloc::Global;
@@ -17,7 +17,7 @@ pub struct MemFiles {
     files: Vec<MemFile>,
     calls: u64,
     failing: Vec<u64>,
-    begun: Option<BegunFile>,
+    begun: Vec<Begun>,
     opened: Vec<u8>,
     at: usize,
     faults: u64,
@@ -28,13 +28,6 @@ pub struct MemFiles {
 struct MemFile {
     name: Text,
     bytes: Text,
-}
-
-/// The name that was begun last, and whether no file has it.
-#[derive(Drop)]
-struct BegunFile {
-    name: Text,
-    absent: bool,
 }
 
 impl Model for MemFiles {
@@ -63,7 +56,7 @@ impl MemFiles {
             files: Vec::new(alloc),
             calls: 0,
             failing: Vec::new(alloc),
-            begun: None,
+            begun: Vec::new(alloc),
             opened: Vec::new(alloc),
             at: 0,
             faults: 0,
@@ -92,6 +85,13 @@ impl MemFiles {
         self.failing.push(call)?;
         Ok(())
     }
+
+    /// The names that were begun, in order.
+    pub fn begun(&self) -> &[Begun]
+        ensures { result.now ≡ self.now.begun }
+    {
+        self.begun.as_slice()
+    }
 }
 
 impl Files for MemFiles {
@@ -115,23 +115,26 @@ impl Files for MemFiles {
         ensures after { self.new ≡ after_begin self.old name.now self.new.rest result }
         ensures count { self.old.faults ≤ self.new.faults }
         ensures failed { IsErrOf result BeginAnswer.Failed → Rose self.old.faults self.new.faults }
-        ensures unbegun { self.old.begun ≡ None → self.old.rest ≡ [] }
+        ensures unbegun { self.old.begun ≡ [] → self.old.rest ≡ [] }
     {
         self.calls = self.calls.saturating_add(1);
         let Ok(text) = Text::from_slice(self.alloc, name.as_bytes()) else {
             return Err(BeginAnswer::NoMemory);
         };
+        if self.begun.reserve(1).is_err() {
+            return Err(BeginAnswer::NoMemory);
+        }
         let fails = self.failing.contains(&self.calls);
         if fails {
             self.faults = self.faults.saturating_add(1);
-            self.begun = Some(BegunFile {
+            self.begun.push_reserved(Begun {
                 name: text,
                 absent: false,
             });
             return Err(BeginAnswer::Failed);
         }
         let Some(bytes) = find_file(self.files.as_slice(), name.as_bytes()) else {
-            self.begun = Some(BegunFile {
+            self.begun.push_reserved(Begun {
                 name: text,
                 absent: true,
             });
@@ -142,7 +145,7 @@ impl Files for MemFiles {
         };
         self.opened = opened;
         self.at = 0;
-        self.begun = Some(BegunFile {
+        self.begun.push_reserved(Begun {
             name: text,
             absent: false,
         });
@@ -157,7 +160,7 @@ impl Files for MemFiles {
         ensures after { self.new ≡ after_read self.old result }
         ensures count { self.old.faults ≤ self.new.faults }
         ensures failed { OnErr result (Rose self.old.faults self.new.faults) }
-        ensures unbegun { self.old.begun ≡ None → self.old.rest ≡ [] }
+        ensures unbegun { self.old.begun ≡ [] → self.old.rest ≡ [] }
     {
         self.calls = self.calls.saturating_add(1);
         if self.failing.contains(&self.calls) {

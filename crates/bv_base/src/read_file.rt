@@ -1,6 +1,6 @@
 //! Reading a whole file within a limit.
 
-ghost use Rattle.std.specs.Prelude.{◌≡◌, ◌+◌, ◌<◌, ◌≤◌, ◌⊎◌, None, Some, vec_len, OnOk, IfOk, IfSome, IsErrOf};
+ghost use Rattle.std.specs.Prelude.{◌≡◌, ◌+◌, ◌<◌, ◌≤◌, ◌⊎◌, [], ◌∷◌, ◌++◌, None, Some, vec_len, OnOk, IfOk, IfSome, IsErrOf};
 ghost use Rattle.std.specs.FinMap.{get};
 ghost use Rattle.bv_base.specs.Outside.{Rose, opened, missing, IsReadPast};
 
@@ -39,14 +39,14 @@ pub fn read_file<F: Files>(
 ) -> Result<Vec<u8>, FileAnswer>
     ensures found { IfOk result (λ bytes. IfSome (F.told files.old) (λ told. get told name.now ≡ Some bytes.items)) }
     ensures short { IfOk result (λ bytes. vec_len bytes ≤ limit) }
-    ensures opened { OnOk result (F.begun files.new ≡ opened name.now) }
+    ensures opened { OnOk result (F.begun files.new ≡ F.begun files.old ++ opened name.now ∷ []) }
     ensures absent { IsErrOf result FileAnswer.Absent → IfSome (F.told files.old) (λ told. get told name.now ≡ None) }
-    ensures absent_begun { IsErrOf result FileAnswer.Absent → F.begun files.new ≡ missing name.now }
+    ensures absent_begun { IsErrOf result FileAnswer.Absent → F.begun files.new ≡ F.begun files.old ++ missing name.now ∷ [] }
     ensures failed { IsErrOf result FileAnswer.Failed → Rose (F.faults files.old) (F.faults files.new) }
-    ensures failed_begun { IsErrOf result FileAnswer.Failed → F.begun files.new ≡ opened name.now }
+    ensures failed_begun { IsErrOf result FileAnswer.Failed → F.begun files.new ≡ F.begun files.old ++ opened name.now ∷ [] }
     ensures too_long { IsErrOf result FileAnswer.TooLong → IfSome (F.told files.old) (λ told. IsReadPast limit (get told name.now) (F.rest files.new)) }
-    ensures too_long_begun { IsErrOf result FileAnswer.TooLong → F.begun files.new ≡ opened name.now }
-    ensures no_memory_begun { IsErrOf result FileAnswer.NoMemory → (F.begun files.new ≡ F.begun files.old) ⊎ (F.begun files.new ≡ opened name.now) }
+    ensures too_long_begun { IsErrOf result FileAnswer.TooLong → F.begun files.new ≡ F.begun files.old ++ opened name.now ∷ [] }
+    ensures no_memory_begun { IsErrOf result FileAnswer.NoMemory → (F.begun files.new ≡ F.begun files.old) ⊎ (F.begun files.new ≡ F.begun files.old ++ opened name.now ∷ []) }
     ensures told { F.told files.new ≡ F.told files.old }
     ensures count { F.faults files.old ≤ F.faults files.new }
 {

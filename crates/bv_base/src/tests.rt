@@ -4,43 +4,59 @@ use crate::host_files::HostFiles;
 use crate::host_sink::HostSink;
 use crate::mem_files::MemFiles;
 use crate::mem_sink::MemSink;
+use crate::memory::NoMemory;
 use crate::read_file::{FileAnswer, read_file};
 use crate::seq::Seq;
 use crate::sink::{PutAnswer, Sink};
 use crate::status::Status;
 use crate::text::Text;
 use crate::write_all::write_all;
+use std::alloc::Global;
+use std::process::Abort;
 use std::test::Fail;
 use std::{env, fs};
 
 #[test]
 fn classes_of_bytes(rt: HostRuntime) {
-    let rows = [
-        (b"\t\n\r ".as_slice(), true, false),
-        (b"\x0b\x7f\"#%'(),={}".as_slice(), false, false),
-        (b"!$&*+-./09:;<>?@AZ[az|~\x80\xff".as_slice(), false, true),
-    ];
-    for (bytes, white, name) in rows {
-        for byte in bytes {
-            assert_eq!(rt; is_white(*byte), white, "at {byte}");
-            assert_eq!(rt; is_name_byte(*byte), name, "at {byte}");
-        }
+    compare_classes(&rt, b"\t\n\r ", true, false);
+    compare_classes(&rt, b"\x0b\x7f\"#%'(),={}", false, false);
+    compare_classes(&rt, b"!$&*+-./09:;<>?@AZ[az|~\x80\xff", false, true);
+}
+
+/// Asserts of each byte whether it is white space, and whether names may have it.
+fn compare_classes(rt: &impl Abort, bytes: &[u8], white: bool, name: bool) {
+    for byte in bytes {
+        assert_eq!(rt; is_white(*byte), white, "at {byte}");
+        assert_eq!(rt; is_name_byte(*byte), name, "at {byte}");
     }
+}
+
+#[test]
+fn letters_are_lowered(rt: HostRuntime) {
     for (byte, small) in b"@AZ[`az{\xc3".iter().zip(b"@az[`az{\xc3") {
         assert_eq!(rt; lower(*byte), *small, "at {byte}");
     }
+}
+
+#[test]
+fn statuses_have_their_numbers(rt: HostRuntime) {
     assert_eq!(rt; Status::Refused.number(), 1);
     assert_eq!(rt; Status::NotBuilt.number(), 14);
 }
 
 #[test]
-fn lists_and_texts(rt: HostRuntime) -> Result<(), Fail> {
+fn lists(rt: HostRuntime) -> Result<(), Fail> {
     let mut seq = Seq::new(rt.alloc());
     seq.push(1u8)?;
     seq.push(2)?;
     assert_eq!(rt; seq.as_slice(), [1, 2].as_slice());
     assert_eq!(rt; seq.pop(), Some(2));
     assert_eq!(rt; Seq::from_vec(seq.into_vec()).pop(), Some(1));
+    Ok(())
+}
+
+#[test]
+fn texts(rt: HostRuntime) -> Result<(), Fail> {
     let text = Text::from_slice(rt.alloc(), b"ab")?;
     assert_eq!(rt; text.as_slice(), b"ab".as_slice());
     let bytes = b"c".to_vec(rt.alloc())?;
@@ -48,31 +64,52 @@ fn lists_and_texts(rt: HostRuntime) -> Result<(), Fail> {
     Ok(())
 }
 
+/// The name of a file, the limit, the call that fails, and the refusal.
+static READINGS: [(&str, u32, u64, Option<FileAnswer>); 7] = [
+    ("a", 2, 0, None),
+    ("a", 1, 0, Some(FileAnswer::TooLong)),
+    ("a", 2, 1, Some(FileAnswer::Failed)),
+    ("a", 2, 2, Some(FileAnswer::Failed)),
+    ("a", 2, 3, Some(FileAnswer::Failed)),
+    ("a", 2, 4, None),
+    ("b", 2, 0, Some(FileAnswer::Absent)),
+];
+
 #[test]
 fn files_in_memory(rt: HostRuntime) -> Result<(), Fail> {
-    let rows = [
-        ("a", 2, 0, None),
-        ("a", 1, 0, Some(FileAnswer::TooLong)),
-        ("a", 2, 1, Some(FileAnswer::Failed)),
-        ("a", 2, 2, Some(FileAnswer::Failed)),
-        ("a", 2, 3, Some(FileAnswer::Failed)),
-        ("a", 2, 4, None),
-        ("b", 2, 0, Some(FileAnswer::Absent)),
-    ];
-    for (name, limit, failing, refusal) in rows {
-        let mut files = MemFiles::new(rt.alloc());
-        files.add("a", b"old")?;
-        files.add("a", b"xy")?;
-        files.fail_at(failing)?;
-        match read_file(rt.alloc(), &mut files, name, limit) {
-            Ok(bytes) => {
-                assert_eq!(rt; refusal, None, "{name} {limit} {failing}");
-                assert_eq!(rt; bytes.as_slice(), b"xy".as_slice());
-            }
-            Err(answer) => assert_eq!(rt; Some(answer), refusal, "{name} {limit} {failing}"),
-        }
+    for (name, limit, failing, refusal) in &READINGS {
+        let mut files = added_twice(rt.alloc())?;
+        files.fail_at(*failing)?;
+        compare_read(&rt, rt.alloc(), &mut files, name, *limit, b"xy", *refusal);
     }
     Ok(())
+}
+
+/// Files of which the second replaces the first.
+fn added_twice(alloc: Global) -> Result<MemFiles, NoMemory> {
+    let mut files = MemFiles::new(alloc);
+    files.add("a", b"old")?;
+    files.add("a", b"xy")?;
+    Ok(files)
+}
+
+/// Asserts what is read of a file: these bytes, or else the refusal.
+fn compare_read<F: Files>(
+    rt: &impl Abort,
+    alloc: Global,
+    files: &mut F,
+    name: &str,
+    limit: u32,
+    wanted: &[u8],
+    refusal: Option<FileAnswer>,
+) {
+    match read_file(alloc, files, name, limit) {
+        Ok(bytes) => {
+            assert_eq!(rt; refusal, None);
+            assert_eq!(rt; bytes.as_slice(), wanted);
+        }
+        Err(answer) => assert_eq!(rt; Some(answer), refusal),
+    }
 }
 
 #[test]
@@ -80,6 +117,13 @@ fn a_read_fails_and_the_next_goes_on(rt: HostRuntime) -> Result<(), Fail> {
     let mut files = MemFiles::new(rt.alloc());
     files.add("a", b"abc")?;
     files.fail_at(3)?;
+    read_on(&rt, &mut files);
+    assert_eq!(rt; files.begun().len(), 2);
+    Ok(())
+}
+
+/// Reads the file whose third call fails, and begins one that isn't there.
+fn read_on(rt: &impl Abort, files: &mut MemFiles) {
     let mut into = [0u8; 2];
     assert_eq!(rt; files.begin("a"), Ok(()));
     assert_eq!(rt; files.read(&mut into), Ok(2));
@@ -88,34 +132,44 @@ fn a_read_fails_and_the_next_goes_on(rt: HostRuntime) -> Result<(), Fail> {
     assert_eq!(rt; into, *b"cb");
     assert_eq!(rt; files.read(&mut into), Ok(0));
     assert_eq!(rt; files.begin("b"), Err(BeginAnswer::Absent));
-    Ok(())
 }
 
 #[test]
 fn a_put_fails_and_the_next_goes_on(rt: HostRuntime) -> Result<(), Fail> {
     let mut sink = MemSink::new(rt.alloc());
     sink.fail_at(2)?;
-    assert_eq!(rt; write_all(&mut sink, b"ab"), Ok(()));
-    assert_eq!(rt; write_all(&mut sink, b"cd"), Err(PutAnswer::Failed));
-    assert_eq!(rt; sink.put(b"e"), Ok(1));
-    assert_eq!(rt; write_all(&mut sink, b""), Ok(()));
+    write_on(&rt, &mut sink);
     assert_eq!(rt; sink.bytes(), b"abe".as_slice());
     Ok(())
+}
+
+/// Writes to the sink whose second call fails.
+fn write_on(rt: &impl Abort, sink: &mut MemSink) {
+    assert_eq!(rt; write_all(sink, b"ab"), Ok(()));
+    assert_eq!(rt; write_all(sink, b"cd"), Err(PutAnswer::Failed));
+    assert_eq!(rt; sink.put(b"e"), Ok(1));
+    assert_eq!(rt; write_all(sink, b""), Ok(()));
 }
 
 #[test]
 fn a_file_of_the_machine(rt: HostRuntime) -> Result<(), Fail> {
     let mut name = env::temp_dir(&rt)?.into_string();
     name.push_str("/bv_base-a_file_of_the_machine")?;
-    let mut files = HostFiles::new(rt.alloc(), &rt);
     fs::write(&rt, name.as_str(), "text")?;
-    let read = read_file(rt.alloc(), &mut files, name.as_str(), 4)?;
-    assert_eq!(rt; read.as_slice(), b"text".as_slice());
+    let mut files = HostFiles::new(rt.alloc(), &rt);
+    compare_read(&rt, rt.alloc(), &mut files, name.as_str(), 4, b"text", None);
     name.push_str("-none")?;
-    let read = read_file(rt.alloc(), &mut files, name.as_str(), 4);
-    assert_eq!(rt; read.err(), Some(FileAnswer::Absent));
-    let read = read_file(rt.alloc(), &mut files, "/", 4);
-    assert_eq!(rt; read.err(), Some(FileAnswer::Failed));
+    let absent = Some(FileAnswer::Absent);
+    compare_read(&rt, rt.alloc(), &mut files, name.as_str(), 4, b"", absent);
+    compare_read(
+        &rt,
+        rt.alloc(),
+        &mut files,
+        "/",
+        4,
+        b"",
+        Some(FileAnswer::Failed),
+    );
     Ok(())
 }
 
@@ -125,9 +179,13 @@ fn a_writer_of_the_machine(rt: HostRuntime) -> Result<(), Fail> {
     let mut sink = HostSink::new(&mut bytes);
     assert_eq!(rt; write_all(&mut sink, b"text"), Ok(()));
     assert_eq!(rt; bytes.as_slice(), b"text".as_slice());
+    Ok(())
+}
+
+#[test]
+fn a_writer_without_room(rt: HostRuntime) {
     let mut room = [0u8; 2];
     let mut sink = HostSink::new(room.as_mut_slice());
     assert_eq!(rt; write_all(&mut sink, b"text"), Err(PutAnswer::Failed));
     assert_eq!(rt; room, *b"te");
-    Ok(())
 }
