@@ -2,7 +2,8 @@
 use Rattle.std.proofs.Common.{◌≡◌, ◌≢◌, ℕ, ◌⊎◌, List, [], true, false, Option, None, Some, Result, Ok, Err, refl, sym, ◌∙◌, ap, subst, inl, inr}
 use Rattle.std.specs.Prelude.{IfSome, IsSomeAnd, IfOk, IfErr}
 use Rattle.std.specs.String.{string_bytes}
-use Rattle.bv_base.specs.Outside.{Listing, Begun, Rose, appended}
+use Rattle.bv_base.specs.Outside.{Listing, Rose, appended, last_begun}
+use Rattle.bv_base.specs.declared.files.Begun.{Begun}
 use Rattle.bv_base.specs.declared.files.Files.{Ghosts}
 use Rattle.bv_base.specs.declared.memory.NoMemory.{NoMemory}
 use Rattle.bv_base.specs.declared.status.Status.{Status}
@@ -113,8 +114,8 @@ pub told_answer : {F : Type 0} (see : Ghosts F) (old new : F) (form : Form) (wan
     → IfOk found (λ o. told_of result ≡ Some o) → IfOk found (λ o. IsAnswer {F = F} see old new form o)
 told_answer see old new form wanted result (Ok o) reads decided safe same is = record {
   wanted = as_wanted (see.told old) (told_wanted (see.told old) wanted result o is reads.gives);
-  cause = told_cause result o (see.begun new) (see.faults old) (see.faults new) is decided reads.cause;
-  safe = told_safe (see.told old) form result o (see.begun new) (see.faults old) (see.faults new) is reads.cause safe;
+  cause = told_cause result o (last_begun (see.begun new)) (see.faults old) (see.faults new) is decided reads.cause;
+  safe = told_safe (see.told old) form result o (last_begun (see.begun new)) (see.faults old) (see.faults new) is reads.cause safe;
 }
   where
     as_wanted : (t : Option Listing) → IfSome t (λ told. IsWanted (ended (wanted told)) o) → IfSome t (λ told. IsWanted (outcome_in told form) o)
@@ -146,14 +147,14 @@ module _ {F : Type 0} (see : Ghosts F) (old new : F) (form : Form) where
 -- an answer NoFile names the file that isn't there
 pub no_file_shown : {F : Type 0} (see : Ghosts F) (old new : F) (form : Form) (found : Result Outcome NoMemory) (given : Status) (out err : Sunk)
     → IfOk found (λ o. IsAnswer {F = F} see old new form o) → Delivers found given out err → given ≡ status.NoFile
-    → IsSomeAnd (see.begun new) (λ b. (b.absent ≡ true) × (err.after ≡ appended err.before (absent b.name).err))
+    → IsSomeAnd (last_begun (see.begun new)) (λ b. (b.absent ≡ true) × (err.after ≡ appended err.before (absent b.name).err))
 no_file_shown see old new form (Err refused) given out err answer delivered is = let e = delivered.0 in absurd (cc)
 no_file_shown see old new form (Ok o) given out err answer (OutFailed e cut last) is = absurd (cc)
 no_file_shown see old new form (Ok o) given out err answer (ErrFailed e put cut) is = absurd (cc)
 no_file_shown see old new form (Ok o) given out err answer (OutWanting e front last) is = absurd (cc)
 no_file_shown see old new form (Ok o) given out err answer (ErrWanting e put front) is = absurd (cc)
 no_file_shown see old new form (Ok o) given out err answer (Whole e put last) is =
-    shown (see.begun new) (subst (λ (s : Status). CausedBy s o (see.begun new) (see.faults old) (see.faults new)) (sym e ∙ is) answer.cause)
+    shown (last_begun (see.begun new)) (subst (λ (s : Status). CausedBy s o (last_begun (see.begun new)) (see.faults old) (see.faults new)) (sym e ∙ is) answer.cause)
   where
     shown : (begun : Option Begun) → IsSomeAnd begun (λ b. (b.absent ≡ true) × (o ≡ absent b.name))
         → IsSomeAnd begun (λ b. (b.absent ≡ true) × (err.after ≡ appended err.before (absent b.name).err))
@@ -163,16 +164,16 @@ no_file_shown see old new form (Ok o) given out err answer (Whole e put last) is
 -- an answer ReadFailed names the file that couldn't be read
 pub read_failed_shown : {F : Type 0} (see : Ghosts F) (old new : F) (form : Form) (found : Result Outcome NoMemory) (given : Status) (out err : Sunk)
     → IfOk found (λ o. IsAnswer {F = F} see old new form o) → Delivers found given out err → given ≡ status.ReadFailed
-    → Rose (see.faults old) (see.faults new) × IsSomeAnd (see.begun new) (λ b. (b.absent ≡ false) × (err.after ≡ appended err.before (unread b.name).err))
+    → Rose (see.faults old) (see.faults new) × IsSomeAnd (last_begun (see.begun new)) (λ b. (b.absent ≡ false) × (err.after ≡ appended err.before (unread b.name).err))
 read_failed_shown see old new form (Err refused) given out err answer delivered is = let e = delivered.0 in absurd (cc)
 read_failed_shown see old new form (Ok o) given out err answer (OutFailed e cut last) is = absurd (cc)
 read_failed_shown see old new form (Ok o) given out err answer (ErrFailed e put cut) is = absurd (cc)
 read_failed_shown see old new form (Ok o) given out err answer (OutWanting e front last) is = absurd (cc)
 read_failed_shown see old new form (Ok o) given out err answer (ErrWanting e put front) is = absurd (cc)
 read_failed_shown see old new form (Ok o) given out err answer (Whole e put last) is =
-    let cause : CausedBy status.ReadFailed o (see.begun new) (see.faults old) (see.faults new) =
-    subst (λ (s : Status). CausedBy s o (see.begun new) (see.faults old) (see.faults new)) (sym e ∙ is) answer.cause in
-    (cause.0, shown (see.begun new) cause.1)
+    let cause : CausedBy status.ReadFailed o (last_begun (see.begun new)) (see.faults old) (see.faults new) =
+    subst (λ (s : Status). CausedBy s o (last_begun (see.begun new)) (see.faults old) (see.faults new)) (sym e ∙ is) answer.cause in
+    (cause.0, shown (last_begun (see.begun new)) cause.1)
   where
     shown : (begun : Option Begun) → IsSomeAnd begun (λ b. (b.absent ≡ false) × (o ≡ unread b.name))
         → IsSomeAnd begun (λ b. (b.absent ≡ false) × (err.after ≡ appended err.before (unread b.name).err))
@@ -189,7 +190,7 @@ write_failed_shown see old new form (Ok o) given out err answer (ErrFailed e put
 write_failed_shown see old new form (Ok o) given out err answer (OutWanting e front last) is = absurd (cc)
 write_failed_shown see old new form (Ok o) given out err answer (ErrWanting e put front) is = absurd (cc)
 write_failed_shown see old new form (Ok o) given out err answer (Whole e put last) is =
-    absurd (subst (λ (s : Status). CausedBy s o (see.begun new) (see.faults old) (see.faults new)) (sym e ∙ is) answer.cause)
+    absurd (subst (λ (s : Status). CausedBy s o (last_begun (see.begun new)) (see.faults old) (see.faults new)) (sym e ∙ is) answer.cause)
 
 -- words of a form aren't answered by Usage
 pub form_not_usage : {F : Type 0} (see : Ghosts F) (old new : F) (form : Form) (found : Result Outcome NoMemory) (given : Status) (out err : Sunk)
@@ -200,7 +201,7 @@ form_not_usage see old new form (Ok o) given out err answer (ErrFailed e put cut
 form_not_usage see old new form (Ok o) given out err answer (OutWanting e front last) is = cc
 form_not_usage see old new form (Ok o) given out err answer (ErrWanting e put front) is = cc
 form_not_usage see old new form (Ok o) given out err answer (Whole e put last) is =
-    subst (λ (s : Status). CausedBy s o (see.begun new) (see.faults old) (see.faults new)) (sym e ∙ is) answer.cause
+    subst (λ (s : Status). CausedBy s o (last_begun (see.begun new)) (see.faults old) (see.faults new)) (sym e ∙ is) answer.cause
 
 -- what an outcome promises, a front of its text on standard output promises
 promised : (told : Listing) (form : Form) (o : Outcome) (out : Sunk) → IsFront o.out out → Promises told form o → IsPromised told form out

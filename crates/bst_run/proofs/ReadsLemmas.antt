@@ -1,7 +1,9 @@
 -- What calls on files keep in turn.
-use Rattle.std.proofs.Common.{◌≡◌, ℕ, ◌≤◌, inl, inr, Option, None, Some, Result, Ok, Err, refl, ◌∙◌, subst, arith}
+use Rattle.std.proofs.Common.{◌≡◌, ℕ, ◌≤◌, inl, inr, List, [], ◌∷◌, ◌++◌, Option, None, Some, Result, Ok, Err, refl, ◌∙◌, subst, arith}
 use Rattle.std.specs.Prelude.{IfSome, IfErr}
-use Rattle.bv_base.specs.Outside.{Listing, Begun, Rose}
+use Rattle.std.specs.List.{last_or}
+use Rattle.bv_base.specs.Outside.{Listing, Rose, last_begun}
+use Rattle.bv_base.specs.declared.files.Begun.{Begun}
 use Rattle.bv_base.specs.declared.files.Files.{Ghosts}
 use Rattle.bst_run.specs.declared.stop.Stop.{Stop}
 use Rattle.bst_run.specs.declared.stop.Stop.TheVariants.{Told, Absent, Failed, TooLong, NoMemory}
@@ -9,6 +11,14 @@ use Rattle.bst_run.specs.declared.outcome.Outcome.{Outcome}
 use Rattle.bv_base.specs.Answers.{then_do}
 use Rattle.bst_run.specs.Reads.{Reads}
 use Rattle.bst_run.specs.Stops.{outcome_of, Gives, Decides, HasCause, IsInside}
+
+-- what was begun last is what was added last
+pub last_added : (before : List Begun) (file : Begun) → last_begun (before ++ file ∷ []) ≡ Some file
+last_added before file = after None before
+  where
+    after : (last : Option Begun) (before : List Begun) → last_or last (before ++ file ∷ []) ≡ Some file
+    after last [] = refl
+    after last (first ∷ rest) = after (Some first) rest
 
 -- a value, and then what is given next
 pub then_given : {A B : Type 0} (told : Option Listing) (first : Listing → Result A Outcome) (value : A) (next : Listing → A → Result B Outcome) (result : Result B Stop)
@@ -77,7 +87,7 @@ pub reads_nothing : {F A : Type 0} (see : Ghosts F) (files : F) (wanted : Result
     → Decides {A = A} wanted result → IfErr result IsInside → Reads {F = F} {A = A} see files files (λ t. wanted) result
 reads_nothing see files wanted result decides is = record {
   gives = decided_given (see.told files) wanted result decides;
-  cause = inside result (see.begun files) (see.faults files) (see.faults files) is;
+  cause = inside result (last_begun (see.begun files)) (see.faults files) (see.faults files) is;
   told = refl;
   count = omega arith;
 }
@@ -92,7 +102,7 @@ reads_next {B = B} see old mid new first value next result h k =
     record {
       gives = then_given (see.told old) first value next result h.gives
           (subst (λ (o : Option Listing). Gives {A = B} o (λ t. next t value) result) h.told k.gives);
-      cause = later result (see.begun new) (see.faults old) (see.faults mid) (see.faults new) h.count k.cause;
+      cause = later result (last_begun (see.begun new)) (see.faults old) (see.faults mid) (see.faults new) h.count k.cause;
       told = k.told ∙ h.told;
       count = omega arith;
     }

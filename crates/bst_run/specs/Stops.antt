@@ -1,7 +1,8 @@
 -- Where a command stops, and what each stop stands for (docs/COMMANDS.md, "Answers").
 use Rattle.std.specs.Prelude.{◌≡◌, ℕ, [], Option, None, Some, IfSome, Result, Ok, Err}
 use Rattle.std.specs.String.{string_bytes}
-use Rattle.bv_base.specs.Outside.{Listing, Begun, Rose, opened, missing}
+use Rattle.bv_base.specs.Outside.{Listing, Rose, opened, missing}
+use Rattle.bv_base.specs.declared.files.Begun.{Begun}
 use Rattle.bv_base.specs.declared.status.Status.{Status}
 use Rattle.bv_base.specs.declared.status.Status.TheVariants as status
 use Rattle.bst_run.specs.declared.outcome.Outcome.{Outcome}
@@ -48,9 +49,9 @@ IsRefusal outcome = (outcome.out ≡ []) × IsRefusing outcome.status
 -- what the outside shows of a stop
 abbrev pub HasCause : Stop → Option Begun → ℕ → ℕ → Type 0
 HasCause (Told outcome) begun faults faults' = IsRefusal outcome
-HasCause (Absent name) begun faults faults' = begun ≡ missing (string_bytes name)
-HasCause (Failed name) begun faults faults' = (begun ≡ opened (string_bytes name)) × Rose faults faults'
-HasCause (TooLong name) begun faults faults' = begun ≡ opened (string_bytes name)
+HasCause (Absent name) begun faults faults' = begun ≡ Some (missing (string_bytes name))
+HasCause (Failed name) begun faults faults' = (begun ≡ Some (opened (string_bytes name))) × Rose faults faults'
+HasCause (TooLong name) begun faults faults' = begun ≡ Some (opened (string_bytes name))
 HasCause NoMemory begun faults faults' = Unit {0}
 
 -- a stop that no file causes

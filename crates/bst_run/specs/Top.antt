@@ -1,7 +1,8 @@
 -- The whole command line (docs/COMMANDS.md): from the words and the files to the answer, and what an answer means.
 use Rattle.std.specs.Prelude.{◌≡◌, ◌≢◌, ℕ, ◌⊎◌, true, false, ◌||◌, not, nat_lt, if◌then◌else◌, List, [], length, Option, None, Some, IfSome, IsSomeAnd, Result, Ok, Err}
 use Rattle.std.specs.FinMap.{get}
-use Rattle.bv_base.specs.Outside.{Listing, Begun, Rose}
+use Rattle.bv_base.specs.Outside.{Listing, Rose, last_begun}
+use Rattle.bv_base.specs.declared.files.Begun.{Begun}
 use Rattle.bv_base.specs.declared.files.Files.{Ghosts}
 use Rattle.bv_base.specs.declared.status.Status.{Status}
 use Rattle.bv_base.specs.declared.status.Status.TheVariants as status
@@ -108,7 +109,7 @@ IsWanted wanted outcome = (outcome ≡ wanted) ⊎ ((name : List ℕ) × (outcom
 -- what the words of a form come to, before it is delivered
 pub record IsAnswer {F : Type 0} (see : Ghosts F) (old new : F) (form : Form) (outcome : Outcome) : Type 0 where
   pub wanted : IfSome (see.told old) (λ told. IsWanted (outcome_in told form) outcome)
-  pub cause : CausedBy outcome.status outcome (see.begun new) (see.faults old) (see.faults new)
+  pub cause : CausedBy outcome.status outcome (last_begun (see.begun new)) (see.faults old) (see.faults new)
   pub safe : IfSome (see.told old) (λ told. SaysDone outcome → Promises told form outcome)
 
 -- what a call answers and leaves on its sinks where the words and the files decide this outcome: it is delivered, or the

@@ -1,7 +1,7 @@
 //! The whole command line.
 
 ghost use Rattle.std.specs.Prelude.{◌≡◌, ◌≢◌, ◌⊎◌, None, Some, true, false, IfOk, IfSome, IsSomeAnd};
-ghost use Rattle.bv_base.specs.Outside.{Rose, appended};
+ghost use Rattle.bv_base.specs.Outside.{Rose, appended, last_begun};
 ghost use Rattle.bst_run.specs.Delivery.{sunk, IsDelivered, TellsOfSinks};
 ghost use Rattle.bst_run.specs.Forms as forms;
 ghost use Rattle.bst_run.specs.Report as report;
@@ -39,9 +39,9 @@ pub fn command<F: Files, O: Sink, E: Sink>(
     ensures answered { IfSome (forms.form_of words.now) (λ form. IfSome (F.told files.old) (λ told.
         top.IsAnswered (top.outcome_in told form) result (sunk ⟦<O as Sink>⟧ out.old out.new) (sunk ⟦<E as Sink>⟧ err.old err.new))) }
     // What the outside did shows in the answer.
-    ensures no_file { result ≡ Status.NoFile → IsSomeAnd (F.begun files.new) (λ begun.
+    ensures no_file { result ≡ Status.NoFile → IsSomeAnd (last_begun (F.begun files.new)) (λ begun.
         (begun.absent ≡ true) × (E.written err.new ≡ appended (E.written err.old) (report.absent begun.name).err)) }
-    ensures read_failed { result ≡ Status.ReadFailed → Rose (F.faults files.old) (F.faults files.new) × IsSomeAnd (F.begun files.new) (λ begun.
+    ensures read_failed { result ≡ Status.ReadFailed → Rose (F.faults files.old) (F.faults files.new) × IsSomeAnd (last_begun (F.begun files.new)) (λ begun.
         (begun.absent ≡ false) × (E.written err.new ≡ appended (E.written err.old) (report.unread begun.name).err)) }
     ensures write_failed { result ≡ Status.WriteFailed → Rose (O.faults out.old) (O.faults out.new) ⊎ Rose (E.faults err.old) (E.faults err.new) }
     // Where the faults of a sink rose the answer is WriteFailed, and where those of `out` did nothing was put on `err`.
@@ -82,9 +82,9 @@ fn carry_out<F: Files, O: Sink, E: Sink>(
     ensures not_usage { result ≢ Status.Usage }
     ensures answered { IfSome (F.told files.old) (λ told. top.IsAnswered (top.outcome_in told (forms.form_in form.entry)) result
         (sunk ⟦<O as Sink>⟧ out.old out.new) (sunk ⟦<E as Sink>⟧ err.old err.new)) }
-    ensures no_file { result ≡ Status.NoFile → IsSomeAnd (F.begun files.new) (λ begun.
+    ensures no_file { result ≡ Status.NoFile → IsSomeAnd (last_begun (F.begun files.new)) (λ begun.
         (begun.absent ≡ true) × (E.written err.new ≡ appended (E.written err.old) (report.absent begun.name).err)) }
-    ensures read_failed { result ≡ Status.ReadFailed → Rose (F.faults files.old) (F.faults files.new) × IsSomeAnd (F.begun files.new) (λ begun.
+    ensures read_failed { result ≡ Status.ReadFailed → Rose (F.faults files.old) (F.faults files.new) × IsSomeAnd (last_begun (F.begun files.new)) (λ begun.
         (begun.absent ≡ false) × (E.written err.new ≡ appended (E.written err.old) (report.unread begun.name).err)) }
     ensures sinks { TellsOfSinks result (sunk ⟦<O as Sink>⟧ out.old out.new) (sunk ⟦<E as Sink>⟧ err.old err.new) }
     ensures done { result ≡ Status.Done → IfSome (F.told files.old) (λ told. top.IsDoneWell told (forms.form_in form.entry)) }

@@ -28,6 +28,7 @@ pub fn data_file<F: Files>(alloc: Global, files: &mut F, name: &str) -> Result<T
 }
 
 /// A whole file of at most `limit` bytes.
+#[tactic(auto, using(crate::proofs::ReadsLemmas::last_added))]
 fn file_of<F: Files>(alloc: Global, files: &mut F, name: &str, limit: u32) -> Result<Text, Stop>
     ensures reads { Reads ⟦<F as Files>⟧ files.old files.new (λ told. file.file_in told limit name.now) result }
     ensures short { IfOk result (λ text. length text ≤ limit) }
