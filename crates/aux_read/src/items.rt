@@ -7,7 +7,7 @@ ghost use Rattle.aux_read.specs.Items as items;
 ghost use Rattle.bv_base.specs.Runs.{length_before};
 
 use bv_base::bytes::is_white;
-use bv_base::runs::{after_white, black_length};
+use bv_base::runs::{after_white, black_length, length_before};
 
 /// What follows these bytes at the front of others, or `None` where they don't stand there.
 pub(crate) fn after_front<'a>(front: &[u8], bytes: &'a [u8]) -> Option<&'a [u8]>
@@ -73,12 +73,7 @@ fn inside_length(bytes: &[u8]) -> usize
     ensures length { result ≡ length_before items.is_close bytes.now }
     ensures within { result ≤ length bytes.now }
 {
-    for (i, b) in bytes.iter().enumerate() {
-        if *b == b'}' {
-            return i;
-        }
-    }
-    bytes.len()
+    length_before(bytes, |b| b == b'}')
 }
 
 /// Whether all bytes are white space.

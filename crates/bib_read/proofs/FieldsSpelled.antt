@@ -3,12 +3,12 @@ use Rattle.std.proofs.Common.{◌≡◌, ℕ, zero, suc, ◌<◌, ◌≤◌, inl
 use Rattle.std.proofs.lemmas.Bool.Decides.{nat_tests}
 use Rattle.std.proofs.lemmas.List.{append-nil}
 use Rattle.bv_base.specs.Bytes.{is_name_byte}
-use Rattle.bv_base.specs.Runs.{after_white, is_black, is_digit}
+use Rattle.bv_base.specs.Runs.{after_white, is_black, is_digit, EndsBy}
 use Rattle.bv_base.specs.Answers.{then_do}
 use Rattle.name_table.specs.Names.{lowered}
 use Rattle.bib_read.specs.declared.stop.Stop.{Stop}
 use Rattle.bib_read.specs.Entering.{noted, take_field, take_fields, take_named, with_field}
-use Rattle.bib_read.specs.Grammar.{Piece, FieldTree, EndsBy, Identifier, IsField, IsFields, Mark, Opens}
+use Rattle.bib_read.specs.Grammar.{Piece, FieldTree, Identifier, IsField, IsFields, Mark, Opens}
 use Rattle.bib_read.specs.Meaning.{and_field, and_fields, field_warnings, fields_warnings, value_text, value_warnings}
 use Rattle.bib_read.specs.Names.{has_field}
 use Rattle.bib_read.specs.Parts.{is_first, passed, stands, take_identifier, take_mark}
@@ -18,9 +18,10 @@ use Rattle.bib_read.specs.Squeeze.{trimmed}
 use Rattle.bib_read.specs.Values.{take_equals}
 use Rattle.bib_read.specs.Warnings.{second_field}
 use Rattle.bib_read.proofs.Enough.{same_fields}
-use Rattle.bib_read.proofs.Gaps.{after_gap, at, gap_before, gap_joined, gap_passed, IsBlack, mark_first, mark_missed, mark_read, mark_stands, mark_taken, mark_there, ok, ok_is, other_stands, then_ok}
+use Rattle.bib_read.proofs.Gaps.{after_gap, at, gap_before, gap_joined, gap_passed, IsBlack, mark_first, mark_missed, mark_read, mark_stands, mark_taken, mark_there, other_stands}
 use Rattle.bib_read.proofs.Pieces.{and_left, equals_read, equals_taken, identifier_read, identifier_taken, NoHash, begins_black, valued}
 use Rattle.bib_read.proofs.Shorter.{Below, field_below, mark_below, noted_left, passed_le}
+use Rattle.bv_base.proofs.ThenLemmas.{ok, ok_is, then_ok}
 
 -- after a field
 abbrev pub fielded : List ℕ → FieldTree → List ℕ → Progress → Progress
@@ -141,7 +142,7 @@ more_fields key between rest text field fields p =
     (append_assoc p.warnings (field_warnings p.macros key field p.fields)
     (fields_warnings p.macros key fields (and_field p.macros field p.fields)))
 
-last_closed : (close : ℕ) (key : List ℕ) (p a q : Progress) → stands close a ≡ true → ok (passed close a) ≡ Ok q
+last_closed : (close : ℕ) (key : List ℕ) (p a q : Progress) → stands close a ≡ true → ok {E = Stop} (passed close a) ≡ Ok q
     → (l : List ℕ) → a ≡ at l p → (Mark close a.left q.left) × (q ≡ with_fields key [] q.left q.text p)
 last_closed close key p a q there e l is =
     let same : q ≡ passed close a = ok_is (passed close a) q e in

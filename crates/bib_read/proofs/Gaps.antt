@@ -1,68 +1,30 @@
 -- White space, runs and marks, as the reader passes over them and as the grammar has them.
 use Rattle.std.proofs.Common.{◌≡◌, ℕ, suc, Bool, true, false, cond, nat_eq, List, [], ◌∷◌, ◌++◌, append_assoc, length, take, drop, Result, Ok, Err, refl, sym, ap, subst, ◌∙◌, arith, eqb-true}
 use Rattle.std.proofs.lemmas.Bool.Decides.{nat_tests}
-use Rattle.bv_base.specs.Runs.{after_white, is_black, length_before}
+use Rattle.bv_base.specs.Runs.{after_white, is_black, length_before, EndsBy, NoneOf}
 use Rattle.bv_base.specs.Answers.{then_do}
 use Rattle.bib_read.specs.declared.stop.Stop.{Stop}
-use Rattle.bib_read.specs.Grammar.{EndsBy, Gap, Mark, NoneOf, Run}
+use Rattle.bib_read.specs.Grammar.{Gap, Mark, Run}
 use Rattle.bib_read.specs.Parts.{is_first, passed, stands, take_mark, without_first}
 use Rattle.bib_read.specs.Progress.{Progress}
 use Rattle.bib_read.specs.Stops.{unexpected}
+use Rattle.std.proofs.lemmas.List.{take-append-drop}
+use Rattle.std.proofs.Math.Seq.{take-append_seam, drop-append_seam}
+use Rattle.bv_base.proofs.RunLemmas.{ends_before, length_before_is, none_before, none_joined}
+use Rattle.bv_base.proofs.ThenLemmas.{ok, ok_is, where_ok}
 
 -- what is left, and all else as it was
 abbrev pub at : List ℕ → Progress → Progress
 at left p = record p { left = left }
 
-pub then_ok : {A B : Type 0} (r : Result A Stop) (f : A → Result B Stop) (b : B) → then_do r f ≡ Ok b
-    → (a : A) × (r ≡ Ok a) × (f a ≡ Ok b)
-then_ok (Ok a) f b e = (a, refl, e)
-then_ok (Err x) f b e = absurd (cc)
-
-abbrev pub ok : {A : Type 0} → A → Result A Stop
-ok x = Ok x
-
-pub ok_is : {A : Type 0} (x y : A) → ok x ≡ ok y → y ≡ x
-ok_is x y e = cc
-
-pub where_ok : {A : Type 0} (t : Bool) (r : Result A Stop) (stop : Stop) (a : A) → cond t r (Err stop) ≡ Ok a
-    → (t ≡ true) × (r ≡ Ok a)
-where_ok true r stop a e = (refl, e)
-where_ok false r stop a e = absurd (cc)
-
-pub unless_ok : {A : Type 0} (t : Bool) (stop : Stop) (r : Result A Stop) (a : A) → cond t (Err stop) r ≡ Ok a
-    → (t ≡ false) × (r ≡ Ok a)
-unless_ok true stop r a e = absurd (cc)
-unless_ok false stop r a e = (refl, e)
-
 -- the run before the first byte that passes the test
-run_step : (test : ℕ → Bool) (b : ℕ) (bytes : List ℕ) (n : ℕ) (t : Bool) → test b ≡ t
-    → Run test (take n bytes) bytes (drop n bytes)
-    → Run test (take (cond t 0 (suc n)) (b ∷ bytes)) (b ∷ bytes) (drop (cond t 0 (suc n)) (b ∷ bytes))
-run_step test b bytes n true e r = record { spelled = refl; inside = tt; ended = e }
-run_step test b bytes n false e r =
-    record { spelled = ap (λ (l : List ℕ). b ∷ l) r.spelled; inside = (e, r.inside); ended = r.ended }
-
 pub run_before : (test : ℕ → Bool) (bytes : List ℕ)
     → Run test (take (length_before test bytes) bytes) bytes (drop (length_before test bytes) bytes)
-run_before test [] = record { spelled = refl; inside = tt; ended = tt }
-run_before test (b ∷ bytes) =
-    run_step test b bytes (length_before test bytes) (test b) refl (run_before test bytes)
-
-pub run_length : (test : ℕ → Bool) (run rest : List ℕ) → NoneOf test run → EndsBy test rest
-    → length_before test (run ++ rest) ≡ length run
-run_length test [] [] none ends = refl
-run_length test [] (b ∷ rest) none ends = ap (λ (t : Bool). cond t 0 (suc (length_before test rest))) ends
-run_length test (b ∷ run) rest none ends =
-    ap (λ (t : Bool). cond t 0 (suc (length_before test (run ++ rest)))) none.0
-    ∙ ap suc (run_length test run rest none.1 ends)
-
-pub take_front : (run rest : List ℕ) → take (length run) (run ++ rest) ≡ run
-take_front [] rest = refl
-take_front (b ∷ run) rest = ap (λ (l : List ℕ). b ∷ l) (take_front run rest)
-
-pub drop_front : (run rest : List ℕ) → drop (length run) (run ++ rest) ≡ rest
-drop_front [] rest = refl
-drop_front (b ∷ run) rest = drop_front run rest
+run_before test bytes = record {
+  spelled = sym (take-append-drop (length_before test bytes) bytes);
+  inside = none_before test bytes;
+  ended = ends_before test bytes;
+}
 
 -- a run is what the reader takes, and what follows it is left
 pub run_taken : (test : ℕ → Bool) (run bytes rest : List ℕ) → Run test run bytes rest
@@ -70,10 +32,10 @@ pub run_taken : (test : ℕ → Bool) (run bytes rest : List ℕ) → Run test r
     × (drop (length_before test bytes) bytes ≡ rest)
 run_taken test run bytes rest r =
     let n : length_before test bytes ≡ length run =
-    ap (λ (l : List ℕ). length_before test l) r.spelled ∙ run_length test run rest r.inside r.ended in (
+    ap (λ (l : List ℕ). length_before test l) r.spelled ∙ length_before_is test run rest r.inside r.ended in (
       n,
-      ap (λ (k : ℕ). take k bytes) n ∙ ap (λ (l : List ℕ). take (length run) l) r.spelled ∙ take_front run rest,
-      ap (λ (k : ℕ). drop k bytes) n ∙ ap (λ (l : List ℕ). drop (length run) l) r.spelled ∙ drop_front run rest,
+      ap (λ (k : ℕ). take k bytes) n ∙ ap (λ (l : List ℕ). take (length run) l) r.spelled ∙ take-append_seam run rest,
+      ap (λ (k : ℕ). drop k bytes) n ∙ ap (λ (l : List ℕ). drop (length run) l) r.spelled ∙ drop-append_seam run rest,
     )
 
 -- white space
@@ -84,10 +46,6 @@ gap_before bytes =
 pub after_gap : (bytes rest : List ℕ) → Gap bytes rest → EndsBy is_black rest → after_white bytes ≡ rest
 after_gap bytes rest gap ends =
     (run_taken is_black gap.0 bytes rest (record { spelled = gap.2; inside = gap.1; ended = ends })).2
-
-none_joined : (test : ℕ → Bool) (a b : List ℕ) → NoneOf test a → NoneOf test b → NoneOf test (a ++ b)
-none_joined test [] b none more = more
-none_joined test (x ∷ a) b none more = (none.0, none_joined test a b none.1 more)
 
 pub gap_joined : (a b c : List ℕ) → Gap a b → Gap b c → Gap a c
 gap_joined a b c first second = (

@@ -3,14 +3,14 @@ use Rattle.std.proofs.Common.{◌≡◌, ℕ, zero, suc, ◌<◌, ◌≤◌, inl
 use Rattle.std.proofs.lemmas.Bool.Decides.{nat_tests}
 use Rattle.std.proofs.lemmas.List.{append-nil}
 use Rattle.bv_base.specs.Bytes.{is_white}
-use Rattle.bv_base.specs.Runs.{after_white, is_black, length_before}
+use Rattle.bv_base.specs.Runs.{after_white, is_black, length_before, EndsBy, NoneOf}
 use Rattle.bv_base.specs.Answers.{then_do}
 use Rattle.name_table.specs.Names.{lowered, same_name}
 use Rattle.bib_read.specs.declared.database.Database.{Database}
 use Rattle.bib_read.specs.declared.stop.Stop.{Stop}
 use Rattle.bib_read.specs.declared.stop.Stop.TheVariants.{Expected, RepeatedKey}
 use Rattle.bib_read.specs.Entering.{entry_at, take_entry, take_fields, with_entry}
-use Rattle.bib_read.specs.Grammar.{Piece, FieldTree, Item, Comment, Definition, Preamble, Entry, EndsBy, Gap, Identifier, IsFields, IsItem, IsType, IsValue, Mark, NoneOf, Opens, Run, Spells, is_word}
+use Rattle.bib_read.specs.Grammar.{Piece, FieldTree, Item, Comment, Definition, Preamble, Entry, Gap, Identifier, IsFields, IsItem, IsType, IsValue, Mark, Opens, Run, Spells, is_word}
 use Rattle.bib_read.specs.Meaning.{BibReads, and_item, and_items, value_text, value_warnings, where_some}
 use Rattle.bib_read.specs.Names.{defined, has_entry}
 use Rattle.bib_read.specs.Parts.{opening_at, take_identifier, take_mark, take_opening}
@@ -21,10 +21,11 @@ use Rattle.bib_read.specs.Squeeze.{squeezed}
 use Rattle.bib_read.specs.Stops.{unexpected}
 use Rattle.bib_read.specs.Values.{take_equals, take_value}
 use Rattle.bib_read.proofs.Enough.{same_fields}
-use Rattle.bib_read.proofs.Gaps.{after_gap, at, gap_before, gap_joined, gap_passed, mark_first, mark_read, mark_taken, ok, ok_is, run_before, run_taken, then_ok, unless_ok}
+use Rattle.bib_read.proofs.Gaps.{after_gap, at, gap_before, gap_joined, gap_passed, mark_first, mark_read, mark_taken, run_before, run_taken}
 use Rattle.bib_read.proofs.FieldsSpelled.{IsCloser, closer, fields_read, fields_taken, mark_no_hash, with_fields}
 use Rattle.bib_read.proofs.Pieces.{equals_read, equals_taken, identifier_read, identifier_taken, valued, value_read, value_taken}
 use Rattle.bib_read.proofs.Shorter.{Below, dropped, item_below}
+use Rattle.bv_base.proofs.ThenLemmas.{ok, ok_is, then_ok, unless_ok}
 
 -- an item that is read: what it spells, and what it adds
 pub record ItemRead (p q : Progress) : Type 0 where

@@ -3,12 +3,12 @@ use Rattle.std.proofs.Common.{◌≡◌, ℕ, zero, suc, ◌<◌, ◌≤◌, Boo
 use Rattle.std.proofs.lemmas.Bool.Decides.{nat_tests}
 use Rattle.std.proofs.lemmas.List.{take-append-drop, append-nil}
 use Rattle.bv_base.specs.Bytes.{is_name_byte}
-use Rattle.bv_base.specs.Runs.{after_white, ends_digits, is_black, is_digit, length_before}
+use Rattle.bv_base.specs.Runs.{after_white, ends_digits, is_black, is_digit, length_before, EndsBy, NoneOf}
 use Rattle.bv_base.specs.Answers.{then_do}
 use Rattle.name_table.specs.Names.{lowered}
 use Rattle.bib_read.specs.declared.stop.Stop.{Stop}
 use Rattle.bib_read.specs.declared.stop.Stop.TheVariants.{Unbalanced}
-use Rattle.bib_read.specs.Grammar.{Piece, Braced, Quoted, Digits, Named, EndsBy, Gap, Identifier, IsPiece, IsValue, Mark, NoneOf, Run, is_inside}
+use Rattle.bib_read.specs.Grammar.{Piece, Braced, Quoted, Digits, Named, Gap, Identifier, IsPiece, IsValue, Mark, Run, is_inside}
 use Rattle.bib_read.specs.Meaning.{or_nothing, piece_text, piece_warnings, value_text, value_warnings, warned}
 use Rattle.bib_read.specs.Names.{value_of}
 use Rattle.bib_read.specs.Parts.{identifier_at, is_first, passed, stands, take_identifier, take_mark}
@@ -18,8 +18,10 @@ use Rattle.bib_read.specs.Stops.{unexpected}
 use Rattle.bib_read.specs.Values.{closed, joined, macro_joined, piece_at, take_closed, take_digits, take_equals, take_macro, take_piece, take_pieces, take_value, with_macro}
 use Rattle.bib_read.specs.Warnings.{undefined_macro}
 use Rattle.bib_read.proofs.Enough.{same_pieces}
-use Rattle.bib_read.proofs.Gaps.{after_gap, at, gap_before, mark_first, mark_missed, mark_read, mark_stands, mark_taken, mark_there, ok, ok_is, run_before, run_taken, take_front, drop_front, then_ok, where_ok}
+use Rattle.bib_read.proofs.Gaps.{after_gap, at, gap_before, mark_first, mark_missed, mark_read, mark_stands, mark_taken, mark_there, run_before, run_taken}
 use Rattle.bib_read.proofs.Shorter.{Below, passed_less, piece_below}
+use Rattle.bv_base.proofs.ThenLemmas.{ok, ok_is, then_ok, where_ok}
+use Rattle.std.proofs.Math.Seq.{take-append_seam, drop-append_seam}
 
 pub and_left : (a b : Bool) → (a && b) ≡ true → a ≡ true
 and_left true b e = refl
@@ -162,8 +164,8 @@ take_closed_taken : (mark : ℕ) (text rest : List ℕ) (p : Progress) → nat_e
 take_closed_taken mark text rest p same inside =
     let bytes = text ++ mark ∷ rest in
     ap (λ (n : ℕ). closed mark (take n bytes) (drop n bytes) p) (inside_taken mark 0 text rest same inside)
-    ∙ ap (λ (l : List ℕ). closed mark l (drop (length text) bytes) p) (take_front text (mark ∷ rest))
-    ∙ ap (λ (l : List ℕ). closed mark text l p) (drop_front text (mark ∷ rest))
+    ∙ ap (λ (l : List ℕ). closed mark l (drop (length text) bytes) p) (take-append_seam text (mark ∷ rest))
+    ∙ ap (λ (l : List ℕ). closed mark text l p) (drop-append_seam text (mark ∷ rest))
     ∙ closed_mark mark text rest p same
 
 -- after a piece: its text is joined to those before it, and its warnings follow
@@ -205,7 +207,7 @@ digits_length b bytes n e =
     subst (λ (t : Bool). 0 < length (take (cond t 0 (suc n)) (b ∷ bytes))) (sym (ap not e)) (omega arith)
 
 digits_read : (b : ℕ) (bytes : List ℕ) (p q : Progress) → Gap p.left (b ∷ bytes) → is_digit b ≡ true
-    → ok (take_digits (b ∷ bytes) p) ≡ Ok q → PieceRead p q
+    → ok {E = Stop} (take_digits (b ∷ bytes) p) ≡ Ok q → PieceRead p q
 digits_read b bytes p q gap digit e =
     let n = length_before ends_digits (b ∷ bytes) in
     let text = take n (b ∷ bytes) in

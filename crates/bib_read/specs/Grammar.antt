@@ -1,7 +1,7 @@
 -- The grammar of databases over whole texts: items as trees, and how they are spelled (docs/DATA.md, "The .bib file").
 -- In each relation the first bytes begin with what it speaks of, and the second follow it.
 use Rattle.std.specs.Prelude.{◌≡◌, ℕ, ◌<◌, ◌⊎◌, Bool, true, false, ◌&&◌, ◌||◌, not, nat_eq, List, [], ◌∷◌, ◌++◌, length, codes}
-use Rattle.bv_base.specs.Runs.{ends_digits, is_black}
+use Rattle.bv_base.specs.Runs.{ends_digits, is_black, EndsBy, NoneOf}
 use Rattle.name_table.specs.Names.{lowered, same_name}
 use Rattle.bib_read.specs.Runs.{begins_name, ends_key, ends_name, is_at, level_after}
 
@@ -23,16 +23,6 @@ pub data Item : Type 0 where
   Definition : (word name : List ℕ) (value : List Piece) → Item
   Preamble : (word : List ℕ) (value : List Piece) → Item
   Entry : (word key : List ℕ) (fields : List FieldTree) → Item
-
--- no byte passes the test
-abbrev pub NoneOf : (ℕ → Bool) → List ℕ → Type 0
-NoneOf test [] = Unit {0}
-NoneOf test (b ∷ bytes) = (test b ≡ false) × NoneOf test bytes
-
--- nothing follows, or a byte that passes the test
-abbrev pub EndsBy : (ℕ → Bool) → List ℕ → Type 0
-EndsBy test [] = Unit {0}
-EndsBy test (b ∷ _) = test b ≡ true
 
 -- white space, which may be none
 abbrev pub Gap : List ℕ → List ℕ → Type 0

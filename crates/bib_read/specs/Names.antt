@@ -1,6 +1,7 @@
 -- Names and keys that are there already, and macros by their names (docs/DATA.md, "The .bib file").
 use Rattle.std.specs.Prelude.{ℕ, Bool, if◌then◌else◌, List, [], ◌∷◌, Option, None, Some}
 use Rattle.std.specs.List.{list_any}
+use Rattle.bv_base.specs.KeySets.{has_item}
 use Rattle.name_table.specs.Names.{lowered, same_name}
 use Rattle.name_table.specs.declared.style.Macro.{Macro}
 use Rattle.bib_read.specs.declared.database.RawEntry.{RawEntry}
@@ -12,7 +13,7 @@ has_field name fields = list_any (λ field. same_name name field.name) fields
 
 -- an entry with this lowered key is among these
 abbrev pub has_entry : List ℕ → List RawEntry → Bool
-has_entry key entries = list_any (λ entry. same_name key (lowered entry.key)) entries
+has_entry key entries = has_item (λ entry. lowered entry.key) key entries
 
 -- the value of the macro of this name
 abbrev pub value_of : List ℕ → List Macro → Option (List ℕ)

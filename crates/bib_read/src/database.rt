@@ -1,8 +1,15 @@
 //! What has been read of databases.
 
+ghost use Rattle.name_table.specs.Names.{lowered};
+
+use bv_base::copied::Copied;
+use bv_base::key_set::lowered;
+use bv_base::keyed_list::Keyed;
+use bv_base::memory::NoMemory;
 use bv_base::seq::Seq;
 use bv_base::text::Text;
 use name_table::style::Macro;
+use std::alloc::Global;
 
 /// A field of an entry: its lowered name and its value.
 #[derive(Debug, Drop)]
@@ -10,6 +17,23 @@ pub struct RawField {
     pub name: Text,
     /// The value, with one space for each run of white space, and none at its ends.
     pub value: Text,
+}
+
+impl Copied for RawField {
+    fn copied(&self, alloc: Global) -> Result<RawField, NoMemory> {
+        Ok(RawField {
+            name: self.name.copied(alloc)?,
+            value: self.value.copied(alloc)?,
+        })
+    }
+}
+
+impl Keyed for RawField {
+    ghost key = { λ field. field.name };
+
+    fn copied_key(&self, alloc: Global) -> Result<Vec<u8>, NoMemory> {
+        Ok(self.name.as_slice().to_vec(alloc)?)
+    }
 }
 
 /// An entry as it stands in its database.
@@ -21,6 +45,24 @@ pub struct RawEntry {
     pub entry_type: Text,
     /// The fields in order, none twice.
     pub fields: Seq<RawField>,
+}
+
+impl Copied for RawEntry {
+    fn copied(&self, alloc: Global) -> Result<RawEntry, NoMemory> {
+        Ok(RawEntry {
+            key: self.key.copied(alloc)?,
+            entry_type: self.entry_type.copied(alloc)?,
+            fields: self.fields.copied(alloc)?,
+        })
+    }
+}
+
+impl Keyed for RawEntry {
+    ghost key = { λ entry. lowered entry.key };
+
+    fn copied_key(&self, alloc: Global) -> Result<Vec<u8>, NoMemory> {
+        lowered(alloc, self.key.as_slice())
+    }
 }
 
 /// What has been read of databases.

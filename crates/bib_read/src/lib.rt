@@ -2,9 +2,7 @@
 #![tactic(auto)]
 
 pub mod database;
-mod entries;
 pub mod fault;
-mod fields;
 pub mod laws;
 mod macros;
 mod opening;

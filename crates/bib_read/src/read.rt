@@ -8,10 +8,11 @@ ghost use Rattle.bib_read.specs.declared.fault.BibFault.TheVariants.{NoMemory as
 
 use crate::database::Database;
 use crate::fault::BibFault;
-use crate::fields::Fields;
-use crate::opening::{copied_entries, copied_texts, defined};
+use crate::opening::{copied_entries, defined};
 use crate::reader::Reader;
 use crate::stop::fault_of;
+use bv_base::copied::Copied;
+use bv_base::keyed_list::KeyedList;
 use bv_base::limits::DATA_BYTES;
 use bv_base::memory::NoMemory;
 use bv_base::text::Text;
@@ -75,9 +76,9 @@ fn start<'a>(alloc: Global, source: &'a [u8], before: &Database) -> Result<Reade
         macros: defined(alloc, before.macros.as_slice())?,
         entries: copied_entries(alloc, before.entries.as_slice())?,
         preamble,
-        warnings: copied_texts(alloc, before.warnings.as_slice())?,
+        warnings: before.warnings.copied(alloc)?,
         text: Vec::new(alloc),
-        fields: Fields::new(alloc),
+        fields: KeyedList::new(alloc),
     })
 }
 

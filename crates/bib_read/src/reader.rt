@@ -9,14 +9,13 @@ ghost use Rattle.bib_read.specs.Reading as reading;
 ghost use Rattle.bib_read.specs.declared.stop.Stop.TheVariants.{NoMemory as WantOfMemory};
 
 use crate::database::{RawEntry, RawField};
-use crate::entries::Entries;
-use crate::fields::Fields;
 use crate::macros::Macros;
 use crate::runs::{after_at, begins_name, key_length, name_length};
 use crate::squeeze::{squeezed, trimmed};
 use crate::stop::{Stop, unexpected};
 use crate::warnings::second_field;
 use bv_base::key_set::lowered;
+use bv_base::keyed_list::KeyedList;
 use bv_base::memory::NoMemory;
 use bv_base::runs::after_white;
 use bv_base::seq::Seq;
@@ -30,13 +29,13 @@ pub(crate) struct Reader<'a> {
     /// The bytes that are left.
     pub(crate) rest: &'a [u8],
     pub(crate) macros: Macros,
-    pub(crate) entries: Entries,
+    pub(crate) entries: KeyedList<RawEntry>,
     pub(crate) preamble: Vec<u8>,
     pub(crate) warnings: Seq<Text>,
     /// The pieces of the value that is being read, joined.
     pub(crate) text: Vec<u8>,
     /// The fields of the entry that is being read.
-    pub(crate) fields: Fields,
+    pub(crate) fields: KeyedList<RawField>,
 }
 
 impl<'a> Reader<'a> {
@@ -130,7 +129,7 @@ impl<'a> Reader<'a> {
             return Err(Stop::RepeatedKey(rest.len()));
         }
         self.rest = left;
-        self.fields = Fields::new(self.alloc);
+        self.fields = KeyedList::new(self.alloc);
         self.take_fields(close, key)?;
         self.add_entry(key, entry_type)?;
         Ok(())
@@ -142,7 +141,7 @@ impl<'a> Reader<'a> {
             (progress_of self.new ≡ entering.with_entry key.now entry_type (progress_of self.old)) }
     {
         let key = Text::from_slice(self.alloc, key)?;
-        let fields = std::mem::replace(&mut self.fields, Fields::new(self.alloc)).into_seq();
+        let fields = std::mem::replace(&mut self.fields, KeyedList::new(self.alloc)).into_seq();
         self.entries.add(RawEntry {
             key,
             entry_type,

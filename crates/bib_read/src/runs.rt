@@ -6,7 +6,7 @@ ghost use Rattle.bib_read.specs.Runs as runs;
 ghost use Rattle.bv_base.specs.Runs.{length_before};
 
 use bv_base::bytes::{is_name_byte, is_white};
-use bv_base::runs::is_digit;
+use bv_base::runs::{is_digit, length_before};
 
 /// What is left after the first `@`, or `None` where there is none.
 pub(crate) fn after_at(bytes: &[u8]) -> Option<&[u8]>
@@ -33,12 +33,7 @@ fn plain_length(bytes: &[u8]) -> usize
     ensures length { result ≡ length_before runs.is_at bytes.now }
     ensures within { result ≤ length bytes.now }
 {
-    for (i, b) in bytes.iter().enumerate() {
-        if *b == b'@' {
-            return i;
-        }
-    }
-    bytes.len()
+    length_before(bytes, |b| b == b'@')
 }
 
 /// How many name bytes stand first.
@@ -46,12 +41,7 @@ pub(crate) fn name_length(bytes: &[u8]) -> usize
     ensures length { result ≡ length_before runs.ends_name bytes.now }
     ensures within { result ≤ length bytes.now }
 {
-    for (i, b) in bytes.iter().enumerate() {
-        if !is_name_byte(*b) {
-            return i;
-        }
-    }
-    bytes.len()
+    length_before(bytes, |b| !is_name_byte(b))
 }
 
 /// How many bytes of a key stand first, in an entry that this byte closes.
@@ -59,12 +49,7 @@ pub(crate) fn key_length(close: u8, bytes: &[u8]) -> usize
     ensures length { result ≡ length_before (runs.ends_key close) bytes.now }
     ensures within { result ≤ length bytes.now }
 {
-    for (i, b) in bytes.iter().enumerate() {
-        if ends_key(close, *b) {
-            return i;
-        }
-    }
-    bytes.len()
+    length_before(bytes, |b| ends_key(close, b))
 }
 
 /// Whether a byte ends a key, in an entry that another byte closes.

@@ -5,14 +5,16 @@ use Rattle.std.proofs.lemmas.List.{length-drop, length-append}
 use Rattle.bv_base.specs.declared.place.Place.{Place}
 use Rattle.bst_lex.specs.declared.lexeme.LexFault.{LexFault}
 use Rattle.bst_lex.specs.declared.lexeme.LexFault.TheVariants.{NoEndQuote, BadInteger, StuffAfterToken, IllegalByte, IntegerRange}
-use Rattle.bst_lex.specs.Grammar.{IsFault, IsInteger, IsText, NoneOf, Spells, is_line_end, spaces}
+use Rattle.bst_lex.specs.Grammar.{IsFault, IsInteger, IsText, Spells, is_line_end, spaces}
 use Rattle.bst_lex.specs.Lexemes.{Seen}
-use Rattle.bv_base.specs.Runs.{ends_digits}
+use Rattle.bv_base.specs.Runs.{ends_digits, NoneOf}
 use Rattle.bst_lex.specs.Pieces.{ends_clean, ends_inside}
 use Rattle.bst_lex.specs.Fault.{place_of}
 use Rattle.bst_lex.specs.PlaceLaws.{BeginsLine, line_ends}
 use Rattle.bv_base.specs.Places.{after_byte, after_bytes, along, first_place, place_at, StandsIn}
 use Rattle.bst_lex.proofs.Ordering.{left_after, place_after}
+use Rattle.bv_base.proofs.RunLemmas.{none_joined}
+use Rattle.bst_lex.proofs.Reading.{after_append}
 
 -- the place after a byte, when it is known whether that is a line end
 abbrev next : Bool → Place → Place
@@ -47,11 +49,6 @@ column_begins : (front : List ℕ) → BeginsLine front → (after_bytes front f
 column_begins [] h = refl
 column_begins (b ∷ front) h = line_begins b front first_place h
 
-pub after_append : (first second : List ℕ) (place : Place)
-    → after_bytes (first ++ second) place ≡ after_bytes second (after_bytes first place)
-after_append [] second place = refl
-after_append (b ∷ first) second place = after_append first second (after_byte b place)
-
 pub lines_counted : (source : List ℕ) (at : ℕ) → (place_at source at).line ≡ 1 + line_ends (take at source)
 lines_counted source at = lines_after (take at source) first_place
 
@@ -67,10 +64,6 @@ pub none_weaker : (test other : ℕ → Bool) (bytes : List ℕ) → ((b : ℕ) 
     → NoneOf test bytes → NoneOf other bytes
 none_weaker test other [] h none = tt
 none_weaker test other (b ∷ bytes) h (here, none) = (h b here, none_weaker test other bytes h none)
-
-none_joined : (test : ℕ → Bool) (first second : List ℕ) → NoneOf test first → NoneOf test second → NoneOf test (first ++ second)
-none_joined test [] second h k = k
-none_joined test (b ∷ first) second (here, h) k = (here, none_joined test first second h k)
 
 digit_plain : (b : ℕ) → ends_digits b ≡ false → is_line_end b ≡ false
 digit_plain b e = grind (arith, nat_tests)

@@ -1,6 +1,6 @@
 -- What the grammar spells is what the definition reads.
 use Rattle.std.proofs.Common.{◌≡◌, ℕ, suc, ◌+◌, ◌<◌, ◌≤◌, ◌||◌, ◌&&◌, Bool, true, false, cond, nat_eq, nat_le, not, List, [], ◌∷◌, ◌++◌, length, take, drop, Result, Ok, Err, Option, Some, None, refl, sym, ap, ◌∙◌, subst, inl, inr, arith, eqb-true}
-use Rattle.std.proofs.lemmas.Bool.{le-leb, and_parts}
+use Rattle.std.proofs.lemmas.Bool.{le-leb, and_parts, cond-true, cond-false}
 use Rattle.std.proofs.lemmas.Bool.Decides.{nat_tests}
 use Rattle.std.proofs.lemmas.List.{length-append, append_assoc, append-nil}
 use Rattle.std.proofs.Math.Seq.{take-append_seam, drop-append_seam}
@@ -11,28 +11,15 @@ use Rattle.bst_lex.specs.declared.lexeme.LexFault.TheVariants.{NoEndQuote, BadIn
 use Rattle.bst_lex.specs.declared.lexeme.Piece.{Piece}
 use Rattle.bst_lex.specs.declared.lexeme.Shape.{Shape}
 use Rattle.bst_lex.specs.declared.lexeme.Shape.TheVariants.{OpenBrace, CloseBrace, Integer, Text, Quoted, Name}
-use Rattle.bst_lex.specs.Grammar.{NoneOf, EndsBy, is_line_end, Space, White, Comment, spaces, IsGap, sign, greatest, begins_run, IsLexeme, IsFault, Spells}
+use Rattle.bst_lex.specs.Grammar.{is_line_end, Space, White, Comment, spaces, IsGap, sign, greatest, begins_run, IsLexeme, IsFault, Spells}
 use Rattle.bst_lex.specs.Lexemes.{Seen, before, begun, lexed_after}
-use Rattle.bv_base.specs.Runs.{ends_digits, length_before, number_from}
+use Rattle.bv_base.specs.Runs.{ends_digits, length_before, number_from, NoneOf, EndsBy}
 use Rattle.bst_lex.specs.Pieces.{comment_length, digits_at, ends_clean, ends_inside, ends_run, first_is, gap_at, integer_at, is_control, may_follow, piece_at, ranged, run_at, signed, text_at, followed}
 use Rattle.bv_base.specs.Places.{after_byte, after_bytes, along}
 use Rattle.bst_lex.proofs.Passing.{lexed_passed, piece_passed, fault_first}
+use Rattle.bv_base.proofs.RunLemmas.{length_before_is}
 
-when_true : {X : Type 0} (test : Bool) (a b : X) → test ≡ true → cond test a b ≡ a
-when_true test a b e = ap (λ v. cond v a b) e
-
-when_false : {X : Type 0} (test : Bool) (a b : X) → test ≡ false → cond test a b ≡ b
-when_false test a b e = ap (λ v. cond v a b) e
-
--- the bytes before the first that passes a test are known
-length_before_is : (test : ℕ → Bool) (bytes rest : List ℕ) → NoneOf test bytes → EndsBy test rest
-    → length_before test (bytes ++ rest) ≡ length bytes
-length_before_is test [] [] none ends = refl
-length_before_is test [] (b ∷ rest) none ends = when_true (test b) 0 _ ends
-length_before_is test (b ∷ bytes) rest none ends =
-    when_false (test b) 0 _ none.0 ∙ ap suc (length_before_is test bytes rest none.1 ends)
-
-after_append : (first second : List ℕ) (place : Place)
+pub after_append : (first second : List ℕ) (place : Place)
     → after_bytes (first ++ second) place ≡ after_bytes second (after_bytes first place)
 after_append [] second place = refl
 after_append (b ∷ first) second place = after_append first second (after_byte b place)
@@ -129,7 +116,7 @@ digits_read place before minus digits rest none ends some =
     (cond (may_follow (drop n all)) (ranged place (before + n) minus (number_from 0 (take n all)))
     (Err (StuffAfterToken (along place (before + n))))))
     (length_before_is ends_digits digits rest none ends)
-    ∙ when_false (nat_eq (length digits) 0) _ _ some_is
+    ∙ cond-false (nat_eq (length digits) 0) _ _ some_is
     ∙ ap (λ xs. cond (may_follow xs) (ranged place (before + length digits) minus (number_from 0 (take (length digits) all)))
     (Err (StuffAfterToken (along place (before + length digits))))) (drop-append_seam digits rest)
     ∙ ap (λ xs. cond (may_follow rest) (ranged place (before + length digits) minus (number_from 0 xs))
@@ -146,7 +133,7 @@ integer_read place true digits rest none ends some =
     {x = 2 + length digits} {y = suc (suc (length digits))} (omega arith)
 integer_read place false [] rest none ends some = absurd (omega arith)
 integer_read place false (d ∷ digits) rest none ends some =
-    when_false (nat_eq 45 d) _ _ (no_sign d none.0)
+    cond-false (nat_eq 45 d) _ _ (no_sign d none.0)
     ∙ digits_read place 1 false (d ∷ digits) rest none ends some
     ∙ ap (λ n. cond (may_follow rest) (ranged place n false (number_from 0 (d ∷ digits))) (Err (StuffAfterToken (along place n))))
     {x = 1 + length (d ∷ digits)} {y = suc (length (d ∷ digits))} (omega arith)
@@ -178,7 +165,7 @@ open_read place inside rest none ends =
     (Err (NoEndQuote place))) (length_before_is ends_inside inside rest none (line_inside rest ends).0)
     ∙ ap (λ xs. cond (first_is (nat_eq 34) xs) (followed place (record { length = length inside + 2; shape = Text }) (drop 1 xs))
     (Err (NoEndQuote place))) (drop-append_seam inside rest)
-    ∙ when_false (first_is (nat_eq 34) rest) _ _ (line_inside rest ends).1
+    ∙ cond-false (first_is (nat_eq 34) rest) _ _ (line_inside rest ends).1
 
 clean_ends : (rest : List ℕ) → EndsBy ends_run rest → EndsBy ends_clean rest
 clean_ends [] e = tt
@@ -199,13 +186,13 @@ run_read : (place : Place) (shape : Shape) (run rest : List ℕ) → NoneOf ends
     → run_at place shape (run ++ rest) ≡ Ok (record { length = length run; shape = shape })
 run_read place shape run rest none ends =
     clean_read place shape run rest none (clean_ends rest ends)
-    ∙ when_false (first_is is_control rest) _ _ (end_plain rest ends)
+    ∙ cond-false (first_is is_control rest) _ _ (end_plain rest ends)
 
 illegal_read : (place : Place) (shape : Shape) (run : List ℕ) (b : ℕ) (rest : List ℕ) → NoneOf ends_clean run → is_control b ≡ true
     → run_at place shape (run ++ b ∷ rest) ≡ Err (IllegalByte (along place (length run)))
 illegal_read place shape run b rest none control =
     clean_read place shape run (b ∷ rest) none (or_right (ends_run b) (is_control b) control)
-    ∙ when_true (is_control b) _ _ control
+    ∙ cond-true (is_control b) _ _ control
 
 -- a byte that begins a run begins nothing else
 run_begins : (place : Place) (b : ℕ) (bytes : List ℕ) → ends_run b ≡ false → begins_run (b ∷ bytes) ≡ true
@@ -218,24 +205,24 @@ run_begins place b bytes run begins =
     let marks = and_parts (not (nat_eq 35 b)) (not (nat_eq 34 b)) begins in
     record {
       piece_is =
-          when_false (nat_eq 123 b) _ _ (eq_swap b 123 opens.0)
-          ∙ when_false (nat_eq 125 b) _ _ (eq_swap b 125 closes.0)
-          ∙ when_false (nat_eq 35 b) _ _ (not_true (nat_eq 35 b) marks.0)
-          ∙ when_false (nat_eq 34 b) _ _ (not_true (nat_eq 34 b) marks.1);
-      gap_is = when_false (is_white b) _ _ white.0 ∙ when_false (nat_eq b 37) _ _ percent.0;
+          cond-false (nat_eq 123 b) _ _ (eq_swap b 123 opens.0)
+          ∙ cond-false (nat_eq 125 b) _ _ (eq_swap b 125 closes.0)
+          ∙ cond-false (nat_eq 35 b) _ _ (not_true (nat_eq 35 b) marks.0)
+          ∙ cond-false (nat_eq 34 b) _ _ (not_true (nat_eq 34 b) marks.1);
+      gap_is = cond-false (is_white b) _ _ white.0 ∙ cond-false (nat_eq b 37) _ _ percent.0;
       some = omega arith;
     }
 
 -- the number of an integer decides whether it is in range
 ranged_read : (place : Place) (length : ℕ) (minus : Bool) (n : ℕ) → n ≤ greatest minus
     → ranged place length minus n ≡ Ok (record { length = length; shape = Integer (signed minus n) })
-ranged_read place length minus n h = when_true (nat_le n (greatest minus)) _ _ (le-leb n (greatest minus) h)
+ranged_read place length minus n h = cond-true (nat_le n (greatest minus)) _ _ (le-leb n (greatest minus) h)
 
 range_read : (place : Place) (length : ℕ) (minus : Bool) (n : ℕ) → greatest minus < n
     → ranged place length minus n ≡ Err (IntegerRange place)
 range_read place length minus n h =
     let large : nat_le n (greatest minus) ≡ false = grind (arith, nat_tests) in
-    when_false (nat_le n (greatest minus)) _ _ large
+    cond-false (nat_le n (greatest minus)) _ _ large
 
 lexeme_read : (place : Place) (shape : Shape) (text rest : List ℕ) → IsLexeme shape text rest
     → Begins place (text ++ rest) (Ok (record { length = length text; shape = shape }))
@@ -250,7 +237,7 @@ lexeme_read place (Integer n) text rest (minus, digits, is, small, value, follow
     (record {
       piece_is =
           integer_read place minus digits rest is.digits_only (follow_ends rest follows) is.some
-          ∙ when_true (may_follow rest) _ _ follows
+          ∙ cond-true (may_follow rest) _ _ follows
           ∙ ranged_read place (length (after_sign minus digits)) minus (number_from 0 digits) small
           ∙ ap (λ m. Ok (record { length = length (after_sign minus digits); shape = Integer m })) (sym value);
       gap_is = refl;
@@ -262,7 +249,7 @@ lexeme_read place Text text rest (inside, is, follows) =
       piece_is =
           ap (text_at place) (append_assoc inside (34 ∷ []) rest)
           ∙ text_read place inside rest is.plain
-          ∙ when_true (may_follow rest) _ _ follows;
+          ∙ cond-true (may_follow rest) _ _ follows;
       gap_is = refl;
       some = omega arith;
     })
@@ -272,7 +259,7 @@ lexeme_read place Quoted (b ∷ text) rest (quote, none, ends) =
     subst (λ x. (not (nat_eq 35 x) && not (nat_eq 34 x)) ≡ true) (eqb-true 39 b quote) refl in
     let h = run_begins place b (text ++ rest) (or_false (ends_run b) (is_control b) none.0).0 mark in
     record {
-      piece_is = h.piece_is ∙ when_true (nat_eq 39 b) _ _ quote ∙ run_read place Quoted (b ∷ text) rest none ends;
+      piece_is = h.piece_is ∙ cond-true (nat_eq 39 b) _ _ quote ∙ run_read place Quoted (b ∷ text) rest none ends;
       gap_is = h.gap_is;
       some = omega arith;
     }
@@ -280,7 +267,7 @@ lexeme_read place Name [] rest (some, quote, begins, none, ends) = absurd (omega
 lexeme_read place Name (b ∷ text) rest (some, quote, begins, none, ends) =
     let h = run_begins place b (text ++ rest) (or_false (ends_run b) (is_control b) none.0).0 begins in
     record {
-      piece_is = h.piece_is ∙ when_false (nat_eq 39 b) _ _ quote ∙ run_read place Name (b ∷ text) rest none ends;
+      piece_is = h.piece_is ∙ cond-false (nat_eq 39 b) _ _ quote ∙ run_read place Name (b ∷ text) rest none ends;
       gap_is = h.gap_is;
       some = omega arith;
     }
@@ -306,7 +293,7 @@ no_digits place before minus rest ends =
 bad_read : (place : Place) (minus : Bool) (rest : List ℕ) → first_is (nat_eq 45) (sign minus ++ rest) ≡ minus
     → EndsBy ends_digits rest → integer_at place (sign minus ++ rest) ≡ Err (BadInteger place)
 bad_read place true rest e ends = no_digits place 2 true rest ends
-bad_read place false rest e ends = when_false (first_is (nat_eq 45) rest) _ _ e ∙ no_digits place 1 false rest ends
+bad_read place false rest e ends = cond-false (first_is (nat_eq 45) rest) _ _ e ∙ no_digits place 1 false rest ends
 
 illegal_first : (place : Place) (b : ℕ) (bytes : List ℕ) (fault : LexFault) → ends_run b ≡ false → begins_run (b ∷ bytes) ≡ true
     → ((shape : Shape) → run_at place shape (b ∷ bytes) ≡ Err fault) → Begins place (b ∷ bytes) (Err fault)
@@ -351,7 +338,7 @@ fault_read place bytes (StuffAfterToken at) (text, rest, is, at_is, stuff, inl (
     (is ∙ ap (λ t. t ++ rest) integer.spelled)
     (ap StuffAfterToken (at_is ∙ ap (λ t. along place (length t)) integer.spelled))
     (record {
-      piece_is = integer_read place minus digits rest integer.digits_only ends integer.some ∙ when_false (may_follow rest) _ _ stuff;
+      piece_is = integer_read place minus digits rest integer.digits_only ends integer.some ∙ cond-false (may_follow rest) _ _ stuff;
       gap_is = refl;
       some = omega arith;
     })
@@ -364,7 +351,7 @@ fault_read place bytes (StuffAfterToken at) (text, rest, is, at_is, stuff, inr (
       piece_is =
           ap (text_at place) (append_assoc inside (34 ∷ []) rest)
           ∙ text_read place inside rest text_is.plain
-          ∙ when_false (may_follow rest) _ _ stuff;
+          ∙ cond-false (may_follow rest) _ _ stuff;
       gap_is = refl;
       some = omega arith;
     })
@@ -377,7 +364,7 @@ fault_read place bytes (IntegerRange at) (at_is, minus, digits, text, rest, is, 
     (record {
       piece_is =
           integer_read place minus digits rest integer.digits_only (follow_ends rest follows) integer.some
-          ∙ when_true (may_follow rest) _ _ follows
+          ∙ cond-true (may_follow rest) _ _ follows
           ∙ range_read place (length (after_sign minus digits)) minus (number_from 0 digits) large;
       gap_is = refl;
       some = omega arith;

@@ -9,38 +9,20 @@ use Rattle.bst_lex.specs.declared.lexeme.LexFault.{LexFault}
 use Rattle.bst_lex.specs.declared.lexeme.LexFault.TheVariants.{NoEndQuote, IllegalByte}
 use Rattle.bst_lex.specs.declared.lexeme.Piece.{Piece}
 use Rattle.bst_lex.specs.declared.lexeme.Shape.TheVariants.{Text, Quoted, Name}
-use Rattle.bst_lex.specs.Grammar.{NoneOf, EndsBy, is_line_end, Space, White, Comment, spaces, IsGap, sign, greatest, IsInteger, begins_run, IsLexeme, IsFault, Spells}
+use Rattle.bst_lex.specs.Grammar.{is_line_end, Space, White, Comment, spaces, IsGap, sign, greatest, IsInteger, begins_run, IsLexeme, IsFault, Spells}
 use Rattle.bst_lex.specs.Lexemes.{Lexed, lexed_after}
-use Rattle.bv_base.specs.Runs.{ends_digits, length_before, number_from}
+use Rattle.bv_base.specs.Runs.{ends_digits, length_before, number_from, NoneOf, EndsBy}
 use Rattle.bst_lex.specs.Pieces.{digits_at, ends_clean, ends_inside, ends_run, first_is, gap_at, gap_length, integer_at, is_control, may_follow, piece_at, run_at, text_at, followed}
 use Rattle.bv_base.specs.Places.{after_bytes, along}
 use Rattle.bst_lex.proofs.Passing.{lexed_from, gap_passed, gap_stops, piece_passed, fault_first}
 use Rattle.bst_lex.proofs.Reaching.{Reaches, length_before_within, piece_reaches, runs_on}
+use Rattle.bv_base.proofs.RunLemmas.{none_before, ends_before}
 
 -- a test decides which of two results is looked at
 either : (P : Piece → Type 0) (Q : LexFault → Type 0) (test : Bool) (a b : Result Piece LexFault)
     → (test ≡ true → MatchResult a P Q) → (test ≡ false → MatchResult b P Q) → MatchResult (cond test a b) P Q
 either P Q true a b f g = f refl
 either P Q false a b f g = g refl
-
--- none of the bytes before the first that passes a test passes it
-none_case : (test : ℕ → Bool) (b : ℕ) (bytes : List ℕ) (v : Bool) (count : ℕ) → test b ≡ v → NoneOf test (take count bytes)
-    → NoneOf test (take (cond v 0 (suc count)) (b ∷ bytes))
-none_case test b bytes true count e h = tt
-none_case test b bytes false count e h = (e, h)
-
-pub none_before : (test : ℕ → Bool) (bytes : List ℕ) → NoneOf test (take (length_before test bytes) bytes)
-none_before test [] = tt
-none_before test (b ∷ bytes) = none_case test b bytes (test b) (length_before test bytes) refl (none_before test bytes)
-
-ends_case : (test : ℕ → Bool) (b : ℕ) (bytes : List ℕ) (v : Bool) (count : ℕ) → test b ≡ v → EndsBy test (drop count bytes)
-    → EndsBy test (drop (cond v 0 (suc count)) (b ∷ bytes))
-ends_case test b bytes true count e h = e
-ends_case test b bytes false count e h = h
-
-pub ends_before : (test : ℕ → Bool) (bytes : List ℕ) → EndsBy test (drop (length_before test bytes) bytes)
-ends_before test [] = tt
-ends_before test (b ∷ bytes) = ends_case test b bytes (test b) (length_before test bytes) refl (ends_before test bytes)
 
 -- the gap that stands first in some bytes
 abbrev GapFound : List ℕ → ℕ → Type 0

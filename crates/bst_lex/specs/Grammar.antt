@@ -8,19 +8,9 @@ use Rattle.bst_lex.specs.declared.lexeme.LexFault.TheVariants.{NoEndQuote, BadIn
 use Rattle.bst_lex.specs.declared.lexeme.Shape.{Shape}
 use Rattle.bst_lex.specs.declared.lexeme.Shape.TheVariants.{OpenBrace, CloseBrace, Integer, Text, Quoted, Name}
 use Rattle.bst_lex.specs.Lexemes.{Seen}
-use Rattle.bv_base.specs.Runs.{ends_digits, number_from}
+use Rattle.bv_base.specs.Runs.{ends_digits, number_from, EndsBy, NoneOf}
 use Rattle.bst_lex.specs.Pieces.{ends_clean, ends_inside, ends_run, first_is, is_control, may_follow, signed}
 use Rattle.bv_base.specs.Places.{after_bytes, along}
-
--- no byte passes the test
-abbrev pub NoneOf : (ℕ → Bool) → List ℕ → Type 0
-NoneOf test [] = Unit {0}
-NoneOf test (b ∷ bytes) = (test b ≡ false) × NoneOf test bytes
-
--- nothing follows, or a byte that passes the test
-abbrev pub EndsBy : (ℕ → Bool) → List ℕ → Type 0
-EndsBy test [] = Unit {0}
-EndsBy test (b ∷ _) = test b ≡ true
 
 -- the byte that ends a line
 abbrev pub is_line_end : ℕ → Bool

@@ -2,7 +2,8 @@
 
 ghost use Rattle.std.specs.Prelude.{◌≡◌, ◌+◌, ◌++◌, ◌↔◌, ℕ, List, Option, IfSome, length, take};
 ghost use Rattle.bst_lex.specs.Fault.{place_of};
-ghost use Rattle.bst_lex.specs.Grammar.{NoneOf, Spells, is_line_end};
+ghost use Rattle.bst_lex.specs.Grammar.{Spells, is_line_end};
+ghost use Rattle.bv_base.specs.Runs.{NoneOf};
 ghost use Rattle.bst_lex.specs.Lexemes.{Seen, lexed};
 ghost use Rattle.bst_lex.specs.Order.{InOrder};
 ghost use Rattle.bst_lex.specs.PlaceLaws.{BeginsLine, line_ends};

@@ -7,7 +7,7 @@ ghost use Rattle.bv_base.specs.Runs.{length_before};
 use crate::lexeme::{LexFault, Piece, Shape};
 use bv_base::bytes::is_white;
 use bv_base::place::Place;
-use bv_base::runs::{digits_length, number};
+use bv_base::runs::{digits_length, length_before, number};
 
 /// How many bytes of white space and comments stand first.
 pub(crate) fn gap_length(bytes: &[u8]) -> usize
@@ -134,12 +134,7 @@ fn inside_length(bytes: &[u8]) -> usize
     ensures length { result ≡ length_before pieces.ends_inside bytes.now }
     ensures within { result ≤ length bytes.now }
 {
-    for (i, b) in bytes.iter().enumerate() {
-        if matches!(b, b'"' | b'\n') {
-            return i;
-        }
-    }
-    bytes.len()
+    length_before(bytes, |b| matches!(b, b'"' | b'\n'))
 }
 
 /// How many bytes of a run stand before its end or its first control byte.
@@ -147,12 +142,7 @@ fn clean_length(bytes: &[u8]) -> usize
     ensures length { result ≡ length_before pieces.ends_clean bytes.now }
     ensures within { result ≤ length bytes.now }
 {
-    for (i, b) in bytes.iter().enumerate() {
-        if ends_run(*b) || is_control(*b) {
-            return i;
-        }
-    }
-    bytes.len()
+    length_before(bytes, |b| ends_run(b) || is_control(b))
 }
 
 /// Whether these bytes may follow an integer or a text.

@@ -9,7 +9,7 @@ use Rattle.bst_parse.specs.Grammar.{Reads, spelled}
 use Rattle.bst_parse.specs.Reading.{opening_progress, reading, style_of}
 use Rattle.bst_parse.proofs.Completed.{completed, CommandsLeft}
 use Rattle.bst_parse.proofs.Held.{commands_held}
-use Rattle.bst_parse.proofs.Rules.{ok_is}
+use Rattle.bv_base.proofs.ThenLemmas.{ok_is}
 
 -- the lexemes of a source are those that the grammar of lexemes spells
 abbrev pub AreSpelled : List ℕ → Type 0

@@ -22,8 +22,8 @@ use Rattle.bst_parse.specs.Reading.{take_outside, take_within, take_lexeme, is_i
 use Rattle.bst_parse.specs.Tokens.{take_token}
 use Rattle.bst_parse.specs.Words.{take_word}
 use Rattle.bst_parse.proofs.Kept.{Kept, open_kept, close_kept, define_kept, function_kept, target_kept, macro_name_kept, macro_text_kept, body_kept, block_kept, leaf_kept, word_kept}
-use Rattle.bst_parse.proofs.Rules.{ok_is, then_ok, where_ok}
 use Rattle.bst_parse.proofs.SoundStyle.{none_left}
+use Rattle.bv_base.proofs.ThenLemmas.{ok_is, then_ok, where_ok}
 
 -- lexemes that are left, as commands
 pub record CommandsLeft (left : List Seen) : Type 0 where

@@ -14,10 +14,10 @@ use Rattle.bst_lex.specs.declared.lexeme.Shape.TheVariants.{OpenBrace, CloseBrac
 use Rattle.bst_lex.specs.Lexemes.{Seen, lexed}
 use Rattle.bst_lex.specs.Order.{InOrder, IsNext}
 use Rattle.bst_lex.specs.Fault.{place_of}
-use Rattle.bst_lex.specs.Grammar.{NoneOf, IsLexeme, Spells, is_line_end}
+use Rattle.bst_lex.specs.Grammar.{IsLexeme, Spells, is_line_end}
 use Rattle.bst_lex.specs.Pieces.{ends_clean}
 use Rattle.bv_base.specs.Places.{after_bytes, along, first_place, StandsIn}
-use Rattle.bst_lex.proofs.Placing.{after_append, along_line, clean_plain, none_weaker}
+use Rattle.bst_lex.proofs.Placing.{along_line, clean_plain, none_weaker}
 use Rattle.std.proofs.Math.Seq.{take-add}
 use Rattle.name_table.specs.Sound.{Each}
 use Rattle.bst_parse.specs.declared.fault.StyleFault.{StyleFault}
@@ -39,6 +39,8 @@ use Rattle.bst_parse.specs.Progress.{Progress}
 use Rattle.bst_parse.specs.Reading.{take_outside, take_within, take_lexeme, is_idle, ended, reading, opening_progress, style_of}
 use Rattle.bst_parse.specs.Tokens.{begins_block, is_own, not_own, used, take_token}
 use Rattle.bst_parse.specs.Words.{order_fault, begun, begin_named, take_word}
+use Rattle.bv_base.specs.Runs.{NoneOf}
+use Rattle.bst_lex.proofs.Reading.{after_append}
 
 -- a result whose fault, if any, is one of the source
 abbrev pub Placed : {A : Type 0} → List ℕ → Result A StyleFault → Type 0

@@ -22,7 +22,7 @@ use Rattle.bst_parse.specs.Reading.{take_outside, take_within, take_lexeme, read
 use Rattle.bst_parse.specs.Tokens.{take_token, begin_block}
 use Rattle.bst_parse.specs.Words.{take_word}
 use Rattle.bst_parse.proofs.Kept.{Kept, open_kept, close_kept, define_kept, function_kept, target_kept, macro_name_kept, macro_text_kept, body_kept, block_kept, leaf_kept, word_kept}
-use Rattle.bst_parse.proofs.Rules.{ok, ok_is, then_ok}
+use Rattle.bv_base.proofs.ThenLemmas.{ok, ok_is, then_ok}
 
 -- after a part, the rest of the parts are to come and no body is open
 record Passed (rest : List Part) (q : Progress) : Type 0 where

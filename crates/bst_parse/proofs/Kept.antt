@@ -26,7 +26,8 @@ use Rattle.bst_parse.specs.Parts.{take_open, take_close, definable, define, next
 use Rattle.bst_parse.specs.Progress.{Progress}
 use Rattle.bst_parse.specs.Tokens.{used, with_token, with_text, begin_block, take_token}
 use Rattle.bst_parse.specs.Words.{order_fault, begun, begin, begin_named, take_word}
-use Rattle.bst_parse.proofs.Rules.{ok, ok_is, then_ok, unless_ok, where_ok, define_ok}
+use Rattle.bst_parse.proofs.Rules.{define_ok}
+use Rattle.bv_base.proofs.ThenLemmas.{ok, ok_is, then_ok, unless_ok, where_ok}
 
 -- the parts to come and the open bodies stay
 pub record Kept (p q : Progress) : Type 0 where

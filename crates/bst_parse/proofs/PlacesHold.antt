@@ -38,17 +38,7 @@ use Rattle.bst_parse.specs.declared.grammar.Caller.{Caller}
 use Rattle.bst_parse.specs.declared.grammar.Part.{Part}
 use Rattle.bst_parse.specs.declared.grammar.Part.TheVariants.{Body as BodyPart, Close, FunctionName, MacroName, MacroText, Names, Open, Target}
 use Rattle.bst_parse.specs.declared.grammar.Word.{Word}
-
--- what holds of the value, if any
-then_stands : {A B : Type 0} (P : A → Type 0) (Q : B → Type 0) (r : Result A StyleFault) (f : A → Result B StyleFault) → IfOk r P
-    → ((a : A) → P a → IfOk (f a) Q) → IfOk (then_do r f) Q
-then_stands P Q (Ok a) f first rest = rest a first
-then_stands P Q (Err fault) f first rest = tt
-
-any_then : {A B : Type 0} (Q : B → Type 0) (r : Result A StyleFault) (f : A → Result B StyleFault) → ((a : A) → IfOk (f a) Q)
-    → IfOk (then_do r f) Q
-any_then Q (Ok a) f rest = rest a
-any_then Q (Err fault) f rest = tt
+use Rattle.bv_base.proofs.ThenLemmas.{then_any, then_holds}
 
 either_stands : {A : Type 0} (Q : A → Type 0) (t : Bool) (r s : Result A StyleFault) → IfOk r Q → IfOk s Q → IfOk (cond t r s) Q
 either_stands Q true r s h g = h
@@ -87,8 +77,8 @@ stands_of source parts p b = record { commands = b.commands; bodies = b.bodies; 
 define_stands : (source : List ℕ) (kind : Kind) (shape : Shape) (place : Place) (text : List ℕ) (p : Progress) → Begun source p
     → IfOk (define kind shape place text p) (Begun source)
 define_stands source kind shape place text p b =
-    any_then (Begun source) (definable shape place text) _
-    (λ name. any_then (Begun source) (defined name kind place p.names) _
+    then_any (Begun source) (definable shape place text) _
+    (λ name. then_any (Begun source) (defined name kind place p.names) _
     (λ names. record { commands = b.commands; bodies = b.bodies; place = b.place }))
 
 -- a command that its word's place stands for
@@ -133,7 +123,7 @@ step_stands source (Target caller) Text place text p b at = tt
 step_stands source (Target caller) Quoted place text p b at = tt
 step_stands source (Target caller) Name place text p b at = called_stands source caller (id_of (lowered text) p.names) place p b
 step_stands source FunctionName shape place text p b at =
-    then_stands (Begun source) (Begun source) (define (Wizard (next_body p.bodies)) shape place text p) _
+    then_holds (Begun source) (Begun source) (define (Wizard (next_body p.bodies)) shape place text p) _
     (define_stands source (Wizard (next_body p.bodies)) shape place text p b)
     (λ q after.
     record {
@@ -156,7 +146,7 @@ step_stands source BodyPart Text place text p b at = tt
 step_stands source BodyPart Quoted place text p b at = tt
 step_stands source BodyPart Name place text p b at = tt
 step_stands source MacroName shape place text p b at =
-    any_then (Begun source) (definable shape place text) _
+    then_any (Begun source) (definable shape place text) _
     (λ name. either_stands (Begun source) (has_macro name p.macros) _ _ tt
     (record { commands = b.commands; bodies = b.bodies; place = b.place }))
 step_stands source MacroText OpenBrace place text p b at = tt
@@ -170,7 +160,7 @@ step_stands source MacroText Name place text p b at = tt
 passed : (source : List ℕ) (part : Part) (rest : List Part) (shape : Shape) (place : Place) (text : List ℕ) (p : Progress)
     → Begun source p → IsOfByte source place → IfOk (then_do (take_step part shape place text p) (pass rest)) (Stands source)
 passed source part rest shape place text p b at =
-    then_stands (Begun source) (Stands source) (take_step part shape place text p) (pass rest)
+    then_holds (Begun source) (Stands source) (take_step part shape place text p) (pass rest)
     (step_stands source part shape place text p b at) (λ q after. stands_of source rest q after)
 
 name_stands : (source : List ℕ) (kind : Kind) (shape : Shape) (place : Place) (text : List ℕ) (p : Progress) → Begun source p
@@ -268,9 +258,9 @@ within_stands source inside Text l p s at =
       place = s.place;
     }
 within_stands source inside Quoted l p s at =
-    any_then (Stands source) (used source l (drop 1 l.text) p) _ (λ id. with_stands source inside (Quote id) l.place p s at)
+    then_any (Stands source) (used source l (drop 1 l.text) p) _ (λ id. with_stands source inside (Quote id) l.place p s at)
 within_stands source inside Name l p s at =
-    any_then (Stands source) (used source l l.text p) _ (λ id. with_stands source inside (Call id) l.place p s at)
+    then_any (Stands source) (used source l l.text p) _ (λ id. with_stands source inside (Call id) l.place p s at)
 
 outside_stands : (source : List ℕ) (parts : List Part) (l : Seen) (p : Progress) → p.parts ≡ parts → Stands source p
     → IsOfByte source l.place → IfOk (take_outside parts l p) (Stands source)
@@ -293,7 +283,7 @@ reading_stands source from [] None p order s =
     either_stands (PlacesStand source) (is_idle p) _ _ (record { commands = s.commands; bodies = s.bodies }) tt
 reading_stands source from (l ∷ rest) fault p order s =
     let next : IsNext source from l = order.0 in
-    then_stands (Stands source) (PlacesStand source) (take_lexeme source l p) (reading source rest fault)
+    then_holds (Stands source) (PlacesStand source) (take_lexeme source l p) (reading source rest fault)
     (lexeme_stands source (innermost p.opened) l p s (l.start, omega (arith, next.some, next.within), next.place_is))
     (λ q after. reading_stands source (l.start + length l.text) rest fault q order.1 after)
 

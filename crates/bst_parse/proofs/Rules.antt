@@ -11,27 +11,7 @@ use Rattle.bst_parse.specs.Parts.{definable, defined, define}
 use Rattle.bv_base.specs.Answers.{then_do}
 use Rattle.name_table.specs.declared.names.TheConstants.{MOST_NAMES}
 use Rattle.bst_parse.specs.Progress.{Progress}
-
-abbrev pub ok : {A : Type 0} → A → Result A StyleFault
-ok x = Ok x
-
-pub ok_is : {A : Type 0} (x y : A) → ok x ≡ ok y → y ≡ x
-ok_is x y e = cc
-
-pub then_ok : {A B : Type 0} (r : Result A StyleFault) (f : A → Result B StyleFault) (b : B) → then_do r f ≡ Ok b
-    → (a : A) × (r ≡ Ok a) × (f a ≡ Ok b)
-then_ok (Ok a) f b e = (a, refl, e)
-then_ok (Err x) f b e = absurd (cc)
-
-pub unless_ok : {A : Type 0} (t : Bool) (fault : StyleFault) (r : Result A StyleFault) (a : A) → cond t (Err fault) r ≡ Ok a
-    → (t ≡ false) × (r ≡ Ok a)
-unless_ok true fault r a e = absurd (cc)
-unless_ok false fault r a e = (refl, e)
-
-pub where_ok : {A : Type 0} (t : Bool) (r : Result A StyleFault) (fault : StyleFault) (a : A) → cond t r (Err fault) ≡ Ok a
-    → (t ≡ true) × (r ≡ Ok a)
-where_ok true r fault a e = (refl, e)
-where_ok false r fault a e = absurd (cc)
+use Rattle.bv_base.proofs.ThenLemmas.{ok, ok_is, then_ok, unless_ok, where_ok}
 
 pub none_is : {A : Type 0} (o : Option A) → is_some o ≡ false → o ≡ None
 none_is None e = refl

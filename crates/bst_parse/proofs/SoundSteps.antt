@@ -35,8 +35,9 @@ use Rattle.bst_parse.specs.Tokens.{begins_block, is_own, not_own, used, with_tok
 use Rattle.bst_parse.specs.Words.{order_fault, begun, begin, begin_named, take_word}
 use Rattle.bst_parse.proofs.Lists.{get-last}
 use Rattle.bst_parse.proofs.Lowered.{declared-lowered}
-use Rattle.bst_parse.proofs.Rules.{ok, ok_is, then_ok, unless_ok, where_ok, below, define_ok, Defined}
+use Rattle.bst_parse.proofs.Rules.{below, define_ok, Defined}
 use Rattle.bst_parse.proofs.SoFar.{coming, PartsFine, IsBusy, IsKindSoFar, SoFar, named, commanded, later_on, worded, left, token_put, function_put, block_put, passed, started}
+use Rattle.bv_base.proofs.ThenLemmas.{ok, ok_is, then_ok, unless_ok, where_ok}
 
 -- what holds of what has been read
 abbrev pub Now : ℕ → Progress → Type 0

@@ -19,9 +19,9 @@ use Rattle.bst_parse.specs.Progress.{Progress}
 use Rattle.bst_parse.specs.Reading.{opening_progress, take_lexeme, is_idle, ended, reading, style_of}
 use Rattle.bst_parse.proofs.Lexed.{lexed_short}
 use Rattle.bst_parse.proofs.Lists.{each_more}
-use Rattle.bst_parse.proofs.Rules.{ok, ok_is, then_ok, where_ok}
 use Rattle.bst_parse.proofs.SoFar.{coming, IsKindSoFar}
 use Rattle.bst_parse.proofs.SoundSteps.{Now, lexeme_keeps}
+use Rattle.bv_base.proofs.ThenLemmas.{ok, ok_is, then_ok, where_ok}
 
 -- a list all of whose items pass a test
 abbrev all_pass : {X : Type 0} → (X → Bool) → List X → Bool

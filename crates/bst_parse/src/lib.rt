@@ -5,7 +5,6 @@ mod bodies;
 pub mod fault;
 pub mod grammar;
 pub mod laws;
-mod macros;
 mod opened;
 pub mod parse;
 mod parser;

@@ -10,16 +10,16 @@ ghost use Rattle.bst_parse.specs.Reading as reading;
 use crate::bodies::Bodies;
 use crate::fault::StyleFault;
 use crate::grammar::Part;
-use crate::macros::Macros;
 use crate::opened::Opened;
 use bst_lex::lexeme::Lexeme;
 use bv_base::bytes::lower;
+use bv_base::keyed_list::KeyedList;
 use bv_base::memory::NoMemory;
 use bv_base::place::Place;
 use bv_base::seq::Seq;
 use bv_base::text::Text;
 use name_table::names::{NameId, Names};
-use name_table::style::{CommandAt, Style};
+use name_table::style::{CommandAt, Macro, Style};
 use std::alloc::Global;
 
 /// A style of which some lexemes are read.
@@ -30,7 +30,7 @@ pub(crate) struct Parser {
     pub(crate) commands: Seq<CommandAt>,
     pub(crate) bodies: Bodies,
     pub(crate) texts: Vec<Text>,
-    pub(crate) macros: Macros,
+    pub(crate) macros: KeyedList<Macro>,
     /// Whether an ENTRY command stood.
     pub(crate) has_entry: bool,
     /// Whether a READ command stood.
@@ -60,7 +60,7 @@ impl Parser {
             commands: Seq::new(alloc),
             bodies: Bodies::new(alloc),
             texts: Vec::new(alloc),
-            macros: Macros::new(alloc),
+            macros: KeyedList::new(alloc),
             has_entry: false,
             has_read: false,
             parts: &[],

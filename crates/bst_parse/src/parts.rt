@@ -16,7 +16,7 @@ use bv_base::bytes::is_name_byte;
 use bv_base::place::Place;
 use bv_base::text::Text;
 use name_table::names::{DefineFault, Kind, NameId, Names};
-use name_table::style::{Command, CommandAt, MOST_BODIES};
+use name_table::style::{Command, CommandAt, MOST_BODIES, Macro};
 
 impl Parser {
     /// Takes a lexeme of a part, after which the rest of the command's parts are to come.
@@ -190,8 +190,10 @@ impl Parser {
     {
         match lexeme.shape {
             Shape::Text => {
-                self.macros
-                    .add(self.macro_name.as_slice(), unmarked(lexeme.text))?;
+                self.macros.add(Macro {
+                    name: Text::from_slice(self.alloc, self.macro_name.as_slice())?,
+                    value: Text::from_slice(self.alloc, unmarked(lexeme.text))?,
+                })?;
                 Ok(())
             }
             _ => Err(StyleFault::Expected(lexeme.place, Shape::Text)),

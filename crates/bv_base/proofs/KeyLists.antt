@@ -5,7 +5,7 @@ use Rattle.std.specs.Cmp.Lexicographic.{pointwise, same_text}
 use Rattle.std.specs.List.{list_any}
 use Rattle.std.proofs.lemmas.List.Folds.{list_any-append}
 use Rattle.indexmap.specs.IndexSet.{insert_key}
-use Rattle.bv_base.specs.KeySets.{has_key, with_key}
+use Rattle.bv_base.specs.KeySets.{has_item, has_key, with_key}
 
 -- a test of the bytes of keys is one of the keys
 pub has_bytes : (key : List ℕ) (keys : List (Vec ℕ))
@@ -54,13 +54,15 @@ has_with key keys other = by (has_key key keys) refl
         ∙ or_last (has_key other keys) (pointwise nat_eq other key)
 
 -- where an item is put last in a list, and its key into the set of the list's keys, the set is still that of the keys
-pub any_added : {X : Type 0} (p : X → Bool) (xs : List X) (x : X) (keys new : List (List ℕ)) (key other : List ℕ)
-    → list_any p xs ≡ has_key other keys → p x ≡ pointwise nat_eq other key
+pub item_added : {X : Type 0} (key_of : X → List ℕ) (xs after : List X) (x : X) (keys new : List (List ℕ)) (key other : List ℕ)
+    → after ≡ xs ++ x ∷ [] → has_item key_of other xs ≡ has_key other keys → key ≡ key_of x
     → has_key other new ≡ (pointwise nat_eq other key || has_key other keys)
-    → list_any p (xs ++ x ∷ []) ≡ has_key other new
-any_added p xs x keys new key other held same added =
-    list_any-append p xs (x ∷ [])
+    → has_item key_of other after ≡ has_key other new
+item_added {X = X} key_of xs after x keys new key other put held same added =
+    let p : X → Bool = λ item. pointwise nat_eq other (key_of item) in
+    ap (list_any p) put
+    ∙ list_any-append p xs (x ∷ [])
     ∙ ap (λ b. b || (p x || false)) held
-    ∙ ap (λ b. has_key other keys || (b || false)) same
+    ∙ ap (λ b. has_key other keys || (pointwise nat_eq other b || false)) (sym same)
     ∙ or_last (has_key other keys) (pointwise nat_eq other key)
     ∙ sym added

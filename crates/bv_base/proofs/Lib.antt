@@ -1,4 +1,6 @@
 pub mod Appended
 pub mod KeyLists
 pub mod Listed
+pub mod RunLemmas
 pub mod Running
+pub mod ThenLemmas

@@ -15,3 +15,7 @@ has_lowered key keys = has_key (map lower key) keys
 -- the keys with one that is put in: as the last, unless it is there
 abbrev pub with_key : List ℕ → List (List ℕ) → List (List ℕ)
 with_key key keys = if has_key key keys then keys else keys ++ key ∷ []
+
+-- an item with this key is among these
+abbrev pub has_item : {T : Type 0} → (T → List ℕ) → List ℕ → List T → Bool
+has_item key_of key items = list_any (λ item. pointwise nat_eq key (key_of item)) items

@@ -103,14 +103,18 @@ abbrev pub word_space : List ℕ → List ℕ
 word_space bs = run is_white (drop (length (word_letters bs)) bs)
 
 -- the parts of the bytes within a special character, without so many of them: they belong to a control word that
--- began before
-abbrev pub parts_after : ℕ → List ℕ → List SpecialPart
-parts_after passed [] = []
-parts_after (suc passed) (b ∷ bs) = parts_after passed bs
-parts_after zero (b ∷ bs) =
+-- began before. Of the bytes after its `\`, some belong to a control word, and white space directly after them
+abbrev pub parts_by : (List ℕ → List ℕ) → (List ℕ → List ℕ) → ℕ → List ℕ → List SpecialPart
+parts_by own space passed [] = []
+parts_by own space (suc passed) (b ∷ bs) = parts_by own space passed bs
+parts_by own space zero (b ∷ bs) =
     if nat_eq b 92
-    then ControlWord (word_letters bs) (word_space bs) ∷ parts_after (length (word_letters bs ++ word_space bs)) bs
-    else Other b ∷ parts_after zero bs
+    then ControlWord (word_letters bs) (space bs) ∷ parts_by own space (length (own bs ++ space bs)) bs
+    else Other b ∷ parts_by own space zero bs
+
+-- the parts where its letters alone belong to a control word
+abbrev pub parts_after : ℕ → List ℕ → List SpecialPart
+parts_after passed bs = parts_by word_letters word_space passed bs
 
 -- the parts of the bytes within a special character, in order
 abbrev pub special_parts : List ℕ → List SpecialPart

@@ -1,5 +1,5 @@
 -- Runs of bytes by a test, digits and the numbers that they write (docs/LANGUAGE.md, "Bytes").
-use Rattle.std.specs.Prelude.{ℕ, suc, ◌+◌, ◌-◌, ◌*◌, Bool, ◌&&◌, not, nat_le, if◌then◌else◌, List, [], ◌∷◌, drop}
+use Rattle.std.specs.Prelude.{◌≡◌, ℕ, suc, ◌+◌, ◌-◌, ◌*◌, Bool, true, false, ◌&&◌, not, nat_le, if◌then◌else◌, List, [], ◌∷◌, drop}
 use Rattle.bv_base.specs.Bytes.{is_white}
 
 -- every byte but white space
@@ -18,6 +18,16 @@ ends_digits b = not (is_digit b)
 abbrev pub length_before : (ℕ → Bool) → List ℕ → ℕ
 length_before test [] = 0
 length_before test (b ∷ bytes) = if test b then 0 else suc (length_before test bytes)
+
+-- no byte passes the test
+abbrev pub NoneOf : (ℕ → Bool) → List ℕ → Type 0
+NoneOf test [] = Unit {0}
+NoneOf test (b ∷ bytes) = (test b ≡ false) × NoneOf test bytes
+
+-- nothing follows, or a byte that passes the test
+abbrev pub EndsBy : (ℕ → Bool) → List ℕ → Type 0
+EndsBy test [] = Unit {0}
+EndsBy test (b ∷ _) = test b ≡ true
 
 -- what is left after the white space that stands first
 abbrev pub after_white : List ℕ → List ℕ

@@ -3,10 +3,13 @@
 #![tactic(auto)]
 
 pub mod bytes;
+pub mod copied;
 pub mod files;
 pub mod host_files;
 pub mod host_sink;
 pub mod key_set;
+pub mod keyed_list;
+pub mod levels;
 pub mod limits;
 pub mod mem_files;
 pub mod mem_sink;

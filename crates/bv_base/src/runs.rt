@@ -1,6 +1,6 @@
 //! Runs of bytes by a test, and the numbers that digits write.
 
-ghost use Rattle.std.specs.Prelude.{◌≡◌, ◌≤◌, length, min};
+ghost use Rattle.std.specs.Prelude.{◌≡◌, ◌≤◌, ℕ, Bool, length, min};
 ghost use Rattle.bv_base.specs.Bytes.{is_white as white};
 ghost use Rattle.bv_base.specs.Runs as runs;
 
@@ -13,17 +13,27 @@ pub fn is_digit(b: u8) -> bool
     b.is_ascii_digit()
 }
 
+/// How many bytes stand before the first that passes a test, which is pure: all where none does.
+pub fn length_before<F: Fn(u8) -> bool>(bytes: &[u8], test: F) -> usize
+    requires { F.IsAlwaysCallable test }
+    ensures length { (ends : ℕ → Bool) → ((b : ℕ) (r : Bool) → F.post test b r → r ≡ ends b)
+        → result ≡ runs.length_before ends bytes.now }
+    ensures within { result ≤ length bytes.now }
+{
+    for (i, b) in bytes.iter().enumerate() {
+        if test(*b) {
+            return i;
+        }
+    }
+    bytes.len()
+}
+
 /// How many bytes of white space stand first.
 pub fn white_length(bytes: &[u8]) -> usize
     ensures length { result ≡ runs.length_before runs.is_black bytes.now }
     ensures within { result ≤ length bytes.now }
 {
-    for (i, b) in bytes.iter().enumerate() {
-        if !is_white(*b) {
-            return i;
-        }
-    }
-    bytes.len()
+    length_before(bytes, |b| !is_white(b))
 }
 
 /// How many bytes stand before the first white space.
@@ -31,12 +41,7 @@ pub fn black_length(bytes: &[u8]) -> usize
     ensures length { result ≡ runs.length_before white bytes.now }
     ensures within { result ≤ length bytes.now }
 {
-    for (i, b) in bytes.iter().enumerate() {
-        if is_white(*b) {
-            return i;
-        }
-    }
-    bytes.len()
+    length_before(bytes, |b| is_white(b))
 }
 
 /// How many digits stand first.
@@ -44,12 +49,7 @@ pub fn digits_length(bytes: &[u8]) -> usize
     ensures length { result ≡ runs.length_before runs.ends_digits bytes.now }
     ensures within { result ≤ length bytes.now }
 {
-    for (i, b) in bytes.iter().enumerate() {
-        if !is_digit(*b) {
-            return i;
-        }
-    }
-    bytes.len()
+    length_before(bytes, |b| !is_digit(b))
 }
 
 /// What is left after the white space that stands first.

@@ -4,9 +4,13 @@ ghost use Rattle.std.specs.Prelude.{◌≡◌};
 ghost use Rattle.name_table.specs.TypeTarget.{stands_before_read, target_of, type_function};
 
 use crate::names::{NameId, Names};
+use bv_base::copied::Copied;
+use bv_base::keyed_list::Keyed;
+use bv_base::memory::NoMemory;
 use bv_base::place::Place;
 use bv_base::seq::Seq;
 use bv_base::text::Text;
+use std::alloc::Global;
 
 /// A body of a function or a block, as its number in `Style::bodies`.
 #[derive(Clone, Copy, Debug, PartialEq, Eq)]
@@ -79,6 +83,23 @@ pub struct CommandAt {
 pub struct Macro {
     pub name: Text,
     pub value: Text,
+}
+
+impl Copied for Macro {
+    fn copied(&self, alloc: Global) -> Result<Macro, NoMemory> {
+        Ok(Macro {
+            name: self.name.copied(alloc)?,
+            value: self.value.copied(alloc)?,
+        })
+    }
+}
+
+impl Keyed for Macro {
+    ghost key = { λ one. one.name };
+
+    fn copied_key(&self, alloc: Global) -> Result<Vec<u8>, NoMemory> {
+        Ok(self.name.as_slice().to_vec(alloc)?)
+    }
 }
 
 /// A style as it has been read.

@@ -1,7 +1,0 @@
-use Rattle.std.proofs.Common.{◌≡◌, ◌+◌, drop}
-use Rattle.bv_base.specs.Runs.{length_before}
-use Rattle.bib_read.specs.Runs.{ends_name}
-use Rattle.bib_read.proofs.runs.name_length.Given as goal
-
-abbrev pub invariant-loop-i : goal.invariant-loop-i
-invariant-loop-i l = l.i + length_before ends_name (drop l.i l.bytes) ≡ length_before ends_name l.bytes
