@@ -1,9 +1,7 @@
 -- White space, runs and marks, as the reader passes over them and as the grammar has them.
-use Rattle.std.proofs.Common.{◌≡◌, ℕ, suc, Bool, true, false, cond, nat_eq, List, [], ◌∷◌, ◌++◌, append_assoc, length, take, drop, Result, Ok, Err, refl, sym, ap, subst, ◌∙◌, arith, eqb-true}
+use Rattle.std.proofs.Common.{◌≡◌, ℕ, Bool, true, false, cond, nat_eq, List, [], ◌∷◌, ◌++◌, append_assoc, length, take, drop, Ok, Err, refl, sym, ap, subst, ◌∙◌, arith, eqb-true}
 use Rattle.std.proofs.lemmas.Bool.Decides.{nat_tests}
-use Rattle.bv_base.specs.Runs.{after_white, is_black, length_before, EndsBy, NoneOf}
-use Rattle.bv_base.specs.Answers.{then_do}
-use Rattle.bib_read.specs.declared.stop.Stop.{Stop}
+use Rattle.bv_base.specs.Runs.{after_white, is_black, length_before, EndsBy}
 use Rattle.bib_read.specs.Grammar.{Gap, Mark, Run}
 use Rattle.bib_read.specs.Parts.{is_first, passed, stands, take_mark, without_first}
 use Rattle.bib_read.specs.Progress.{Progress}

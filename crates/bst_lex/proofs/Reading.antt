@@ -13,7 +13,7 @@ use Rattle.bst_lex.specs.declared.lexeme.Shape.{Shape}
 use Rattle.bst_lex.specs.declared.lexeme.Shape.TheVariants.{OpenBrace, CloseBrace, Integer, Text, Quoted, Name}
 use Rattle.bst_lex.specs.Grammar.{is_line_end, Space, White, Comment, spaces, IsGap, sign, greatest, begins_run, IsLexeme, IsFault, Spells}
 use Rattle.bst_lex.specs.Lexemes.{Seen, before, begun, lexed_after}
-use Rattle.bv_base.specs.Runs.{ends_digits, length_before, number_from, NoneOf, EndsBy}
+use Rattle.bv_base.specs.Runs.{ends_digits, number_from, NoneOf, EndsBy}
 use Rattle.bst_lex.specs.Pieces.{comment_length, digits_at, ends_clean, ends_inside, ends_run, first_is, gap_at, integer_at, is_control, may_follow, piece_at, ranged, run_at, signed, text_at, followed}
 use Rattle.bv_base.specs.Places.{after_byte, after_bytes, along}
 use Rattle.bst_lex.proofs.Passing.{lexed_passed, piece_passed, fault_first}

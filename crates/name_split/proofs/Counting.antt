@@ -1,12 +1,12 @@
 -- The commas that are seen from the left.
-use Rattle.std.proofs.Common.{◌≡◌, ℕ, ◌+◌, ◌&&◌, Bool, true, false, cond, nat_eq, List, [], ◌∷◌, refl, sym, ap, ◌∙◌, subst, arith}
+use Rattle.std.proofs.Common.{◌≡◌, ℕ, ◌&&◌, Bool, true, false, cond, nat_eq, List, [], ◌∷◌, refl, sym, ap, ◌∙◌, subst, arith}
 use Rattle.std.proofs.lemmas.Bool.{and_parts}
 use Rattle.std.proofs.lemmas.Bool.Decides.{nat_tests}
 use Rattle.std.specs.List.{list_all}
 use Rattle.bv_base.specs.Levels.{next_level}
 use Rattle.name_split.specs.declared.commas.Commas.{Commas}
-use Rattle.name_split.specs.declared.commas.Commas.TheVariants.{Zero, One, Two, Many}
-use Rattle.name_split.specs.Commas.{AreBelow, CommasAre, one_more}
+use Rattle.name_split.specs.declared.commas.Commas.TheVariants.{Zero, Many}
+use Rattle.name_split.specs.Commas.{CommasAre, one_more}
 use Rattle.name_split.specs.Parts.{ends_in_comma}
 use Rattle.name_split.specs.Tokens.{is_joint}
 
@@ -25,31 +25,6 @@ commas_are (a ∷ []) = refl
 commas_are (a ∷ b ∷ []) = refl
 commas_are (a ∷ b ∷ c ∷ found) =
     subst (λ seen. CommasAre seen (a ∷ b ∷ c ∷ found)) (sym (many_stay found)) (omega arith)
-
--- one byte of a name
-pub comma_passed : (is_comma : Bool) (seen : Commas) (at : ℕ) (more : List ℕ)
-    → more_commas seen (cond is_comma (at ∷ more) more) ≡ more_commas (cond is_comma (one_more seen at) seen) more
-comma_passed true seen at more = refl
-comma_passed false seen at more = refl
-
-pub below_more : (is_comma : Bool) (seen : Commas) (at : ℕ) → AreBelow seen at
-    → AreBelow (cond is_comma (one_more seen at) seen) (at + 1)
-below_more true Zero at h = omega arith
-below_more true (One comma) at h = (omega arith, omega arith)
-below_more true (Two comma second) at h = tt
-below_more true Many at h = tt
-below_more false Zero at h = tt
-below_more false (One comma) at h = omega arith
-below_more false (Two comma second) at h = (omega arith, omega arith)
-below_more false Many at h = tt
-
--- one byte of the end
-pub end_passed : (joint all ends comma later : Bool)
-    → cond (joint && all) ends (cond all comma later) ≡ cond all (cond joint ends comma) later
-end_passed true true ends comma later = refl
-end_passed true false ends comma later = refl
-end_passed false true ends comma later = refl
-end_passed false false ends comma later = refl
 
 no_comma : (level b : ℕ) → is_joint b ≡ true → (nat_eq level 0 && nat_eq b 44) ≡ false
 no_comma level b e = grind (arith, nat_tests)

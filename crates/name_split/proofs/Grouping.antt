@@ -6,6 +6,7 @@ use Rattle.std.proofs.lemmas.List.{length-drop}
 use Rattle.std.proofs.lemmas.Bool.Decides.{nat_tests}
 use Rattle.bv_base.specs.Levels.{is_ascii_letter, next_level, word_letters}
 use Rattle.name_split.specs.Patterns.{are_none, before_run, begins_with_letter, group_ok, is_group_letter, letter_runs, run_ok, runs_ok, with_letter}
+use Rattle.name_split.proofs.Taking.{leveled_within}
 
 first_case : (letter : Bool) (level b : ℕ) (bytes : List ℕ) → is_group_letter level b ≡ letter
     → letter_runs (next_level level b) bytes ≡ letter_runs 1 (drop (before_run (next_level level b) bytes) bytes)
@@ -84,13 +85,6 @@ first_run : (b : ℕ) (bytes : List ℕ) → is_ascii_letter b ≡ true → RunF
 first_run b [] e = letter_runs_are b [] e ∙ with_more b [] [] e refl
 first_run b (c ∷ bytes) e = next_case (is_ascii_letter c) b c bytes e refl (first_run c bytes)
 
-before_within : (level : ℕ) (bytes : List ℕ) → before_run level bytes ≤ length bytes
-before_within level [] = omega arith
-before_within level (b ∷ bytes) =
-    let h : before_run (next_level level b) bytes ≤ length bytes = before_within (next_level level b) bytes in
-    elim (is_group_letter level b) as (λ v. cond v 0 (suc (before_run (next_level level b) bytes)) ≤ suc (length bytes))
-    [ true ↦ omega arith | false ↦ omega arith ]
-
 -- how long what follows is
 left_length : (count : ℕ) (bytes left : List ℕ) → drop count bytes ≡ left → length left ≡ length bytes - count
 left_length count bytes left e = ap length (sym e) ∙ length-drop count bytes
@@ -99,7 +93,7 @@ left_length count bytes left e = ap length (sym e) ∙ length-drop count bytes
 none_case : (bytes left : List ℕ) → drop (before_run 1 bytes) bytes ≡ left
     → nat_eq (before_run 1 bytes) (length bytes) ≡ are_none (letter_runs 1 bytes)
 none_case bytes [] e =
-    let within : before_run 1 bytes ≤ length bytes = before_within 1 bytes in
+    let within : before_run 1 bytes ≤ length bytes = leveled_within is_group_letter 1 bytes in
     let long : 0 ≡ length bytes - before_run 1 bytes = left_length (before_run 1 bytes) bytes [] e in
     eq-eqb (before_run 1 bytes) (length bytes) (omega arith)
     ∙ sym (ap are_none (runs_from_first 1 bytes ∙ ap (letter_runs 1) e))

@@ -2,17 +2,15 @@
 use Rattle.std.proofs.Common.{◌≡◌, ℕ, zero, suc, ◌+◌, ◌≤◌, Bool, true, false, cond, List, [], ◌∷◌, length, drop, refl, sym, ap, ◌∙◌, subst, arith}
 use Rattle.bv_base.specs.Levels.{next_level}
 use Rattle.name_split.specs.declared.tokens.Token.{Token}
-use Rattle.name_split.specs.Spans.{front}
+use Rattle.name_split.specs.Spans.{front, leveled_before}
 use Rattle.name_split.specs.Tokens.{added, ends_token, token_at, token_length, tokens_after, tokens_of}
+use Rattle.std.proofs.lemmas.Bool.{cond-false}
 
-when_false : {X : Type 0} (test : Bool) (a b : X) → test ≡ false → cond test a b ≡ b
-when_false test a b e = ap (λ v. cond v a b) e
-
-pub length_within : (level : ℕ) (bytes : List ℕ) → token_length level bytes ≤ length bytes
-length_within level [] = omega arith
-length_within level (b ∷ bytes) =
-    let h : token_length (next_level level b) bytes ≤ length bytes = length_within (next_level level b) bytes in
-    elim (ends_token level b) as (λ v. cond v 0 (suc (token_length (next_level level b) bytes)) ≤ suc (length bytes))
+pub leveled_within : (test : ℕ → ℕ → Bool) (level : ℕ) (bytes : List ℕ) → leveled_before test level bytes ≤ length bytes
+leveled_within test level [] = omega arith
+leveled_within test level (b ∷ bytes) =
+    let h : leveled_before test (next_level level b) bytes ≤ length bytes = leveled_within test (next_level level b) bytes in
+    elim (test level b) as (λ v. cond v 0 (suc (leveled_before test (next_level level b) bytes)) ≤ suc (length bytes))
     [ true ↦ omega arith | false ↦ omega arith ]
 
 -- the bytes that are passed over are gone
@@ -58,10 +56,10 @@ token_first : (at b : ℕ) (bytes : List ℕ) (count : ℕ) → ends_token 0 b �
     → tokens_after 0 at (b ∷ bytes) ≡ token_at at count (b ∷ bytes) ∷ tokens_after 0 (at + count) (drop count (b ∷ bytes))
 token_first at b bytes count e is =
     let more : ℕ = token_length (next_level 0 b) bytes in
-    let long : token_length 0 (b ∷ bytes) ≡ suc more = when_false (ends_token 0 b) 0 (suc more) e in
+    let long : token_length 0 (b ∷ bytes) ≡ suc more = cond-false (ends_token 0 b) 0 (suc more) e in
     ap (λ v. First v at b bytes) e
     ∙ ap (λ ts. token_at at (token_length 0 (b ∷ bytes)) (b ∷ bytes) ∷ ts)
-    (tokens_passed more (at + 1) bytes (length_within (next_level 0 b) bytes)
+    (tokens_passed more (at + 1) bytes (leveled_within ends_token (next_level 0 b) bytes)
     ∙ ap (λ n. tokens_after 0 n (drop more bytes)) {x = at + 1 + more} {y = at + suc more} (omega arith)
     ∙ ap (λ n. tokens_after 0 (at + n) (drop n (b ∷ bytes))) (sym (is ∙ long)))
     ∙ ap (λ n. token_at at n (b ∷ bytes) ∷ tokens_after 0 (at + count) (drop count (b ∷ bytes))) (sym is)
@@ -100,7 +98,7 @@ nothing_left : (rest : List ℕ) → ((first : ℕ) (more : List ℕ) → rest �
 nothing_left [] begins c = refl
 nothing_left (b ∷ rest) begins c =
     let long : token_length 0 (b ∷ rest) ≡ suc (token_length (next_level 0 b) rest) =
-    when_false (ends_token 0 b) 0 _ (begins b rest refl) in
+    cond-false (ends_token 0 b) 0 _ (begins b rest refl) in
     absurd (omega arith)
 
 pub ended : (bytes rest after : List ℕ) (at gap count to : ℕ)

@@ -9,7 +9,7 @@ use Rattle.name_split.specs.Parts.{chain_start, commas, ends_in_comma, empty, la
 use Rattle.name_split.specs.Spans.{front, slice}
 use Rattle.name_split.specs.Tokens.{ends_token, token_length, tokens_of}
 use Rattle.name_split.proofs.Cutting.{front_within}
-use Rattle.name_split.proofs.Taking.{taken, ended, length_within}
+use Rattle.name_split.proofs.Taking.{taken, ended, leveled_within}
 
 -- tokens stand in order, from a byte of the name up to another
 abbrev TokensIn : ℕ → List Token → ℕ → Type 0
@@ -53,9 +53,6 @@ whole_in from (token ∷ tokens) end (a, b, c, more) =
     record { after = omega arith; forward = omega arith; before = last.1 }
 
 -- the next token, and those after it
-abbrev Goal : ℕ → ℕ → List ℕ → Type 0
-Goal n at bytes = TokensIn at (tokens_of at bytes) (at + length bytes)
-
 tokens_case : (n at : ℕ) (bytes : List ℕ) (gap count : ℕ) (rest after : List ℕ)
     → gap ≡ front (ends_token 0) bytes → rest ≡ drop gap bytes → count ≡ token_length 0 rest → after ≡ drop count rest
     → length bytes ≤ suc n
@@ -65,7 +62,7 @@ tokens_case n at bytes gap zero rest after g r c a h more =
     subst (λ ts. TokensIn at ts (at + length bytes)) (sym (ended bytes rest after at gap 0 at g r c a refl).0) tt
 tokens_case n at bytes gap (suc count) rest after g r c a h more =
     let close : gap ≤ length bytes = subst (λ k. k ≤ length bytes) (sym g) (front_within (ends_token 0) bytes) in
-    let fits : suc count ≤ length rest = subst (λ k. k ≤ length rest) (sym c) (length_within 0 rest) in
+    let fits : suc count ≤ length rest = subst (λ k. k ≤ length rest) (sym c) (leveled_within ends_token 0 rest) in
     let long : length rest ≡ length bytes - gap = ap length r ∙ length-drop gap bytes in
     let left : length after ≡ length rest - suc count = ap length a ∙ length-drop (suc count) rest in
     subst (λ ts. TokensIn at ts (at + length bytes))

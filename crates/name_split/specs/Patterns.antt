@@ -1,7 +1,8 @@
 -- Patterns of names (docs/NAMES.md, "Patterns").
-use Rattle.std.specs.Prelude.{ℕ, suc, Bool, true, false, ◌&&◌, not, nat_eq, if◌then◌else◌, List, [], ◌∷◌, codes}
+use Rattle.std.specs.Prelude.{ℕ, Bool, true, false, ◌&&◌, not, nat_eq, if◌then◌else◌, List, [], ◌∷◌, codes}
 use Rattle.std.specs.List.{list_all}
 use Rattle.bv_base.specs.Bytes.{is_among, lower}
+use Rattle.name_split.specs.Spans.{leveled_before}
 use Rattle.bv_base.specs.Levels.{inside, is_ascii_letter, next_level}
 
 -- the braces match, where so many are open before these bytes
@@ -74,8 +75,7 @@ pattern_ok pattern = balanced 0 pattern && list_all group_ok (groups 0 pattern)
 
 -- how many bytes stand before the first letter at level 1
 abbrev pub before_run : ℕ → List ℕ → ℕ
-before_run level [] = 0
-before_run level (b ∷ bytes) = if is_group_letter level b then 0 else suc (before_run (next_level level b) bytes)
+before_run level bytes = leveled_before is_group_letter level bytes
 
 -- a group that isn't well formed begins with the first byte, which has this level
 abbrev pub begins_bad_group : ℕ → List ℕ → Bool

@@ -2,6 +2,7 @@
 use Rattle.std.specs.Prelude.{ℕ, zero, suc, ◌+◌, Bool, true, false, ◌&&◌, ◌||◌, nat_eq, nat_le, if◌then◌else◌, List, [], ◌∷◌, length, take, drop}
 use Rattle.bv_base.specs.Bytes.{is_white}
 use Rattle.bv_base.specs.Levels.{begins_special, inside, is_ascii_letter, is_foreign, next_level, word_letters}
+use Rattle.name_split.specs.Spans.{leveled_before}
 use Rattle.name_split.specs.declared.tokens.Token.{Token}
 
 -- what joins two tokens of a part: white space, `~` and `-`
@@ -14,8 +15,7 @@ ends_token level b = nat_eq level 0 && (is_joint b || nat_eq b 44)
 
 -- how many bytes of a token stand first, where the first has this level
 abbrev pub token_length : ℕ → List ℕ → ℕ
-token_length level [] = 0
-token_length level (b ∷ bytes) = if ends_token level b then 0 else suc (token_length (next_level level b) bytes)
+token_length level bytes = leveled_before ends_token level bytes
 
 -- a small ASCII letter
 abbrev pub is_small : ℕ → Bool

@@ -1,24 +1,11 @@
-//! Levels, and the white space at the end of a slice.
+//! How many bytes stand before one that is looked for.
 
-ghost use Rattle.std.specs.Prelude.{◌≡◌, ◌+◌, ◌<◌, ◌≤◌, length};
+ghost use Rattle.std.specs.Prelude.{◌≡◌, ◌≤◌, ℕ, Bool, length};
 ghost use Rattle.bv_base.specs.Bytes.{is_white as white};
-ghost use Rattle.bv_base.specs.Levels as levels;
-ghost use Rattle.name_split.specs.Spans.{kept};
+ghost use Rattle.name_split.specs.Spans.{kept, leveled_before};
 
 use bv_base::bytes::is_white;
-
-/// The level directly after a byte of this level.
-pub(crate) fn next_level(level: usize, b: u8) -> usize
-    requires { level < usize.MAX }
-    ensures next { result ≡ levels.next_level level b }
-    ensures bound { result ≤ level + 1 }
-{
-    match b {
-        b'{' => level + 1,
-        b'}' => level.saturating_sub(1),
-        _ => level,
-    }
-}
+use bv_base::levels::next_level;
 
 /// How many bytes there are without the white space at the end.
 pub(crate) fn kept_length(bytes: &[u8]) -> usize
@@ -32,4 +19,23 @@ pub(crate) fn kept_length(bytes: &[u8]) -> usize
         }
     }
     kept
+}
+
+/// How many bytes stand before the first that passes a test with its level, which is pure, where the first has this
+/// level: all where none does.
+pub(crate) fn leveled_before<F: Fn(usize, u8) -> bool>(first: usize, bytes: &[u8], test: F) -> usize
+    requires low { first ≤ 1 }
+    requires callable { F.IsAlwaysCallable test }
+    ensures length { (passes : ℕ → ℕ → Bool) → ((level b : ℕ) (r : Bool) → F.post test level b r → r ≡ passes level b)
+        → result ≡ leveled_before passes first bytes.now }
+    ensures within { result ≤ length bytes.now }
+{
+    let mut level = first;
+    for (i, b) in bytes.iter().enumerate() {
+        if test(level, *b) {
+            return i;
+        }
+        level = next_level(level, *b);
+    }
+    bytes.len()
 }

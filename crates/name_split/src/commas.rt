@@ -5,8 +5,8 @@ ghost use Rattle.name_split.specs.Commas as commas;
 ghost use Rattle.name_split.specs.Parts as parts;
 ghost use Rattle.name_split.specs.Tokens as tokens;
 
-use crate::bytes::next_level;
 use crate::tokens::is_joint;
+use bv_base::levels::next_level;
 
 /// The places of the commas, counted from 0, where there are at most two.
 #[derive(Clone, Copy)]

@@ -1,16 +1,11 @@
 //! Whether a token is low.
 
-ghost use Rattle.std.specs.Prelude.{◌≡◌, ◌&&◌, map, nat_eq};
+ghost use Rattle.std.specs.Prelude.{◌≡◌, ◌&&◌, nat_eq};
 ghost use Rattle.bv_base.specs.Levels as levels;
 ghost use Rattle.name_split.specs.Tokens as tokens;
 
-use crate::bytes::next_level;
-use crate::front::{inside, word_letters};
-
-/// The control words that stand for letters of other languages.
-const FOREIGN_WORDS: [&[u8]; 13] = [
-    b"oe", b"OE", b"ae", b"AE", b"ss", b"aa", b"AA", b"o", b"O", b"l", b"L", b"i", b"j",
-];
+use crate::front::inside;
+use bv_base::levels::{begins_special, is_foreign, next_level, split_letters};
 
 /// Whether a token is low: an ASCII letter at level 0 or a special character decides, whichever comes first.
 pub(crate) fn is_low(token: &[u8]) -> bool
@@ -37,13 +32,6 @@ fn is_plain_letter(level: usize, b: u8) -> bool
     level == 0 && b.is_ascii_alphabetic()
 }
 
-/// Whether a special character begins with the first byte, which has a level.
-fn begins_special(level: usize, bytes: &[u8]) -> bool
-    ensures { result ≡ levels.begins_special level bytes.now }
-{
-    level == 0 && matches!(bytes, [b'{', b'\\', ..])
-}
-
 /// Whether a special character is low, by the bytes within its braces.
 fn special_low(inner: &[u8]) -> bool
     ensures { result ≡ tokens.special_low inner.now }
@@ -51,11 +39,11 @@ fn special_low(inner: &[u8]) -> bool
     match inner {
         [] => false,
         [_, after @ ..] => {
-            let letters = word_letters(after);
+            let (letters, others) = split_letters(after);
             if is_foreign(letters) {
                 first_small(letters)
             } else {
-                first_small(after.split_at(letters.len()).1)
+                first_small(others)
             }
         }
     }
@@ -68,25 +56,6 @@ fn first_small(bytes: &[u8]) -> bool
     for b in bytes {
         if b.is_ascii_alphabetic() {
             return b.is_ascii_lowercase();
-        }
-    }
-    false
-}
-
-/// Whether a control word stands for a letter of another language.
-fn is_foreign(word: &[u8]) -> bool
-    ensures { result ≡ levels.is_foreign word.now }
-{
-    is_one_of(&FOREIGN_WORDS, word)
-}
-
-/// Whether a word is one of these.
-fn is_one_of(words: &[&[u8]], word: &[u8]) -> bool
-    ensures { result ≡ levels.is_one_of (map (λ w. w.now) words.now) word.now }
-{
-    for other in words {
-        if word == *other {
-            return true;
         }
     }
     false

@@ -8,9 +8,10 @@ ghost use Rattle.name_split.specs.Names as names;
 ghost use Rattle.name_split.specs.Spans.{front, kept, slice};
 ghost use Rattle.name_split.specs.declared.spans.Span.{Span};
 
-use crate::bytes::{kept_length, next_level};
+use crate::bytes::kept_length;
 use crate::parts::has_parts;
 use bv_base::bytes::{is_white, lower};
+use bv_base::levels::next_level;
 use bv_base::runs::after_white;
 use std::marker::Model;
 

@@ -5,9 +5,10 @@ ghost use Rattle.std.specs.List.{list_all};
 ghost use Rattle.name_split.specs.FirstRun.{IsFirstRun};
 ghost use Rattle.name_split.specs.Patterns as patterns;
 
-use crate::bytes::next_level;
-use crate::front::{inside, word_letters};
+use crate::bytes::leveled_before;
+use crate::front::inside;
 use bv_base::bytes::lower;
+use bv_base::levels::{next_level, split_letters};
 
 /// Whether a pattern is well formed: its braces match, and each group has at level 1 at most one run of ASCII letters,
 /// which is one letter of `f v l j` in any case or two equal ones.
@@ -60,7 +61,7 @@ fn group_ok(group: &[u8]) -> bool
     ensures { result ≡ patterns.group_ok group.now }
 {
     let rest = group.split_at(before_run(group)).1;
-    let run = word_letters(rest);
+    let run = split_letters(rest).0;
     let after = rest.split_at(run.len()).1;
     run.is_empty() || (run_ok(run) && before_run(after) == after.len())
 }
@@ -82,7 +83,7 @@ pub fn first_run<'a>(group: &'a [u8]) -> Option<FirstRun<'a>>
     ensures { MatchOption result (patterns.letter_runs 1 group.now ≡ []) (λ found. IsFirstRun group.now found) }
 {
     let (before, rest) = group.split_at(before_run(group));
-    let letters = word_letters(rest);
+    let letters = split_letters(rest).0;
     let behind = rest.split_at(letters.len()).1;
     if letters.is_empty() {
         return None;
@@ -99,14 +100,7 @@ fn before_run(bytes: &[u8]) -> usize
     ensures before { result ≡ patterns.before_run 1 bytes.now }
     ensures within { result ≤ length bytes.now }
 {
-    let mut level = 1;
-    for (at, b) in bytes.iter().enumerate() {
-        if is_group_letter(level, *b) {
-            return at;
-        }
-        level = next_level(level, *b);
-    }
-    bytes.len()
+    leveled_before(1, bytes, |level, b| is_group_letter(level, b))
 }
 
 /// Whether a byte of this level is an ASCII letter directly within a group.

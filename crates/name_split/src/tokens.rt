@@ -4,7 +4,7 @@ ghost use Rattle.std.specs.Prelude.{◌≡◌, ◌+◌, ◌≤◌, [], ◌∷◌
 ghost use Rattle.name_split.specs.Spans.{front};
 ghost use Rattle.name_split.specs.Tokens as tokens;
 
-use crate::bytes::next_level;
+use crate::bytes::leveled_before;
 use crate::low::is_low;
 use bv_base::bytes::is_white;
 use std::marker::Model;
@@ -23,14 +23,7 @@ fn token_length(bytes: &[u8]) -> usize
     ensures length { result ≡ tokens.token_length 0 bytes.now }
     ensures within { result ≤ length bytes.now }
 {
-    let mut level = 0;
-    for (i, b) in bytes.iter().enumerate() {
-        if ends_token(level, *b) {
-            return i;
-        }
-        level = next_level(level, *b);
-    }
-    bytes.len()
+    leveled_before(0, bytes, |level, b| ends_token(level, b))
 }
 
 /// Whether a byte of this level ends a token.

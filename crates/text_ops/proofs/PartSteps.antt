@@ -1,9 +1,9 @@
 -- What a reader that goes from the left meets of the parts of a special character.
-use Rattle.std.proofs.Common.{◌≡◌, ◌∙◌, ℕ, zero, suc, ◌+◌, ◌<◌, ◌≤◌, List, [], ◌∷◌, ◌++◌, length, drop, get_or, refl, ap, arith, sym, Bool, true, false, nat_eq}
+use Rattle.std.proofs.Common.{◌≡◌, ◌∙◌, ℕ, zero, suc, ◌+◌, ◌<◌, ◌≤◌, List, [], ◌∷◌, ◌++◌, length, drop, get_or, refl, ap, arith, sym, Bool, true, false}
 use Rattle.std.proofs.lemmas.List.{length-append, length-drop, drop-drop}
 use Rattle.std.proofs.lemmas.Bool.Decides.{nat_tests}
 use Rattle.bv_base.specs.Bytes.{is_white}
-use Rattle.bv_base.specs.Levels.{next_level, is_brace, is_ascii_letter, is_closing, inside, closing, beyond, run, word_letters, word_space, ControlWord, Other, parts_after, special_parts}
+use Rattle.bv_base.specs.Levels.{next_level, is_brace, is_ascii_letter, is_closing, inside, closing, beyond, run, word_letters, word_space, ControlWord, parts_after, parts_by, special_parts}
 use Rattle.text_ops.proofs.PieceSteps.{tail, tail_is}
 
 pub no_brace_closing : (level b : ℕ) → is_brace b ≡ false → is_closing level b ≡ false
@@ -57,10 +57,13 @@ module _ (test : ℕ → Bool) (no_brace : (b : ℕ) → test b ≡ true → is_
         | false ↦ λ e. rw e refl
       ]) refl
 
+pub by_drop : (own space : List ℕ → List ℕ) (n : ℕ) (bs : List ℕ) → parts_by own space n bs ≡ parts_by own space 0 (drop n bs)
+by_drop own space zero bs = refl
+by_drop own space (suc n) [] = refl
+by_drop own space (suc n) (b ∷ bs) = by_drop own space n bs
+
 pub parts_drop : (n : ℕ) (bs : List ℕ) → parts_after n bs ≡ parts_after 0 (drop n bs)
-parts_drop zero bs = refl
-parts_drop (suc n) [] = refl
-parts_drop (suc n) (b ∷ bs) = parts_drop n bs
+parts_drop = by_drop word_letters word_space
 
 -- how many bytes belong to the control word whose `\` stands before these
 abbrev pub word_length : List ℕ → ℕ
@@ -110,20 +113,3 @@ word_closing level (b ∷ bs) h e =
 pub word_bound : (text : List ℕ) → 0 < length text → length (drop (word_length (tail text)) (tail text)) + 1 ≤ length text
 word_bound [] h = absurd (omega arith)
 word_bound (b ∷ bs) h = rw (tail_is (b ∷ bs), length-drop (word_length bs) bs) (omega arith)
-
-pub other_part : (level : ℕ) (text : List ℕ) → 0 < length text → is_closing level (get_or text 0 0) ≡ false → nat_eq (get_or text 0 0) 92 ≡ false
-    → special_parts (inside level text) ≡ Other (get_or text 0 0) ∷ special_parts (inside (next_level level (get_or text 0 0)) (tail text))
-other_part level [] h c e = absurd (omega arith)
-other_part level (b ∷ bs) h c e = rw (tail_is (b ∷ bs), c, e) refl
-
-pub other_beyond : (level : ℕ) (text : List ℕ) → 0 < length text → is_closing level (get_or text 0 0) ≡ false → beyond (next_level level (get_or text 0 0)) (tail text) ≡ beyond level text
-other_beyond level [] h c = absurd (omega arith)
-other_beyond level (b ∷ bs) h c = rw (tail_is (b ∷ bs), c) refl
-
-pub closing_part : (level : ℕ) (text : List ℕ) → 0 < length text → is_closing level (get_or text 0 0) ≡ true → special_parts (inside level text) ≡ []
-closing_part level [] h c = refl
-closing_part level (b ∷ bs) h c = rw c refl
-
-pub closing_beyond : (level : ℕ) (text : List ℕ) → 0 < length text → is_closing level (get_or text 0 0) ≡ true → beyond level text ≡ tail text
-closing_beyond level [] h c = absurd (omega arith)
-closing_beyond level (b ∷ bs) h c = rw (tail_is (b ∷ bs), c) refl

@@ -1,16 +1,11 @@
 -- What a reader that goes from the left meets of the printed parts of a special character.
-use Rattle.std.proofs.Common.{◌≡◌, ◌∙◌, ℕ, zero, suc, ◌<◌, List, [], ◌∷◌, ◌++◌, length, drop, get_or, refl, ap, arith, sym, Bool, true, false, cond, nat_eq}
+use Rattle.std.proofs.Common.{◌≡◌, ◌∙◌, ℕ, suc, ◌<◌, List, [], ◌∷◌, ◌++◌, length, drop, get_or, refl, ap, arith, sym, Bool, true, false, cond, nat_eq}
 use Rattle.std.proofs.Math.Dec.{eqb-suc-zero}
 use Rattle.bv_base.specs.Bytes.{is_white}
-use Rattle.bv_base.specs.Levels.{next_level, is_ascii_letter, is_closing, inside, beyond, run, word_letters, word_space, ControlWord, Other}
+use Rattle.bv_base.specs.Levels.{next_level, is_ascii_letter, is_closing, inside, beyond, run, word_letters, word_space, ControlWord}
 use Rattle.text_ops.specs.Width.{owned, owned_space, printed_after, printed_parts}
 use Rattle.text_ops.proofs.PieceSteps.{tail, tail_is}
-use Rattle.text_ops.proofs.PartSteps.{white_no_brace, letters_inside, space_inside, word_inside, word_length, run_inside, drop_inside, beyond_run}
-
-pub printed_drop : (n : ℕ) (bs : List ℕ) → printed_after n bs ≡ printed_after 0 (drop n bs)
-printed_drop zero bs = refl
-printed_drop (suc n) [] = refl
-printed_drop (suc n) (b ∷ bs) = printed_drop n bs
+use Rattle.text_ops.proofs.PartSteps.{white_no_brace, letters_inside, space_inside, word_inside, word_length, run_inside, drop_inside, beyond_run, by_drop}
 
 -- the bytes that a control word owns within a special character
 abbrev pub word_owns : ℕ → List ℕ → ℕ
@@ -37,7 +32,7 @@ pub lettered_word : (level : ℕ) (bs : List ℕ) → nat_eq (length (word_lette
     → printed_parts (inside level (92 ∷ bs)) ≡ ControlWord (word_letters bs) (owned_space (inside level bs)) ∷ printed_parts (inside level (drop (word_length bs) bs))
 lettered_word level bs h =
     let later : printed_after (word_owns level bs) (inside level bs) ≡ printed_parts (inside level (drop (word_length bs) bs))
-    = ap (λ n. printed_after n (inside level bs)) (lettered_owns level bs h) ∙ (printed_drop (word_length bs) (inside level bs) ∙ ap (printed_after 0) (word_inside level bs)) in
+    = ap (λ n. printed_after n (inside level bs)) (lettered_owns level bs h) ∙ (by_drop owned owned_space (word_length bs) (inside level bs) ∙ ap (printed_after 0) (word_inside level bs)) in
     word_begins level bs ∙ ap (λ ps. ControlWord (word_letters bs) (owned_space (inside level bs)) ∷ ps) later
 
 -- a control word without letters
@@ -61,29 +56,10 @@ bare_word level (b ∷ bs) k h c =
     let later : printed_after (word_owns level (b ∷ bs)) (inside level (b ∷ bs)) ≡ printed_parts (inside (next_level level b) (drop (length (run is_white bs)) bs))
     = ap (λ xs. printed_after (length (owned xs ++ owned_space xs)) xs) begins ∙ (bare_owns b (inside (next_level level b) bs) (no_letter b bs h)
     ∙ (ap (λ w. printed_after (length w) (inside (next_level level b) bs)) (run_inside is_white white_no_brace (next_level level b) bs)
-    ∙ (printed_drop (length (run is_white bs)) (inside (next_level level b) bs) ∙ ap (printed_after 0) (drop_inside is_white white_no_brace (next_level level b) bs)))) in
+    ∙ (by_drop owned owned_space (length (run is_white bs)) (inside (next_level level b) bs) ∙ ap (printed_after 0) (drop_inside is_white white_no_brace (next_level level b) bs)))) in
     rw (tail_is (b ∷ bs)) (word_begins level (b ∷ bs) ∙ ap (λ ps. ControlWord (word_letters (b ∷ bs)) (owned_space (inside level (b ∷ bs))) ∷ ps) later)
 
 pub bare_beyond : (level : ℕ) (text : List ℕ) → 0 < length text → is_closing level (get_or text 0 0) ≡ false
     → beyond (next_level level (get_or text 0 0)) (drop (length (run is_white (tail text))) (tail text)) ≡ beyond level text
 bare_beyond level [] k c = absurd (omega arith)
 bare_beyond level (b ∷ bs) k c = rw (tail_is (b ∷ bs)) (beyond_run is_white white_no_brace (next_level level b) bs ∙ rw c refl)
-
--- a control word at the end of a special character
-pub last_word : (level : ℕ) (bs : List ℕ) → inside level bs ≡ []
-    → printed_parts (inside level (92 ∷ bs)) ≡ ControlWord (word_letters bs) (owned_space (inside level bs)) ∷ printed_parts (inside level bs)
-last_word level bs e = word_begins level bs ∙ rw e refl
-
--- the other bytes of a special character
-pub other_printed : (level : ℕ) (text : List ℕ) → 0 < length text → is_closing level (get_or text 0 0) ≡ false → nat_eq (get_or text 0 0) 92 ≡ false
-    → printed_parts (inside level text) ≡ Other (get_or text 0 0) ∷ printed_parts (inside (next_level level (get_or text 0 0)) (tail text))
-other_printed level [] h c e = absurd (omega arith)
-other_printed level (b ∷ bs) h c e = rw (tail_is (b ∷ bs), c, e) refl
-
-pub closing_printed : (level : ℕ) (text : List ℕ) → 0 < length text → is_closing level (get_or text 0 0) ≡ true → printed_parts (inside level text) ≡ []
-closing_printed level [] h c = refl
-closing_printed level (b ∷ bs) h c = rw c refl
-
-pub mark_and_tail : (text : List ℕ) → 0 < length text → get_or text 0 0 ≡ 92 → text ≡ 92 ∷ tail text
-mark_and_tail [] h e = absurd (omega arith)
-mark_and_tail (b ∷ bs) h e = rw (tail_is (b ∷ bs), e) refl

@@ -9,7 +9,7 @@ use Rattle.bv_base.specs.Levels.{is_foreign, is_brace, next_level, word_letters,
 use Rattle.text_ops.specs.Width.{widths, byte_width, word_width, owned, owned_space, printed_after, printed_parts, part_width, piece_width}
 use Rattle.text_ops.proofs.Induction.{by_pieces, by_parts, special_lengths}
 use Rattle.text_ops.proofs.PieceSteps.{pieces_beyond, special_level}
-use Rattle.text_ops.proofs.PrintedSteps.{printed_drop}
+use Rattle.text_ops.proofs.PartSteps.{by_drop}
 
 below : (m : ℕ) (xs : List ℕ) (i : ℕ) → list_all (λ x. nat_le x m) xs ≡ true → get_or xs i 0 ≤ m
 below m [] i h = omega arith
@@ -41,7 +41,7 @@ word_width_bound letters =
 bounded_special : (inner : List ℕ) → sum_by part_width (printed_parts inner) ≤ 1028 * length inner
 bounded_special = by_parts (λ bs. length (owned bs ++ owned_space bs)) (λ inner. sum_by part_width (printed_parts inner) ≤ 1028 * length inner) (omega arith)
     (λ b bs e rest. rw (e, sum_by-cons part_width (Other b) (printed_parts bs)) (omega (arith, at_most (is_brace b) 0 (byte_width b) (omega arith) (byte_width_bound b), rest)))
-    (λ b bs e rest. rw (e, sum_by-cons part_width (ControlWord (word_letters bs) (owned_space bs)) (printed_after (length (owned bs ++ owned_space bs)) bs), printed_drop (length (owned bs ++ owned_space bs)) bs)
+    (λ b bs e rest. rw (e, sum_by-cons part_width (ControlWord (word_letters bs) (owned_space bs)) (printed_after (length (owned bs ++ owned_space bs)) bs), by_drop owned owned_space (length (owned bs ++ owned_space bs)) bs)
     (omega (arith, word_width_bound (word_letters bs), length-drop (length (owned bs ++ owned_space bs)) bs, rest)))
 
 pub bounded_pieces : (level : ℕ) (text : List ℕ) → sum_by piece_width (pieces_after 0 level text) ≤ 1028 * length text

@@ -1,7 +1,7 @@
 -- The width of a text in print (docs/TEXTS.md, "width$").
-use Rattle.std.specs.Prelude.{ℕ, zero, suc, ◌-◌, ◌&&◌, nat_eq, nat_le, if◌then◌else◌, List, [], ◌∷◌, ◌++◌, length, take, drop, slice_index, sum_by, codes, bytes_eq}
+use Rattle.std.specs.Prelude.{ℕ, ◌-◌, ◌&&◌, nat_eq, nat_le, if◌then◌else◌, List, [], ◌∷◌, length, take, drop, slice_index, sum_by, codes, bytes_eq}
 use Rattle.bv_base.specs.Bytes.{is_white}
-use Rattle.bv_base.specs.Levels.{is_brace, is_foreign, run, word_letters, Piece, Plain, Special, SpecialPart, ControlWord, Other, pieces}
+use Rattle.bv_base.specs.Levels.{is_brace, is_foreign, parts_by, run, word_letters, Piece, Plain, Special, SpecialPart, ControlWord, Other, pieces}
 
 -- the widths of the bytes from 32 to 126, in order
 abbrev pub widths : List ℕ
@@ -29,15 +29,10 @@ owned bs = if nat_eq (length (word_letters bs)) 0 then take 1 bs else word_lette
 abbrev pub owned_space : List ℕ → List ℕ
 owned_space bs = run is_white (drop (length (owned bs)) bs)
 
--- the parts of the bytes within a special character, without so many of them: they belong to a control word that
--- began before. A byte that belongs to a control word begins no other
+-- the parts of the bytes within a special character as they are printed, without so many of them: they belong to a
+-- control word that began before. A byte that belongs to a control word begins no other
 abbrev pub printed_after : ℕ → List ℕ → List SpecialPart
-printed_after passed [] = []
-printed_after (suc passed) (b ∷ bs) = printed_after passed bs
-printed_after zero (b ∷ bs) =
-    if nat_eq b 92
-    then ControlWord (word_letters bs) (owned_space bs) ∷ printed_after (length (owned bs ++ owned_space bs)) bs
-    else Other b ∷ printed_after zero bs
+printed_after passed bs = parts_by owned owned_space passed bs
 
 -- the parts of the bytes within a special character as they are printed, in order
 abbrev pub printed_parts : List ℕ → List SpecialPart

@@ -5,9 +5,9 @@ ghost use Rattle.bv_base.specs.Bytes as bytes;
 ghost use Rattle.bv_base.specs.Levels.{inside, closing, beyond, special_parts};
 ghost use Rattle.text_ops.specs.ChangeCase as specs;
 
-use crate::levels::{Word, begins_special, is_closing, next_level, split_special, split_word};
-use crate::words::{FOREIGN_WORDS, is_one_of};
+use crate::levels::{Word, split_special, split_word};
 use bv_base::bytes::{is_white, lower};
+use bv_base::levels::{begins_special, is_closing, is_foreign, is_one_of, next_level};
 use bv_base::memory::NoMemory;
 use std::alloc::Global;
 
@@ -171,7 +171,7 @@ fn has_case(mode: Case, letters: &[u8]) -> bool
     ensures { result ≡ specs.has_case mode letters.now }
 {
     match mode {
-        Case::Title | Case::Lower => is_one_of(&FOREIGN_WORDS, letters),
+        Case::Title | Case::Lower => is_foreign(letters),
         Case::Upper => is_one_of(&SMALL_WORDS, letters),
     }
 }

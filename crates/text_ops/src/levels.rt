@@ -1,42 +1,15 @@
 //! Levels, special characters and control words, as a reader that goes from the left meets them.
 
-ghost use Rattle.std.specs.Prelude.{◌≡◌, ◌+◌, ◌++◌, ◌<◌, length, drop};
-ghost use Rattle.bv_base.specs.Bytes as bytes;
+ghost use Rattle.std.specs.Prelude.{◌≡◌, ◌++◌, length, drop};
 ghost use Rattle.bv_base.specs.Levels as levels;
 
-use bv_base::bytes::is_white;
-
-/// The level directly after a byte of this level.
-pub fn next_level(level: usize, b: u8) -> usize
-    requires { level < usize.MAX }
-    ensures { result ≡ levels.next_level level b }
-{
-    match b {
-        b'{' => level + 1,
-        b'}' => level.saturating_sub(1),
-        _ => level,
-    }
-}
+use bv_base::levels::{is_closing, next_level, split_letters, split_white};
 
 /// Whether a byte is a brace.
 pub fn is_brace(b: u8) -> bool
     ensures { result ≡ levels.is_brace b }
 {
     matches!(b, b'{' | b'}')
-}
-
-/// Whether a special character begins with the first byte of the text, which has this level.
-pub fn begins_special(level: usize, text: &[u8]) -> bool
-    ensures { result ≡ levels.begins_special level text.now }
-{
-    level == 0 && matches!(text, [b'{', b'\\', ..])
-}
-
-/// Whether the brace ends a special character.
-pub fn is_closing(level: usize, b: u8) -> bool
-    ensures { result ≡ levels.is_closing level b }
-{
-    level == 1 && b == b'}'
 }
 
 /// A special character without its first brace, and what follows it.
@@ -49,7 +22,7 @@ pub struct Special<'a> {
 }
 
 /// The special character whose first brace stands directly before the text.
-#[tactic(auto, using(crate::proofs::LevelSteps::level_after_take, crate::proofs::LevelSteps::next_level_bound))]
+#[tactic(auto, using(crate::proofs::LevelSteps::level_after_take))]
 pub fn split_special(text: &[u8]) -> Special<'_>
     ensures body { result.body.now ≡ levels.inside 1 text.now ++ levels.closing 1 text.now }
     ensures later { result.later.now ≡ levels.beyond 1 text.now }
@@ -97,29 +70,4 @@ pub fn split_word(text: &[u8]) -> Word<'_>
         space,
         later,
     }
-}
-
-fn split_letters(text: &[u8]) -> (&[u8], &[u8])
-    ensures run { result.0.now ≡ levels.run levels.is_ascii_letter text.now }
-    ensures later { result.1.now ≡ drop (length (levels.run levels.is_ascii_letter text.now)) text.now }
-{
-    for (count, b) in text.iter().enumerate() {
-        if !b.is_ascii_alphabetic() {
-            return text.split_at(count);
-        }
-    }
-    text.split_at(text.len())
-}
-
-/// The white space that a text begins with, and what follows it.
-pub fn split_white(text: &[u8]) -> (&[u8], &[u8])
-    ensures run { result.0.now ≡ levels.run bytes.is_white text.now }
-    ensures later { result.1.now ≡ drop (length (levels.run bytes.is_white text.now)) text.now }
-{
-    for (count, b) in text.iter().enumerate() {
-        if !is_white(*b) {
-            return text.split_at(count);
-        }
-    }
-    text.split_at(text.len())
 }

@@ -14,4 +14,3 @@ mod tests;
 pub mod text_length;
 pub mod text_prefix;
 pub mod width;
-mod words;

@@ -5,9 +5,9 @@ ghost use Rattle.std.specs.Option.{option_to_list};
 ghost use Rattle.bv_base.specs.Levels.{inside, beyond, special_parts};
 ghost use Rattle.text_ops.specs.Purify as specs;
 
-use crate::levels::{begins_special, is_closing, next_level, split_word};
-use crate::words::is_one_of;
+use crate::levels::split_word;
 use bv_base::bytes::is_white;
+use bv_base::levels::{begins_special, is_closing, is_one_of, next_level};
 use bv_base::memory::NoMemory;
 use std::alloc::Global;
 

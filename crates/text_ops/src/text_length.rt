@@ -3,7 +3,8 @@
 ghost use Rattle.std.specs.Prelude.{◌≡◌};
 ghost use Rattle.text_ops.specs.TextLength.{text_length_of};
 
-use crate::levels::{begins_special, is_brace, next_level, split_special};
+use crate::levels::{is_brace, split_special};
+use bv_base::levels::{begins_special, next_level};
 
 /// How many text characters a text has: a special character is one, and so is each other byte that is no brace.
 #[tactic(auto, using(crate::proofs::PieceSteps::special_piece, crate::proofs::PieceSteps::plain_piece, crate::proofs::PieceSteps::special_bound))]

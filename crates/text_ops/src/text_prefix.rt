@@ -4,7 +4,8 @@ ghost use Rattle.std.specs.Prelude.{◌≡◌, IfOk};
 ghost use Rattle.bv_base.specs.Levels.{level_after};
 ghost use Rattle.text_ops.specs.TextPrefix.{prefix_of, text_prefix_of};
 
-use crate::levels::{begins_special, is_brace, next_level, split_special};
+use crate::levels::{is_brace, split_special};
+use bv_base::levels::{begins_special, next_level};
 use bv_base::memory::NoMemory;
 use std::alloc::Global;
 
@@ -24,7 +25,7 @@ pub fn text_prefix(alloc: Global, s: &[u8], count: i32) -> Result<Vec<u8>, NoMem
 }
 
 /// The prefix, and how many levels are open behind it.
-#[tactic(auto, using(crate::proofs::PrefixSteps::prefix_special, crate::proofs::PieceSteps::unclosed_special_bound, crate::proofs::PrefixSteps::prefix_plain, crate::proofs::LevelSteps::level_after_append, crate::proofs::LevelSteps::next_level_bound))]
+#[tactic(auto, using(crate::proofs::PrefixSteps::prefix_special, crate::proofs::PieceSteps::unclosed_special_bound, crate::proofs::PrefixSteps::prefix_plain, crate::proofs::LevelSteps::level_after_append))]
 fn prefix(alloc: Global, s: &[u8], count: u32) -> Result<(Vec<u8>, usize), NoMemory>
     ensures { IfOk result (λ p. (p.0.items ≡ prefix_of s.now count) × (p.1 ≡ level_after 0 p.0.items)) }
 {

@@ -4,8 +4,8 @@ ghost use Rattle.std.specs.Prelude.{◌≡◌, ◌+◌, ◌*◌, ◌<◌, ◌≤
 ghost use Rattle.bv_base.specs.Levels.{inside, beyond, word_letters, ControlWord};
 ghost use Rattle.text_ops.specs.Width as specs;
 
-use crate::levels::{begins_special, is_brace, is_closing, next_level, split_white, split_word};
-use crate::words::{FOREIGN_WORDS, is_one_of};
+use crate::levels::{is_brace, split_word};
+use bv_base::levels::{begins_special, is_closing, is_foreign, next_level, split_white};
 
 /// The widths of the bytes from 32 to 126, in order.
 const WIDTHS: [u16; 95] = [
@@ -154,7 +154,7 @@ fn word_width(letters: &[u8]) -> u16
         b"oe" => 778,
         b"AE" => 903,
         b"OE" => 1014,
-        [first, ..] if is_one_of(&FOREIGN_WORDS, letters) => byte_width(*first),
+        [first, ..] if is_foreign(letters) => byte_width(*first),
         _ => 0,
     }
 }

@@ -1,7 +1,8 @@
 -- The special character where the loop is decides.
-use Rattle.std.proofs.Common.{◌≡◌, ℕ, ◌+◌, ◌&&◌, nat_eq, Bool, true, false, cond, List, ◌∷◌, drop, get_or, drop-cons, add-one, sym, ap, ◌∙◌, subst}
+use Rattle.std.proofs.Common.{◌≡◌, ℕ, ◌+◌, ◌&&◌, nat_eq, Bool, true, false, cond, List, ◌∷◌, drop, get_or, sym, ap, ◌∙◌, subst}
 use Rattle.bv_base.specs.Levels.{begins_special, inside, is_ascii_letter, next_level}
 use Rattle.name_split.specs.Tokens.{is_small, low_from, special_low}
+use Rattle.std.proofs.lemmas.List.{drop_more}
 use Rattle.name_split.proofs.low.is_low.Goals as goal
 
 special_first : (level b : ℕ) (rest : List ℕ) → (nat_eq level 0 && is_ascii_letter b) ≡ false
@@ -17,8 +18,7 @@ returns-then-begins_special c =
     let at : ℕ = c.loop-at.at in
     let b : ℕ = get_or text at 0 in
     let rest : List ℕ = drop (at + 1) text in
-    let first : drop at text ≡ b ∷ rest =
-    drop-cons text at 0 c.loop-at-test.true ∙ ap (λ n. b ∷ drop n text) (sym (add-one at)) in
+    let first : drop at text ≡ b ∷ rest = drop_more text at 0 c.loop-at-test.true in
     let back : c.split_at.result.1.now ≡ b ∷ rest = c.split_at.ensures.back ∙ first in
     let after : c.split_at-then-begins_special.result.1.now ≡ rest =
     c.split_at-then-begins_special.ensures.back ∙ ap (drop 1) back in

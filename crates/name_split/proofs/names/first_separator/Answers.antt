@@ -1,6 +1,6 @@
 -- A separator that stands where the loop is stands first.
-use Rattle.std.proofs.Common.{◌≡◌, ℕ, List, ◌∷◌, ◌+◌, ◌-◌, true, false, subst, length, drop, get_or, drop-cons, add-one, sym, ap, ◌∙◌, arith}
-use Rattle.std.proofs.lemmas.List.{length-drop, drop-drop}
+use Rattle.std.proofs.Common.{◌≡◌, ℕ, List, ◌∷◌, ◌+◌, ◌-◌, true, false, subst, length, drop, get_or, sym, ap, ◌∙◌, arith}
+use Rattle.std.proofs.lemmas.List.{length-drop, drop-drop, drop_more}
 use Rattle.bv_base.specs.Levels.{next_level}
 use Rattle.name_split.specs.Names.{begins_separator, separators}
 use Rattle.name_split.proofs.Separating.{separator_here, separator_not_here}
@@ -29,8 +29,7 @@ loop-at-preserved c =
     let text : List ℕ = c.args.text.now in
     let at : ℕ = c.loop-at.at in
     let b : ℕ = get_or text at 0 in
-    let first : drop at text ≡ b ∷ drop (at + 1) text =
-    drop-cons text at 0 c.loop-at-test.true ∙ ap (λ n. b ∷ drop n text) (sym (add-one at)) in
+    let first : drop at text ≡ b ∷ drop (at + 1) text = drop_more text at 0 c.loop-at-test.true in
     let rest : List ℕ = drop (at + 1) text in
     let none : begins_separator c.loop-at.level c.loop-at.after_white (b ∷ rest) ≡ false =
     subst (λ xs. begins_separator c.loop-at.level c.loop-at.after_white xs ≡ false) (c.split_at.ensures.back ∙ first)

@@ -8,22 +8,22 @@ use Rattle.name_split.proofs.pattern.first_run.Goals as goal
 
 pub returns-then-is_empty : goal.returns-then-is_empty
 returns-then-is_empty c =
-    runs_none c.args.group.now c.split_at.result.1.now c.word_letters-letters.result.now
+    runs_none c.args.group.now c.split_at.result.1.now c.split_letters.result.0.now
     (c.split_at.ensures.back ∙ ap (λ n. drop n c.args.group.now) c.before_run.ensures.before)
-    c.word_letters-letters.ensures.letters
-    (eqb-true (length c.word_letters-letters.result.now) 0 (sym c.is_empty.ensures ∙ c.if-is_empty.true))
+    c.split_letters.ensures.run
+    (eqb-true (length c.split_letters.result.0.now) 0 (sym c.is_empty.ensures ∙ c.if-is_empty.true))
 
 pub returns : goal.returns
 returns c =
-    let other : length c.word_letters-letters.result.now ≡ 0 → ⊥ =
-    eqb-false (length c.word_letters-letters.result.now) 0 (sym c.is_empty.ensures ∙ c.if-is_empty.false) in
+    let other : length c.split_letters.result.0.now ≡ 0 → ⊥ =
+    eqb-false (length c.split_letters.result.0.now) 0 (sym c.is_empty.ensures ∙ c.if-is_empty.false) in
     let rest : c.split_at.result.1.now ≡ drop (before_run 1 c.args.group.now) c.args.group.now =
     c.split_at.ensures.back ∙ ap (λ n. drop n c.args.group.now) c.before_run.ensures.before in
-    let count : ℕ = length c.word_letters-letters.result.now in
+    let count : ℕ = length c.split_letters.result.0.now in
     record {
       some = omega arith;
       before = c.split_at.ensures.front ∙ ap (λ n. take n c.args.group.now) c.before_run.ensures.before;
-      runs = runs_some c.args.group.now c.split_at.result.1.now c.word_letters-letters.result.now
-          c.split_at-2.result.1.now rest c.word_letters-letters.ensures.letters c.split_at-2.ensures.back other;
+      runs = runs_some c.args.group.now c.split_at.result.1.now c.split_letters.result.0.now
+          c.split_at-2.result.1.now rest c.split_letters.ensures.run c.split_at-2.ensures.back other;
       behind = c.split_at-2.ensures.back ∙ ap (drop count) rest ∙ drop-drop count (before_run 1 c.args.group.now) c.args.group.now;
     }

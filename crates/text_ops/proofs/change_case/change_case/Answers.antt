@@ -2,7 +2,6 @@ use Rattle.std.proofs.Common.{◌≡◌, ◌∙◌, ◌<◌, ◌++◌, ◌∷◌
 use Rattle.bv_base.specs.Levels.{begins_special, pieces_after}
 use Rattle.text_ops.specs.ChangeCase.{begins_title, leaves, changed_pieces, whole_special, changed_special}
 use Rattle.text_ops.proofs.PieceSteps.{put_bytes, put_byte, special_bound, tail, tail_length}
-use Rattle.text_ops.proofs.LevelSteps.{next_level_bound}
 use Rattle.text_ops.proofs.CaseSteps.{special_case, plain_case, behind_special}
 use Rattle.text_ops.proofs.change_case.change_case.Goals as goal
 
@@ -49,11 +48,11 @@ loop-rest-preserved c =
     let left : c.is_left-left.result ≡ leaves c.args.mode (begins_title c.loop-rest.invariant.before) = c.is_left-left.ensures ∙ ap (leaves c.args.mode) c.loop-rest.invariant.title in
     let put : c.push.new.self.items ≡ c.loop-rest.out.items ++ c.changed_plain.result ∷ [] = search rules in
     let step : changed_pieces c.args.mode c.loop-rest.invariant.before (pieces_after 0 c.loop-rest.level c.loop-rest.rest.now) ≡ c.changed_plain.result ∷ changed_pieces c.args.mode (first ∷ c.loop-rest.invariant.before) (pieces_after 0 c.next_level-level.result (tail c.loop-rest.rest.now))
-    = rw (c.changed_plain.ensures, left, c.next_level-level.ensures) (plain_case c.args.mode c.loop-rest.invariant.before c.loop-rest.level c.loop-rest.rest.now some plain) in
+    = rw (c.changed_plain.ensures, left, c.next_level-level.ensures.next) (plain_case c.args.mode c.loop-rest.invariant.before c.loop-rest.level c.loop-rest.rest.now some plain) in
     record {
       before = first ∷ c.loop-rest.invariant.before;
       title = rw (c.with-before.ensures.title, c.loop-rest.invariant.colon) refl;
       colon = rw (c.with-before.ensures.colon, c.loop-rest.invariant.colon) refl;
       items = put_byte _ _ _ _ _ _ put c.loop-rest.invariant.items step;
-      bound = rw c.next_level-level.ensures (omega (arith, next_level_bound c.loop-rest.level first, tail_length c.loop-rest.rest.now some));
+      bound = omega (arith, c.next_level-level.ensures.bound, tail_length c.loop-rest.rest.now some);
     }

@@ -4,7 +4,7 @@ use Rattle.bv_base.specs.Levels.{begins_special, pieces_after, spelling, is_brac
 use Rattle.text_ops.specs.TextPrefix.{first_characters}
 use Rattle.text_ops.proofs.PieceSteps.{put_special, put_byte, special_level, unclosed_special_bound}
 use Rattle.text_ops.proofs.PrefixSteps.{prefix_special, prefix_plain}
-use Rattle.text_ops.proofs.LevelSteps.{level_after_append, next_level_bound}
+use Rattle.text_ops.proofs.LevelSteps.{level_after_append}
 use Rattle.text_ops.proofs.text_prefix.prefix.Goals as goal
 use Rattle.text_ops.proofs.text_prefix.prefix.Goals.{then-not-is_brace, else-not-is_brace}
 use Rattle.std.proofs.lemmas.Bool.Decides.{nat_tests}
@@ -32,7 +32,7 @@ loop-left-preserved c =
     = elim c.if-not-is_brace.branch [ then-not-is_brace w ↦ grind (arith, nat_tests) | else-not-is_brace w ↦ grind (arith, nat_tests) ] in
     record {
       text = put_byte _ _ _ _ _ _ put c.loop-left.invariant.text
-          (rw (left, c.next_level-level.ensures) (prefix_plain c.loop-left.left c.loop-left.level c.loop-left.rest.now (omega arith) plain (omega arith)));
-      level = rw (put, level_after_append, ← c.loop-left.invariant.level) c.next_level-level.ensures;
-      bound = rw c.next_level-level.ensures (omega (arith, next_level_bound c.loop-left.level (get_or c.loop-left.rest.now 0 0)));
+          (rw (left, c.next_level-level.ensures.next) (prefix_plain c.loop-left.left c.loop-left.level c.loop-left.rest.now (omega arith) plain (omega arith)));
+      level = rw (put, level_after_append, ← c.loop-left.invariant.level) c.next_level-level.ensures.next;
+      bound = omega (arith, c.next_level-level.ensures.bound);
     }

@@ -17,10 +17,10 @@ returns-clause-parts c =
     let some : 0 < length c.args.text.now = omega arith in
     let bare : nat_eq (length (word_letters c.args.text.now)) 0 ≡ true = grind arith in
     let within : is_closing c.args.level (get_or c.args.text.now 0 0) ≡ false = sym c.is_closing.ensures ∙ c.if-is_closing.false in
-    rw (c.next_level.ensures, c.split_white.ensures.later) (bare_word c.args.level c.args.text.now some bare within)
+    rw (c.next_level.ensures.next, c.split_white.ensures.later) (bare_word c.args.level c.args.text.now some bare within)
 
 pub returns-clause-later : goal.returns-clause-later
 returns-clause-later c =
     let some : 0 < length c.args.text.now = omega arith in
     let within : is_closing c.args.level (get_or c.args.text.now 0 0) ≡ false = sym c.is_closing.ensures ∙ c.if-is_closing.false in
-    rw (c.next_level.ensures, c.split_white.ensures.later) (bare_beyond c.args.level c.args.text.now some within)
+    rw (c.next_level.ensures.next, c.split_white.ensures.later) (bare_beyond c.args.level c.args.text.now some within)
