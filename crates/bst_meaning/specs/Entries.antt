@@ -1,5 +1,5 @@
 -- Entry lists that fit a style (docs/MACHINE.md, "Entries").
-use Rattle.std.specs.Prelude.{◌≡◌, ℕ, ◌+◌, ◌<◌, List, [], ◌∷◌, map}
+use Rattle.std.specs.Prelude.{◌≡◌, ℕ, ◌+◌, List, [], ◌∷◌, map}
 use Rattle.std.specs.List.{AllByRecursion}
 use Rattle.std.specs.Option.{ForSome}
 use Rattle.bv_base.specs.Keys.{IsKey}
@@ -7,6 +7,7 @@ use Rattle.name_table.specs.declared.names.NameId.{NameId}
 use Rattle.name_table.specs.declared.names.Kind.{Kind}
 use Rattle.name_table.specs.declared.names.Kind.TheVariants.{Field}
 use Rattle.name_table.specs.declared.style.Style.{Style}
+pub use Rattle.name_table.specs.Numbers.{IsByteList}
 use Rattle.bst_meaning.specs.declared.entry.Entry.{Entry}
 use Rattle.bst_meaning.specs.declared.entry.EntryList.{EntryList}
 
@@ -23,10 +24,6 @@ field_ids_from id (name ∷ names) = field_ids_at id name.1 (field_ids_from (id 
 -- the fields of a style, crossref among them, in the order of their ids
 abbrev pub field_ids : Style → List NameId
 field_ids style = field_ids_from 0 style.names
-
--- each number is a byte
-abbrev pub IsByteList : List ℕ → Type 0
-IsByteList bytes = AllByRecursion (λ b. b < 256) bytes
 
 -- one entry has a key, and each field of the style and no other
 pub record EntryFits (style : Style) (entry : Entry) : Type 0 where

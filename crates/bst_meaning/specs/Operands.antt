@@ -1,6 +1,7 @@
 -- How a built-in function takes its operands (docs/MACHINE.md, "The built-in functions"): an operand that isn't there comes before
 -- one of the wrong kind, and the top operand's kind before the others'.
 use Rattle.std.specs.Prelude.{ℕ, ℤ, pos, negsuc, Bool, true, false, nat_le, if◌then◌else◌, List, [], ◌∷◌, Option, None, Some, Result, Err}
+pub use Rattle.name_table.specs.Numbers.{has_32_bits}
 use Rattle.bst_meaning.specs.declared.value.Target.{Target}
 use Rattle.bst_meaning.specs.declared.value.Value.{Value}
 use Rattle.bst_meaning.specs.declared.value.Value.TheVariants.{Int, Str, Missing, Func}
@@ -46,11 +47,6 @@ abbrev pub as_field : Value → (Option (List ℕ) → Result Effect Fault) → 
 as_field (Str bytes) rule = rule (Some bytes)
 as_field (Missing name) rule = rule None
 as_field _ rule = Err WrongKind
-
--- a number of 32 bits
-abbrev pub has_32_bits : ℤ → Bool
-has_32_bits (pos n) = nat_le n 2147483647
-has_32_bits (negsuc n) = nat_le n 2147483647
 
 -- an integer is pushed where it has 32 bits
 abbrev pub ranged : ℤ → List Value → Result Effect Fault

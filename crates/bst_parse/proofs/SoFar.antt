@@ -1,9 +1,8 @@
 -- What holds of what has been read, after each lexeme.
-use Rattle.std.proofs.Common.{◌≡◌, ℕ, zero, suc, ◌+◌, ◌<◌, ◌≤◌, Bool, true, false, cond, List, [], ◌∷◌, ◌++◌, Option, None, Some, length, length-append, append_assoc, map, drop, slice_get, refl, sym, ap, subst, ◌∙◌, inl, inr, ◌⊎◌, arith}
+use Rattle.std.proofs.Common.{◌≡◌, ℕ, suc, ◌+◌, ◌<◌, ◌≤◌, Bool, true, false, cond, List, [], ◌∷◌, ◌++◌, Option, None, Some, length, length-append, append_assoc, map, drop, slice_get, refl, sym, ap, subst, ◌∙◌, inl, inr, ◌⊎◌, arith}
 use Rattle.std.specs.Option.{option_map}
 use Rattle.std.proofs.lemmas.Bool.{cases_lt}
 use Rattle.bv_base.specs.declared.place.Place.{Place}
-use Rattle.bv_base.specs.declared.limits.TheConstants.{STYLE_BYTES}
 use Rattle.name_table.specs.declared.style.TheConstants.{MOST_BODIES}
 use Rattle.name_table.specs.declared.names.TheConstants.{MOST_NAMES}
 use Rattle.name_table.specs.declared.names.Kind.{Kind}
@@ -18,11 +17,14 @@ use Rattle.name_table.specs.declared.style.Token.{Token}
 use Rattle.name_table.specs.declared.style.Token.TheVariants.{Int, Str, Quote, Block, Call}
 use Rattle.name_table.specs.declared.style.TokenAt.{TokenAt}
 use Rattle.name_table.specs.Names.{id_of, same_name, kind_at, later}
+use Rattle.name_table.specs.Numbers.{IsByteList}
 use Rattle.name_table.specs.Opening.{opening_names}
 use Rattle.name_table.specs.Sound.{Each, IsDeclared, AreApart, block_of, IsTokenSound, IsCommandSound, is_callable, AreNumbered}
 use Rattle.bst_parse.specs.declared.grammar.Part.{Part}
 use Rattle.bst_parse.specs.declared.grammar.Part.TheVariants.{Names, FunctionName, Body as BodyPart}
 use Rattle.bst_parse.specs.Bodies.{next_body, token_added, block_count, counted, function_begun, block_begun}
+use Rattle.name_table.proofs.Within.{callable_within}
+use Rattle.bst_parse.proofs.Lexed.{TextFine}
 use Rattle.bst_parse.proofs.Counted.{length-changed_at, block_count-token_added}
 use Rattle.bst_parse.proofs.Lists.{each_push, each_more, each_changed, get-front, get-last, mapped_within, get-changed, map-changed}
 
@@ -60,6 +62,7 @@ pub record NamesFine (names : List (List ℕ × Kind)) : Type 0 where
   pub spelled : Each (λ entry. IsDeclared entry.0) declared
   pub apart : AreApart names
   pub few : length names ≤ MOST_NAMES
+  pub bytes : Each (λ entry. IsByteList entry.0) names
 
 pub record SoFar (n : ℕ) (ns : List (List ℕ × Kind)) (cs : List CommandAt) (bs : List Body) (ts : List (List ℕ))
     (ps : List Part) (os : List BodyId) : Type 0 where
@@ -70,7 +73,7 @@ pub record SoFar (n : ℕ) (ns : List (List ℕ × Kind)) (cs : List CommandAt) 
   pub few_commands : length cs ≤ n
   pub numbered : AreNumbered 0 (map (λ body. body.block) bs)
   pub few_bodies : length bs ≤ MOST_BODIES
-  pub texts : Each (λ text. length text ≤ STYLE_BYTES) ts
+  pub texts : Each TextFine ts
   pub parts : PartsFine ps
   pub busy : IsBusy os ps
 
@@ -79,7 +82,7 @@ token_more : (names more : List (List ℕ × Kind)) (bodies grown : List Body) (
     → length names ≤ length more → length texts ≤ length longer
     → ((id : BodyId) (number : ℕ) → block_of id bodies ≡ Some (Some number) → block_of id grown ≡ Some (Some number))
     → (t : Token) → IsTokenSound names bodies texts t → IsTokenSound more grown longer t
-token_more names more bodies grown texts longer n x b (Int value) h = tt
+token_more names more bodies grown texts longer n x b (Int value) h = h
 token_more names more bodies grown texts longer n x b (Str id) h = omega arith
 token_more names more bodies grown texts longer n x b (Quote id) h = omega arith
 token_more names more bodies grown texts longer n x b (Call id) h = omega arith
@@ -116,13 +119,6 @@ apart_push name kind (first ∷ rest) h none =
     by false None e f none more = (each_push _ rest (name, kind) h.0 e, more f)
 
 -- the kind of a name stays where names are added
-callable_within : (names : List (List ℕ × Kind)) (k : ℕ) → is_callable (option_map (λ entry. entry.1) (slice_get names k)) ≡ true
-    → k < length names
-callable_within [] zero h = absurd (cc)
-callable_within [] (suc k) h = absurd (cc)
-callable_within (x ∷ xs) zero h = omega arith
-callable_within (x ∷ xs) (suc k) h = let m = callable_within xs k h in omega arith
-
 kind-front : (names : List (List ℕ × Kind)) (entry : List ℕ × Kind) (id : NameId) → id.0 < length names
     → kind_at id (names ++ entry ∷ []) ≡ kind_at id names
 kind-front names entry id h = ap (option_map (λ e. e.1)) (get-front names entry id.0 h)
@@ -283,9 +279,9 @@ numbered_block n (first ∷ bodies) body number some is h =
 module _ (n : ℕ) (names : List (List ℕ × Kind)) (commands : List CommandAt) (bodies : List Body) (texts : List (List ℕ))
     (parts : List Part) (opened : List BodyId) (s : SoFar n names commands bodies texts parts opened) where
   -- a name is defined
-  pub named : (name : List ℕ) (kind : Kind) → IsDeclared name → id_of name names ≡ None → length names < MOST_NAMES
+  pub named : (name : List ℕ) (kind : Kind) → IsDeclared name → IsByteList name → id_of name names ≡ None → length names < MOST_NAMES
       → IsKindSoFar bodies (coming parts) kind → SoFar n (names ++ (name, kind) ∷ []) commands bodies texts parts opened
-  named name kind declared none room fine =
+  named name kind declared bytes none room fine =
       record {
         names = record {
           declared = s.names.declared ++ (name, kind) ∷ [];
@@ -293,6 +289,7 @@ module _ (n : ℕ) (names : List (List ℕ × Kind)) (commands : List CommandAt)
           spelled = each_push _ s.names.declared (name, kind) s.names.spelled declared;
           apart = apart_push name kind names s.names.apart none;
           few = omega (arith, length-append {A = List ℕ × Kind});
+          bytes = each_push _ names (name, kind) s.names.bytes bytes;
         };
         kinds = each_push _ names (name, kind) s.kinds fine;
         tokens = tokens_more names (names ++ (name, kind) ∷ []) bodies bodies texts texts (omega (arith, length-append {A = List ℕ × Kind})) (omega arith) (λ id number h. h) bodies s.tokens;
@@ -339,8 +336,8 @@ module _ (n : ℕ) (names : List (List ℕ × Kind)) (commands : List CommandAt)
       }
 
   -- a text is read
-  pub worded : (text : List ℕ) → length text ≤ STYLE_BYTES → SoFar n names commands bodies (texts ++ text ∷ []) parts opened
-  worded text short =
+  pub worded : (text : List ℕ) → TextFine text → SoFar n names commands bodies (texts ++ text ∷ []) parts opened
+  worded text fine =
       record {
         names = s.names;
         kinds = s.kinds;
@@ -349,7 +346,7 @@ module _ (n : ℕ) (names : List (List ℕ × Kind)) (commands : List CommandAt)
         few_commands = s.few_commands;
         numbered = s.numbered;
         few_bodies = s.few_bodies;
-        texts = each_push _ texts text s.texts short;
+        texts = each_push _ texts text s.texts fine;
         parts = s.parts;
         busy = s.busy;
       }

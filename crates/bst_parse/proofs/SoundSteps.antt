@@ -1,5 +1,5 @@
 -- Each lexeme keeps what holds of what has been read.
-use Rattle.std.proofs.Common.{◌≡◌, ℕ, suc, ◌+◌, ◌-◌, ◌<◌, ◌≤◌, Bool, true, false, cond, nat_le, nat_lt, List, [], ◌∷◌, ◌++◌, Option, None, Some, Result, Ok, Err, length, length-append, drop, refl, sym, ap, subst, ◌∙◌, arith}
+use Rattle.std.proofs.Common.{◌≡◌, ℕ, suc, ◌+◌, ◌-◌, ◌<◌, true, nat_le, nat_lt, List, [], ◌∷◌, ◌++◌, Option, None, Some, Result, Ok, Err, length, length-append, drop, refl, sym, ap, subst, ◌∙◌, arith}
 use Rattle.std.proofs.lemmas.List.{length-take, length-drop}
 use Rattle.std.specs.Option.{option_map, option_map_or}
 use Rattle.bv_base.specs.declared.place.Place.{Place}
@@ -9,8 +9,10 @@ use Rattle.name_table.specs.declared.names.NameId.{NameId}
 use Rattle.name_table.specs.declared.style.BodyId.{BodyId}
 use Rattle.name_table.specs.declared.style.Command.TheVariants as command
 use Rattle.name_table.specs.declared.style.Token.TheVariants.{Int, Str, Quote, Call}
-use Rattle.name_table.specs.Names.{id_of, same_name, kind_at, later, lowered}
+use Rattle.name_table.specs.Names.{id_of, kind_at, lowered}
 use Rattle.name_table.specs.Sound.{IsCommandSound, is_callable}
+use Rattle.name_table.proofs.ByteLists.{bytes_dropped, bytes_lowered, bytes_taken}
+use Rattle.name_table.proofs.Within.{id_within}
 use Rattle.bst_lex.specs.declared.lexeme.Shape.{Shape}
 use Rattle.bst_lex.specs.declared.lexeme.Shape.TheVariants.{OpenBrace, CloseBrace, Integer, Text, Quoted, Name}
 use Rattle.bst_lex.specs.Lexemes.{Seen}
@@ -26,13 +28,13 @@ use Rattle.bst_parse.specs.Commands.{word_of, parts_of, call_of}
 use Rattle.bst_parse.specs.Names.{has_macro}
 use Rattle.bst_parse.specs.Parts.{take_open, take_close, definable, define, take_names, next_name, take_function_name, called, take_target, take_macro_name, unmarked, take_macro_text, take_body, pass, take_part}
 use Rattle.bv_base.specs.Answers.{then_do}
-use Rattle.bv_base.specs.declared.limits.TheConstants.{STYLE_BYTES}
 use Rattle.bst_parse.specs.declared.tokens.TheConstants.{DEEPEST}
 use Rattle.name_table.specs.declared.style.TheConstants.{MOST_BODIES}
 use Rattle.bst_parse.specs.Progress.{Progress}
 use Rattle.bst_parse.specs.Reading.{take_outside, take_within, take_lexeme}
 use Rattle.bst_parse.specs.Tokens.{begins_block, is_own, not_own, used, with_token, with_text, take_token}
 use Rattle.bst_parse.specs.Words.{order_fault, begun, begin, begin_named, take_word}
+use Rattle.bst_parse.proofs.Lexed.{IsShapeSmall, TextFine}
 use Rattle.bst_parse.proofs.Lists.{get-last}
 use Rattle.bst_parse.proofs.Lowered.{declared-lowered}
 use Rattle.bst_parse.proofs.Rules.{below, define_ok, Defined}
@@ -77,26 +79,26 @@ close_steps n Quoted place p q s e = absurd (cc)
 close_steps n Name place p q s e = absurd (cc)
 
 -- a name is defined
-named_now : (n : ℕ) (kind : Kind) (text : List ℕ) (p q : Progress) → Now n p → length text ≤ STYLE_BYTES
+named_now : (n : ℕ) (kind : Kind) (text : List ℕ) (p q : Progress) → Now n p → TextFine text
     → IsKindSoFar p.bodies (coming p.parts) kind → Defined kind text p q
     → SoFar n (p.names ++ (lowered text, kind) ∷ []) p.commands p.bodies p.texts p.parts p.opened
-named_now n kind text p q s short fine d =
-    named n p.names p.commands p.bodies p.texts p.parts p.opened s (lowered text) kind (declared-lowered text d.definable short) d.none d.room fine
+named_now n kind text p q s words fine d =
+    named n p.names p.commands p.bodies p.texts p.parts p.opened s (lowered text) kind (declared-lowered text d.definable words.short) (bytes_lowered text words.bytes) d.none d.room fine
 
-define_steps : (n : ℕ) (kind : Kind) (shape : Shape) (place : Place) (text : List ℕ) (p q : Progress) → Now n p → length text ≤ STYLE_BYTES
+define_steps : (n : ℕ) (kind : Kind) (shape : Shape) (place : Place) (text : List ℕ) (p q : Progress) → Now n p → TextFine text
     → IsKindSoFar p.bodies (coming p.parts) kind → define kind shape place text p ≡ Ok q → Stepped n p q
-define_steps n kind shape place text p q s short fine e =
+define_steps n kind shape place text p q s words fine e =
     let d = define_ok kind shape place text p q e in
     record {
-      now = subst (Now (suc n)) (sym d.is) (on n (record p { names = p.names ++ (lowered text, kind) ∷ [] }) (named_now n kind text p q s short fine d));
+      now = subst (Now (suc n)) (sym d.is) (on n (record p { names = p.names ++ (lowered text, kind) ∷ [] }) (named_now n kind text p q s words fine d));
       parts = ap (λ (r : Progress). r.parts) d.is;
       opened = ap (λ (r : Progress). r.opened) d.is;
     }
 
 -- the name of a function
-function_steps : (n : ℕ) (shape : Shape) (place : Place) (text : List ℕ) (p q : Progress) → Now n p → length text ≤ STYLE_BYTES
+function_steps : (n : ℕ) (shape : Shape) (place : Place) (text : List ℕ) (p q : Progress) → Now n p → TextFine text
     → coming p.parts ≡ 1 → take_function_name shape place text p ≡ Ok q → Stepped n p q
-function_steps n shape place text p q s short owed e =
+function_steps n shape place text p q s words owed e =
     let kind : Kind = Wizard (next_body p.bodies) in
     let a = then_ok (define kind shape place text p) (λ (m : Progress). ok (record m { function = Some (next_name p.names); commands = p.commands ++ record { command = command.Function (next_name p.names); place = p.place } ∷ [] })) q e in
     let d = define_ok kind shape place text p a.0 a.1 in
@@ -107,7 +109,7 @@ function_steps n shape place text p q s short owed e =
     record {
       now =
           subst (Now (suc n)) (sym is)
-          (commanded n (p.names ++ (lowered text, kind) ∷ []) p.commands p.bodies p.texts p.parts p.opened (named_now n kind text p a.0 s short fine d)
+          (commanded n (p.names ++ (lowered text, kind) ∷ []) p.commands p.bodies p.texts p.parts p.opened (named_now n kind text p a.0 s words fine d)
           (command.Function (next_name p.names)) p.place
           (next_body p.bodies, ap (option_map (λ (entry : List ℕ × Kind). entry.1)) (get-last p.names (lowered text, kind))));
       parts = ap (λ (r : Progress). r.parts) is;
@@ -182,20 +184,20 @@ done n part rest p m r is idle same fine e steps =
 
 -- a name of a list, or the brace after it
 names_keep : (n : ℕ) (kind : Kind) (rest : List Part) (shape : Shape) (place : Place) (text : List ℕ) (p m : Progress) → Now n p
-    → length text ≤ STYLE_BYTES → p.parts ≡ Names kind ∷ rest → p.opened ≡ [] → take_names kind rest shape place text p ≡ Ok m → Now (suc n) m
-names_keep n kind rest CloseBrace place text p m s short is idle e =
+    → TextFine text → p.parts ≡ Names kind ∷ rest → p.opened ≡ [] → take_names kind rest shape place text p ≡ Ok m → Now (suc n) m
+names_keep n kind rest CloseBrace place text p m s words is idle e =
     subst (Now (suc n)) (sym (ok_is (record p { parts = rest }) m e))
     (on n (record p { parts = rest }) (passed n p.names p.commands p.bodies p.texts p.parts p.opened s (Names kind) rest is refl (λ fine. fine.1) idle))
-names_keep n kind rest OpenBrace place text p m s short is idle e =
-    (define_steps n kind OpenBrace place text p m s short ((subst PartsFine is s.parts).0 p.bodies (coming p.parts)) e).now
-names_keep n kind rest (Integer k) place text p m s short is idle e =
-    (define_steps n kind (Integer k) place text p m s short ((subst PartsFine is s.parts).0 p.bodies (coming p.parts)) e).now
-names_keep n kind rest Text place text p m s short is idle e =
-    (define_steps n kind Text place text p m s short ((subst PartsFine is s.parts).0 p.bodies (coming p.parts)) e).now
-names_keep n kind rest Quoted place text p m s short is idle e =
-    (define_steps n kind Quoted place text p m s short ((subst PartsFine is s.parts).0 p.bodies (coming p.parts)) e).now
-names_keep n kind rest Name place text p m s short is idle e =
-    (define_steps n kind Name place text p m s short ((subst PartsFine is s.parts).0 p.bodies (coming p.parts)) e).now
+names_keep n kind rest OpenBrace place text p m s words is idle e =
+    (define_steps n kind OpenBrace place text p m s words ((subst PartsFine is s.parts).0 p.bodies (coming p.parts)) e).now
+names_keep n kind rest (Integer k) place text p m s words is idle e =
+    (define_steps n kind (Integer k) place text p m s words ((subst PartsFine is s.parts).0 p.bodies (coming p.parts)) e).now
+names_keep n kind rest Text place text p m s words is idle e =
+    (define_steps n kind Text place text p m s words ((subst PartsFine is s.parts).0 p.bodies (coming p.parts)) e).now
+names_keep n kind rest Quoted place text p m s words is idle e =
+    (define_steps n kind Quoted place text p m s words ((subst PartsFine is s.parts).0 p.bodies (coming p.parts)) e).now
+names_keep n kind rest Name place text p m s words is idle e =
+    (define_steps n kind Name place text p m s words ((subst PartsFine is s.parts).0 p.bodies (coming p.parts)) e).now
 
 -- the opening brace of a function's body
 body_keeps : (n : ℕ) (rest : List Part) (shape : Shape) (place : Place) (p m : Progress) → Now n p → p.parts ≡ BodyPart ∷ rest
@@ -215,21 +217,21 @@ body_keeps n rest Quoted place p m s is e = absurd (cc)
 body_keeps n rest Name place p m s is e = absurd (cc)
 
 part_keeps : (n : ℕ) (part : Part) (rest : List Part) (shape : Shape) (place : Place) (text : List ℕ) (p m : Progress) → Now n p
-    → length text ≤ STYLE_BYTES → p.parts ≡ part ∷ rest → p.opened ≡ [] → take_part part rest shape place text p ≡ Ok m → Now (suc n) m
-part_keeps n (Names kind) rest shape place text p m s short is idle e = names_keep n kind rest shape place text p m s short is idle e
-part_keeps n Open rest shape place text p m s short is idle e =
+    → TextFine text → p.parts ≡ part ∷ rest → p.opened ≡ [] → take_part part rest shape place text p ≡ Ok m → Now (suc n) m
+part_keeps n (Names kind) rest shape place text p m s words is idle e = names_keep n kind rest shape place text p m s words is idle e
+part_keeps n Open rest shape place text p m s words is idle e =
     done n Open rest p m (take_open shape place p) is idle refl (λ fine. fine) e (λ q. open_steps n shape place p q s)
-part_keeps n Close rest shape place text p m s short is idle e =
+part_keeps n Close rest shape place text p m s words is idle e =
     done n Close rest p m (take_close shape place p) is idle refl (λ fine. fine) e (λ q. close_steps n shape place p q s)
-part_keeps n (Target c) rest shape place text p m s short is idle e =
+part_keeps n (Target c) rest shape place text p m s words is idle e =
     done n (Target c) rest p m (take_target c shape place text p) is idle refl (λ fine. fine) e (λ q. target_steps n c shape place text p q s)
-part_keeps n FunctionName rest shape place text p m s short is idle e =
+part_keeps n FunctionName rest shape place text p m s words is idle e =
     done n FunctionName rest p m (take_function_name shape place text p) is idle refl (λ fine. fine.1) e
-    (λ q. function_steps n shape place text p q s short (ap coming is ∙ (subst PartsFine is s.parts).0))
-part_keeps n BodyPart rest shape place text p m s short is idle e = body_keeps n rest shape place p m s is e
-part_keeps n MacroName rest shape place text p m s short is idle e =
+    (λ q. function_steps n shape place text p q s words (ap coming is ∙ (subst PartsFine is s.parts).0))
+part_keeps n BodyPart rest shape place text p m s words is idle e = body_keeps n rest shape place p m s is e
+part_keeps n MacroName rest shape place text p m s words is idle e =
     done n MacroName rest p m (take_macro_name shape place text p) is idle refl (λ fine. fine) e (λ q. macro_name_steps n shape place text p q s)
-part_keeps n MacroText rest shape place text p m s short is idle e =
+part_keeps n MacroText rest shape place text p m s words is idle e =
     done n MacroText rest p m (take_macro_text shape place text p) is idle refl (λ fine. fine) e (λ q. macro_text_steps n shape place text p q s)
 
 -- a command begins
@@ -281,21 +283,6 @@ word_keeps n Text place text p m s none idle e = absurd (cc)
 word_keeps n Quoted place text p m s none idle e = absurd (cc)
 
 -- a name that is used is there
-id_within : (name : List ℕ) (names : List (List ℕ × Kind)) (id : NameId) → id_of name names ≡ Some id → id.0 < length names
-id_within name [] id e = absurd (cc)
-id_within name (first ∷ rest) id e = by (same_name name first.0) (id_of name rest) refl e (id_within name rest)
-  where
-    by : (b : Bool) (r : Option NameId) → id_of name rest ≡ r → cond b (Some (record { 0 = 0 })) (option_map later r) ≡ Some id
-        → ((i : NameId) → id_of name rest ≡ Some i → i.0 < length rest) → id.0 < suc (length rest)
-    by true r f e more =
-        let z : 0 ≡ id.0 = ap (λ (o : Option NameId). option_map_or (λ (i : NameId). i.0) o 0) e in
-        omega (arith, z)
-    by false None f e more = absurd (cc)
-    by false (Some i) f e more =
-        let z : suc i.0 ≡ id.0 = ap (λ (o : Option NameId). option_map_or (λ (i : NameId). i.0) o 0) e in
-        let h = more i f in
-        omega (arith, z, h)
-
 found_within : (found function : Option NameId) (place : Place) (id : NameId) → not_own found function place ≡ Ok id → found ≡ Some id
 found_within None function place id e = absurd (cc)
 found_within (Some i) function place id e =
@@ -310,50 +297,53 @@ used_within source l name p id e =
 
 -- a token of a body
 token_keeps : (n : ℕ) (source : List ℕ) (inside : BodyId) (shape : Shape) (l : Seen) (p m : Progress) → Now n p
-    → length l.text ≤ STYLE_BYTES → p.parts ≡ [] → take_token source inside shape l p ≡ Ok m → Now (suc n) m
-token_keeps n source inside OpenBrace l p m s short none e =
+    → TextFine l.text → IsShapeSmall shape → p.parts ≡ [] → take_token source inside shape l p ≡ Ok m → Now (suc n) m
+token_keeps n source inside OpenBrace l p m s words fits none e =
     let u = unless_ok (nat_lt DEEPEST (length p.opened)) _ _ m e in
     let v = unless_ok (nat_le MOST_BODIES (length p.bodies)) _ _ m u.1 in
     subst (Now (suc n)) (sym (ok_is _ m v.1))
     (later_on n p.names p.commands _ p.texts p.parts (next_body p.bodies ∷ p.opened)
     (block_put n p.names p.commands p.bodies p.texts p.parts p.opened s inside l.place (next_body p.bodies ∷ p.opened) none (below MOST_BODIES (length p.bodies) v.0)))
-token_keeps n source inside CloseBrace l p m s short none e =
+token_keeps n source inside CloseBrace l p m s words fits none e =
     subst (Now (suc n)) (sym (ok_is (record p { opened = drop 1 p.opened }) m e))
     (on n (record p { opened = drop 1 p.opened }) (left n p.names p.commands p.bodies p.texts p.parts p.opened s))
-token_keeps n source inside (Integer value) l p m s short none e =
+token_keeps n source inside (Integer value) l p m s words fits none e =
     subst (Now (suc n)) (sym (ok_is (with_token inside (Int value) l.place p) m e))
-    (on n (with_token inside (Int value) l.place p) (token_put n p.names p.commands p.bodies p.texts p.parts p.opened s inside (Int value) l.place tt))
-token_keeps n source inside Text l p m s short none e =
+    (on n (with_token inside (Int value) l.place p) (token_put n p.names p.commands p.bodies p.texts p.parts p.opened s inside (Int value) l.place fits))
+token_keeps n source inside Text l p m s words fits none e =
     let text : List ℕ = unmarked l.text in
-    let small : length text ≤ STYLE_BYTES = omega (arith, length-take (length l.text - 2) (drop 1 l.text), length-drop 1 l.text) in
+    let fine : TextFine text = record {
+      short = omega (arith, words.short, length-take (length l.text - 2) (drop 1 l.text), length-drop 1 l.text);
+      bytes = bytes_taken (length l.text - 2) (drop 1 l.text) (bytes_dropped 1 l.text words.bytes);
+    } in
     subst (Now (suc n)) (sym (ok_is (with_text inside l p) m e))
     (on n (with_text inside l p)
     (token_put n p.names p.commands p.bodies (p.texts ++ text ∷ []) p.parts p.opened
-    (worded n p.names p.commands p.bodies p.texts p.parts p.opened s text small)
+    (worded n p.names p.commands p.bodies p.texts p.parts p.opened s text fine)
     inside (Str (record { 0 = length p.texts })) l.place (omega (arith, length-append {A = List ℕ}))))
-token_keeps n source inside Quoted l p m s short none e =
+token_keeps n source inside Quoted l p m s words fits none e =
     let a = then_ok (used source l (drop 1 l.text) p) (λ (id : NameId). ok (with_token inside (Quote id) l.place p)) m e in
     subst (Now (suc n)) (sym (ok_is (with_token inside (Quote (a.0)) l.place p) m a.2))
     (on n (with_token inside (Quote (a.0)) l.place p)
     (token_put n p.names p.commands p.bodies p.texts p.parts p.opened s inside (Quote (a.0)) l.place (used_within source l (drop 1 l.text) p a.0 a.1)))
-token_keeps n source inside Name l p m s short none e =
+token_keeps n source inside Name l p m s words fits none e =
     let a = then_ok (used source l l.text p) (λ (id : NameId). ok (with_token inside (Call id) l.place p)) m e in
     subst (Now (suc n)) (sym (ok_is (with_token inside (Call (a.0)) l.place p) m a.2))
     (on n (with_token inside (Call (a.0)) l.place p)
     (token_put n p.names p.commands p.bodies p.texts p.parts p.opened s inside (Call (a.0)) l.place (used_within source l l.text p a.0 a.1)))
 
 outside_keeps : (n : ℕ) (parts : List Part) (l : Seen) (p m : Progress) → p.parts ≡ parts → p.opened ≡ [] → Now n p
-    → length l.text ≤ STYLE_BYTES → take_outside parts l p ≡ Ok m → Now (suc n) m
-outside_keeps n [] l p m is idle s short e = word_keeps n l.shape l.place l.text p m s is idle e
-outside_keeps n (part ∷ rest) l p m is idle s short e = part_keeps n part rest l.shape l.place l.text p m s short is idle e
+    → TextFine l.text → take_outside parts l p ≡ Ok m → Now (suc n) m
+outside_keeps n [] l p m is idle s words e = word_keeps n l.shape l.place l.text p m s is idle e
+outside_keeps n (part ∷ rest) l p m is idle s words e = part_keeps n part rest l.shape l.place l.text p m s words is idle e
 
 within_keeps : (n : ℕ) (opened : List BodyId) (source : List ℕ) (l : Seen) (p m : Progress) → p.opened ≡ opened → Now n p
-    → length l.text ≤ STYLE_BYTES → take_within (innermost opened) source l p ≡ Ok m → Now (suc n) m
-within_keeps n [] source l p m is s short e = outside_keeps n p.parts l p m refl is s short e
-within_keeps n (inside ∷ outer) source l p m is s short e =
-    token_keeps n source inside l.shape l p m s short (subst (λ (o : List BodyId). IsBusy o p.parts) is s.busy) e
+    → TextFine l.text → IsShapeSmall l.shape → take_within (innermost opened) source l p ≡ Ok m → Now (suc n) m
+within_keeps n [] source l p m is s words fits e = outside_keeps n p.parts l p m refl is s words e
+within_keeps n (inside ∷ outer) source l p m is s words fits e =
+    token_keeps n source inside l.shape l p m s words fits (subst (λ (o : List BodyId). IsBusy o p.parts) is s.busy) e
 
 -- a lexeme keeps what holds
-pub lexeme_keeps : (n : ℕ) (source : List ℕ) (l : Seen) (p m : Progress) → Now n p → length l.text ≤ STYLE_BYTES
+pub lexeme_keeps : (n : ℕ) (source : List ℕ) (l : Seen) (p m : Progress) → Now n p → TextFine l.text → IsShapeSmall l.shape
     → take_lexeme source l p ≡ Ok m → Now (suc n) m
-lexeme_keeps n source l p m s short e = within_keeps n p.opened source l p m refl s short e
+lexeme_keeps n source l p m s words fits e = within_keeps n p.opened source l p m refl s words fits e

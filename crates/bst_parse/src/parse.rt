@@ -7,8 +7,10 @@ ghost use Rattle.bst_parse.specs.Reading.{style_of};
 
 use crate::fault::StyleFault;
 use crate::parser::Parser;
+use bst_lex::laws::lexemes_as_spelled;
 use bst_lex::lexer::Lexer;
 use bv_base::limits::STYLE_BYTES;
+use name_table::laws::are_bytes;
 use name_table::style::Style;
 use std::alloc::Global;
 
@@ -21,6 +23,8 @@ pub fn parse(alloc: Global, source: &[u8]) -> Result<Style, StyleFault>
     ensures fault { IfErr result (Refuses StyleFault.NoMemory (style_of source.now)) }
     ensures sound { IfOk result IsSound }
 {
+    are_bytes(source);
+    lexemes_as_spelled(source);
     read(alloc, source)
 }
 

@@ -1,1 +1,4 @@
+pub mod ByteLists
 mod Found
+mod Numbered
+pub mod Within

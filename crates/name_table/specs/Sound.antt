@@ -14,6 +14,7 @@ use Rattle.name_table.specs.declared.style.TheConstants.{MOST_BODIES}
 use Rattle.name_table.specs.declared.style.Token.{Token}
 use Rattle.name_table.specs.declared.style.Token.TheVariants.{Int, Str, Quote, Block, Call}
 use Rattle.name_table.specs.Names.{same_name, kind_at, lowered, is_definable}
+use Rattle.name_table.specs.Numbers.{IsByteList, has_32_bits}
 use Rattle.name_table.specs.Opening.{opening_names}
 
 -- each item of a list has a property
@@ -41,9 +42,9 @@ abbrev pub IsKindSound : List Body → Kind → Type 0
 IsKindSound bodies (Wizard id) = block_of id bodies ≡ Some None
 IsKindSound bodies _ = Unit {0}
 
--- the names and texts of a token are there, and a block token's body is a block
+-- an integer has 32 bits, the names and texts of a token are there, and a block token's body is a block
 abbrev pub IsTokenSound : List (List ℕ × Kind) → List Body → List (List ℕ) → Token → Type 0
-IsTokenSound names bodies texts (Int value) = Unit {0}
+IsTokenSound names bodies texts (Int value) = has_32_bits value ≡ true
 IsTokenSound names bodies texts (Str id) = id.0 < length texts
 IsTokenSound names bodies texts (Quote id) = id.0 < length names
 IsTokenSound names bodies texts (Call id) = id.0 < length names
@@ -63,13 +64,13 @@ IsCommandSound names (Reverse id) = is_callable (kind_at id names) ≡ true
 IsCommandSound names (Function id) = (body : BodyId) × (kind_at id names ≡ Some (Wizard body))
 IsCommandSound names _ = Unit {0}
 
--- the blocks among these bodies have the numbers from n on, in order
+-- the blocks among these bodies have the numbers from n on, in order, so that a number is that of one body
 abbrev pub AreNumbered : ℕ → List (Option ℕ) → Type 0
 AreNumbered n [] = Unit {0}
 AreNumbered n (None ∷ rest) = AreNumbered n rest
 AreNumbered n (Some number ∷ rest) = (number ≡ n) × AreNumbered (suc n) rest
 
--- what holds of a style: what each part of it names is there, and nothing is beyond the limits
+-- what holds of a style: what each part of it names is there, its texts are of bytes, and nothing is beyond the limits
 pub record IsSound (style : Style) : Type 0 where
   pub declared : List (List ℕ × Kind)
   pub names : style.names ≡ opening_names ++ declared
@@ -83,3 +84,5 @@ pub record IsSound (style : Style) : Type 0 where
   pub few_bodies : length style.bodies ≤ MOST_BODIES
   pub few_commands : length style.commands ≤ STYLE_BYTES
   pub short_texts : Each (λ text. length text ≤ STYLE_BYTES) style.texts
+  pub byte_names : Each (λ entry. IsByteList entry.0) style.names
+  pub byte_texts : Each IsByteList style.texts

@@ -3,6 +3,7 @@
 #![tactic(auto)]
 
 pub mod builtin;
+pub mod laws;
 pub mod names;
 pub mod opening;
 pub mod style;
