@@ -8,5 +8,6 @@ pub mod Operands
 pub mod Builtins
 pub mod Sorting
 pub mod Machine
+pub mod Keeping
 pub mod Lines
 pub mod Safe

@@ -5,5 +5,6 @@
 pub mod condition;
 pub mod entry;
 pub mod fault;
+pub mod laws;
 pub mod style_parts;
 pub mod value;

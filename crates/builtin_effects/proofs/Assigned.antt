@@ -12,6 +12,7 @@ use Rattle.bst_meaning.specs.declared.value.Value.{Value}
 use Rattle.bst_meaning.specs.Config.{Config, EntryState, Variable, Visit}
 use Rattle.bst_meaning.specs.Machine.{assigned_by, field_in, next_index, value_at, visited_entry, visited_index, with_entry_variable, with_variable}
 use Rattle.bst_meaning.specs.StyleParts.{kind_of}
+use Rattle.bst_meaning.proofs.Replacing.{set_element, set_length, set_seen, variable_kept, variable_new}
 use Rattle.sym_state.specs.declared.state.State.{State}
 use Rattle.sym_state.specs.declared.symbol.Sym.{Sym}
 use Rattle.sym_state.specs.Changes.{with_bind}
@@ -19,7 +20,7 @@ use Rattle.sym_state.specs.Stands.{IsVisiting, Stands, value_by}
 use Rattle.sym_state.specs.Symbols.{Valuation}
 use Rattle.sym_state.specs.WellMade.{is_variable}
 use Rattle.sym_state.proofs.Spots.{Spot}
-use Rattle.builtin_effects.proofs.Rebinding.{Kept, Unique, bound_at, rebound_bound, set_element, set_length, set_seen, variable_kept, variable_new}
+use Rattle.builtin_effects.proofs.Rebinding.{Kept, Unique, bound_at, rebound_bound}
 
 -- one variable has a new value, and everything else that a state speaks of is as it was
 pub record Assigned (style : Style) (name : NameId) (value : Value) (c after : Config) : Type 0 where

@@ -1,0 +1,4 @@
+mod Confined
+mod Giving
+mod Kept
+pub mod Replacing
