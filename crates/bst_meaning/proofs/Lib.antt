@@ -1,4 +1,11 @@
+pub mod ByteTexts
 mod Confined
+mod FineEffects
+mod Formed
+pub mod FormattedBytes
 mod Giving
 mod Kept
+mod Opened
+mod Permuted
+mod Placed
 pub mod Replacing

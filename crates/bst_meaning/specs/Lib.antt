@@ -1,6 +1,7 @@
 pub mod StyleParts
 pub mod Faults
 pub mod Entries
+pub mod Values
 pub mod Condition
 pub mod Config
 pub mod Effect
@@ -9,5 +10,6 @@ pub mod Builtins
 pub mod Sorting
 pub mod Machine
 pub mod Keeping
+pub mod Invariant
 pub mod Lines
 pub mod Safe

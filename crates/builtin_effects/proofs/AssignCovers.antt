@@ -41,7 +41,7 @@ use Rattle.sym_state.proofs.RowSums.{at_most_says}
 use Rattle.sym_state.proofs.Saying.{at_most_holds}
 use Rattle.sym_state.proofs.Spots.{Spot}
 use Rattle.builtin_effects.proofs.Assigned.{Assigned, assigned, rebound_stands, variable_bound}
-use Rattle.builtin_effects.proofs.ByteTexts.{bytes_taken}
+use Rattle.name_table.proofs.ByteLists.{bytes_taken}
 use Rattle.builtin_effects.proofs.Covering.{CoversAt, after_value, around, lower, others_old, row_met, term_new_length, tops_old, two_given, unseen, value_new}
 use Rattle.builtin_effects.proofs.EntryCovers.{entry_given}
 use Rattle.builtin_effects.proofs.Inverting.{choice_ok, demand_ok, gives_is, two_ok}

@@ -30,7 +30,7 @@ use Rattle.sym_state.proofs.Pushing.{without}
 use Rattle.sym_state.proofs.RowSums.{at_least_says, at_most_says}
 use Rattle.sym_state.proofs.Saying.{at_least_holds, at_most_holds}
 use Rattle.sym_state.proofs.Spots.{Spot}
-use Rattle.builtin_effects.proofs.ByteTexts.{numeral_bytes}
+use Rattle.bst_meaning.proofs.ByteTexts.{numeral_bytes}
 use Rattle.builtin_effects.proofs.Covering.{CoversAt, Old, after_value, around, lower, one_given, one_then, put, row_met, term_new_length, term_new_value, value_new}
 use Rattle.builtin_effects.proofs.Integers.{number_bits}
 use Rattle.builtin_effects.proofs.Inverting.{steps_ok}

@@ -32,7 +32,7 @@ use Rattle.sym_state.proofs.Pushing.{without}
 use Rattle.sym_state.proofs.RowSums.{at_least_says, exceeds_says}
 use Rattle.sym_state.proofs.Spots.{Spot}
 use Rattle.builtin_effects.proofs.Covering.{CoversAt, lower, others_old, put, row_met, three_then, tops_old}
-use Rattle.builtin_effects.proofs.FormattedBytes.{formatted_bytes, formatted_ok}
+use Rattle.bst_meaning.proofs.FormattedBytes.{formatted_bytes, formatted_ok}
 use Rattle.builtin_effects.proofs.Inverting.{demand_ok, steps_ok, three_ok}
 use Rattle.builtin_effects.proofs.OperandValues.{IsNumber, IsText, number_met, text_met}
 

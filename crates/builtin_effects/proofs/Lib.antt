@@ -1,13 +1,11 @@
 pub mod AssignCovers
 pub mod Assigned
-pub mod ByteTexts
 pub mod CharactersCover
 pub mod CountsCover
 pub mod Covering
 pub mod EffectsCover
 pub mod EntryCovers
 pub mod FormatCovers
-pub mod FormattedBytes
 pub mod Fronts
 pub mod Integers
 pub mod Inverting

@@ -35,7 +35,8 @@ use Rattle.sym_state.proofs.Pushing.{without}
 use Rattle.sym_state.proofs.RowSums.{three_holds}
 use Rattle.sym_state.proofs.Saying.{exceeds_holds, minus, once}
 use Rattle.sym_state.proofs.Spots.{Spot}
-use Rattle.builtin_effects.proofs.ByteTexts.{bytes_joined, case_changed_bytes, purified_bytes, text_prefix_bytes, with_period_bytes}
+use Rattle.name_table.proofs.ByteLists.{bytes_joined}
+use Rattle.bst_meaning.proofs.ByteTexts.{case_changed_bytes, purified_bytes, text_prefix_bytes, with_period_bytes}
 use Rattle.builtin_effects.proofs.Covering.{CoversAt, Old, after_value, around, first_old, lower, one_given, others_old, put, term_new_length, term_old, tops_old, two_given, two_then, value_new}
 use Rattle.builtin_effects.proofs.Inverting.{demand_ok, two_ok}
 use Rattle.builtin_effects.proofs.OperandValues.{IsText, number_met, text_met, text_operand}

@@ -28,7 +28,7 @@ use Rattle.sym_state.proofs.Pushing.{without}
 use Rattle.sym_state.proofs.RowSums.{at_least_says}
 use Rattle.sym_state.proofs.Saying.{at_least_holds, at_most_holds, exceeds_holds}
 use Rattle.sym_state.proofs.Spots.{Spot}
-use Rattle.builtin_effects.proofs.ByteTexts.{substring_bytes}
+use Rattle.bst_meaning.proofs.ByteTexts.{substring_bytes}
 use Rattle.builtin_effects.proofs.Covering.{CoversAt, Old, after_value, around, first_old, lower, others_old, put, row_met, term_new_length, term_old, three_given, tops_old}
 use Rattle.builtin_effects.proofs.Inverting.{choice_ok, demand_ok, three_ok}
 use Rattle.builtin_effects.proofs.OperandValues.{IsText, number_met, text_met}

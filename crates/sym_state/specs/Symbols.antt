@@ -1,12 +1,11 @@
 -- What symbols stand for (docs/STATES.md, "Assignments"): values, and the integers of rows that they give.
-use Rattle.std.specs.Prelude.{◌≡◌, ℕ, true, ℤ, pos, length}
+use Rattle.std.specs.Prelude.{ℕ, ℤ, pos, length}
 use Rattle.lin_facts.specs.Rows.{Assignment}
 use Rattle.lin_facts.specs.declared.row.Term.TheVariants.{Value as ValueOf, Length as LengthOf, Names as NamesOf, Pos, Count}
 use Rattle.name_split.specs.Names.{names_of}
 use Rattle.bst_meaning.specs.declared.value.Value.{Value}
 use Rattle.bst_meaning.specs.declared.value.Value.TheVariants.{Int, Str}
-use Rattle.bst_meaning.specs.Entries.{IsByteList}
-use Rattle.bst_meaning.specs.Operands.{has_32_bits}
+pub use Rattle.bst_meaning.specs.Values.{IsValue}
 
 -- an assignment: a value for each symbol, how many entries the command visited before the present one, and how many
 -- entries there are
@@ -14,12 +13,6 @@ pub record Valuation : Type 0 where
   pub value : ℕ → Value
   pub position : ℕ
   pub count : ℕ
-
--- a value of the machine: its integers have 32 bits, and its strings are of bytes
-abbrev pub IsValue : Value → Type 0
-IsValue (Int n) = has_32_bits n ≡ true
-IsValue (Str bytes) = IsByteList bytes
-IsValue _ = Unit {0}
 
 -- the integer that a value is, and 0 where it is none
 abbrev pub integer_of : Value → ℤ

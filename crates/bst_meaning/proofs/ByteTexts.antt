@@ -1,5 +1,5 @@
 -- What a function on texts gives of bytes is of bytes.
-use Rattle.std.proofs.Common.{◌≡◌, ℕ, zero, suc, ◌+◌, ◌/◌, ◌%◌, ◌<◌, List, [], ◌∷◌, ◌++◌, length, take, drop, replicate, reverse, sym, subst, arith, Bool, true, false, ℤ, pos, negsuc, cond, decimal}
+use Rattle.std.proofs.Common.{ℕ, zero, suc, ◌+◌, ◌/◌, ◌%◌, ◌<◌, List, [], ◌∷◌, ◌++◌, length, take, drop, replicate, reverse, sym, subst, arith, Bool, true, false, ℤ, pos, negsuc, cond, decimal}
 use Rattle.std.specs.Prelude.{◌||◌, nat_eq, if◌then◌else◌, codes}
 use Rattle.std.specs.Fmt.{digits, digits_onto, digit_glyph}
 use Rattle.std.specs.List.{flat_map}
@@ -19,34 +19,10 @@ use Rattle.text_ops.proofs.LawsOfPrefix.{spelled}
 use Rattle.text_ops.proofs.LawsOfSubstring.{is_part}
 use Rattle.text_ops.proofs.PartSteps.{parts_drop, word_length}
 use Rattle.text_ops.proofs.PieceSteps.{pieces_beyond, special_level}
-use Rattle.bst_meaning.specs.Entries.{IsByteList}
+use Rattle.name_table.specs.Numbers.{IsByteList}
+use Rattle.name_table.proofs.ByteLists.{bytes_behind, bytes_dropped, bytes_in_front, bytes_joined, bytes_of_part, bytes_taken}
 
 -- ---- parts of texts
-
-pub bytes_joined : (xs ys : List ℕ) → IsByteList xs → IsByteList ys → IsByteList (xs ++ ys)
-bytes_joined [] ys h k = k
-bytes_joined (x ∷ xs) ys h k = (h.0, bytes_joined xs ys h.1 k)
-
-pub bytes_in_front : (xs ys : List ℕ) → IsByteList (xs ++ ys) → IsByteList xs
-bytes_in_front [] ys h = tt
-bytes_in_front (x ∷ xs) ys h = (h.0, bytes_in_front xs ys h.1)
-
-pub bytes_behind : (xs ys : List ℕ) → IsByteList (xs ++ ys) → IsByteList ys
-bytes_behind [] ys h = h
-bytes_behind (x ∷ xs) ys h = bytes_behind xs ys h.1
-
-pub bytes_of_part : (whole before part after : List ℕ) → whole ≡ before ++ (part ++ after) → IsByteList whole → IsByteList part
-bytes_of_part whole before part after e h = bytes_in_front part after (bytes_behind before (part ++ after) (subst IsByteList e h))
-
-pub bytes_taken : (n : ℕ) (xs : List ℕ) → IsByteList xs → IsByteList (take n xs)
-bytes_taken zero xs h = tt
-bytes_taken (suc n) [] h = tt
-bytes_taken (suc n) (x ∷ xs) h = (h.0, bytes_taken n xs h.1)
-
-pub bytes_dropped : (n : ℕ) (xs : List ℕ) → IsByteList xs → IsByteList (drop n xs)
-bytes_dropped zero xs h = h
-bytes_dropped (suc n) [] h = tt
-bytes_dropped (suc n) (x ∷ xs) h = bytes_dropped n xs h.1
 
 either : (v : Bool) (xs ys : List ℕ) → IsByteList xs → IsByteList ys → IsByteList (if v then xs else ys)
 either true xs ys h k = h

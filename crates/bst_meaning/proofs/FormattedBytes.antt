@@ -4,7 +4,7 @@ use Rattle.std.specs.Prelude.{ℤ, pos, negsuc, ◌≤ℤ◌, nat_lt, slice_get,
 use Rattle.std.proofs.lemmas.Bool.{and_parts}
 use Rattle.std.proofs.lemmas.Int.{ints}
 use Rattle.bv_base.specs.Levels.{closing, inside, is_closing, is_letter, next_level}
-use Rattle.bst_meaning.specs.Entries.{IsByteList}
+use Rattle.name_table.specs.Numbers.{IsByteList}
 use Rattle.name_split.specs.declared.parts.NameFault.{NameFault}
 use Rattle.name_split.specs.declared.spans.Parts.{Parts}
 use Rattle.name_split.specs.declared.spans.Span.{Span}
@@ -16,7 +16,7 @@ use Rattle.name_split.specs.Parts.{parts_of}
 use Rattle.name_split.specs.Patterns.{before_run, letter_runs, pattern_ok}
 use Rattle.name_split.specs.Spans.{slice}
 use Rattle.name_split.specs.Tokens.{first_is, tokens_of}
-use Rattle.builtin_effects.proofs.ByteTexts.{bytes_joined, bytes_taken, bytes_dropped}
+use Rattle.name_table.proofs.ByteLists.{bytes_joined, bytes_taken, bytes_dropped}
 
 -- a choice of two strings of bytes, a byte and a slice of one
 bytes_chosen : (t : Bool) (xs ys : List ℕ) → IsByteList xs → IsByteList ys → IsByteList (cond t xs ys)
