@@ -18,6 +18,7 @@ use bv_base::key_set::KeySet;
 use bv_base::memory::NoMemory;
 use bv_base::seq::Seq;
 use bv_base::text::Text;
+use name_table::laws::are_bytes;
 use name_table::names::{Kind, NameId};
 use name_table::style::Style;
 use std::alloc::Global;
@@ -180,11 +181,6 @@ pub(crate) fn copied(alloc: Global, bytes: &[u8]) -> Result<Text, NoMemory>
     are_bytes(bytes);
     Text::from_slice(alloc, bytes)
 }
-
-/// Each byte is below 256.
-fn are_bytes(bytes: &[u8])
-    ensures { IsByteList bytes.now }
-{}
 
 /// Warns of each `crossref` of a list that names no entry.
 pub(crate) fn warn_of_parents(
