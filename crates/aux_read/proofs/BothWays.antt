@@ -8,7 +8,8 @@ use Rattle.aux_read.specs.Lines.{nothing, take_line}
 use Rattle.aux_read.specs.Meaning.{AuxReads, and_line, and_lines, start_of}
 use Rattle.aux_read.specs.Reading.{aux_of, reading}
 use Rattle.aux_read.proofs.Lined.{Lined, as_lines, lines_are}
-use Rattle.aux_read.proofs.LinesRead.{line_read, line_taken, then_ok}
+use Rattle.aux_read.proofs.LinesRead.{line_read, line_taken}
+use Rattle.bv_base.proofs.ThenLemmas.{then_ok}
 
 -- lines that are read: what they are, and what they ask for
 record LinesRead (number : ℕ) (text : List ℕ) (aux next : Aux) : Type 0 where
@@ -22,8 +23,8 @@ all_read number [] text aux next lined e =
     record { lines = []; spelled = lined; meant = let same : aux ≡ next = cc in ap Some same }
 all_read number (first ∷ texts) text aux next (rest, is, ends, lined) e =
     let begun = then_ok (take_line (start_of number) first aux) (reading (start_of (number + 1)) texts) next e in
-    let line = line_read number first aux begun.value begun.is in
-    let more = all_read (number + 1) texts rest begun.value next lined begun.gives in
+    let line = line_read number first aux begun.0 begun.1 in
+    let more = all_read (number + 1) texts rest begun.0 next lined begun.2 in
     record {
       lines = line.line ∷ more.lines;
       spelled = (first, rest, is, ends, line.spelled, more.spelled);

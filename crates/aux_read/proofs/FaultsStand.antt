@@ -1,7 +1,6 @@
 -- Every fault stands in its text: at the start of a line.
 use Rattle.std.proofs.Common.{◌≡◌, ℕ, ◌+◌, inl, inr, Bool, cond, not, nat_eq, List, [], ◌∷◌, ◌++◌, append_assoc, Option, None, Some, Result, Ok, Err, length, length-append, take, codes, refl, sym, ap, subst, ◌∙◌, arith}
 use Rattle.std.specs.List.{list_all}
-use Rattle.std.specs.Option.{option_map_or}
 use Rattle.std.proofs.Math.Seq.{take-append_seam}
 use Rattle.std.proofs.lemmas.Bool.{and_parts, not-true}
 use Rattle.bstr.specs.Text.{lines_of}
@@ -19,6 +18,9 @@ use Rattle.aux_read.specs.Lines.{add_citations, add_names, citation, file_name, 
 use Rattle.aux_read.specs.Reading.{aux_of, next_line, reading}
 use Rattle.aux_read.specs.Meaning.{start_of}
 use Rattle.aux_read.proofs.Lined.{Lined, as_lines, lines_are}
+use Rattle.std.specs.Prelude.{IfErr}
+use Rattle.bv_base.proofs.ThenLemmas.{then_faulty}
+use Rattle.aux_read.proofs.Keeping.{or_each}
 
 -- a fault of the line that starts at a place stands there, and is no want of memory
 abbrev pub IsAt : Place → AuxFault → Type 0
@@ -27,23 +29,12 @@ IsAt place fault = place_of fault ≡ place
 
 -- a result whose fault, if any, stands at the place
 abbrev pub Placed : {A : Type 0} → Place → Result A AuxFault → Type 0
-Placed place (Ok value) = Unit {0}
-Placed place (Err fault) = IsAt place fault
+Placed place r = IfErr r (IsAt place)
 
 placed_part : {A B : Type 0} (place : Place) (o : Option A) (next : A → Result B AuxFault) → ((a : A) → Placed place (next a))
     → Placed place (with_part place o next)
 placed_part place None next each = refl
 placed_part place (Some a) next each = each a
-
-placed_then : {A B : Type 0} (place : Place) (r : Result A AuxFault) (next : A → Result B AuxFault) → Placed place r
-    → ((a : A) → Placed place (next a)) → Placed place (then_do r next)
-placed_then place (Ok a) next first each = each a
-placed_then place (Err fault) next first each = first
-
-placed_or : {A B : Type 0} (place : Place) (f : A → Result B AuxFault) (o : Option A) (other : Result B AuxFault)
-    → ((a : A) → Placed place (f a)) → Placed place other → Placed place (option_map_or f o other)
-placed_or place f None other each rest = rest
-placed_or place f (Some a) other each rest = each a
 
 citations_placed : (place : Place) (list : List (List ℕ)) (aux : Aux) → Placed place (add_citations place list aux)
 citations_placed place [] aux = tt
@@ -69,19 +60,19 @@ one_placed place rest =
 
 line_placed : (place : Place) (line : List ℕ) (aux : Aux) → Placed place (take_line place line aux)
 line_placed place line aux =
-    placed_or place _ (after_front (codes "\\citation{") line) _
+    or_each (Placed place) _ (after_front (codes "\\citation{") line) _
     (λ rest. placed_part place (inside_of rest) _ (λ inside. citations_placed place (stretches inside) aux))
-    (placed_or place _ (after_front (codes "\\bibdata{") line) _
+    (or_each (Placed place) _ (after_front (codes "\\bibdata{") line) _
     (λ rest. placed_part place (inside_of rest) _
-    (λ inside. placed_then place (file_names place inside) _ (names_placed place (stretches inside) [])
-    (λ names. databases_placed place names aux.databases aux)))
-    (placed_or place _ (after_front (codes "\\bibstyle{") line) _
-    (λ rest. placed_then place (file_name place rest) _ (one_placed place rest) (λ name. style_placed place name aux.style aux))
-    (placed_or place _ (after_front (codes "\\@input{") line) _
-    (λ rest. placed_then place (file_name place rest) _ (one_placed place rest) (λ name. tt))
+    (λ inside. then_faulty (IsAt place) (file_names place inside) _ (names_placed place (stretches inside) [])
+    (λ names _. databases_placed place names aux.databases aux)))
+    (or_each (Placed place) _ (after_front (codes "\\bibstyle{") line) _
+    (λ rest. then_faulty (IsAt place) (file_name place rest) _ (one_placed place rest) (λ name _. style_placed place name aux.style aux))
+    (or_each (Placed place) _ (after_front (codes "\\@input{") line) _
+    (λ rest. then_faulty (IsAt place) (file_name place rest) _ (one_placed place rest) (λ name _. tt))
     tt)))
 
-after_joined : (first second : List ℕ) (place : Place) → after_bytes (first ++ second) place ≡ after_bytes second (after_bytes first place)
+pub after_joined : (first second : List ℕ) (place : Place) → after_bytes (first ++ second) place ≡ after_bytes second (after_bytes first place)
 after_joined [] second place = refl
 after_joined (b ∷ first) second place = after_joined first second (after_byte b place)
 
@@ -95,19 +86,17 @@ line_kept (b ∷ text) place without =
     (not-true (nat_eq b 10) both.0)
 
 -- the line after one that ends
-line_after : (text : List ℕ) (place : Place) → Without 10 text → after_bytes (text ++ 10 ∷ []) place ≡ next_line (record { line = place.line; column = 1 })
+pub line_after : (text : List ℕ) (place : Place) → Without 10 text → after_bytes (text ++ 10 ∷ []) place ≡ next_line (record { line = place.line; column = 1 })
 line_after text place without =
     after_joined text (10 ∷ []) place ∙ ap (λ (n : ℕ). record { line = n + 1; column = 1 }) (line_kept text place without)
 
 -- what stands where a place does is a fault's place
 placed_in : (source : List ℕ) (place : Place) (fault : AuxFault) → StandsIn source place → IsAt place fault → IsFaultOf source fault
-placed_in source place (BadCommand p) stands at = subst (StandsIn source) (sym at) stands
-placed_in source place (SecondStyle p) stands at = subst (StandsIn source) (sym at) stands
-placed_in source place (SecondData p) stands at = subst (StandsIn source) (sym at) stands
 placed_in source place NoMemory stands at = absurd at
+placed_in source place _ stands at = subst (StandsIn source) (sym at) stands
 
 -- the place after the bytes before what is left
-stands_before : (source before left : List ℕ) → source ≡ before ++ left → StandsIn source (after_bytes before first_place)
+pub stands_before : (source before left : List ℕ) → source ≡ before ++ left → StandsIn source (after_bytes before first_place)
 stands_before source before left all =
     let long = ap length all ∙ length-append before left in (
       length before,

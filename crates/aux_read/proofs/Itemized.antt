@@ -1,5 +1,5 @@
 -- What the parts of a line are, as the grammar has them.
-use Rattle.std.proofs.Common.{◌≡◌, ℕ, suc, ◌+◌, ◌<◌, Bool, true, false, cond, ◌&&◌, not, nat_eq, nat_lt, List, [], ◌∷◌, ◌++◌, Option, None, Some, length, length-append, take, drop, refl, sym, ap, subst, ◌∙◌, arith}
+use Rattle.std.proofs.Common.{◌≡◌, ℕ, suc, ◌+◌, ◌<◌, Bool, true, false, cond, ◌&&◌, not, nat_eq, nat_lt, List, [], ◌∷◌, ◌++◌, Option, None, Some, length, length-append, take, drop, refl, sym, ap, subst, ◌∙◌, arith, IfSome}
 use Rattle.std.specs.Prelude.{if◌then◌else◌}
 use Rattle.std.specs.List.{list_all}
 use Rattle.std.specs.Option.{option_and_then}
@@ -8,17 +8,12 @@ use Rattle.std.proofs.lemmas.Bool.{and_from, and_parts, eq-eqb, eqb-true, lt-ltb
 use Rattle.std.proofs.lemmas.List.{take-append-drop}
 use Rattle.bv_base.specs.Bytes.{is_white}
 use Rattle.bv_base.specs.Keys.{IsKey}
-use Rattle.bv_base.specs.Runs.{is_black, length_before}
+use Rattle.bv_base.specs.Runs.{is_black, length_before, EndsBy}
 use Rattle.std.specs.Str.{is_utf8}
 use Rattle.aux_read.specs.FileNames.{IsFileName}
 use Rattle.aux_read.specs.Grammar.{Begins, Blank, IsItem, IsName, Without}
 use Rattle.aux_read.specs.Items.{after_front, begun_item, file_name_of, inside_of, is_blank, is_close, item_of}
-use Rattle.aux_read.proofs.Cited.{begun_key, IsKeyOf}
-
--- nothing follows, or a byte that passes the test
-abbrev EndsBy : (ℕ → Bool) → List ℕ → Type 0
-EndsBy test [] = Unit {0}
-EndsBy test (b ∷ _) = test b ≡ true
+use Rattle.aux_read.proofs.Keeping.{begun_key}
 
 -- a run of bytes of which none passes the test is as long as the run up to the first that does
 run_length : (inside test : ℕ → Bool) → ((b : ℕ) → inside b ≡ true → test b ≡ false) → (run rest : List ℕ)
@@ -73,7 +68,7 @@ item_read text item is =
           ∙ ap (λ l. take count text ++ (l ++ drop length begun)) (sym found.0);
       blank_before = run_inside is_white is_black (λ b e. not-false (is_white b) e) text;
       blank_after = found.1;
-      solid = subst IsKeyOf is (begun_key begun);
+      solid = subst (λ o. IfSome o IsKey) is (begun_key begun);
     }
 
 -- white space ends an item

@@ -2,6 +2,7 @@ pub mod BothWays
 pub mod Cited
 pub mod FaultsStand
 pub mod Itemized
+pub mod Keeping
 pub mod Lined
 pub mod LinesRead
 pub mod Named

@@ -1,5 +1,5 @@
 -- What a line asks for is what the grammar has, both ways.
-use Rattle.std.proofs.Common.{◌≡◌, ℕ, suc, false, cond, nat_eq, List, [], ◌∷◌, ◌++◌, map, append_assoc, Option, None, Some, Result, Ok, Err, codes, length, is_some, refl, sym, ap, subst, ◌∙◌, arith}
+use Rattle.std.proofs.Common.{◌≡◌, ℕ, suc, false, cond, nat_eq, List, [], ◌∷◌, ◌++◌, map, append_assoc, Option, None, Some, Result, Ok, codes, length, is_some, refl, sym, ap, subst, ◌∙◌, arith}
 use Rattle.std.specs.Option.{option_map_or}
 use Rattle.std.proofs.lemmas.Bool.{ne_eqb}
 use Rattle.std.proofs.lemmas.List.{append-nil}
@@ -14,6 +14,7 @@ use Rattle.aux_read.specs.Lines.{add_citations, add_names, citation, file_name, 
 use Rattle.aux_read.specs.Meaning.{and_line, start_of}
 use Rattle.aux_read.proofs.Itemized.{front_missed, front_missing, front_read, front_taken, Inside, inside_read, inside_taken, item_read, item_taken, name_read, name_taken}
 use Rattle.aux_read.proofs.Stretched.{Stretched, as_stretches, stretches_are}
+use Rattle.bv_base.proofs.ThenLemmas.{then_ok}
 
 -- each of the items is that of the stretch in its place
 abbrev pub Paired : (List ℕ → List ℕ → Type 0) → List (List ℕ) → List (List ℕ) → Type 0
@@ -65,15 +66,6 @@ part_ok : {A B : Type 0} (place : Place) (o : Option A) (next : A → Result B A
     → HasPart o next b
 part_ok place None next b e = absurd (cc)
 part_ok place (Some value) next b e = record { value = value; is = refl; gives = e }
-
-pub record HasValue {A B : Type 0} (r : Result A AuxFault) (next : A → Result B AuxFault) (b : B) : Type 0 where
-  pub value : A
-  pub is : r ≡ Ok value
-  pub gives : next value ≡ Ok b
-
-pub then_ok : {A B : Type 0} (r : Result A AuxFault) (next : A → Result B AuxFault) (b : B) → then_do r next ≡ Ok b → HasValue r next b
-then_ok (Err fault) next b e = absurd (cc)
-then_ok (Ok value) next b e = record { value = value; is = refl; gives = e }
 
 or_case : {A B : Type 0} (R : Type 0) (f : A → B) (o : Option A) (other b : B) → option_map_or f o other ≡ b
     → ((x : A) → o ≡ Some x → f x ≡ b → R) → (o ≡ None → other ≡ b → R) → R
@@ -241,16 +233,16 @@ databases_read number line rest aux next is e =
     let named = then_ok (file_names place part.value) (λ names. with_databases place names aux.databases aux) next part.gives in
     let cut = as_stretches part.value in
     let list = ap (λ l. add_names place l []) (stretches_are cut.list part.value cut.stretched) in
-    let found = named_read place cut.list [] named.value (sym list ∙ named.is) in
+    let found = named_read place cut.list [] named.0 (sym list ∙ named.1) in
     record {
-      line = Databases named.value;
+      line = Databases named.0;
       spelled = (
         part.value,
         held (codes "\\bibdata{") part.value rest line is (inside_read rest part.value part.is),
-        items_read IsName named.value cut.list part.value cut.stretched
+        items_read IsName named.0 cut.list part.value cut.stretched
             (subst (λ (items : List (List ℕ)). Paired IsName items cut.list) found.adds found.paired),
       );
-      meant = databases_some number named.value aux.databases aux next named.gives;
+      meant = databases_some number named.0 aux.databases aux next named.2;
     }
 
 style_read : (number : ℕ) (line rest : List ℕ) (aux next : Aux) → line ≡ codes "\\bibstyle{" ++ rest
@@ -258,11 +250,11 @@ style_read : (number : ℕ) (line rest : List ℕ) (aux next : Aux) → line ≡
 style_read number line rest aux next is e =
     let place = start_of number in
     let named = then_ok (file_name place rest) (λ name. with_style place name aux.style aux) next e in
-    let one = one_read place rest named.value named.is in
+    let one = one_read place rest named.0 named.1 in
     record {
-      line = Style named.value;
+      line = Style named.0;
       spelled = (one.text, held (codes "\\bibstyle{") one.text rest line is one.inside, one.is);
-      meant = style_some number named.value aux.style aux next named.gives;
+      meant = style_some number named.0 aux.style aux next named.2;
     }
 
 input_read : (number : ℕ) (line rest : List ℕ) (aux next : Aux) → line ≡ codes "\\@input{" ++ rest
@@ -270,10 +262,10 @@ input_read : (number : ℕ) (line rest : List ℕ) (aux next : Aux) → line ≡
 input_read number line rest aux next is e =
     let place = start_of number in
     let named = then_ok (file_name place rest) (λ name. Ok (with_item (InputItem name place) aux)) next e in
-    let one = one_read place rest named.value named.is in
-    let same : with_item (InputItem named.value place) aux ≡ next = cc in
+    let one = one_read place rest named.0 named.1 in
+    let same : with_item (InputItem named.0 place) aux ≡ next = cc in
     record {
-      line = Input named.value;
+      line = Input named.0;
       spelled = (one.text, held (codes "\\@input{") one.text rest line is one.inside, one.is);
       meant = ap Some same;
     }

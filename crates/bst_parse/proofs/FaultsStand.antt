@@ -41,16 +41,12 @@ use Rattle.bst_parse.specs.Tokens.{begins_block, is_own, not_own, used, take_tok
 use Rattle.bst_parse.specs.Words.{order_fault, begun, begin_named, take_word}
 use Rattle.bv_base.specs.Runs.{NoneOf}
 use Rattle.bst_lex.proofs.Reading.{after_append}
+use Rattle.bv_base.proofs.ThenLemmas.{then_faulty}
+use Rattle.std.specs.Prelude.{IfErr}
 
 -- a result whose fault, if any, is one of the source
 abbrev pub Placed : {A : Type 0} → List ℕ → Result A StyleFault → Type 0
-Placed source (Ok value) = Unit {0}
-Placed source (Err fault) = IsFaultOf source fault
-
-placed_then : {A B : Type 0} (source : List ℕ) (r : Result A StyleFault) (f : A → Result B StyleFault) → Placed source r
-    → ((a : A) → Placed source (f a)) → Placed source (then_do r f)
-placed_then source (Ok a) f h g = g a
-placed_then source (Err fault) f h g = h
+Placed source r = IfErr r (IsFaultOf source)
 
 placed_either : {A : Type 0} (source : List ℕ) (t : Bool) (r s : Result A StyleFault) → Placed source r → Placed source s
     → Placed source (cond t r s)
@@ -70,27 +66,15 @@ pub record AtLexeme (source : List ℕ) (l : Seen) : Type 0 where
 
 open_placed : (source : List ℕ) (shape : Shape) (place : Place) (p : Progress) → StandsIn source place → Placed source (take_open shape place p)
 open_placed source OpenBrace place p at = tt
-open_placed source CloseBrace place p at = at
-open_placed source (Integer k) place p at = at
-open_placed source Text place p at = at
-open_placed source Quoted place p at = at
-open_placed source Name place p at = at
+open_placed source _ place p at = at
 
 close_placed : (source : List ℕ) (shape : Shape) (place : Place) (p : Progress) → StandsIn source place → Placed source (take_close shape place p)
-close_placed source OpenBrace place p at = at
 close_placed source CloseBrace place p at = tt
-close_placed source (Integer k) place p at = at
-close_placed source Text place p at = at
-close_placed source Quoted place p at = at
-close_placed source Name place p at = at
+close_placed source _ place p at = at
 
 definable_placed : (source : List ℕ) (shape : Shape) (place : Place) (text : List ℕ) → StandsIn source place → Placed source (definable shape place text)
 definable_placed source Name place text at = placed_either source (is_definable text) (Ok (lowered text)) _ tt at
-definable_placed source OpenBrace place text at = at
-definable_placed source CloseBrace place text at = at
-definable_placed source (Integer k) place text at = at
-definable_placed source Text place text at = at
-definable_placed source Quoted place text at = at
+definable_placed source _ place text at = at
 
 defined_placed : (source name : List ℕ) (kind : Kind) (place : Place) (names : List (List ℕ × Kind)) → StandsIn source place
     → Placed source (defined name kind place names)
@@ -100,8 +84,8 @@ defined_placed source name kind place names at =
 define_placed : (source : List ℕ) (kind : Kind) (shape : Shape) (place : Place) (text : List ℕ) (p : Progress) → StandsIn source place
     → Placed source (define kind shape place text p)
 define_placed source kind shape place text p at =
-    placed_then source (definable shape place text) _ (definable_placed source shape place text at)
-    (λ name. placed_then source (defined name kind place p.names) _ (defined_placed source name kind place p.names at) (λ names. tt))
+    then_faulty (IsFaultOf source) (definable shape place text) _ (definable_placed source shape place text at)
+    (λ name _. then_faulty (IsFaultOf source) (defined name kind place p.names) _ (defined_placed source name kind place p.names at) (λ names _. tt))
 
 names_placed : (source : List ℕ) (kind : Kind) (rest : List Part) (shape : Shape) (place : Place) (text : List ℕ) (p : Progress)
     → StandsIn source place → Placed source (take_names kind rest shape place text p)
@@ -120,54 +104,42 @@ called_placed source c (Some id) place p at = placed_either source (is_callable 
 target_placed : (source : List ℕ) (c : Caller) (shape : Shape) (place : Place) (text : List ℕ) (p : Progress) → StandsIn source place
     → Placed source (take_target c shape place text p)
 target_placed source c Name place text p at = called_placed source c (id_of (lowered text) p.names) place p at
-target_placed source c OpenBrace place text p at = at
-target_placed source c CloseBrace place text p at = at
-target_placed source c (Integer k) place text p at = at
-target_placed source c Text place text p at = at
-target_placed source c Quoted place text p at = at
+target_placed source c _ place text p at = at
 
 macro_name_placed : (source : List ℕ) (shape : Shape) (place : Place) (text : List ℕ) (p : Progress) → StandsIn source place
     → Placed source (take_macro_name shape place text p)
 macro_name_placed source shape place text p at =
-    placed_then source (definable shape place text) _ (definable_placed source shape place text at)
-    (λ name. placed_either source (has_macro name p.macros) _ (Ok (record p { macro_name = name })) at tt)
+    then_faulty (IsFaultOf source) (definable shape place text) _ (definable_placed source shape place text at)
+    (λ name _. placed_either source (has_macro name p.macros) _ (Ok (record p { macro_name = name })) at tt)
 
 macro_text_placed : (source : List ℕ) (shape : Shape) (place : Place) (text : List ℕ) (p : Progress) → StandsIn source place
     → Placed source (take_macro_text shape place text p)
 macro_text_placed source Text place text p at = tt
-macro_text_placed source OpenBrace place text p at = at
-macro_text_placed source CloseBrace place text p at = at
-macro_text_placed source (Integer k) place text p at = at
-macro_text_placed source Quoted place text p at = at
-macro_text_placed source Name place text p at = at
+macro_text_placed source _ place text p at = at
 
 body_placed : (source : List ℕ) (shape : Shape) (place : Place) (p : Progress) → StandsIn source place → Placed source (take_body shape place p)
 body_placed source OpenBrace place p at = placed_either source (nat_le MOST_BODIES (length p.bodies)) _ _ at tt
-body_placed source CloseBrace place p at = at
-body_placed source (Integer k) place p at = at
-body_placed source Text place p at = at
-body_placed source Quoted place p at = at
-body_placed source Name place p at = at
+body_placed source _ place p at = at
 
 part_placed : (source : List ℕ) (part : Part) (rest : List Part) (shape : Shape) (place : Place) (text : List ℕ) (p : Progress)
     → StandsIn source place → Placed source (take_part part rest shape place text p)
 part_placed source (Names kind) rest shape place text p at = names_placed source kind rest shape place text p at
 part_placed source Open rest shape place text p at =
-    placed_then source (take_open shape place p) (pass rest) (open_placed source shape place p at) (λ q. tt)
+    then_faulty (IsFaultOf source) (take_open shape place p) (pass rest) (open_placed source shape place p at) (λ q _. tt)
 part_placed source Close rest shape place text p at =
-    placed_then source (take_close shape place p) (pass rest) (close_placed source shape place p at) (λ q. tt)
+    then_faulty (IsFaultOf source) (take_close shape place p) (pass rest) (close_placed source shape place p at) (λ q _. tt)
 part_placed source (Target c) rest shape place text p at =
-    placed_then source (take_target c shape place text p) (pass rest) (target_placed source c shape place text p at) (λ q. tt)
+    then_faulty (IsFaultOf source) (take_target c shape place text p) (pass rest) (target_placed source c shape place text p at) (λ q _. tt)
 part_placed source FunctionName rest shape place text p at =
-    placed_then source (take_function_name shape place text p) (pass rest)
-    (placed_then source (define (Wizard (next_body p.bodies)) shape place text p) _ (define_placed source (Wizard (next_body p.bodies)) shape place text p at) (λ q. tt))
-    (λ q. tt)
+    then_faulty (IsFaultOf source) (take_function_name shape place text p) (pass rest)
+    (then_faulty (IsFaultOf source) (define (Wizard (next_body p.bodies)) shape place text p) _ (define_placed source (Wizard (next_body p.bodies)) shape place text p at) (λ q _. tt))
+    (λ q _. tt)
 part_placed source Body rest shape place text p at =
-    placed_then source (take_body shape place p) (pass rest) (body_placed source shape place p at) (λ q. tt)
+    then_faulty (IsFaultOf source) (take_body shape place p) (pass rest) (body_placed source shape place p at) (λ q _. tt)
 part_placed source MacroName rest shape place text p at =
-    placed_then source (take_macro_name shape place text p) (pass rest) (macro_name_placed source shape place text p at) (λ q. tt)
+    then_faulty (IsFaultOf source) (take_macro_name shape place text p) (pass rest) (macro_name_placed source shape place text p at) (λ q _. tt)
 part_placed source MacroText rest shape place text p at =
-    placed_then source (take_macro_text shape place text p) (pass rest) (macro_text_placed source shape place text p at) (λ q. tt)
+    then_faulty (IsFaultOf source) (take_macro_text shape place text p) (pass rest) (macro_text_placed source shape place text p at) (λ q _. tt)
 
 -- where a command may begin
 refused : (source : List ℕ) (found : Option StyleFault) (next : Progress) → IfSome found (IsFaultOf source)
@@ -185,13 +157,10 @@ order_placed : (source : List ℕ) (word : Word) (place : Place) (p : Progress) 
 order_placed source Entry place p at = if_fault source p.has_entry _ None at tt
 order_placed source Read place p at = if_fault source p.has_read _ _ at (if_fault source p.has_entry None _ tt at)
 order_placed source Macro place p at = if_fault source p.has_read _ None at tt
-order_placed source Execute place p at = if_fault source p.has_read None _ tt at
-order_placed source Iterate place p at = if_fault source p.has_read None _ tt at
-order_placed source Reverse place p at = if_fault source p.has_read None _ tt at
-order_placed source Sort place p at = if_fault source p.has_read None _ tt at
 order_placed source Function place p at = tt
 order_placed source Integers place p at = tt
 order_placed source Strings place p at = tt
+order_placed source _ place p at = if_fault source p.has_read None _ tt at
 
 named_placed : (source : List ℕ) (word : Option Word) (place : Place) (p : Progress) → StandsIn source place
     → Placed source (begin_named word place p)
@@ -201,11 +170,7 @@ named_placed source (Some word) place p at = refused source (order_fault word pl
 word_placed : (source : List ℕ) (shape : Shape) (place : Place) (text : List ℕ) (p : Progress) → StandsIn source place
     → Placed source (take_word shape place text p)
 word_placed source Name place text p at = named_placed source (word_of (lowered text)) place p at
-word_placed source OpenBrace place text p at = at
-word_placed source CloseBrace place text p at = at
-word_placed source (Integer k) place text p at = at
-word_placed source Text place text p at = at
-word_placed source Quoted place text p at = at
+word_placed source _ place text p at = at
 
 -- in a body
 not_own_placed : (source : List ℕ) (found function : Option NameId) (place : Place) → StandsIn source place
@@ -223,13 +188,11 @@ token_placed : (source : List ℕ) (inside : BodyId) (shape : Shape) (l : Seen) 
     → Placed source (take_token source inside shape l p)
 token_placed source inside OpenBrace l p is at =
     placed_either source (nat_lt DEEPEST (length p.opened)) _ _ at.stands (placed_either source (nat_le MOST_BODIES (length p.bodies)) _ _ at.stands tt)
-token_placed source inside CloseBrace l p is at = tt
-token_placed source inside (Integer k) l p is at = tt
-token_placed source inside Text l p is at = tt
 token_placed source inside Quoted l p is at =
-    placed_then source (used source l (drop 1 l.text) p) _ (used_placed source l (drop 1 l.text) p at.stands (at.after (ap is_run is))) (λ id. tt)
+    then_faulty (IsFaultOf source) (used source l (drop 1 l.text) p) _ (used_placed source l (drop 1 l.text) p at.stands (at.after (ap is_run is))) (λ id _. tt)
 token_placed source inside Name l p is at =
-    placed_then source (used source l l.text p) _ (used_placed source l l.text p at.stands (at.after (ap is_run is))) (λ id. tt)
+    then_faulty (IsFaultOf source) (used source l l.text p) _ (used_placed source l l.text p at.stands (at.after (ap is_run is))) (λ id _. tt)
+token_placed source inside _ l p is at = tt
 
 outside_placed : (source : List ℕ) (parts : List Part) (l : Seen) (p : Progress) → AtLexeme source l → Placed source (take_outside parts l p)
 outside_placed source [] l p at = word_placed source l.shape l.place l.text p at.stands
@@ -248,17 +211,14 @@ reading_placed : (source : List ℕ) (lexemes : List Seen) (fault : Option LexFa
     → IfSome fault (λ f. StandsIn source (place_of f)) → Placed source (reading source lexemes fault p)
 reading_placed source [] fault p each h = ended_placed source fault p h
 reading_placed source (l ∷ rest) fault p each h =
-    placed_then source (take_lexeme source l p) (reading source rest fault) (within_placed source (innermost p.opened) l p each.0)
-    (λ q. reading_placed source rest fault q each.1 h)
+    then_faulty (IsFaultOf source) (take_lexeme source l p) (reading source rest fault) (within_placed source (innermost p.opened) l p each.0)
+    (λ q _. reading_placed source rest fault q each.1 h)
 
 -- a run has no line end
 run_clean : (shape : Shape) (text rest : List ℕ) → is_run shape ≡ true → IsLexeme shape text rest → NoneOf is_line_end text
 run_clean Name text rest run h = none_weaker ends_clean is_line_end text clean_plain h.3
 run_clean Quoted text rest run h = none_weaker ends_clean is_line_end text clean_plain h.1
-run_clean OpenBrace text rest run h = absurd (cc)
-run_clean CloseBrace text rest run h = absurd (cc)
-run_clean (Integer k) text rest run h = absurd (cc)
-run_clean Text text rest run h = absurd (cc)
+run_clean _ text rest run h = absurd (cc)
 
 each_stands : (source : List ℕ) (from start : ℕ) (place : Place) (bytes : List ℕ) (lexemes : List Seen) (fault : Option LexFault)
     → InOrder source from lexemes → Spells start place bytes lexemes fault → Each (AtLexeme source) lexemes

@@ -39,27 +39,15 @@ kept_is p r q e f g = record { parts = ap (λ (x : Progress). x.parts) e ∙ f; 
 
 pub open_kept : (shape : Shape) (place : Place) (p q : Progress) → take_open shape place p ≡ Ok q → (shape ≡ OpenBrace) × Kept p q
 open_kept OpenBrace place p q e = (refl, kept_is p p q (ok_is p q e) refl refl)
-open_kept CloseBrace place p q e = absurd (cc)
-open_kept (Integer k) place p q e = absurd (cc)
-open_kept Text place p q e = absurd (cc)
-open_kept Quoted place p q e = absurd (cc)
-open_kept Name place p q e = absurd (cc)
+open_kept _ place p q e = absurd (cc)
 
 pub close_kept : (shape : Shape) (place : Place) (p q : Progress) → take_close shape place p ≡ Ok q → (shape ≡ CloseBrace) × Kept p q
 close_kept CloseBrace place p q e = (refl, kept_is p p q (ok_is p q e) refl refl)
-close_kept OpenBrace place p q e = absurd (cc)
-close_kept (Integer k) place p q e = absurd (cc)
-close_kept Text place p q e = absurd (cc)
-close_kept Quoted place p q e = absurd (cc)
-close_kept Name place p q e = absurd (cc)
+close_kept _ place p q e = absurd (cc)
 
 definable_name : (shape : Shape) (place : Place) (text name : List ℕ) → definable shape place text ≡ Ok name → shape ≡ Name
 definable_name Name place text name e = refl
-definable_name OpenBrace place text name e = absurd (cc)
-definable_name CloseBrace place text name e = absurd (cc)
-definable_name (Integer k) place text name e = absurd (cc)
-definable_name Text place text name e = absurd (cc)
-definable_name Quoted place text name e = absurd (cc)
+definable_name _ place text name e = absurd (cc)
 
 pub define_kept : (kind : Kind) (shape : Shape) (place : Place) (text : List ℕ) (p q : Progress) → define kind shape place text p ≡ Ok q
     → (shape ≡ Name) × Kept p q
@@ -84,11 +72,7 @@ called_kept c (Some id) place p q e =
 pub target_kept : (c : Caller) (shape : Shape) (place : Place) (text : List ℕ) (p q : Progress) → take_target c shape place text p ≡ Ok q
     → (shape ≡ Name) × Kept p q
 target_kept c Name place text p q e = (refl, called_kept c (id_of (lowered text) p.names) place p q e)
-target_kept c OpenBrace place text p q e = absurd (cc)
-target_kept c CloseBrace place text p q e = absurd (cc)
-target_kept c (Integer k) place text p q e = absurd (cc)
-target_kept c Text place text p q e = absurd (cc)
-target_kept c Quoted place text p q e = absurd (cc)
+target_kept c _ place text p q e = absurd (cc)
 
 pub macro_name_kept : (shape : Shape) (place : Place) (text : List ℕ) (p q : Progress) → take_macro_name shape place text p ≡ Ok q
     → (shape ≡ Name) × Kept p q
@@ -101,11 +85,7 @@ pub macro_text_kept : (shape : Shape) (place : Place) (text : List ℕ) (p q : P
     → (shape ≡ Text) × Kept p q
 macro_text_kept Text place text p q e =
     (refl, kept_is p (record p { macros = p.macros ++ record { name = p.macro_name; value = unmarked text } ∷ [] }) q (ok_is _ q e) refl refl)
-macro_text_kept OpenBrace place text p q e = absurd (cc)
-macro_text_kept CloseBrace place text p q e = absurd (cc)
-macro_text_kept (Integer k) place text p q e = absurd (cc)
-macro_text_kept Quoted place text p q e = absurd (cc)
-macro_text_kept Name place text p q e = absurd (cc)
+macro_text_kept _ place text p q e = absurd (cc)
 
 -- a body was opened
 pub record Entered (p q : Progress) : Type 0 where
@@ -117,11 +97,7 @@ body_kept OpenBrace place p q e =
     let u = unless_ok (nat_le MOST_BODIES (length p.bodies)) _ _ q e in
     let is = ok_is _ q u.1 in
     (refl, record { parts = ap (λ (x : Progress). x.parts) is; opened = ap (λ (x : Progress). x.opened) is })
-body_kept CloseBrace place p q e = absurd (cc)
-body_kept (Integer k) place p q e = absurd (cc)
-body_kept Text place p q e = absurd (cc)
-body_kept Quoted place p q e = absurd (cc)
-body_kept Name place p q e = absurd (cc)
+body_kept _ place p q e = absurd (cc)
 
 pub block_kept : (inside : BodyId) (place : Place) (p q : Progress) → begin_block inside place p ≡ Ok q → Entered p q
 block_kept inside place p q e =
@@ -167,8 +143,4 @@ named_kept text (Some word) place p q is e =
 pub word_kept : (shape : Shape) (place : Place) (text : List ℕ) (p q : Progress) → take_word shape place text p ≡ Ok q
     → (shape ≡ Name) × Began text p q
 word_kept Name place text p q e = (refl, named_kept text (word_of (lowered text)) place p q refl e)
-word_kept OpenBrace place text p q e = absurd (cc)
-word_kept CloseBrace place text p q e = absurd (cc)
-word_kept (Integer k) place text p q e = absurd (cc)
-word_kept Text place text p q e = absurd (cc)
-word_kept Quoted place text p q e = absurd (cc)
+word_kept _ place text p q e = absurd (cc)

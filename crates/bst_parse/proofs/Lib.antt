@@ -6,7 +6,7 @@ mod FaultsStand
 mod Held
 mod Kept
 mod Lexed
-mod Lists
+pub mod Lists
 mod Lowered
 mod PlacesHold
 mod Rules

@@ -104,23 +104,8 @@ body_stands source place at block = record { place = at; tokens = tt }
 step_stands : (source : List ℕ) (part : Part) (shape : Shape) (place : Place) (text : List ℕ) (p : Progress) → Begun source p
     → IsOfByte source place → IfOk (take_step part shape place text p) (Begun source)
 step_stands source Open OpenBrace place text p b at = b
-step_stands source Open CloseBrace place text p b at = tt
-step_stands source Open (Integer n) place text p b at = tt
-step_stands source Open Text place text p b at = tt
-step_stands source Open Quoted place text p b at = tt
-step_stands source Open Name place text p b at = tt
-step_stands source Close OpenBrace place text p b at = tt
 step_stands source Close CloseBrace place text p b at = b
-step_stands source Close (Integer n) place text p b at = tt
-step_stands source Close Text place text p b at = tt
-step_stands source Close Quoted place text p b at = tt
-step_stands source Close Name place text p b at = tt
 step_stands source (Names kind) shape place text p b at = define_stands source kind shape place text p b
-step_stands source (Target caller) OpenBrace place text p b at = tt
-step_stands source (Target caller) CloseBrace place text p b at = tt
-step_stands source (Target caller) (Integer n) place text p b at = tt
-step_stands source (Target caller) Text place text p b at = tt
-step_stands source (Target caller) Quoted place text p b at = tt
 step_stands source (Target caller) Name place text p b at = called_stands source caller (id_of (lowered text) p.names) place p b
 step_stands source FunctionName shape place text p b at =
     then_holds (Begun source) (Begun source) (define (Wizard (next_body p.bodies)) shape place text p) _
@@ -140,21 +125,14 @@ step_stands source BodyPart OpenBrace place text p b at =
       bodies = each_push (BodyStands source) p.bodies (record { tokens = []; block = None; place = place }) b.bodies (body_stands source place at None);
       place = b.place;
     })
-step_stands source BodyPart CloseBrace place text p b at = tt
-step_stands source BodyPart (Integer n) place text p b at = tt
-step_stands source BodyPart Text place text p b at = tt
-step_stands source BodyPart Quoted place text p b at = tt
-step_stands source BodyPart Name place text p b at = tt
+step_stands source BodyPart _ place text p b at = tt
 step_stands source MacroName shape place text p b at =
     then_any (Begun source) (definable shape place text) _
     (λ name. either_stands (Begun source) (has_macro name p.macros) _ _ tt
     (record { commands = b.commands; bodies = b.bodies; place = b.place }))
-step_stands source MacroText OpenBrace place text p b at = tt
-step_stands source MacroText CloseBrace place text p b at = tt
-step_stands source MacroText (Integer n) place text p b at = tt
 step_stands source MacroText Text place text p b at = record { commands = b.commands; bodies = b.bodies; place = b.place }
-step_stands source MacroText Quoted place text p b at = tt
-step_stands source MacroText Name place text p b at = tt
+step_stands source MacroText _ place text p b at = tt
+step_stands source _ _ place text p b at = tt
 
 -- after a part that is done with one lexeme
 passed : (source : List ℕ) (part : Part) (rest : List Part) (shape : Shape) (place : Place) (text : List ℕ) (p : Progress)
@@ -211,12 +189,8 @@ begin_stands source (Some word) place p s at = by (order_fault word place p)
 
 word_stands : (source : List ℕ) (shape : Shape) (place : Place) (text : List ℕ) (p : Progress) → Stands source p → IsOfByte source place
     → IfOk (take_word shape place text p) (Stands source)
-word_stands source OpenBrace place text p s at = tt
-word_stands source CloseBrace place text p s at = tt
-word_stands source (Integer n) place text p s at = tt
-word_stands source Text place text p s at = tt
-word_stands source Quoted place text p s at = tt
 word_stands source Name place text p s at = begin_stands source (word_of (lowered text)) place p s at
+word_stands source _ place text p s at = tt
 
 -- the bodies after a token at the end of one
 token_stands : (source : List ℕ) (inside : BodyId) (token : Token) (place : Place) (bodies : List Body) → Each (BodyStands source) bodies

@@ -23,11 +23,7 @@ pub definable_ok : (shape : Shape) (place : Place) (text name : List ℕ) → de
 definable_ok Name place text name e =
     let w = where_ok (is_definable text) (Ok (lowered text)) _ name e in
     (w.0, ok_is (lowered text) name w.1)
-definable_ok OpenBrace place text name e = absurd (cc)
-definable_ok CloseBrace place text name e = absurd (cc)
-definable_ok (Integer k) place text name e = absurd (cc)
-definable_ok Text place text name e = absurd (cc)
-definable_ok Quoted place text name e = absurd (cc)
+definable_ok _ place text name e = absurd (cc)
 
 pub defined_ok : (name : List ℕ) (kind : Kind) (place : Place) (names new : List (List ℕ × Kind)) → defined name kind place names ≡ Ok new
     → (id_of name names ≡ None) × (length names < MOST_NAMES) × (new ≡ names ++ (name, kind) ∷ [])

@@ -83,10 +83,8 @@ token_more : (names more : List (List ℕ × Kind)) (bodies grown : List Body) (
     → ((id : BodyId) (number : ℕ) → block_of id bodies ≡ Some (Some number) → block_of id grown ≡ Some (Some number))
     → (t : Token) → IsTokenSound names bodies texts t → IsTokenSound more grown longer t
 token_more names more bodies grown texts longer n x b (Int value) h = h
-token_more names more bodies grown texts longer n x b (Str id) h = omega arith
-token_more names more bodies grown texts longer n x b (Quote id) h = omega arith
-token_more names more bodies grown texts longer n x b (Call id) h = omega arith
 token_more names more bodies grown texts longer n x b (Block id) h = (h.0, b id h.0 h.1)
+token_more names more bodies grown texts longer n x b _ h = omega arith
 
 tokens_more : (names more : List (List ℕ × Kind)) (bodies grown : List Body) (texts longer : List (List ℕ))
     → length names ≤ length more → length texts ≤ length longer
@@ -134,12 +132,7 @@ command_more names entry (Iterate id) h = callable-front names entry id h
 command_more names entry (Reverse id) h = callable-front names entry id h
 command_more names entry (Function id) h =
     (h.0, kind-front names entry id (mapped_within (λ e. e.1) names id.0 _ h.1) ∙ h.1)
-command_more names entry Entry h = tt
-command_more names entry Integers h = tt
-command_more names entry Macro h = tt
-command_more names entry Read h = tt
-command_more names entry Sort h = tt
-command_more names entry Strings h = tt
+command_more names entry _ h = tt
 
 -- the innermost body is closed
 less_busy : (opened : List BodyId) (parts : List Part) → IsBusy opened parts → IsBusy (drop 1 opened) parts
@@ -165,12 +158,7 @@ kind_added : (bodies : List Body) (inside : BodyId) (at : TokenAt) (owed : ℕ) 
 kind_added bodies inside at owed (Wizard id) h =
     let long = length-changed_at inside.0 (λ (body : Body). record body { tokens = body.tokens ++ at ∷ [] }) bodies in
     (omega (arith, long, h.0), λ within. block_same bodies inside at id ∙ h.1 (omega (arith, long)))
-kind_added bodies inside at owed (Builtin b) h = tt
-kind_added bodies inside at owed Field h = tt
-kind_added bodies inside at owed IntEntry h = tt
-kind_added bodies inside at owed StrEntry h = tt
-kind_added bodies inside at owed IntGlobal h = tt
-kind_added bodies inside at owed StrGlobal h = tt
+kind_added bodies inside at owed _ h = tt
 
 tokens_added : (names : List (List ℕ × Kind)) (bodies grown : List Body) (texts : List (List ℕ)) (inside : BodyId) (at : TokenAt) (list : List Body)
     → ((id : BodyId) (number : ℕ) → block_of id bodies ≡ Some (Some number) → block_of id grown ≡ Some (Some number))
@@ -219,12 +207,7 @@ kind_begun bodies place owed (Wizard id) h = (
   omega (arith, h.0, length-append {A = Body}),
   λ within. owed_block bodies (record { tokens = []; block = None; place = place }) id refl h.1 (below_or_last id.0 (length bodies) (omega (arith, within, length-append {A = Body}))),
 )
-kind_begun bodies place owed (Builtin b) h = tt
-kind_begun bodies place owed Field h = tt
-kind_begun bodies place owed IntEntry h = tt
-kind_begun bodies place owed StrEntry h = tt
-kind_begun bodies place owed IntGlobal h = tt
-kind_begun bodies place owed StrGlobal h = tt
+kind_begun bodies place owed _ h = tt
 
 -- where no body is owed, a block takes no function's place
 kind_blocked : (bodies : List Body) (inside : BodyId) (at : TokenAt) (block : Body) (kind : Kind) → IsKindSoFar bodies 0 kind
@@ -235,21 +218,11 @@ kind_blocked bodies inside at block (Wizard id) h =
       omega (arith, there, length-append {A = Body}),
       λ within. block_stays (token_added inside at bodies) block id there ∙ block_same bodies inside at id ∙ h.1 (omega (arith, h.0)),
     )
-kind_blocked bodies inside at block (Builtin b) h = tt
-kind_blocked bodies inside at block Field h = tt
-kind_blocked bodies inside at block IntEntry h = tt
-kind_blocked bodies inside at block StrEntry h = tt
-kind_blocked bodies inside at block IntGlobal h = tt
-kind_blocked bodies inside at block StrGlobal h = tt
+kind_blocked bodies inside at block _ h = tt
 
 kind_owed : (bodies : List Body) (owed : ℕ) (kind : Kind) → IsKindSoFar bodies 0 kind → IsKindSoFar bodies owed kind
 kind_owed bodies owed (Wizard id) h = (omega (arith, h.0), h.1)
-kind_owed bodies owed (Builtin b) h = tt
-kind_owed bodies owed Field h = tt
-kind_owed bodies owed IntEntry h = tt
-kind_owed bodies owed StrEntry h = tt
-kind_owed bodies owed IntGlobal h = tt
-kind_owed bodies owed StrGlobal h = tt
+kind_owed bodies owed _ h = tt
 
 -- the numbers of blocks
 numbered_function : (n : ℕ) (bodies : List Body) (body : Body) → body.block ≡ None → AreNumbered n (map (λ (b : Body). b.block) bodies)

@@ -64,19 +64,11 @@ stands n p q s e =
 
 open_steps : (n : ℕ) (shape : Shape) (place : Place) (p q : Progress) → Now n p → take_open shape place p ≡ Ok q → Stepped n p q
 open_steps n OpenBrace place p q s e = stands n p q s (ok_is p q e)
-open_steps n CloseBrace place p q s e = absurd (cc)
-open_steps n (Integer k) place p q s e = absurd (cc)
-open_steps n Text place p q s e = absurd (cc)
-open_steps n Quoted place p q s e = absurd (cc)
-open_steps n Name place p q s e = absurd (cc)
+open_steps n _ place p q s e = absurd (cc)
 
 close_steps : (n : ℕ) (shape : Shape) (place : Place) (p q : Progress) → Now n p → take_close shape place p ≡ Ok q → Stepped n p q
 close_steps n CloseBrace place p q s e = stands n p q s (ok_is p q e)
-close_steps n OpenBrace place p q s e = absurd (cc)
-close_steps n (Integer k) place p q s e = absurd (cc)
-close_steps n Text place p q s e = absurd (cc)
-close_steps n Quoted place p q s e = absurd (cc)
-close_steps n Name place p q s e = absurd (cc)
+close_steps n _ place p q s e = absurd (cc)
 
 -- a name is defined
 named_now : (n : ℕ) (kind : Kind) (text : List ℕ) (p q : Progress) → Now n p → TextFine text
@@ -138,11 +130,7 @@ called_steps n c (Some id) place p q s e =
 target_steps : (n : ℕ) (c : Caller) (shape : Shape) (place : Place) (text : List ℕ) (p q : Progress) → Now n p
     → take_target c shape place text p ≡ Ok q → Stepped n p q
 target_steps n c Name place text p q s e = called_steps n c (id_of (lowered text) p.names) place p q s e
-target_steps n c OpenBrace place text p q s e = absurd (cc)
-target_steps n c CloseBrace place text p q s e = absurd (cc)
-target_steps n c (Integer k) place text p q s e = absurd (cc)
-target_steps n c Text place text p q s e = absurd (cc)
-target_steps n c Quoted place text p q s e = absurd (cc)
+target_steps n c _ place text p q s e = absurd (cc)
 
 -- a macro
 macro_name_steps : (n : ℕ) (shape : Shape) (place : Place) (text : List ℕ) (p q : Progress) → Now n p
@@ -166,11 +154,7 @@ macro_text_steps n Text place text p q s e =
       parts = ap (λ (r : Progress). r.parts) is;
       opened = ap (λ (r : Progress). r.opened) is;
     }
-macro_text_steps n OpenBrace place text p q s e = absurd (cc)
-macro_text_steps n CloseBrace place text p q s e = absurd (cc)
-macro_text_steps n (Integer k) place text p q s e = absurd (cc)
-macro_text_steps n Quoted place text p q s e = absurd (cc)
-macro_text_steps n Name place text p q s e = absurd (cc)
+macro_text_steps n _ place text p q s e = absurd (cc)
 
 -- a part is done after its lexeme
 done : (n : ℕ) (part : Part) (rest : List Part) (p m : Progress) (r : Result Progress StyleFault)
@@ -210,11 +194,7 @@ body_keeps n rest OpenBrace place p m s is e =
     subst (Now (suc n)) (sym same)
     (on n (record q { parts = rest })
     (function_put n p.names p.commands p.bodies p.texts p.parts p.opened s rest place (next_body p.bodies ∷ p.opened) is (below MOST_BODIES (length p.bodies) u.0)))
-body_keeps n rest CloseBrace place p m s is e = absurd (cc)
-body_keeps n rest (Integer k) place p m s is e = absurd (cc)
-body_keeps n rest Text place p m s is e = absurd (cc)
-body_keeps n rest Quoted place p m s is e = absurd (cc)
-body_keeps n rest Name place p m s is e = absurd (cc)
+body_keeps n rest _ place p m s is e = absurd (cc)
 
 part_keeps : (n : ℕ) (part : Part) (rest : List Part) (shape : Shape) (place : Place) (text : List ℕ) (p m : Progress) → Now n p
     → TextFine text → p.parts ≡ part ∷ rest → p.opened ≡ [] → take_part part rest shape place text p ≡ Ok m → Now (suc n) m
@@ -276,11 +256,7 @@ named_keeps n (Some word) place p m s none idle e = begin_keeps n word place p m
 word_keeps : (n : ℕ) (shape : Shape) (place : Place) (text : List ℕ) (p m : Progress) → Now n p → p.parts ≡ [] → p.opened ≡ []
     → take_word shape place text p ≡ Ok m → Now (suc n) m
 word_keeps n Name place text p m s none idle e = named_keeps n (word_of (lowered text)) place p m s none idle e
-word_keeps n OpenBrace place text p m s none idle e = absurd (cc)
-word_keeps n CloseBrace place text p m s none idle e = absurd (cc)
-word_keeps n (Integer k) place text p m s none idle e = absurd (cc)
-word_keeps n Text place text p m s none idle e = absurd (cc)
-word_keeps n Quoted place text p m s none idle e = absurd (cc)
+word_keeps n _ place text p m s none idle e = absurd (cc)
 
 -- a name that is used is there
 found_within : (found function : Option NameId) (place : Place) (id : NameId) → not_own found function place ≡ Ok id → found ≡ Some id

@@ -62,12 +62,7 @@ no_function _ = true
 
 no_function_fine : (kind : Kind) → no_function kind ≡ true → IsKindSoFar [] 0 kind
 no_function_fine (Wizard id) e = absurd (cc)
-no_function_fine (Builtin b) e = tt
-no_function_fine Field e = tt
-no_function_fine IntEntry e = tt
-no_function_fine StrEntry e = tt
-no_function_fine IntGlobal e = tt
-no_function_fine StrGlobal e = tt
+no_function_fine _ e = tt
 
 opening_now : Now 0 opening_progress
 opening_now =
@@ -87,12 +82,7 @@ opening_now =
 -- once no body is owed, each function has its body
 kind_sound : (bodies : List Body) (kind : Kind) → IsKindSoFar bodies 0 kind → IsKindSound bodies kind
 kind_sound bodies (Wizard id) h = h.1 (omega (arith, h.0))
-kind_sound bodies (Builtin b) h = tt
-kind_sound bodies Field h = tt
-kind_sound bodies IntEntry h = tt
-kind_sound bodies StrEntry h = tt
-kind_sound bodies IntGlobal h = tt
-kind_sound bodies StrGlobal h = tt
+kind_sound bodies _ h = tt
 
 pub none_left : {X : Type 0} (xs : List X) → nat_eq (length xs) 0 ≡ true → xs ≡ []
 none_left [] e = refl

@@ -117,11 +117,6 @@ fresh_all same there s none xs = all (firsts same xs)
         ap (λ b. cond (not b) (y ∷ filter (λ x. not (there x s)) ys) (filter (λ x. not (there x s)) ys)) (none y)
         ∙ ap (λ l. y ∷ l) (all ys)
 
-pub or_step : (s h r : Bool) → ((s || h) || r) ≡ (h || (s || r))
-or_step true true r = refl
-or_step true false r = refl
-or_step false h r = refl
-
 pub or_false : (a : Bool) → (a || false) ≡ a
 or_false true = refl
 or_false false = refl

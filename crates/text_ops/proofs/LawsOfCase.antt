@@ -82,14 +82,10 @@ unfixed_letter : (b : ℕ) → is_ascii_letter b ≡ true → is_fixed b ≡ fal
 unfixed_letter b h = rw h refl
 
 letter_changed : (mode : Case) (b : ℕ) → is_ascii_letter b ≡ true → is_ascii_letter (changed_byte mode b) ≡ true
-letter_changed Title b h = grind (arith, nat_tests)
-letter_changed Lower b h = grind (arith, nat_tests)
-letter_changed Upper b h = grind (arith, nat_tests)
+letter_changed _ b h = grind (arith, nat_tests)
 
 other_changed : (mode : Case) (b : ℕ) → is_ascii_letter b ≡ false → changed_byte mode b ≡ b
-other_changed Title b h = grind (arith, nat_tests)
-other_changed Lower b h = grind (arith, nat_tests)
-other_changed Upper b h = grind (arith, nat_tests)
+other_changed _ b h = grind (arith, nat_tests)
 
 fixed_byte : (mode : Case) (b : ℕ) → filter is_fixed (changed_byte mode b ∷ []) ≡ filter is_fixed (b ∷ [])
 fixed_byte mode b =
