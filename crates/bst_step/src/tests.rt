@@ -3,5 +3,6 @@
 mod flow;
 mod operands;
 mod program;
+mod rows;
 mod runs;
 mod writing;

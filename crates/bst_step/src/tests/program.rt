@@ -1,6 +1,6 @@
 //! Small styles that are written as words, and runs of them over five entries.
 
-use crate::machine::{Machine, Turn};
+use crate::machine::Machine;
 use bst_meaning::entry::{Entry, EntryList, FieldValue};
 use bv_base::memory::NoMemory;
 use bv_base::place::Place;
@@ -9,7 +9,6 @@ use bv_base::text::Text;
 use name_table::names::{Kind, NameId, Names};
 use name_table::style::{Body, BodyId, Command, CommandAt, Style, TextId, Token, TokenAt};
 use std::alloc::Global;
-use std::process::Abort;
 
 /// The key, the type and the title of each entry. `-` is a title that is missing.
 static ENTRIES: [(&[u8], &[u8], &[u8]); 5] = [
@@ -334,25 +333,4 @@ fn value_of(alloc: Global, title: &[u8]) -> Result<Option<Text>, NoMemory> {
 /// The machine before its first step.
 pub fn machine_of<'a>(alloc: Global, style: &'a Style) -> Result<Machine<'a>, NoMemory> {
     Machine::new(alloc, style, list(alloc)?)
-}
-
-/// The log of a run, which ends.
-pub fn log_of(rt: &impl Abort, alloc: Global, style: &Style) -> Result<Vec<u8>, NoMemory> {
-    let mut machine = machine_of(alloc, style)?;
-    end(rt, &mut machine)?;
-    machine.log()
-}
-
-/// The lines that a run writes, which ends.
-pub fn lines_of(rt: &impl Abort, alloc: Global, style: &Style) -> Result<Vec<u8>, NoMemory> {
-    let mut machine = machine_of(alloc, style)?;
-    end(rt, &mut machine)?;
-    machine.lines()
-}
-
-/// Expects a run to end.
-fn end(rt: &impl Abort, machine: &mut Machine<'_>) -> Result<(), NoMemory> {
-    let turn = machine.run(ENOUGH)?;
-    assert!(rt; turn == Turn::Ended);
-    Ok(())
 }
