@@ -1,4 +1,5 @@
-//! Small databases, worked out by hand.
+//! Small databases, worked out by hand. A row is a text, ` -> ` and what comes of it, with `|` for a line end. What has no
+//! arrow is a heading.
 
 use crate::database::{Database, RawEntry};
 use crate::fault::BibFault;
@@ -13,11 +14,6 @@ use name_table::style::{Macro, Style};
 use std::alloc::Global;
 use std::process::Abort;
 use std::test::Fail;
-
-/// A place.
-const fn at(line: u32, column: u32) -> Place {
-    Place { line, column }
-}
 
 /// A style with the macro `jan`.
 fn style(alloc: Global) -> Result<Style, NoMemory> {
@@ -42,185 +38,284 @@ fn before(alloc: Global) -> Result<Database, NoMemory> {
 }
 
 /// Texts with a byte where another has to stand, and the place of that byte.
-static EXPECTED: [(&[u8], u32, u32); 61] = [
-    (b"@1", 1, 2),
-    (b"@{k}", 1, 2),
-    (b"@ \"misc\"{k}", 1, 3),
-    (b"@%", 1, 2),
-    (b"@misc k", 1, 7),
-    (b"@misc}", 1, 6),
-    (b"@misc ,", 1, 7),
-    (b"@misc)k)", 1, 6),
-    (b"@misc{}", 1, 7),
-    (b"@misc{,}", 1, 7),
-    (b"@misc(,)", 1, 7),
-    (b"@misc(  ,)", 1, 9),
-    (b"@misc{k a = 1}", 1, 9),
-    (b"@misc{k )", 1, 9),
-    (b"@misc(k }", 1, 9),
-    (b"@misc{k \"a\"}", 1, 9),
-    (b"@misc{k {", 1, 9),
-    (b"@misc{k,,}", 1, 9),
-    (b"@misc{k,=1}", 1, 9),
-    (b"@misc{k,)", 1, 9),
-    (b"@misc(k,}", 1, 9),
-    (b"@misc{k, 1a = 2}", 1, 10),
-    (b"@misc{k, \"a\" = 2}", 1, 10),
-    (b"@misc{k, a}", 1, 11),
-    (b"@misc{k, a b = 1}", 1, 12),
-    (b"@misc{k, a, b = 1}", 1, 11),
-    (b"@misc{k, a # 1}", 1, 12),
-    (b"@misc{k, a =}", 1, 13),
-    (b"@misc{k, a = , b = 1}", 1, 14),
-    (b"@misc{k, a = # 1}", 1, 14),
-    (b"@misc{k, a == 1}", 1, 13),
-    (b"@misc(k, a = )", 1, 14),
-    (b"@misc{k, a = 'x'}", 1, 14),
-    (b"@misc{k, a = 1 % x\n}", 1, 16),
-    (b"@misc{k, a = 1a}", 1, 15),
-    (b"@misc{k, a = 1 2}", 1, 16),
-    (b"@misc{k, a = \"x\"\"y\"}", 1, 17),
-    (b"@misc{k, a = {x}{y}}", 1, 17),
-    (b"@misc{k, a = jan feb}", 1, 18),
-    (b"@misc{k, a = 1)", 1, 15),
-    (b"@misc(k, a = 1}", 1, 15),
-    (b"@misc{k, a = 1 # }", 1, 18),
-    (b"@misc{k, a = 1 # # 2}", 1, 18),
-    (b"@misc{k, a = 1 #, b = 2}", 1, 17),
-    (b"@misc{k, a = 1, b = 2,\n , c = 3}", 2, 2),
-    (b"@string a", 1, 9),
-    (b"@string{}", 1, 9),
-    (b"@string{1 = 2}", 1, 9),
-    (b"@string{a}", 1, 10),
-    (b"@string{a \"b\"}", 1, 11),
-    (b"@string{a = }", 1, 13),
-    (b"@string{a = 1, }", 1, 14),
-    (b"@string{a = 1)", 1, 14),
-    (b"@string(a = 1}", 1, 14),
-    (b"@string{a = 1 b = 2}", 1, 15),
-    (b"@preamble \"a\"", 1, 11),
-    (b"@preamble{}", 1, 11),
-    (b"@preamble{\"a\" # }", 1, 17),
-    (b"@preamble{\"a\",}", 1, 14),
-    (b"@preamble(\"a\"}", 1, 14),
-    (b"@comment{\"}\n@misc{k}\n@1", 3, 2),
-];
+const EXPECTED: &str = r#"
+@1 -> Expected 1:2
+@{k} -> Expected 1:2
+@ "misc"{k} -> Expected 1:3
+@% -> Expected 1:2
+@misc k -> Expected 1:7
+@misc} -> Expected 1:6
+@misc , -> Expected 1:7
+@misc)k) -> Expected 1:6
+@misc{} -> Expected 1:7
+@misc{,} -> Expected 1:7
+@misc(,) -> Expected 1:7
+@misc(  ,) -> Expected 1:9
+@misc{k a = 1} -> Expected 1:9
+@misc{k ) -> Expected 1:9
+@misc(k } -> Expected 1:9
+@misc{k "a"} -> Expected 1:9
+@misc{k { -> Expected 1:9
+@misc{k,,} -> Expected 1:9
+@misc{k,=1} -> Expected 1:9
+@misc{k,) -> Expected 1:9
+@misc(k,} -> Expected 1:9
+@misc{k, 1a = 2} -> Expected 1:10
+@misc{k, "a" = 2} -> Expected 1:10
+@misc{k, a} -> Expected 1:11
+@misc{k, a b = 1} -> Expected 1:12
+@misc{k, a, b = 1} -> Expected 1:11
+@misc{k, a # 1} -> Expected 1:12
+@misc{k, a =} -> Expected 1:13
+@misc{k, a = , b = 1} -> Expected 1:14
+@misc{k, a = # 1} -> Expected 1:14
+@misc{k, a == 1} -> Expected 1:13
+@misc(k, a = ) -> Expected 1:14
+@misc{k, a = 'x'} -> Expected 1:14
+@misc{k, a = 1 % x|} -> Expected 1:16
+@misc{k, a = 1a} -> Expected 1:15
+@misc{k, a = 1 2} -> Expected 1:16
+@misc{k, a = "x""y"} -> Expected 1:17
+@misc{k, a = {x}{y}} -> Expected 1:17
+@misc{k, a = jan feb} -> Expected 1:18
+@misc{k, a = 1) -> Expected 1:15
+@misc(k, a = 1} -> Expected 1:15
+@misc{k, a = 1 # } -> Expected 1:18
+@misc{k, a = 1 # # 2} -> Expected 1:18
+@misc{k, a = 1 #, b = 2} -> Expected 1:17
+@misc{k, a = 1, b = 2,| , c = 3} -> Expected 2:2
+@string a -> Expected 1:9
+@string{} -> Expected 1:9
+@string{1 = 2} -> Expected 1:9
+@string{a} -> Expected 1:10
+@string{a "b"} -> Expected 1:11
+@string{a = } -> Expected 1:13
+@string{a = 1, } -> Expected 1:14
+@string{a = 1) -> Expected 1:14
+@string(a = 1} -> Expected 1:14
+@string{a = 1 b = 2} -> Expected 1:15
+@preamble "a" -> Expected 1:11
+@preamble{} -> Expected 1:11
+@preamble{"a" # } -> Expected 1:17
+@preamble{"a",} -> Expected 1:14
+@preamble("a"} -> Expected 1:14
+@comment{"}|@misc{k}|@1 -> Expected 3:2
+"#;
 
 /// Texts that end within what an `@` began, and the place of their end.
-static ENDS: [(&[u8], u32, u32); 34] = [
-    (b"@", 1, 2),
-    (b"a @ \n", 2, 1),
-    (b"@misc", 1, 6),
-    (b"@misc[k] ", 1, 10),
-    (b"@misc{", 1, 7),
-    (b"@misc{ \n  ", 2, 3),
-    (b"@misc{k", 1, 8),
-    (b"@misc(k)", 1, 9),
-    (b"@misc()", 1, 8),
-    (b"@misc{k)", 1, 9),
-    (b"@misc{k{ ", 1, 10),
-    (b"@misc{k,", 1, 9),
-    (b"@misc{k, a", 1, 11),
-    (b"@misc{k, a =", 1, 13),
-    (b"@misc{k, a = {x", 1, 16),
-    (b"@misc{k, a = {x}", 1, 17),
-    (b"@misc{k, a = {x{y}}", 1, 20),
-    (b"@misc{k, a = \"x", 1, 16),
-    (b"@misc{k, a = \"{x\"}", 1, 19),
-    (b"@misc{k, a = 12", 1, 16),
-    (b"@misc{k, a = jan", 1, 17),
-    (b"@misc{k, a = 1 #", 1, 17),
-    (b"@misc{k, a = 1,\n\n", 3, 1),
-    (b"@misc(k, a = {)})\n@misc(l, a = {)}", 2, 17),
-    (b"@string", 1, 8),
-    (b"@string{", 1, 9),
-    (b"@string{a", 1, 10),
-    (b"@string{a =", 1, 12),
-    (b"@string{a = 1", 1, 14),
-    (b"@preamble", 1, 10),
-    (b"@preamble(", 1, 11),
-    (b"@preamble{\"a\"", 1, 14),
-    (b"@comment{@", 1, 11),
-    (b"@comment{@misc{k", 1, 17),
-];
+const ENDS: &str = r#"
+@ -> EndOfFile 1:2
+a @ | -> EndOfFile 2:1
+@misc -> EndOfFile 1:6
+@misc[k]  -> EndOfFile 1:10
+@misc{ -> EndOfFile 1:7
+@misc{ |   -> EndOfFile 2:3
+@misc{k -> EndOfFile 1:8
+@misc(k) -> EndOfFile 1:9
+@misc() -> EndOfFile 1:8
+@misc{k) -> EndOfFile 1:9
+@misc{k{  -> EndOfFile 1:10
+@misc{k, -> EndOfFile 1:9
+@misc{k, a -> EndOfFile 1:11
+@misc{k, a = -> EndOfFile 1:13
+@misc{k, a = {x -> EndOfFile 1:16
+@misc{k, a = {x} -> EndOfFile 1:17
+@misc{k, a = {x{y}} -> EndOfFile 1:20
+@misc{k, a = "x -> EndOfFile 1:16
+@misc{k, a = "{x"} -> EndOfFile 1:19
+@misc{k, a = 12 -> EndOfFile 1:16
+@misc{k, a = jan -> EndOfFile 1:17
+@misc{k, a = 1 # -> EndOfFile 1:17
+@misc{k, a = 1,|| -> EndOfFile 3:1
+@misc(k, a = {)})|@misc(l, a = {)} -> EndOfFile 2:17
+@string -> EndOfFile 1:8
+@string{ -> EndOfFile 1:9
+@string{a -> EndOfFile 1:10
+@string{a = -> EndOfFile 1:12
+@string{a = 1 -> EndOfFile 1:14
+@preamble -> EndOfFile 1:10
+@preamble( -> EndOfFile 1:11
+@preamble{"a" -> EndOfFile 1:14
+@comment{@ -> EndOfFile 1:11
+@comment{@misc{k -> EndOfFile 1:17
+"#;
 
 /// Texts with a `}` within quotes that has no `{`, and its place.
-static UNBALANCED: [(&[u8], u32, u32); 6] = [
-    (b"@misc{k, a = \"x}\"}", 1, 16),
-    (b"@misc{k, a = \"}{\"}", 1, 15),
-    (b"@misc{k, a = \"{x}\n}\"}", 2, 1),
-    (b"@misc{k, a = \"{\"}}\"}", 1, 18),
-    (b"@string{a = 1 # \"}\"}", 1, 18),
-    (b"@preamble(\"}\")", 1, 12),
-];
+const UNBALANCED: &str = r#"
+@misc{k, a = "x}"} -> Unbalanced 1:16
+@misc{k, a = "}{"} -> Unbalanced 1:15
+@misc{k, a = "{x}|}"} -> Unbalanced 2:1
+@misc{k, a = "{"}}"} -> Unbalanced 1:18
+@string{a = 1 # "}"} -> Unbalanced 1:18
+@preamble("}") -> Unbalanced 1:12
+"#;
 
 /// Texts with a key that is there, and the place where it stands again.
-static REPEATED: [(&[u8], u32, u32); 5] = [
-    (b"@misc{k}\n@misc{K}", 2, 7),
-    (b"@misc{k, a = 1}\n@x{K", 2, 4),
-    (b"@misc{Key}@misc( kEY , a = }", 1, 18),
-    (b"@misc{k}\n@misc{l}\n@misc{k, a = \"}\"}", 3, 7),
-    (b"@misc{a}b}@misc{a", 1, 17),
-];
+const REPEATED: &str = r#"
+@misc{k}|@misc{K} -> RepeatedKey 2:7
+@misc{k, a = 1}|@x{K -> RepeatedKey 2:4
+@misc{Key}@misc( kEY , a = } -> RepeatedKey 1:18
+@misc{k}|@misc{l}|@misc{k, a = "}"} -> RepeatedKey 3:7
+@misc{a}b}@misc{a -> RepeatedKey 1:17
+"#;
 
 #[test]
 fn the_fault_with_the_least_place_is_answered(rt: HostRuntime) -> Result<(), Fail> {
     let before = before(rt.alloc())?;
-    expect_faults(
-        &rt,
-        rt.alloc(),
-        &before,
-        &EXPECTED,
-        BibFault::Expected(at(1, 1)),
-    );
-    expect_faults(
-        &rt,
-        rt.alloc(),
-        &before,
-        &ENDS,
-        BibFault::EndOfFile(at(1, 1)),
-    );
-    expect_faults(
-        &rt,
-        rt.alloc(),
-        &before,
-        &UNBALANCED,
-        BibFault::Unbalanced(at(1, 1)),
-    );
-    expect_faults(
-        &rt,
-        rt.alloc(),
-        &before,
-        &REPEATED,
-        BibFault::RepeatedKey(at(1, 1)),
-    );
+    for rows in [EXPECTED, ENDS, UNBALANCED, REPEATED] {
+        expect(&rt, rt.alloc(), &before, rows)?;
+    }
     Ok(())
 }
 
-/// Expects faults of one kind at their places.
-fn expect_faults(
+/// Texts, and what a database has after them: `#` begins a macro, `@` an entry, `.` a field, `<` the preamble and `!` a
+/// warning.
+const READ: &str = r##"
+ -> #jan=January|<>|
+text } " { % # , without a mark -> #jan=January|<>|
+% @misc{k} -> #jan=January|@misc k|<>|
+@MISC{K, A = 1} -> #jan=January|@misc K|.a=1|<>|
+@misc(k )@misc{l}x@ | misc | { | m | } -> #jan=January|@misc k|@misc l|@misc m|<>|
+% Odd bytes in types, keys and fields.
+@@misc{k} -> #jan=January|@@misc k|<>|
+@comment@misc{k} -> #jan=January|@comment@misc k|<>|
+@a-b*c[dü{k} -> #jan=January|@a-b*c[dü k|<>|
+@misc{a:b/c"d#e%f'g=h{i~\é(j)} -> #jan=January|@misc a:b/c"d#e%f'g=h{i~\é(j)|<>|
+@misc(a}b)c{ , x = 1) -> #jan=January|@misc a}b)c{|.x=1|<>|
+% A comma before the closing byte.
+@misc{k,}@misc{l , }@misc(m,)@misc(n|,|) -> #jan=January|@misc k|@misc l|@misc m|@misc n|<>|
+@misc{k, a = 1,}@misc(l, a = 1 , ) -> #jan=January|@misc k|.a=1|@misc l|.a=1|<>|
+% Braces and quotes.
+@misc{k, a = {x {y} z}, b = {"}, c = {)}} -> #jan=January|@misc k|.a=x {y} z|.b="|.c=)|<>|
+@misc{k, a = "x {"} y", b = "{{"}}", c = ")"} -> #jan=January|@misc k|.a=x {"} y|.b={{"}}|.c=)|<>|
+@misc(k, a = {)}, b = ")", c = {}, d = "") -> #jan=January|@misc k|.a=)|.b=)|.c=|.d=|<>|
+% Digits, macros and joined pieces.
+@misc{k, a = 007, b = 1#2 # 3, c = {1}#"2"#3} -> #jan=January|@misc k|.a=007|.b=123|.c=123|<>|
+@misc{k, a = jan, b = JAN # 1 # jan} -> #jan=January|@misc k|.a=January|.b=January1January|<>|
+@misc{k, a = -1} -> #jan=January|@misc k|.a=|<>|!Warning--undefined macro -1!|
+@misc{k, a = 1 # no # 2 # No} -> #jan=January|@misc k|.a=12|<>|!Warning--undefined macro no!|!Warning--undefined macro no!|
+@string{jan = "J"}@misc{k, a = jan} -> #jan=J|@misc k|.a=J|<>|
+@string{x = x} -> #jan=January|#x=|<>|!Warning--undefined macro x!|
+@string(x = {p)q})@String{Y = x # x} -> #jan=January|#x=p)q|#y=p)qp)q|<>|
+% White space.
+@misc{k, a = " " # "x" # " " # { y } # " "} -> #jan=January|@misc k|.a=x y|<>|
+@misc{k, a = " | "}@string{b = "  x  "} -> #jan=January|#b= x |@misc k|.a=|<>|
+@preamble{"a  "}@preamble("  b" # jan)@preamble{{}} -> #jan=January|<a  bJanuary>|
+% Fields that come again.
+@misc{k, a = 1, A = 2} -> #jan=January|@misc k|.a=1|<>|!Warning--second field a in k!|
+@misc{K, a = {}, b = 2, A = 3, a = 4} -> #jan=January|@misc K|.a=|.b=2|<>|!Warning--second field a in K!|!Warning--second field a in K!|
+@misc{k, a = x, a = y} -> #jan=January|@misc k|.a=|<>|!Warning--undefined macro x!|!Warning--second field a in k!|!Warning--undefined macro y!|
+% Comments.
+@comment{x @misc{k}} } -> #jan=January|@misc k|<>|
+@Comment @misc{k}@COMMENT{"@comment(@misc(l ) -> #jan=January|@misc k|@misc l|<>|
+% Entries as they are joined later.
+@inproceedings{c, crossref = {p}} @proceedings{p, title = {T}} -> #jan=January|@inproceedings c|.crossref=p|@proceedings p|.title=T|<>|
+@misc{c, title = "a" # zz # { b }} -> #jan=January|@misc c|.title=a b|<>|!Warning--undefined macro zz!|
+@string{s = " and "} @misc{c, title = "a" # s # "b"} -> #jan=January|#s= and |@misc c|.title=a and b|<>|
+"##;
+
+/// The same with bytes that aren't printed, or that are no UTF-8.
+static ODD: [(&[u8], &[u8]); 2] = [
+    (
+        b"@misc{k, x-y.z:1+\xff = 1}",
+        b"#jan=January|@misc k|.x-y.z:1+\xff=1|<>|",
+    ),
+    (
+        b"@misc{k, a = {  x \n\t y\r\n }}",
+        b"#jan=January|@misc k|.a=x y|<>|",
+    ),
+];
+
+#[test]
+fn texts_are_read(rt: HostRuntime) -> Result<(), Fail> {
+    let before = before(rt.alloc())?;
+    expect(&rt, rt.alloc(), &before, READ)?;
+    for (source, wanted) in &ODD {
+        expect_read(&rt, rt.alloc(), &before, source, wanted)?;
+    }
+    Ok(())
+}
+
+#[test]
+fn a_style_opens_with_its_macros(rt: HostRuntime) -> Result<(), Fail> {
+    let before = before(rt.alloc())?;
+    Ok(expect_shown(&rt, rt.alloc(), &before, b"#jan=January|<>|")?)
+}
+
+/// A text, and what a database has after another text and it.
+const LATER: &[u8] = b"text @string{ A = \"x  y\" } @STRING(b = a # 1 # {{Z}\" })
+@preamble{\" p \" # jan}@preamble{Q # \"\n\"}
+@comment{ @Misc{ Key , Title = {  a {\"} \t b } # zz # \"c{\"}d\", title = unknown, year=1999 , } }
+@misc(k} )@string{A = a # \"!\"}";
+
+const BOTH: &[u8] =
+    b"#jan=January|#a=x y!|#b=x y1{Z}\" |@a One|@misc Key|.title=a {\"} b c{\"}d|.year=1999|@misc k}|< p January >|!Warning--undefined macro q!|!Warning--undefined macro zz!|!Warning--second field title in Key!|!Warning--undefined macro unknown!|";
+
+#[test]
+fn texts_add_to_what_was_read_before(rt: HostRuntime) -> Result<(), Fail> {
+    let before = before(rt.alloc())?;
+    let first = read(rt.alloc(), b"@A{One,}", &before)?;
+    Ok(expect_read(&rt, rt.alloc(), &first, LATER, BOTH)?)
+}
+
+/// Expects of the text of each row what the row tells.
+fn expect(rt: &impl Abort, alloc: Global, before: &Database, rows: &str) -> Result<(), NoMemory> {
+    for row in rows.lines() {
+        if let Some((written, wanted)) = row.split_once(" -> ") {
+            let source = with_line_ends(alloc, written)?;
+            expect_read(rt, alloc, before, source.as_slice(), wanted.as_bytes())?;
+        }
+    }
+    Ok(())
+}
+
+/// The bytes of a text that is written with `|` for a line end.
+fn with_line_ends(alloc: Global, written: &str) -> Result<Vec<u8>, NoMemory> {
+    let mut bytes = Vec::new(alloc);
+    for b in written.as_bytes() {
+        bytes.push(if *b == b'|' { b'\n' } else { *b })?;
+    }
+    Ok(bytes)
+}
+
+/// Expects a text to be read as this database or to have this fault.
+fn expect_read(
     rt: &impl Abort,
     alloc: Global,
     before: &Database,
-    rows: &[(&[u8], u32, u32)],
-    kind: BibFault,
-) {
-    for (source, line, column) in rows {
-        assert!(rt; source.len() <= DATA_BYTES);
-        let want = moved(kind, at(*line, *column));
-        assert!(rt; read(alloc, source, before).err() == Some(want));
+    source: &[u8],
+    wanted: &[u8],
+) -> Result<(), NoMemory> {
+    assert!(rt; source.len() <= DATA_BYTES);
+    match read(alloc, source, before) {
+        Ok(database) => expect_shown(rt, alloc, &database, wanted),
+        Err(fault) => expect_fault(rt, alloc, fault, wanted),
     }
 }
 
-/// A fault of the same kind at a place.
-fn moved(fault: BibFault, place: Place) -> BibFault {
-    match fault {
-        BibFault::Expected(_) => BibFault::Expected(place),
-        BibFault::EndOfFile(_) => BibFault::EndOfFile(place),
-        BibFault::Unbalanced(_) => BibFault::Unbalanced(place),
-        BibFault::RepeatedKey(_) => BibFault::RepeatedKey(place),
-        BibFault::NoMemory => BibFault::NoMemory,
-    }
+/// Expects a fault to have this name and place.
+fn expect_fault(
+    rt: &impl Abort,
+    alloc: Global,
+    fault: BibFault,
+    wanted: &[u8],
+) -> Result<(), NoMemory> {
+    let (name, Place { line, column }) = (fault.name(), fault.place());
+    let told = format!(in alloc; "{name} {line}:{column}")?;
+    assert_eq!(rt; told.as_bytes(), wanted);
+    Ok(())
+}
+
+/// Expects a database to be these lines.
+fn expect_shown(
+    rt: &impl Abort,
+    alloc: Global,
+    database: &Database,
+    wanted: &[u8],
+) -> Result<(), NoMemory> {
+    let lines = shown(alloc, database)?;
+    assert_eq!(rt; lines.as_slice(), wanted);
+    Ok(())
 }
 
 /// Appends a line of a mark, a text, a second mark and a second text.
@@ -235,7 +330,7 @@ fn push_line(
     shown.extend_from_slice(first.as_slice())?;
     shown.push(between)?;
     shown.extend_from_slice(second)?;
-    shown.push(b'\n')?;
+    shown.push(b'|')?;
     Ok(())
 }
 
@@ -262,204 +357,4 @@ fn shown(alloc: Global, database: &Database) -> Result<Vec<u8>, NoMemory> {
         push_line(&mut shown, b'!', one, b'!', b"")?;
     }
     Ok(shown)
-}
-
-/// Texts, and what a database has after them: `#` begins a macro, `@` an entry, `.` a field, `<` the preamble and `!` a
-/// warning.
-static READ: [(&[u8], &[u8]); 35] = [
-    (b"", b"#jan=January\n<>\n"),
-    (b"text } \" { % # , without a mark", b"#jan=January\n<>\n"),
-    (b"% @misc{k}", b"#jan=January\n@misc k\n<>\n"),
-    (b"@MISC{K, A = 1}", b"#jan=January\n@misc K\n.a=1\n<>\n"),
-    (
-        b"@misc(k )@misc{l}x@ \n misc \n { \n m \n }",
-        b"#jan=January\n@misc k\n@misc l\n@misc m\n<>\n",
-    ),
-    // Odd bytes in types, keys and fields.
-    (b"@@misc{k}", b"#jan=January\n@@misc k\n<>\n"),
-    (b"@comment@misc{k}", b"#jan=January\n@comment@misc k\n<>\n"),
-    (
-        b"@a-b*c[d\xc3\xbc{k}",
-        b"#jan=January\n@a-b*c[d\xc3\xbc k\n<>\n",
-    ),
-    (
-        b"@misc{a:b/c\"d#e%f'g=h{i~\\\xc3\xa9(j)}",
-        b"#jan=January\n@misc a:b/c\"d#e%f'g=h{i~\\\xc3\xa9(j)\n<>\n",
-    ),
-    (
-        b"@misc(a}b)c{ , x = 1)",
-        b"#jan=January\n@misc a}b)c{\n.x=1\n<>\n",
-    ),
-    (
-        b"@misc{k, x-y.z:1+\xff = 1}",
-        b"#jan=January\n@misc k\n.x-y.z:1+\xff=1\n<>\n",
-    ),
-    // A comma before the closing byte.
-    (
-        b"@misc{k,}@misc{l , }@misc(m,)@misc(n\n,\n)",
-        b"#jan=January\n@misc k\n@misc l\n@misc m\n@misc n\n<>\n",
-    ),
-    (
-        b"@misc{k, a = 1,}@misc(l, a = 1 , )",
-        b"#jan=January\n@misc k\n.a=1\n@misc l\n.a=1\n<>\n",
-    ),
-    // Braces and quotes.
-    (
-        b"@misc{k, a = {x {y} z}, b = {\"}, c = {)}}",
-        b"#jan=January\n@misc k\n.a=x {y} z\n.b=\"\n.c=)\n<>\n",
-    ),
-    (
-        b"@misc{k, a = \"x {\"} y\", b = \"{{\"}}\", c = \")\"}",
-        b"#jan=January\n@misc k\n.a=x {\"} y\n.b={{\"}}\n.c=)\n<>\n",
-    ),
-    (
-        b"@misc(k, a = {)}, b = \")\", c = {}, d = \"\")",
-        b"#jan=January\n@misc k\n.a=)\n.b=)\n.c=\n.d=\n<>\n",
-    ),
-    // Digits, macros and joined pieces.
-    (
-        b"@misc{k, a = 007, b = 1#2 # 3, c = {1}#\"2\"#3}",
-        b"#jan=January\n@misc k\n.a=007\n.b=123\n.c=123\n<>\n",
-    ),
-    (
-        b"@misc{k, a = jan, b = JAN # 1 # jan}",
-        b"#jan=January\n@misc k\n.a=January\n.b=January1January\n<>\n",
-    ),
-    (
-        b"@misc{k, a = -1}",
-        b"#jan=January\n@misc k\n.a=\n<>\n!Warning--undefined macro -1!\n",
-    ),
-    (
-        b"@misc{k, a = 1 # no # 2 # No}",
-        b"#jan=January\n@misc k\n.a=12\n<>\n!Warning--undefined macro no!\n!Warning--undefined macro no!\n",
-    ),
-    (
-        b"@string{jan = \"J\"}@misc{k, a = jan}",
-        b"#jan=J\n@misc k\n.a=J\n<>\n",
-    ),
-    (
-        b"@string{x = x}",
-        b"#jan=January\n#x=\n<>\n!Warning--undefined macro x!\n",
-    ),
-    (
-        b"@string(x = {p)q})@String{Y = x # x}",
-        b"#jan=January\n#x=p)q\n#y=p)qp)q\n<>\n",
-    ),
-    // White space.
-    (
-        b"@misc{k, a = {  x \n\t y\r\n }}",
-        b"#jan=January\n@misc k\n.a=x y\n<>\n",
-    ),
-    (
-        b"@misc{k, a = \" \" # \"x\" # \" \" # { y } # \" \"}",
-        b"#jan=January\n@misc k\n.a=x y\n<>\n",
-    ),
-    (
-        b"@misc{k, a = \" \n \"}@string{b = \"  x  \"}",
-        b"#jan=January\n#b= x \n@misc k\n.a=\n<>\n",
-    ),
-    (
-        b"@preamble{\"a  \"}@preamble(\"  b\" # jan)@preamble{{}}",
-        b"#jan=January\n<a  bJanuary>\n",
-    ),
-    // Fields that come again.
-    (
-        b"@misc{k, a = 1, A = 2}",
-        b"#jan=January\n@misc k\n.a=1\n<>\n!Warning--second field a in k!\n",
-    ),
-    (
-        b"@misc{K, a = {}, b = 2, A = 3, a = 4}",
-        b"#jan=January\n@misc K\n.a=\n.b=2\n<>\n!Warning--second field a in K!\n!Warning--second field a in K!\n",
-    ),
-    (
-        b"@misc{k, a = x, a = y}",
-        b"#jan=January\n@misc k\n.a=\n<>\n!Warning--undefined macro x!\n!Warning--second field a in k!\n!Warning--undefined macro y!\n",
-    ),
-    // Comments.
-    (b"@comment{x @misc{k}} }", b"#jan=January\n@misc k\n<>\n"),
-    (
-        b"@Comment @misc{k}@COMMENT{\"@comment(@misc(l )",
-        b"#jan=January\n@misc k\n@misc l\n<>\n",
-    ),
-    // Entries as they are joined later.
-    (
-        b"@inproceedings{c, crossref = {p}} @proceedings{p, title = {T}}",
-        b"#jan=January\n@inproceedings c\n.crossref=p\n@proceedings p\n.title=T\n<>\n",
-    ),
-    (
-        b"@misc{c, title = \"a\" # zz # { b }}",
-        b"#jan=January\n@misc c\n.title=a b\n<>\n!Warning--undefined macro zz!\n",
-    ),
-    (
-        b"@string{s = \" and \"} @misc{c, title = \"a\" # s # \"b\"}",
-        b"#jan=January\n#s= and \n@misc c\n.title=a and b\n<>\n",
-    ),
-];
-
-#[test]
-fn texts_are_read(rt: HostRuntime) -> Result<(), Fail> {
-    let before = before(rt.alloc())?;
-    expect_databases(&rt, rt.alloc(), &before, &READ)
-}
-
-/// Expects texts to give these databases.
-fn expect_databases(
-    rt: &impl Abort,
-    alloc: Global,
-    before: &Database,
-    rows: &[(&[u8], &[u8])],
-) -> Result<(), Fail> {
-    for (source, want) in rows {
-        assert!(rt; source.len() <= DATA_BYTES);
-        let database = read(alloc, source, before)?;
-        expect_shown(rt, alloc, &database, want)?;
-    }
-    Ok(())
-}
-
-/// Expects a database to be these lines.
-fn expect_shown(
-    rt: &impl Abort,
-    alloc: Global,
-    database: &Database,
-    want: &[u8],
-) -> Result<(), Fail> {
-    let lines = shown(alloc, database)?;
-    assert!(rt; lines.as_slice() == want);
-    Ok(())
-}
-
-#[test]
-fn a_style_opens_with_its_macros(rt: HostRuntime) -> Result<(), Fail> {
-    let before = before(rt.alloc())?;
-    expect_shown(&rt, rt.alloc(), &before, b"#jan=January\n<>\n")
-}
-
-/// A text, and what a database has after another text and it.
-static BOTH: [(&[u8], &[u8]); 1] = [(
-    b"text @string{ A = \"x  y\" } @STRING(b = a # 1 # {{Z}\" })
-@preamble{\" p \" # jan}@preamble{Q # \"\n\"}
-@comment{ @Misc{ Key , Title = {  a {\"} \t b } # zz # \"c{\"}d\", title = unknown, year=1999 , } }
-@misc(k} )@string{A = a # \"!\"}",
-    b"#jan=January
-#a=x y!
-#b=x y1{Z}\" 
-@a One
-@misc Key
-.title=a {\"} b c{\"}d
-.year=1999
-@misc k}
-< p January >
-!Warning--undefined macro q!
-!Warning--undefined macro zz!
-!Warning--second field title in Key!
-!Warning--undefined macro unknown!
-",
-)];
-
-#[test]
-fn texts_add_to_what_was_read_before(rt: HostRuntime) -> Result<(), Fail> {
-    let before = before(rt.alloc())?;
-    let first = read(rt.alloc(), b"@A{One,}", &before)?;
-    expect_databases(&rt, rt.alloc(), &first, &BOTH)
 }

@@ -1,4 +1,5 @@
-//! Citations and databases, joined by hand.
+//! Citations and databases, joined by hand. A row is an `.aux` file, ` + `, a database, ` ->` and what they are joined to,
+//! with `/` for a line end. What has no arrow is a heading.
 
 ghost use Rattle.std.specs.Prelude.{◌≡◌, ◌≤◌, length, IfOk};
 ghost use Rattle.std.specs.List.{list_all};
@@ -21,25 +22,6 @@ use std::alloc::Global;
 use std::process::Abort;
 use std::test::Fail;
 
-/// An `.aux` file, a database, and what they are joined to, as lines.
-#[derive(Clone, Copy)]
-struct Row {
-    aux: &'static [u8],
-    bib: &'static [u8],
-    want: &'static [u8],
-}
-
-/// A row of a table.
-macro_rules! row {
-    ($aux:expr, $bib:expr => $want:expr) => {
-        Row {
-            aux: $aux,
-            bib: $bib,
-            want: $want,
-        }
-    };
-}
-
 /// A style with the fields `title` and `note` beside `crossref`.
 fn style(alloc: Global) -> Result<Style, Fail> {
     let mut names = Names::opening(alloc)?;
@@ -54,40 +36,122 @@ fn style(alloc: Global) -> Result<Style, Fail> {
     })
 }
 
-/// Appends an entry as `KEY:TYPE`, and for each field a `|` and its value, or `-` where it is missing.
-fn show(shown: &mut Vec<u8>, entry: &Entry) -> Result<(), NoMemory> {
-    shown.extend_from_slice(entry.key.as_slice())?;
-    shown.push(b':')?;
-    shown.extend_from_slice(entry.entry_type.as_slice())?;
-    for field in entry.fields.as_slice() {
-        shown.push(b'|')?;
-        match &field.value {
-            Some(text) => shown.extend_from_slice(text.as_slice())?,
-            None => shown.push(b'-')?,
+/// Worked rows.
+const WORKED: &str = r#"
+\citation{c} + @inproceedings{c, crossref = {p}} @proceedings{p, title = {T}} -> c:inproceedings|-|T|-/
+\citation{c,d} + @inproceedings{c, crossref = {p}} @proceedings{p, title = {T}} @misc{d, crossref = {p}, title = {U}} -> c:inproceedings|p|T|-/d:misc|p|U|-/p:proceedings|-|T|-/
+\citation{C} + @misc{c, title = "a" # zz # { b }} -> C:misc|-|a b|-/
+\citation{c} + @misc{c, crossref = {q}} -> c:misc|-|-|-/Warning--no parent q for c/
+\citation{c} + @string{s = " and "} @misc{c, title = "a" # s # "b"} -> c:misc|-|a and b|-/
++ @misc{c,} ->
+"#;
+
+#[test]
+fn worked_rows_are_joined(rt: HostRuntime) -> Result<(), Fail> {
+    expect_joined(&rt, rt.alloc(), "", WORKED)
+}
+
+/// A database of three entries.
+const THREE: &str = "@a{x, year = 3}@b{Y, title = 1}@c{z, note = 2}";
+
+/// Citations of three entries.
+const CITATIONS: &str = r#"
+\citation{*} + -> x:a|-|-|-/Y:b|-|1|-/z:c|-|-|2/
+\citation{z}/\citation{*} + -> z:c|-|-|2/x:a|-|-|-/Y:b|-|1|-/
+\citation{*,X} + -> Y:b|-|1|-/z:c|-|-|2/X:a|-|-|-/
+\citation{*,*} + -> x:a|-|-|-/Y:b|-|1|-/z:c|-|-|2/
+\citation{y,*,Y} + -> y:b|-|1|-/x:a|-|-|-/z:c|-|-|2/
+\citation{z,y,Z,Y} + -> z:c|-|-|2/y:b|-|1|-/
+\citation{n,x,N} + -> x:a|-|-|-/Warning--no entry n/
+\citation{M,*,n,m} + -> x:a|-|-|-/Y:b|-|1|-/z:c|-|-|2/Warning--no entry M/Warning--no entry n/
++ ->
+"#;
+
+#[test]
+fn citations_choose_entries_in_order(rt: HostRuntime) -> Result<(), Fail> {
+    expect_joined(&rt, rt.alloc(), THREE, CITATIONS)
+}
+
+/// Entries that name parents.
+const PARENTS: &str = r#"
+% A parent's parent lends nothing.
+\citation{a} + @m{a,crossref={b}}@m{b,crossref={c}}@m{c,title=1} -> a:m|-|-|-/
+% A parent that is cited stays named, as the child spells it.
+\citation{a,p} + @m{a,crossref={P}}@m{p,title=1} -> a:m|P|1|-/p:m|-|1|-/
+\citation{P,a} + @m{a,crossref={p}}@m{p,title=1} -> P:m|-|1|-/a:m|p|1|-/
+% Two spellings name one parent, which isn't appended where it is cited.
+\citation{a,b} + @m{a,crossref={P}}@m{b,crossref={p}}@m{p,note=1} -> a:m|P|-|1/b:m|p|-|1/p:m|-|-|1/
+\citation{a,P,b} + @m{a,crossref={p}}@m{b,crossref={p}}@m{p,note=1} -> a:m|p|-|1/P:m|-|-|1/b:m|p|-|1/
+\citation{a} + @m{a,crossref={a},note=1} -> a:m|a|-|1/
+% A blank name is no entry's.
+\citation{a} + @m{a,crossref={ }} -> a:m|-|-|-/Warning--no parent  for a/
+% A field that is there stays, also where it is empty; what the style doesn't declare isn't lent.
+\citation{a} + @m{a,crossref={p},title={}}@m{p,title=1,note=2,year=3} -> a:m|-||2/
+% The crossref of an appended entry doesn't count, but lends.
+\citation{c,d,e} + @m{c,crossref={p}}@m{d,crossref={p}}@m{e,crossref={g}}@m{p,crossref={g}}@m{g,title=1} -> c:m|p|-|-/d:m|p|-|-/e:m|-|1|-/p:m|-|1|-/
+\citation{c,d,e,f} + @m{c,crossref={q}}@m{d,crossref={p}}@m{e,crossref={p}}@m{f,crossref={q}}@m{p,}@m{q,} -> c:m|q|-|-/d:m|p|-|-/e:m|p|-|-/f:m|q|-|-/q:m|-|-|-/p:m|-|-|-/
+\citation{n,A,o,*} + @m{a,crossref={q}}@m{b,crossref={Q}} -> A:m|-|-|-/b:m|-|-|-/Warning--no entry n/Warning--no entry o/Warning--no parent q for A/Warning--no parent Q for b/
+"#;
+
+#[test]
+fn parents_are_appended_and_lend_fields(rt: HostRuntime) -> Result<(), Fail> {
+    expect_joined(&rt, rt.alloc(), "", PARENTS)
+}
+
+/// Expects the files and the databases of rows to be joined so, where some entries are in all of these databases.
+fn expect_joined(rt: &impl Abort, alloc: Global, shared: &str, rows: &str) -> Result<(), Fail> {
+    let style = style(alloc)?;
+    for row in rows.lines() {
+        if let Some((given, wanted)) = row.split_once(" ->") {
+            let (aux, own) = given.split_once("+").unwrap_or((given, ""));
+            let bib = format!(in alloc; "{shared}{own}")?;
+            expect_row(
+                rt,
+                alloc,
+                &style,
+                aux.trim(),
+                bib.as_str().trim(),
+                wanted.trim_start(),
+            )?;
         }
     }
-    shown.push(b'\n')?;
     Ok(())
 }
 
-/// What was joined, as lines.
-fn shown(alloc: Global, joined: &Joined) -> Result<Vec<u8>, NoMemory> {
-    let mut shown = Vec::new(alloc);
-    for entry in joined.list.entries.as_slice() {
-        show(&mut shown, entry)?;
+/// Expects an `.aux` file and a database to be joined to lines.
+fn expect_row(
+    rt: &impl Abort,
+    alloc: Global,
+    style: &Style,
+    aux: &str,
+    bib: &str,
+    wanted: &str,
+) -> Result<(), Fail> {
+    let aux = with_line_ends(alloc, aux)?;
+    let lines = joined(rt, alloc, style, aux.as_slice(), bib.as_bytes())?;
+    assert_eq!(rt; lines.as_slice(), wanted.as_bytes());
+    Ok(())
+}
+
+/// The bytes of a text that is written with `/` for a line end.
+fn with_line_ends(alloc: Global, written: &str) -> Result<Vec<u8>, NoMemory> {
+    let mut bytes = Vec::new(alloc);
+    for b in written.as_bytes() {
+        bytes.push(if *b == b'/' { b'\n' } else { *b })?;
     }
-    for warning in joined.warnings.as_slice() {
-        shown.extend_from_slice(warning.as_slice())?;
-        shown.push(b'\n')?;
-    }
-    Ok(shown)
+    Ok(bytes)
 }
 
 /// What an `.aux` file and a database are joined to, as lines.
-fn joined(alloc: Global, style: &Style, aux: &[u8], bib: &[u8]) -> Result<Vec<u8>, Fail>
-    requires aux { length aux.now ≤ DATA_BYTES }
-    requires bib { length bib.now ≤ DATA_BYTES }
-{
+fn joined(
+    rt: &impl Abort,
+    alloc: Global,
+    style: &Style,
+    aux: &[u8],
+    bib: &[u8],
+) -> Result<Vec<u8>, Fail> {
+    assert!(rt; aux.len() <= DATA_BYTES);
+    assert!(rt; bib.len() <= DATA_BYTES);
     let database = database(alloc, style, bib)?;
     let aux = aux_read::read::read(alloc, aux)?;
     lines_of(alloc, style, aux.items.as_slice(), &database)
@@ -136,75 +200,31 @@ fn is_no_input(item: &AuxItem) -> bool
     }
 }
 
-/// Expects files and databases to be joined so.
-fn expect_joined(rt: &impl Abort, alloc: Global, rows: &[Row]) -> Result<(), Fail> {
-    let style = style(alloc)?;
-    for row in rows {
-        assert!(rt; row.aux.len() <= DATA_BYTES);
-        assert!(rt; row.bib.len() <= DATA_BYTES);
-        assert!(rt; joined(alloc, &style, row.aux, row.bib)?.as_slice() == row.want);
+/// Appends an entry as `KEY:TYPE`, and for each field a `|` and its value, or `-` where it is missing.
+fn show(shown: &mut Vec<u8>, entry: &Entry) -> Result<(), NoMemory> {
+    shown.extend_from_slice(entry.key.as_slice())?;
+    shown.push(b':')?;
+    shown.extend_from_slice(entry.entry_type.as_slice())?;
+    for field in entry.fields.as_slice() {
+        shown.push(b'|')?;
+        match &field.value {
+            Some(text) => shown.extend_from_slice(text.as_slice())?,
+            None => shown.push(b'-')?,
+        }
     }
+    shown.push(b'/')?;
     Ok(())
 }
 
-/// Worked rows.
-static WORKED: [Row; 6] = [
-    row!(b"\\citation{c}", b"@inproceedings{c, crossref = {p}} @proceedings{p, title = {T}}" => b"c:inproceedings|-|T|-\n"),
-    row!(b"\\citation{c,d}", b"@inproceedings{c, crossref = {p}} @proceedings{p, title = {T}} @misc{d, crossref = {p}, title = {U}}" => b"c:inproceedings|p|T|-\nd:misc|p|U|-\np:proceedings|-|T|-\n"),
-    row!(b"\\citation{C}", b"@misc{c, title = \"a\" # zz # { b }}" => b"C:misc|-|a b|-\n"),
-    row!(b"\\citation{c}", b"@misc{c, crossref = {q}}" => b"c:misc|-|-|-\nWarning--no parent q for c\n"),
-    row!(b"\\citation{c}", b"@string{s = \" and \"} @misc{c, title = \"a\" # s # \"b\"}" => b"c:misc|-|a and b|-\n"),
-    row!(b"", b"@misc{c,}" => b""),
-];
-
-/// A database of three entries.
-const THREE: &[u8] = b"@a{x, year = 3}@b{Y, title = 1}@c{z, note = 2}";
-
-/// Citations of three entries.
-static CITATIONS: [Row; 9] = [
-    row!(b"\\citation{*}", THREE => b"x:a|-|-|-\nY:b|-|1|-\nz:c|-|-|2\n"),
-    row!(b"\\citation{z}\n\\citation{*}", THREE => b"z:c|-|-|2\nx:a|-|-|-\nY:b|-|1|-\n"),
-    row!(b"\\citation{*,X}", THREE => b"Y:b|-|1|-\nz:c|-|-|2\nX:a|-|-|-\n"),
-    row!(b"\\citation{*,*}", THREE => b"x:a|-|-|-\nY:b|-|1|-\nz:c|-|-|2\n"),
-    row!(b"\\citation{y,*,Y}", THREE => b"y:b|-|1|-\nx:a|-|-|-\nz:c|-|-|2\n"),
-    row!(b"\\citation{z,y,Z,Y}", THREE => b"z:c|-|-|2\ny:b|-|1|-\n"),
-    row!(b"\\citation{n,x,N}", THREE => b"x:a|-|-|-\nWarning--no entry n\n"),
-    row!(b"\\citation{M,*,n,m}", THREE => b"x:a|-|-|-\nY:b|-|1|-\nz:c|-|-|2\nWarning--no entry M\nWarning--no entry n\n"),
-    row!(b"", THREE => b""),
-];
-
-/// Entries that name parents.
-static PARENTS: [Row; 11] = [
-    // A parent's parent lends nothing.
-    row!(b"\\citation{a}", b"@m{a,crossref={b}}@m{b,crossref={c}}@m{c,title=1}" => b"a:m|-|-|-\n"),
-    // A parent that is cited stays named, as the child spells it.
-    row!(b"\\citation{a,p}", b"@m{a,crossref={P}}@m{p,title=1}" => b"a:m|P|1|-\np:m|-|1|-\n"),
-    row!(b"\\citation{P,a}", b"@m{a,crossref={p}}@m{p,title=1}" => b"P:m|-|1|-\na:m|p|1|-\n"),
-    // Two spellings name one parent, which isn't appended where it is cited.
-    row!(b"\\citation{a,b}", b"@m{a,crossref={P}}@m{b,crossref={p}}@m{p,note=1}" => b"a:m|P|-|1\nb:m|p|-|1\np:m|-|-|1\n"),
-    row!(b"\\citation{a,P,b}", b"@m{a,crossref={p}}@m{b,crossref={p}}@m{p,note=1}" => b"a:m|p|-|1\nP:m|-|-|1\nb:m|p|-|1\n"),
-    row!(b"\\citation{a}", b"@m{a,crossref={a},note=1}" => b"a:m|a|-|1\n"),
-    // A blank name is no entry's.
-    row!(b"\\citation{a}", b"@m{a,crossref={ }}" => b"a:m|-|-|-\nWarning--no parent  for a\n"),
-    // A field that is there stays, also where it is empty; what the style doesn't declare isn't lent.
-    row!(b"\\citation{a}", b"@m{a,crossref={p},title={}}@m{p,title=1,note=2,year=3}" => b"a:m|-||2\n"),
-    // The crossref of an appended entry doesn't count, but lends.
-    row!(b"\\citation{c,d,e}", b"@m{c,crossref={p}}@m{d,crossref={p}}@m{e,crossref={g}}@m{p,crossref={g}}@m{g,title=1}" => b"c:m|p|-|-\nd:m|p|-|-\ne:m|-|1|-\np:m|-|1|-\n"),
-    row!(b"\\citation{c,d,e,f}", b"@m{c,crossref={q}}@m{d,crossref={p}}@m{e,crossref={p}}@m{f,crossref={q}}@m{p,}@m{q,}" => b"c:m|q|-|-\nd:m|p|-|-\ne:m|p|-|-\nf:m|q|-|-\nq:m|-|-|-\np:m|-|-|-\n"),
-    row!(b"\\citation{n,A,o,*}", b"@m{a,crossref={q}}@m{b,crossref={Q}}" => b"A:m|-|-|-\nb:m|-|-|-\nWarning--no entry n\nWarning--no entry o\nWarning--no parent q for A\nWarning--no parent Q for b\n"),
-];
-
-#[test]
-fn worked_rows_are_joined(rt: HostRuntime) -> Result<(), Fail> {
-    expect_joined(&rt, rt.alloc(), &WORKED)
-}
-
-#[test]
-fn citations_choose_entries_in_order(rt: HostRuntime) -> Result<(), Fail> {
-    expect_joined(&rt, rt.alloc(), &CITATIONS)
-}
-
-#[test]
-fn parents_are_appended_and_lend_fields(rt: HostRuntime) -> Result<(), Fail> {
-    expect_joined(&rt, rt.alloc(), &PARENTS)
+/// What was joined, as lines.
+fn shown(alloc: Global, joined: &Joined) -> Result<Vec<u8>, NoMemory> {
+    let mut shown = Vec::new(alloc);
+    for entry in joined.list.entries.as_slice() {
+        show(&mut shown, entry)?;
+    }
+    for warning in joined.warnings.as_slice() {
+        shown.extend_from_slice(warning.as_slice())?;
+        shown.push(b'/')?;
+    }
+    Ok(shown)
 }

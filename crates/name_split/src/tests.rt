@@ -5,42 +5,15 @@ use crate::parts::{NameFault, parts};
 use crate::pattern::pattern_ok;
 use std::process::Abort;
 
-/// A text with the number of its names.
-#[derive(Clone, Copy)]
-struct Counted {
-    text: &'static [u8],
-    count: u64,
-}
-
-static COUNTED: [Counted; 7] = [
-    Counted {
-        text: b"",
-        count: 0,
-    },
-    Counted {
-        text: b" ",
-        count: 1,
-    },
-    Counted {
-        text: b"A and B",
-        count: 2,
-    },
-    Counted {
-        text: b"A AND {B and C}",
-        count: 2,
-    },
-    Counted {
-        text: b"A and and B",
-        count: 3,
-    },
-    Counted {
-        text: b"and B and",
-        count: 1,
-    },
-    Counted {
-        text: b"A}and B {and C} and\tD",
-        count: 2,
-    },
+/// Texts, and the number of the names of each.
+static COUNTED: [(&[u8], u64); 7] = [
+    (b"", 0),
+    (b" ", 1),
+    (b"A and B", 2),
+    (b"A AND {B and C}", 2),
+    (b"A and and B", 3),
+    (b"and B and", 1),
+    (b"A}and B {and C} and\tD", 2),
 ];
 
 #[test]
@@ -50,9 +23,9 @@ fn names_are_counted(rt: HostRuntime) {
     assert!(rt; names(b"A and B").all(|name| name.len() == 1));
 }
 
-fn have_count(rt: &impl Abort, rows: &[Counted]) {
-    for row in rows {
-        assert_eq!(rt; count(row.text), row.count);
+fn have_count(rt: &impl Abort, rows: &[(&[u8], u64)]) {
+    for (text, wanted) in rows {
+        assert_eq!(rt; count(text), *wanted);
     }
 }
 
@@ -157,30 +130,12 @@ fn have_parts(rt: &impl Abort, rows: &[Parted]) {
     }
 }
 
-/// A name without parts.
-#[derive(Clone, Copy)]
-struct Faulty {
-    name: &'static [u8],
-    fault: NameFault,
-}
-
-static FAULTY: [Faulty; 4] = [
-    Faulty {
-        name: b"A, B, C, D",
-        fault: NameFault::TooManyCommas,
-    },
-    Faulty {
-        name: b"A,,,",
-        fault: NameFault::TooManyCommas,
-    },
-    Faulty {
-        name: b"Smith, John,",
-        fault: NameFault::CommaAtEnd,
-    },
-    Faulty {
-        name: b"Smith, ~-",
-        fault: NameFault::CommaAtEnd,
-    },
+/// Names without parts, and why.
+static FAULTY: [(&[u8], NameFault); 4] = [
+    (b"A, B, C, D", NameFault::TooManyCommas),
+    (b"A,,,", NameFault::TooManyCommas),
+    (b"Smith, John,", NameFault::CommaAtEnd),
+    (b"Smith, ~-", NameFault::CommaAtEnd),
 ];
 
 #[test]
@@ -192,12 +147,9 @@ fn names_without_parts(rt: HostRuntime) {
     assert!(rt; !names_ok(b"A, B, C, D and E"));
 }
 
-fn have_faults(rt: &impl Abort, rows: &[Faulty]) {
-    for row in rows {
-        match parts(row.name) {
-            Ok(_) => panic!(rt; "the name has parts"),
-            Err(fault) => assert_eq!(rt; fault, row.fault),
-        }
+fn have_faults(rt: &impl Abort, rows: &[(&[u8], NameFault)]) {
+    for (name, fault) in rows {
+        assert!(rt; parts(name).err() == Some(*fault));
     }
 }
 

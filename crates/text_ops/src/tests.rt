@@ -1,4 +1,5 @@
-//! What the functions make of texts, worked out by hand.
+//! What the functions make of texts, worked out by hand. A row is what a function is given, `->` and what it makes of it.
+//! Numbers stand before a text. In a text `_` is a space, and `^^` with two digits of base 16 is a byte.
 
 use crate::add_period::add_period;
 use crate::change_case::{Case, change_case};
@@ -12,392 +13,426 @@ use crate::width::width;
 use bv_base::memory::NoMemory;
 use std::alloc::Global;
 use std::process::Abort;
+use std::test::Fail;
 
-/// A function's text is this one.
-fn is_made(rt: &impl Abort, found: Result<Vec<u8>, NoMemory>, wanted: &[u8]) {
-    match found {
-        Ok(text) => assert_eq!(rt; text.as_slice(), wanted),
-        Err(_) => panic!(rt; "want of memory"),
-    }
+/// What is made of a text.
+#[derive(Clone, Copy)]
+enum Function {
+    AddPeriod,
+    ChangeCase(Case),
+    Purify,
+    IsBlank,
+    IntToStr,
+    Substring,
+    TextLength,
+    TextPrefix,
+    Width,
+    /// The width of each byte.
+    Widths,
 }
 
-static STOPPED: [(&[u8], &[u8]); 11] = [
-    (b"Hi}", b"Hi}."),
-    (b"Hi.}", b"Hi.}"),
-    (b"", b""),
-    (b"Hi", b"Hi."),
-    (b"Why?", b"Why?"),
-    (b"Oh!}}", b"Oh!}}"),
-    (b"}", b"}."),
-    (b"}}", b"}}."),
-    (b"a.b", b"a.b."),
-    (b"a. ", b"a. ."),
-    (b"{.", b"{."),
-];
+/// Texts, and what they are with a full stop.
+const STOPPED: &str = r#"
+Hi} -> Hi}.
+Hi.} -> Hi.}
+->
+Hi -> Hi.
+Why? -> Why?
+Oh!}} -> Oh!}}
+} -> }.
+}} -> }}.
+a.b -> a.b.
+a._ -> a._.
+{. -> {.
+"#;
 
 #[test]
-fn the_last_byte_that_is_no_closing_brace_decides(rt: HostRuntime) {
-    have_stops(&rt, rt.alloc(), &STOPPED);
+fn the_last_byte_that_is_no_closing_brace_decides(rt: HostRuntime) -> Result<(), Fail> {
+    expect(&rt, rt.alloc(), Function::AddPeriod, STOPPED)
 }
 
-fn have_stops(rt: &impl Abort, alloc: Global, rows: &[(&[u8], &[u8])]) {
-    for (text, made) in rows {
-        is_made(rt, add_period(alloc, text), made);
-    }
-}
-
-static TITLES: [(&[u8], &[u8]); 16] = [
-    (b"The {TeX}book: A Guide", b"The {TeX}book: A guide"),
-    (b"", b""),
-    (b"ABC", b"Abc"),
-    (b" AB", b" ab"),
-    (b": AB", b": Ab"),
-    (b"A:B", b"A:b"),
-    (b"A:  BC", b"A:  Bc"),
-    (b"A :\tBC", b"A :\tBc"),
-    (b"A: {B} C", b"A: {B} c"),
-    (b"{A}B", b"{A}b"),
-    (br"{\'E}COLE", br"{\'E}cole"),
-    (br"A {\'E}C", br"A {\'e}c"),
-    (br"A: {\'E}C", br"A: {\'E}c"),
-    (br"A:{\'E}C", br"A:{\'e}c"),
-    (br"X{\AE A: B}", br"X{\ae a: b}"),
-    (br"{\L}: {\AE}X", br"{\L}: {\AE}x"),
-];
+/// Texts as titles.
+const TITLES: &str = r#"
+The_{TeX}book:_A_Guide -> The_{TeX}book:_A_guide
+->
+ABC -> Abc
+_AB -> _ab
+:_AB -> :_Ab
+A:B -> A:b
+A:__BC -> A:__Bc
+A_:^^09BC -> A_:^^09Bc
+A:_{B}_C -> A:_{B}_c
+{A}B -> {A}b
+{\'E}COLE -> {\'E}cole
+A_{\'E}C -> A_{\'e}c
+A:_{\'E}C -> A:_{\'E}c
+A:{\'E}C -> A:{\'e}c
+X{\AE_A:_B} -> X{\ae_a:_b}
+{\L}:_{\AE}X -> {\L}:_{\AE}x
+"#;
 
 #[test]
-fn a_title_keeps_what_begins_it(rt: HostRuntime) {
-    have_case(&rt, rt.alloc(), Case::Title, &TITLES);
+fn a_title_keeps_what_begins_it(rt: HostRuntime) -> Result<(), Fail> {
+    expect(&rt, rt.alloc(), Function::ChangeCase(Case::Title), TITLES)
 }
 
-static SMALL: [(&[u8], &[u8]); 8] = [
-    (br"{\OE}uvre", br"{\oe}uvre"),
-    (b"ABC: Z", b"abc: z"),
-    (b"{Ab}}A", b"{Ab}}a"),
-    (br"{\OE}{\AE}{\AA}{\O}{\L}", br"{\oe}{\ae}{\aa}{\o}{\l}"),
-    (br"{\i X}{\ss}", br"{\i x}{\ss}"),
-    (br"{\TeX Xy}", br"{\TeX xy}"),
-    (br"{\v{S}}", br"{\v{s}}"),
-    (b"\xc3\x89E", b"\xc3\x89e"),
-];
+/// Texts in small letters.
+const SMALL: &str = r#"
+{\OE}uvre -> {\oe}uvre
+ABC:_Z -> abc:_z
+{Ab}}A -> {Ab}}a
+{\OE}{\AE}{\AA}{\O}{\L} -> {\oe}{\ae}{\aa}{\o}{\l}
+{\i_X}{\ss} -> {\i_x}{\ss}
+{\TeX_Xy} -> {\TeX_xy}
+{\v{S}} -> {\v{s}}
+^^c3^^89E -> ^^c3^^89e
+"#;
 
 #[test]
-fn small_letters(rt: HostRuntime) {
-    have_case(&rt, rt.alloc(), Case::Lower, &SMALL);
+fn small_letters(rt: HostRuntime) -> Result<(), Fail> {
+    expect(&rt, rt.alloc(), Function::ChangeCase(Case::Lower), SMALL)
 }
 
-static CAPITALS: [(&[u8], &[u8]); 14] = [
-    (b"The {TeX}book: A Guide", b"THE {TeX}BOOK: A GUIDE"),
-    (br"{\ss}x", b"{SS}X"),
-    (b"{Ab}}a", b"{Ab}}A"),
-    (br"{{\ss}A}", br"{{\ss}A}"),
-    (br"{\i x}", b"{IX}"),
-    (b"{\\j\t\n}", b"{J}"),
-    (br"{\oe x}{\ae}{\aa}{\o}{\l}", br"{\OE X}{\AE}{\AA}{\O}{\L}"),
-    (br"{\OE}{\AE}{\AA}{\O}{\L}", br"{\OE}{\AE}{\AA}{\O}{\L}"),
-    (br"{\'\i}", br"{\'I}"),
-    (br"{\bf Xy}", br"{\bf XY}"),
-    (br"{\\ss}", br"{\SS}"),
-    (br"{\ss", b"{SS"),
-    (br"{\}a", br"{\}A"),
-    (b"\xe9e", b"\xe9E"),
-];
+/// Texts in capitals.
+const CAPITALS: &str = r#"
+The_{TeX}book:_A_Guide -> THE_{TeX}BOOK:_A_GUIDE
+{\ss}x -> {SS}X
+{Ab}}a -> {Ab}}A
+{{\ss}A} -> {{\ss}A}
+{\i_x} -> {IX}
+{\j^^09^^0a} -> {J}
+{\oe_x}{\ae}{\aa}{\o}{\l} -> {\OE_X}{\AE}{\AA}{\O}{\L}
+{\OE}{\AE}{\AA}{\O}{\L} -> {\OE}{\AE}{\AA}{\O}{\L}
+{\'\i} -> {\'I}
+{\bf_Xy} -> {\bf_XY}
+{\\ss} -> {\SS}
+{\ss -> {SS
+{\}a -> {\}A
+^^e9e -> ^^e9E
+"#;
 
 #[test]
-fn capitals(rt: HostRuntime) {
-    have_case(&rt, rt.alloc(), Case::Upper, &CAPITALS);
+fn capitals(rt: HostRuntime) -> Result<(), Fail> {
+    expect(&rt, rt.alloc(), Function::ChangeCase(Case::Upper), CAPITALS)
 }
 
-fn have_case(rt: &impl Abort, alloc: Global, mode: Case, rows: &[(&[u8], &[u8])]) {
-    for (text, made) in rows {
-        is_made(rt, change_case(alloc, text, mode), made);
-    }
-}
-
-static PURE: [(&[u8], &[u8]); 21] = [
-    (br"{\'E}cole {TeX}-x", b"Ecole TeX x"),
-    (b"", b""),
-    (br"{\OE}uvre", b"OEuvre"),
-    (br"{\oe}{\ae}{\AE}{\ss}", b"oeaeAEss"),
-    (br"{\o}{\O}{\l}{\L}{\i}{\j}", b"oOlLij"),
-    (br"{\aa}{\AA}", b"aA"),
-    (br"{\aax}{\oeuvre}{\bf}", b""),
-    (br"{\\ss}", b"ss"),
-    (br"{\i }x", b"ix"),
-    (br"{\bf x1 - y}", b"x1y"),
-    (br"{\'{e}}{\v{S}}", b"eS"),
-    (br"{\ss", b"ss"),
-    (br"{\", b""),
-    (br"}{\i}", b"i"),
-    (b"a~b-c", b"a b c"),
-    (b"a\tb\n", b"a b "),
-    (b"{a-b}", b"a b"),
-    (br"{{\aa}}", b"aa"),
-    (br"\ss.", b"ss"),
-    (b"\xc3\xa9!\x7f", b"\xc3\xa9"),
-    (b"{\\'\xc3\xa9}", b"\xc3\xa9"),
-];
+/// Texts, and what is left of them.
+const PURE: &str = r#"
+{\'E}cole_{TeX}-x -> Ecole_TeX_x
+->
+{\OE}uvre -> OEuvre
+{\oe}{\ae}{\AE}{\ss} -> oeaeAEss
+{\o}{\O}{\l}{\L}{\i}{\j} -> oOlLij
+{\aa}{\AA} -> aA
+{\aax}{\oeuvre}{\bf} ->
+{\\ss} -> ss
+{\i_}x -> ix
+{\bf_x1_-_y} -> x1y
+{\'{e}}{\v{S}} -> eS
+{\ss -> ss
+{\ ->
+}{\i} -> i
+a~b-c -> a_b_c
+a^^09b^^0a -> a_b_
+{a-b} -> a_b
+{{\aa}} -> aa
+\ss. -> ss
+^^c3^^a9!^^7f -> ^^c3^^a9
+{\'^^c3^^a9} -> ^^c3^^a9
+"#;
 
 #[test]
-fn letters_digits_and_spaces_are_left(rt: HostRuntime) {
-    are_pure(&rt, rt.alloc(), &PURE);
-}
-
-fn are_pure(rt: &impl Abort, alloc: Global, rows: &[(&[u8], &[u8])]) {
-    for (text, made) in rows {
-        is_made(rt, purify(alloc, text), made);
-    }
+fn letters_digits_and_spaces_are_left(rt: HostRuntime) -> Result<(), Fail> {
+    expect(&rt, rt.alloc(), Function::Purify, PURE)
 }
 
 /// Texts, and whether each is blank.
-static BLANK: [(&[u8], bool); 6] = [
-    (b"", true),
-    (b" \t\r\n", true),
-    (b" a ", false),
-    (b"\x0b", false),
-    (b"\xa0", false),
-    (b"{}", false),
-];
+const BLANK: &str = r#"
+-> true
+_^^09^^0d^^0a -> true
+_a_ -> false
+^^0b -> false
+^^a0 -> false
+{} -> false
+"#;
 
 #[test]
-fn four_bytes_are_white_space(rt: HostRuntime) {
-    are_blank(&rt, &BLANK);
-}
-
-fn are_blank(rt: &impl Abort, rows: &[(&[u8], bool)]) {
-    for (text, blank) in rows {
-        assert_eq!(rt; is_blank(text), *blank);
-    }
+fn four_bytes_are_white_space(rt: HostRuntime) -> Result<(), Fail> {
+    expect(&rt, rt.alloc(), Function::IsBlank, BLANK)
 }
 
 /// Integers and their numerals.
-static NUMERALS: [(i32, &[u8]); 7] = [
-    (-7, b"-7"),
-    (0, b"0"),
-    (7, b"7"),
-    (10, b"10"),
-    (-100, b"-100"),
-    (i32::MAX, b"2147483647"),
-    (i32::MIN, b"-2147483648"),
-];
+const NUMERALS: &str = r#"
+-7 -> -7
+0 -> 0
+7 -> 7
+10 -> 10
+-100 -> -100
+2147483647 -> 2147483647
+-2147483648 -> -2147483648
+"#;
 
 #[test]
-fn digits_follow_the_sign(rt: HostRuntime) {
-    have_numerals(&rt, rt.alloc(), &NUMERALS);
+fn digits_follow_the_sign(rt: HostRuntime) -> Result<(), Fail> {
+    expect(&rt, rt.alloc(), Function::IntToStr, NUMERALS)
 }
 
-fn have_numerals(rt: &impl Abort, alloc: Global, rows: &[(i32, &[u8])]) {
-    for (number, numeral) in rows {
-        is_made(rt, int_to_str(alloc, *number), numeral);
-    }
-}
-
-/// Places, lengths and the parts of `abcdef` there.
-static PARTS: [(i32, i32, &[u8]); 21] = [
-    (2, 3, b"bcd"),
-    (-1, 2, b"ef"),
-    (-2, 3, b"cde"),
-    (7, 1, b""),
-    (-6, 9, b"a"),
-    (1, 6, b"abcdef"),
-    (6, 1, b"f"),
-    (6, 5, b"f"),
-    (-6, 1, b"a"),
-    (-7, 1, b""),
-    (-3, 1, b"d"),
-    (0, 3, b""),
-    (1, 0, b""),
-    (-1, 0, b""),
-    (1, -1, b""),
-    (1, i32::MIN, b""),
-    (1, i32::MAX, b"abcdef"),
-    (-1, i32::MAX, b"abcdef"),
-    (i32::MAX, 1, b""),
-    (i32::MIN, 1, b""),
-    (i32::MIN, i32::MAX, b""),
-];
+/// Places, lengths, texts and their parts there.
+const PARTS: &str = r#"
+2 3 abcdef -> bcd
+-1 2 abcdef -> ef
+-2 3 abcdef -> cde
+7 1 abcdef ->
+-6 9 abcdef -> a
+1 6 abcdef -> abcdef
+6 1 abcdef -> f
+6 5 abcdef -> f
+-6 1 abcdef -> a
+-7 1 abcdef ->
+-3 1 abcdef -> d
+0 3 abcdef ->
+1 0 abcdef ->
+-1 0 abcdef ->
+1 -1 abcdef ->
+1 -2147483648 abcdef ->
+1 2147483647 abcdef -> abcdef
+-1 2147483647 abcdef -> abcdef
+2147483647 1 abcdef ->
+-2147483648 1 abcdef ->
+-2147483648 2147483647 abcdef ->
+1 1 ->
+-1 1 ->
+"#;
 
 #[test]
-fn places_count_from_both_ends(rt: HostRuntime) {
-    have_parts(&rt, rt.alloc(), &PARTS);
-    is_made(&rt, substring(rt.alloc(), b"", 1, 1), b"");
-    is_made(&rt, substring(rt.alloc(), b"", -1, 1), b"");
-}
-
-fn have_parts(rt: &impl Abort, alloc: Global, rows: &[(i32, i32, &[u8])]) {
-    for (start, length, part) in rows {
-        is_made(rt, substring(alloc, b"abcdef", *start, *length), part);
-    }
+fn places_count_from_both_ends(rt: HostRuntime) -> Result<(), Fail> {
+    expect(&rt, rt.alloc(), Function::Substring, PARTS)
 }
 
 /// Texts and their numbers of text characters.
-static COUNTED: [(&[u8], u64); 13] = [
-    (br"{\'E}cole", 5),
-    (b"{TeX}", 3),
-    (b"", 0),
-    (b"{}", 0),
-    (br"{\'E", 1),
-    (br"{\", 1),
-    (br"a{\v{o}}b", 3),
-    (br"{\{a}b}c", 2),
-    (br"{{\'E}}", 3),
-    (br"{ \x}", 3),
-    (br"}{\i}x", 2),
-    (br"\{a}", 2),
-    (b"\xc3\xa9", 2),
-];
+const COUNTED: &str = r#"
+{\'E}cole -> 5
+{TeX} -> 3
+-> 0
+{} -> 0
+{\'E -> 1
+{\ -> 1
+a{\v{o}}b -> 3
+{\{a}b}c -> 2
+{{\'E}} -> 3
+{_\x} -> 3
+}{\i}x -> 2
+\{a} -> 2
+^^c3^^a9 -> 2
+"#;
 
 #[test]
-fn a_special_character_counts_one(rt: HostRuntime) {
-    have_length(&rt, &COUNTED);
+fn a_special_character_counts_one(rt: HostRuntime) -> Result<(), Fail> {
+    expect(&rt, rt.alloc(), Function::TextLength, COUNTED)
 }
 
-fn have_length(rt: &impl Abort, rows: &[(&[u8], u64)]) {
-    for (text, count) in rows {
-        assert_eq!(rt; text_length(text), *count);
-    }
-}
-
-/// Texts and their first text characters.
-static PREFIXES: [(&[u8], i32, &[u8]); 16] = [
-    (br"{\'E}cole", 2, br"{\'E}c"),
-    (b"{TeX}book", 2, b"{Te}"),
-    (b"abc", 0, b""),
-    (b"abc", i32::MIN, b""),
-    (b"abc", 3, b"abc"),
-    (b"abc", i32::MAX, b"abc"),
-    (b"", 3, b""),
-    (b"{a}b", 1, b"{a}"),
-    (b"{{a}b", 1, b"{{a}}"),
-    (b"{{a}b", 2, b"{{a}b}"),
-    (b"a{}{", 1, b"a"),
-    (b"a{}{", 2, b"a{}{}"),
-    (b"}ab", 1, b"}a"),
-    (br"{\'E", 1, br"{\'E}"),
-    (br"{\'{E", 1, br"{\'{E}}"),
-    (br"x{\'E}}y", 3, br"x{\'E}}y"),
-];
+/// Numbers, texts and their first text characters.
+const PREFIXES: &str = r#"
+2 {\'E}cole -> {\'E}c
+2 {TeX}book -> {Te}
+0 abc ->
+-2147483648 abc ->
+3 abc -> abc
+2147483647 abc -> abc
+3 ->
+1 {a}b -> {a}
+1 {{a}b -> {{a}}
+2 {{a}b -> {{a}b}
+1 a{}{ -> a
+2 a{}{ -> a{}{}
+1 }ab -> }a
+1 {\'E -> {\'E}
+1 {\'{E -> {\'{E}}
+3 x{\'E}}y -> x{\'E}}y
+"#;
 
 #[test]
-fn a_prefix_is_closed(rt: HostRuntime) {
-    have_prefixes(&rt, rt.alloc(), &PREFIXES);
-}
-
-fn have_prefixes(rt: &impl Abort, alloc: Global, rows: &[(&[u8], i32, &[u8])]) {
-    for (text, count, prefix) in rows {
-        is_made(rt, text_prefix(alloc, text, *count), prefix);
-    }
+fn a_prefix_is_closed(rt: HostRuntime) -> Result<(), Fail> {
+    expect(&rt, rt.alloc(), Function::TextPrefix, PREFIXES)
 }
 
 /// Bytes, and the width of each.
-#[derive(Clone, Copy)]
-struct Printing {
-    bytes: &'static [u8],
-    widths: &'static [u128],
-}
-
-static PRINTING: [Printing; 8] = [
-    Printing {
-        bytes: b" !\"#$%&'()*+,-./",
-        widths: &[
-            278, 278, 500, 833, 500, 833, 778, 278, 389, 389, 500, 778, 278, 333, 278, 500,
-        ],
-    },
-    Printing {
-        bytes: b"0123456789",
-        widths: &[500, 500, 500, 500, 500, 500, 500, 500, 500, 500],
-    },
-    Printing {
-        bytes: b":;<=>?@",
-        widths: &[278, 278, 278, 778, 472, 472, 778],
-    },
-    Printing {
-        bytes: b"ABCDEFGHIJKLM",
-        widths: &[
-            750, 708, 722, 764, 681, 653, 785, 750, 361, 514, 778, 625, 917,
-        ],
-    },
-    Printing {
-        bytes: b"NOPQRSTUVWXYZ",
-        widths: &[
-            750, 778, 681, 778, 736, 556, 722, 750, 750, 1028, 750, 750, 611,
-        ],
-    },
-    Printing {
-        bytes: b"[\\]^_`{|}~",
-        widths: &[278, 500, 278, 500, 278, 278, 500, 1000, 500, 500],
-    },
-    Printing {
-        bytes: b"abcdefghijklm",
-        widths: &[
-            500, 556, 444, 556, 444, 306, 500, 556, 278, 306, 528, 278, 833,
-        ],
-    },
-    Printing {
-        bytes: b"nopqrstuvwxyz",
-        widths: &[
-            556, 500, 556, 528, 392, 394, 389, 556, 528, 722, 528, 528, 444,
-        ],
-    },
-];
+const PRINTING: &str = r##"
+_!"#$%&'()*+,-./ -> 278 278 500 833 500 833 778 278 389 389 500 778 278 333 278 500
+0123456789 -> 500 500 500 500 500 500 500 500 500 500
+:;<=>?@ -> 278 278 278 778 472 472 778
+ABCDEFGHIJKLM -> 750 708 722 764 681 653 785 750 361 514 778 625 917
+NOPQRSTUVWXYZ -> 750 778 681 778 736 556 722 750 750 1028 750 750 611
+[\]^^5e^^5f`{|}~ -> 278 500 278 500 278 278 500 1000 500 500
+abcdefghijklm -> 500 556 444 556 444 306 500 556 278 306 528 278 833
+nopqrstuvwxyz -> 556 500 556 528 392 394 389 556 528 722 528 528 444
+"##;
 
 #[test]
-fn each_printing_byte_has_its_width(rt: HostRuntime) {
-    for row in &PRINTING {
-        have_widths(&rt, row.bytes, row.widths);
-    }
-}
-
-fn have_widths(rt: &impl Abort, bytes: &[u8], widths: &[u128]) {
-    assert_eq!(rt; bytes.len(), widths.len());
-    for (b, wanted) in bytes.iter().zip(widths) {
-        assert_eq!(rt; width(&[*b]), *wanted, "{b}");
-    }
+fn each_printing_byte_has_its_width(rt: HostRuntime) -> Result<(), Fail> {
+    expect(&rt, rt.alloc(), Function::Widths, PRINTING)
 }
 
 /// Texts and their widths.
-static WIDE: [(&[u8], u128); 32] = [
-    (b"ab", 1056),
-    (br"{\ss}", 500),
-    (br"{\'E}", 681),
-    (b"{a}", 1500),
-    (b"", 0),
-    (b"\x1f\t\n\x7f\x80\xff", 0),
-    (br"{\ae}", 722),
-    (br"{\oe}", 778),
-    (br"{\AE}", 903),
-    (br"{\OE}", 1014),
-    (br"{\aa}", 500),
-    (br"{\AA}", 750),
-    (br"{\o}", 500),
-    (br"{\O}", 778),
-    (br"{\l}", 278),
-    (br"{\L}", 625),
-    (br"{\i}", 278),
-    (br"{\j}", 306),
-    (br"{\bf}", 0),
-    (br"{\ssx}", 0),
-    (br"{\bf x}", 528),
-    (br"{\bf  x y}", 1334),
-    (br"{\\ss}", 788),
-    (br"{\\\ss}", 500),
-    (br"{\' x}", 528),
-    (br"{\ x}", 528),
-    (br"{\'{e}}", 444),
-    (br#"{\"\i}"#, 278),
-    (br"{\}x", 528),
-    (br"{\ss", 500),
-    (br"{\ss}}", 1000),
-    (br"\ss", 1288),
-];
+const WIDE: &str = r#"
+ab -> 1056
+{\ss} -> 500
+{\'E} -> 681
+{a} -> 1500
+-> 0
+^^1f^^09^^0a^^7f^^80^^ff -> 0
+{\ae} -> 722
+{\oe} -> 778
+{\AE} -> 903
+{\OE} -> 1014
+{\aa} -> 500
+{\AA} -> 750
+{\o} -> 500
+{\O} -> 778
+{\l} -> 278
+{\L} -> 625
+{\i} -> 278
+{\j} -> 306
+{\bf} -> 0
+{\ssx} -> 0
+{\bf_x} -> 528
+{\bf__x_y} -> 1334
+{\\ss} -> 788
+{\\\ss} -> 500
+{\'_x} -> 528
+{\_x} -> 528
+{\'{e}} -> 444
+{\"\i} -> 278
+{\}x -> 528
+{\ss -> 500
+{\ss}} -> 1000
+\ss -> 1288
+"#;
 
 #[test]
-fn special_characters_have_the_width_of_their_letters(rt: HostRuntime) {
-    are_wide(&rt, &WIDE);
+fn special_characters_have_the_width_of_their_letters(rt: HostRuntime) -> Result<(), Fail> {
+    expect(&rt, rt.alloc(), Function::Width, WIDE)
 }
 
-fn are_wide(rt: &impl Abort, rows: &[(&[u8], u128)]) {
-    for (text, wide) in rows {
-        assert_eq!(rt; width(text), *wide);
+/// Expects a function to make of texts what the rows tell.
+fn expect(rt: &impl Abort, alloc: Global, function: Function, rows: &str) -> Result<(), Fail> {
+    for row in rows.lines() {
+        if let Some((given, wanted)) = row.split_once("->") {
+            let mut made = String::new(alloc);
+            add_made(&mut made, function, given.trim_end())?;
+            assert_eq!(rt; made.as_str(), wanted.trim_start(), "{row}");
+        }
+    }
+    Ok(())
+}
+
+/// Adds what a function makes of what it is given.
+fn add_made(made: &mut String, function: Function, given: &str) -> Result<(), Fail> {
+    let alloc = *made.allocator();
+    match function {
+        Function::IntToStr => add_text(made, int_to_str(alloc, given.parse::<i32>()?)),
+        Function::Substring => {
+            let (start, rest) = number_first(given)?;
+            let (length, rest) = number_first(rest)?;
+            let text = text_of(alloc, rest)?;
+            add_text(made, substring(alloc, text.as_slice(), start, length))
+        }
+        Function::TextPrefix => {
+            let (count, rest) = number_first(given)?;
+            let text = text_of(alloc, rest)?;
+            add_text(made, text_prefix(alloc, text.as_slice(), count))
+        }
+        _ => {
+            let text = text_of(alloc, given)?;
+            add_made_of(made, function, text.as_slice())
+        }
+    }
+}
+
+/// The number that stands first, and what stands behind it.
+fn number_first(given: &str) -> Result<(i32, &str), Fail> {
+    let (number, rest) = given.split_once(" ").unwrap_or((given, ""));
+    Ok((number.parse::<i32>()?, rest))
+}
+
+/// Adds what a function makes of a text.
+fn add_made_of(made: &mut String, function: Function, text: &[u8]) -> Result<(), Fail> {
+    let alloc = *made.allocator();
+    match function {
+        Function::AddPeriod => add_text(made, add_period(alloc, text)),
+        Function::ChangeCase(case) => add_text(made, change_case(alloc, text, case)),
+        Function::Purify => add_text(made, purify(alloc, text)),
+        Function::Widths => Ok(add_widths(made, text)?),
+        _ => Ok(add_value(made, function, text)?),
+    }
+}
+
+/// Adds a number or a truth value of a text.
+fn add_value(made: &mut String, function: Function, text: &[u8]) -> Result<(), NoMemory> {
+    match function {
+        Function::IsBlank => {
+            let blank = is_blank(text);
+            write!(made, "{blank}")?
+        }
+        Function::TextLength => {
+            let length = text_length(text);
+            write!(made, "{length}")?
+        }
+        _ => {
+            let width = width(text);
+            write!(made, "{width}")?
+        }
+    }
+    Ok(())
+}
+
+/// Adds the width of each byte.
+fn add_widths(made: &mut String, text: &[u8]) -> Result<(), NoMemory> {
+    for b in text {
+        let space = if made.as_str().is_empty() { "" } else { " " };
+        let width = width(&[*b]);
+        write!(made, "{space}{width}")?;
+    }
+    Ok(())
+}
+
+/// Adds a text as it is written in a row.
+fn add_text(made: &mut String, text: Result<Vec<u8>, NoMemory>) -> Result<(), Fail> {
+    for b in text?.as_slice() {
+        match *b {
+            b' ' => made.push('_')?,
+            b'^' | b'_' | 0..=31 | 127..=255 => {
+                let byte = *b;
+                write!(made, "^^{byte:02x}")?
+            }
+            _ => made.push(char::from(*b))?,
+        }
+    }
+    Ok(())
+}
+
+/// The text that is written so in a row.
+fn text_of(alloc: Global, written: &str) -> Result<Vec<u8>, NoMemory> {
+    let mut text = Vec::new(alloc);
+    let mut rest = written.as_bytes();
+    while let [first, after @ ..] = rest {
+        rest = after;
+        match (*first, after) {
+            (b'_', _) => text.push(b' ')?,
+            (b'^', [b'^', high, low, after @ ..]) => {
+                rest = after;
+                text.push(16 * digit(*high) + digit(*low))?;
+            }
+            _ => text.push(*first)?,
+        }
+    }
+    Ok(text)
+}
+
+/// The value of a digit of base 16, below 16.
+fn digit(byte: u8) -> u8 {
+    match byte {
+        b'0'..=b'9' => byte - b'0',
+        _ => byte.wrapping_sub(b'a').wrapping_add(10) % 16,
     }
 }

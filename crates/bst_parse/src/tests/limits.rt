@@ -1,11 +1,7 @@
 //! Styles at the limits of what may be read, and beyond.
 
-use crate::fault::StyleFault;
-use crate::parse::parse;
-use bv_base::limits::STYLE_BYTES;
-use bv_base::place::Place;
+use crate::tests::faults::is_refused;
 use std::alloc::{AllocError, Global};
-use std::process::Abort;
 use std::test::Fail;
 
 /// A text of some bytes, a part several times, and an end several times, and its fault if it has one.
@@ -16,53 +12,40 @@ struct Repeated {
     times: usize,
     after: &'static [u8],
     closes: usize,
-    fault: Option<StyleFault>,
+    fault: &'static str,
 }
 
-/// A text, and its fault at a column of the first line, if it has one.
+/// A text, and its fault, if it has one.
 macro_rules! repeated {
-    ($before:literal, $part:literal $times:literal, $after:literal $closes:literal) => {
+    ($before:literal, $part:literal $times:literal, $after:literal $closes:literal => $fault:literal) => {
         Repeated {
             before: $before,
             part: $part,
             times: $times,
             after: $after,
             closes: $closes,
-            fault: None,
-        }
-    };
-    ($before:literal, $part:literal $times:literal, $after:literal $closes:literal => $fault:ident $column:literal) => {
-        Repeated {
-            before: $before,
-            part: $part,
-            times: $times,
-            after: $after,
-            closes: $closes,
-            fault: Some(StyleFault::$fault(Place {
-                line: 1,
-                column: $column,
-            })),
+            fault: $fault,
         }
     };
 }
 
 static LARGE: [Repeated; 9] = [
-    repeated!(b"FUNCTION{f}", b"{" 257, b"}" 257),
-    repeated!(b"FUNCTION{f}", b"{" 258, b"}" 258 => TooDeep 269),
-    repeated!(b"FUNCTION{f}{}FUNCTION{g}", b"{" 258, b"}" 258 => TooDeep 282),
-    repeated!(b"FUNCTION{f}{", b"{}" 65535, b"}" 1),
-    repeated!(b"FUNCTION{f}{", b"{}" 65536, b"}" 1 => TooMany 131083),
-    repeated!(b"", b"%\x01\n" 1, b" entry{\x80\xff}{}{} % no end" 1),
-    repeated!(b"FUNCTION{f}{", b"#2147483647 " 1, b"#-2147483648}" 1),
-    repeated!(b"FUNCTION{f}{\"", b"\x01{}%" 1, b"\"}" 1),
-    repeated!(b"", b" " 3, b"" 1),
+    repeated!(b"FUNCTION{f}", b"{" 257, b"}" 257 => ""),
+    repeated!(b"FUNCTION{f}", b"{" 258, b"}" 258 => "TooDeep 1:269"),
+    repeated!(b"FUNCTION{f}{}FUNCTION{g}", b"{" 258, b"}" 258 => "TooDeep 1:282"),
+    repeated!(b"FUNCTION{f}{", b"{}" 65535, b"}" 1 => ""),
+    repeated!(b"FUNCTION{f}{", b"{}" 65536, b"}" 1 => "TooMany 1:131083"),
+    repeated!(b"", b"%\x01\n" 1, b" entry{\x80\xff}{}{} % no end" 1 => ""),
+    repeated!(b"FUNCTION{f}{", b"#2147483647 " 1, b"#-2147483648}" 1 => ""),
+    repeated!(b"FUNCTION{f}{\"", b"\x01{}%" 1, b"\"}" 1 => ""),
+    repeated!(b"", b" " 3, b"" 1 => ""),
 ];
 
 #[test]
 fn styles_at_their_limits(rt: HostRuntime) -> Result<(), Fail> {
     for row in &LARGE {
         let source = source_of(rt.alloc(), row)?;
-        is_read_as(&rt, rt.alloc(), source.as_slice(), row.fault);
+        is_refused(&rt, rt.alloc(), source.as_slice(), row.fault)?;
     }
     Ok(())
 }
@@ -82,18 +65,9 @@ fn source_of(alloc: Global, row: &Repeated) -> Result<Vec<u8>, AllocError> {
 #[test]
 fn as_many_names_as_there_may_be(rt: HostRuntime) -> Result<(), Fail> {
     let most = numbered(rt.alloc(), 65495)?;
-    is_read_as(&rt, rt.alloc(), most.as_slice(), None);
-    let place = Place {
-        line: 1,
-        column: 327485,
-    };
+    is_refused(&rt, rt.alloc(), most.as_slice(), "")?;
     let more = numbered(rt.alloc(), 65496)?;
-    is_read_as(
-        &rt,
-        rt.alloc(),
-        more.as_slice(),
-        Some(StyleFault::TooMany(place)),
-    );
+    is_refused(&rt, rt.alloc(), more.as_slice(), "TooMany 1:327485")?;
     Ok(())
 }
 
@@ -113,10 +87,4 @@ fn numbered(alloc: Global, count: u32) -> Result<Vec<u8>, AllocError> {
 
 fn letter(k: u32) -> u8 {
     b'a' + (k % 26) as u8
-}
-
-/// The text is a style, or has this fault.
-fn is_read_as(rt: &impl Abort, alloc: Global, source: &[u8], fault: Option<StyleFault>) {
-    assert!(rt; source.len() <= STYLE_BYTES);
-    assert_eq!(rt; parse(alloc, source).err(), fault);
 }

@@ -5,7 +5,7 @@ use bv_base::memory::NoMemory;
 use std::test::Fail;
 
 /// What stands before a body: a function that doubles a string, one that does so seven times, and the type `book`.
-pub const BEFORE: &str = r#"d{ duplicate$ * } e{ d d d d d d d } book{ "called" top$ } f{"#;
+pub const BEFORE: &[u8] = br#"d{ duplicate$ * } e{ d d d d d d d } book{ "called" top$ } f{"#;
 
 /// Built-in functions with fewer operands than they take, which are of a kind that few take.
 const SHORT: &str = r#"

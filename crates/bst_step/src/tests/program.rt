@@ -113,19 +113,28 @@ impl Program {
 
     /// Adds a word.
     fn word(&mut self, word: &[u8], place: Place) -> Result<(), NoMemory> {
-        match word {
-            [] => Ok(()),
-            [b'{'] => self.block(place),
-            [b'}'] => {
+        let Some((first, rest)) = word.split_first() else {
+            return Ok(());
+        };
+        match *first {
+            b'}' => {
                 self.open.pop();
                 Ok(())
             }
-            [b'#', digits @ ..] => self.token(Token::Int(integer(digits)), place),
-            [b'"', text @ .., b'"'] => self.text(text, place),
-            [b'\'', name @ ..] => {
-                let id = self.id(name)?;
+            b'#' => self.token(Token::Int(integer(rest)), place),
+            b'"' => self.text(rest, place),
+            b'\'' => {
+                let id = self.id(rest)?;
                 self.token(Token::Quote(id), place)
             }
+            _ => self.named(word, place),
+        }
+    }
+
+    /// Adds a word with a name, or the brace of a block.
+    fn named(&mut self, word: &[u8], place: Place) -> Result<(), NoMemory> {
+        match word {
+            [b'{'] => self.block(place),
             [name @ .., b'{'] => self.function(name, place),
             _ if self.open.as_slice().is_empty() => self.command(word, place),
             _ => {
@@ -167,12 +176,13 @@ impl Program {
         Ok(())
     }
 
-    /// Adds a text, with a space for each `_`.
+    /// Adds a text with a quote behind it, and with a space for each `_`.
     fn text(&mut self, text: &[u8], place: Place) -> Result<(), NoMemory> {
         let mut bytes = Vec::new(self.alloc);
         for b in text {
             bytes.push(if *b == b'_' { b' ' } else { *b })?;
         }
+        bytes.pop();
         let id = TextId(number(self.texts.as_slice().len()));
         self.texts.push(Text::from_vec(bytes))?;
         self.token(Token::Str(id), place)

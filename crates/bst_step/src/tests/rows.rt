@@ -68,9 +68,10 @@ fn told(alloc: Global, kind: Telling, words: &str) -> Result<String, NoMemory> {
 /// Adds what is told of a run of words to its end.
 pub fn add_told(told: &mut String, kind: Telling, words: &[u8]) -> Result<(), NoMemory> {
     let alloc = *told.allocator();
+    let [functions, front, back] = around(kind);
     let (style, last) = match kind {
         Telling::Site => style_of(alloc, &[words])?,
-        _ => style_around(alloc, around(kind), words)?,
+        _ => style_around(alloc, functions, front, words, back)?,
     };
     add_run(told, kind, &style, last)
 }
@@ -78,48 +79,52 @@ pub fn add_told(told: &mut String, kind: Telling, words: &[u8]) -> Result<(), No
 /// The style of words with functions, with what stands before the words and with what stands behind them.
 fn style_around<'a>(
     alloc: Global,
-    [functions, front, back]: [&'a str; 3],
+    functions: &'a [u8],
+    front: &'a [u8],
     words: &'a [u8],
+    back: &'a [u8],
 ) -> Result<(Style, Place), NoMemory> {
-    style_of(
-        alloc,
-        &[
-            functions.as_bytes(),
-            front.as_bytes(),
-            words,
-            back.as_bytes(),
-        ],
-    )
+    style_of(alloc, &[functions, front, words, back])
 }
 
 /// What a body stands in where it runs for the first entry alone.
-const FIRST: &str = r#"cite$ "A1" = {"#;
+const FIRST: &[u8] = br#"cite$ "A1" = {"#;
 
-const FIRST_END: &str = "} 'skip$ if$ } READ ITERATE f";
+const FIRST_END: &[u8] = b"} 'skip$ if$ } READ ITERATE f";
 
 /// What stands around words: functions, what stands before them, and what behind.
-fn around(kind: Telling) -> [&'static str; 3] {
+fn around(kind: Telling) -> [&'static [u8]; 3] {
     match kind {
         Telling::Log => [operands::BEFORE, FIRST, FIRST_END],
         Telling::LogOfCuts => [writing::BEFORE, FIRST, FIRST_END],
-        Telling::Lengths => [writing::BEFORE, "", "} READ EXECUTE f"],
-        Telling::Order => [runs::KEYS, "", "EXECUTE newline$"],
-        Telling::Fault => [operands::BEFORE, "", "} READ ITERATE f"],
-        Telling::FaultWithoutEntry => [operands::BEFORE, "", "} READ EXECUTE f"],
-        _ => ["", "", ""],
+        Telling::Lengths => [writing::BEFORE, b"", b"} READ EXECUTE f"],
+        Telling::Order => [runs::KEYS, b"", b"EXECUTE newline$"],
+        Telling::Fault => [operands::BEFORE, b"", b"} READ ITERATE f"],
+        Telling::FaultWithoutEntry => [operands::BEFORE, b"", b"} READ EXECUTE f"],
+        _ => [b"", b"", b""],
     }
 }
 
 /// Adds what is told of a run to its end.
 fn add_run(told: &mut String, kind: Telling, style: &Style, last: Place) -> Result<(), NoMemory> {
     let mut machine = machine_of(*told.allocator(), style)?;
-    let turn = machine.run(ENOUGH)?;
-    match turn {
-        Turn::Ended => add_text(told, kind, &machine),
-        Turn::Faulted(fault, site) if is_named(kind, site, last) => Ok(told.push_str(
-            fault.name(),
-        )?),
-        _ => add_turn(told, &machine, turn),
+    add_end(told, kind, &mut machine, last)
+}
+
+/// Adds what is told of a machine at the end of its run.
+fn add_end(
+    told: &mut String,
+    kind: Telling,
+    machine: &mut Machine<'_>,
+    last: Place,
+) -> Result<(), NoMemory> {
+    match machine.run(ENOUGH)? {
+        Turn::Ended => add_text(told, kind, machine),
+        Turn::Faulted(fault, site) if is_named(kind, site, last) => {
+            told.push_str(fault.name())?;
+            Ok(())
+        }
+        turn => add_turn(told, machine, turn),
     }
 }
 

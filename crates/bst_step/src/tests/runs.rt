@@ -56,14 +56,23 @@ fn runs_take_so_many_steps(rt: HostRuntime) -> Result<(), Fail> {
 
 /// Adds what so many steps of a style come to, at once or one by one, and the lines that are written then.
 pub fn add_steps(told: &mut String, words: &[u8], one_by_one: bool) -> Result<(), NoMemory> {
-    let alloc = *told.allocator();
     let (digits, style) = words.split_at(digits_length(words));
-    let (style, _) = style_of(alloc, &[after_white(style)])?;
-    let mut machine = machine_of(alloc, &style)?;
+    let (style, _) = style_of(*told.allocator(), &[after_white(style)])?;
+    add_steps_of(told, &style, number(digits), one_by_one)
+}
+
+/// The same of a style.
+fn add_steps_of(
+    told: &mut String,
+    style: &Style,
+    n: u64,
+    one_by_one: bool,
+) -> Result<(), NoMemory> {
+    let mut machine = machine_of(*told.allocator(), style)?;
     let turn = if one_by_one {
-        step_by_step(&mut machine, number(digits))?
+        step_by_step(&mut machine, n)?
     } else {
-        machine.run(number(digits))?
+        machine.run(n)?
     };
     add_turn(told, &machine, turn)?;
     add_lines_so_far(told, &machine)
@@ -88,8 +97,8 @@ fn add_lines_so_far(told: &mut String, machine: &Machine<'_>) -> Result<(), NoMe
 }
 
 /// Functions that give the entries sort keys, and one that writes the key of an entry.
-pub const KEYS: &str =
-    r#"title.key{ title missing$ { "" } { title } if$ 'sort.key$ := } no.key{ "" 'sort.key$ := } cite.key{ cite$ 'sort.key$ := } w{ cite$ write$ }"#;
+pub const KEYS: &[u8] =
+    br#"title.key{ title missing$ { "" } { title } if$ 'sort.key$ := } no.key{ "" 'sort.key$ := } cite.key{ cite$ 'sort.key$ := } w{ cite$ write$ }"#;
 
 /// Commands, and the line of keys that they write.
 const ORDERS: &str = r#"
