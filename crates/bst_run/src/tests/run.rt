@@ -69,12 +69,8 @@ pub static FAULTS: [Example; 5] = [
     ran!(ONE, b"", b"READ", b"@", "1" => BadStyle, "", "bad style 1:1 ReadBeforeEntry\n"),
 ];
 
-/// Cites one entry, which is there.
-const CITED: &[File] = &[
-    File {
-        name: "p.aux",
-        bytes: ONE,
-    },
+/// A style and a database with one entry.
+const STYLE_AND_DATA: &[File] = &[
     File {
         name: "s.bst",
         bytes: KEYS,
@@ -85,30 +81,35 @@ const CITED: &[File] = &[
     },
 ];
 
-/// Cites one entry, and one that isn't there.
-const CITED_AND_MISSING: &[File] = &[
-    File {
-        name: "p.aux",
-        bytes: b"\\citation{k,zz}\n\\bibstyle{s}\n\\bibdata{d}\n",
-    },
-    File {
-        name: "s.bst",
-        bytes: KEYS,
-    },
-    File {
-        name: "d.bib",
-        bytes: b"@misc{k}",
-    },
-];
+/// Cites the entry, and one that isn't there.
+const CITED_AND_MISSING: &[u8] = b"\\citation{k,zz}\n\\bibstyle{s}\n\\bibdata{d}\n";
+
+/// What is answered to a run over the style and the database, where this fails.
+macro_rules! failed {
+    ($aux:expr, $failing:expr => $status:ident, $out:expr, $err:expr) => {
+        Example {
+            words: &["run", "p.aux", "99"],
+            shared: STYLE_AND_DATA,
+            own: &[File {
+                name: "p.aux",
+                bytes: $aux,
+            }],
+            failing: $failing,
+            status: Status::$status,
+            out: $out,
+            err: $err,
+        }
+    };
+}
 
 /// Each of the three files is begun, read and read to its end. Then a call of standard output or of standard error
 /// fails, and what was written before it stands.
 pub static FAILING_RUNS: [Example; 7] = [
-    answered!(["run", "p.aux", "99"], CITED, Failing::Files(1) => ReadFailed, "", "read failed p.aux\n"),
-    answered!(["run", "p.aux", "99"], CITED, Failing::Files(3) => ReadFailed, "", "read failed p.aux\n"),
-    answered!(["run", "p.aux", "99"], CITED, Failing::Files(4) => ReadFailed, "", "read failed s.bst\n"),
-    answered!(["run", "p.aux", "99"], CITED, Failing::Files(8) => ReadFailed, "", "read failed d.bib\n"),
-    answered!(["run", "p.aux", "99"], CITED, Failing::Files(9) => ReadFailed, "", "read failed d.bib\n"),
-    answered!(["run", "p.aux", "99"], CITED_AND_MISSING, Failing::Out => WriteFailed, "", ""),
-    answered!(["run", "p.aux", "99"], CITED_AND_MISSING, Failing::Err => WriteFailed, "k\n", ""),
+    failed!(ONE, Failing::Files(1) => ReadFailed, "", "read failed p.aux\n"),
+    failed!(ONE, Failing::Files(3) => ReadFailed, "", "read failed p.aux\n"),
+    failed!(ONE, Failing::Files(4) => ReadFailed, "", "read failed s.bst\n"),
+    failed!(ONE, Failing::Files(8) => ReadFailed, "", "read failed d.bib\n"),
+    failed!(ONE, Failing::Files(9) => ReadFailed, "", "read failed d.bib\n"),
+    failed!(CITED_AND_MISSING, Failing::Out => WriteFailed, "", ""),
+    failed!(CITED_AND_MISSING, Failing::Err => WriteFailed, "k\n", ""),
 ];
