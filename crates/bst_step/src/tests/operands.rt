@@ -1,11 +1,12 @@
 //! The operands of the built-in functions, their faults, and what they give.
 
-use crate::tests::rows::{Telling, add_told, expect};
+use crate::tests::program::ENOUGH;
+use crate::tests::rows::{Telling, add_after, expect};
 use bv_base::memory::NoMemory;
 use std::test::Fail;
 
 /// What stands before a body: a function that doubles a string, one that does so seven times, and the type `book`.
-pub const BEFORE: &[u8] = br#"d{ duplicate$ * } e{ d d d d d d d } book{ "called" top$ } f{"#;
+pub const BEFORE: &str = r#"d{ duplicate$ * } e{ d d d d d d d } book{ "called" top$ } f{"#;
 
 /// Built-in functions with fewer operands than they take, which are of a kind that few take.
 const SHORT: &str = r#"
@@ -130,24 +131,32 @@ fn operands_are_of_their_kinds(rt: HostRuntime) -> Result<(), Fail> {
 
 /// Adds the kinds that an operand may be, which stands at the `?`: those for which the fault isn't WrongKind.
 pub fn add_kinds(told: &mut String, words: &str) -> Result<(), NoMemory> {
-    let alloc = *told.allocator();
-    let Some((before, behind)) = words.split_once("?") else {
-        return Err(NoMemory);
-    };
     for (kind, operand) in [
         ("#", "#1"),
         ("\"", "\"t\""),
         ("m", "crossref"),
         ("'", "{ #0 }"),
     ] {
-        let body = format!(in alloc; "{before}{operand}{behind}")?;
-        let mut fault = String::new(alloc);
-        add_told(&mut fault, Telling::Fault, body.as_bytes())?;
-        if fault.as_str() != "WrongKind" {
-            told.push_str(kind)?;
-        }
+        add_kind(told, kind, operand, words)?;
     }
     Ok(())
+}
+
+/// Adds a kind, unless the fault with such an operand is WrongKind.
+fn add_kind(told: &mut String, kind: &str, operand: &str, words: &str) -> Result<(), NoMemory> {
+    let mut fault = String::new(*told.allocator());
+    add_fault_with(&mut fault, operand, words)?;
+    if fault.as_str() != "WrongKind" {
+        told.push_str(kind)?;
+    }
+    Ok(())
+}
+
+/// Adds the fault with an operand.
+fn add_fault_with(fault: &mut String, operand: &str, words: &str) -> Result<(), NoMemory> {
+    let (before, behind) = words.split_once("?").unwrap_or((words, ""));
+    let body = format!(in *fault.allocator(); "{before}{operand}{behind}")?;
+    add_after(fault, Telling::Fault, ENOUGH, body.as_bytes())
 }
 
 /// The further faults, each of the last token.
@@ -337,7 +346,12 @@ fn built_ins_give_their_values(rt: HostRuntime) -> Result<(), Fail> {
 #[test]
 fn a_byte_may_be_any(rt: HostRuntime) -> Result<(), Fail> {
     let mut told = String::new(rt.alloc());
-    add_told(&mut told, Telling::Log, b"\"\xff\" chr.to.int$ top$")?;
+    add_after(
+        &mut told,
+        Telling::Log,
+        ENOUGH,
+        b"\"\xff\" chr.to.int$ top$",
+    )?;
     assert_eq!(rt; told.as_str(), "255|");
     Ok(())
 }

@@ -176,13 +176,16 @@ impl Program {
         Ok(())
     }
 
-    /// Adds a text with a quote behind it, and with a space for each `_`.
+    /// Adds a text without the quote behind it, and with a space for each `_`.
     fn text(&mut self, text: &[u8], place: Place) -> Result<(), NoMemory> {
         let mut bytes = Vec::new(self.alloc);
         for b in text {
-            bytes.push(if *b == b'_' { b' ' } else { *b })?;
+            match *b {
+                b'"' => {}
+                b'_' => bytes.push(b' ')?,
+                _ => bytes.push(*b)?,
+            }
         }
-        bytes.pop();
         let id = TextId(number(self.texts.as_slice().len()));
         self.texts.push(Text::from_vec(bytes))?;
         self.token(Token::Str(id), place)

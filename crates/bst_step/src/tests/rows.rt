@@ -4,12 +4,13 @@
 use crate::machine::{Machine, Site, Turn};
 use crate::tests::operands::add_kinds;
 use crate::tests::program::{ENOUGH, machine_of, style_of};
-use crate::tests::runs::add_steps;
+use crate::tests::runs::{add_lines_so_far, step_by_step};
 use crate::tests::writing::add_lengths;
 use crate::tests::{operands, runs, writing};
 use bst_meaning::fault::Fault;
 use bv_base::memory::NoMemory;
 use bv_base::place::Place;
+use bv_base::runs::{after_white, digits_length, number};
 use name_table::style::Style;
 use std::alloc::Global;
 use std::process::Abort;
@@ -43,88 +44,125 @@ pub enum Telling {
 pub fn expect(rt: &impl Abort, alloc: Global, kind: Telling, rows: &str) -> Result<(), NoMemory> {
     for row in rows.lines() {
         match row.split_once(" ->") {
-            Some((words, wanted)) => {
-                let told = told(alloc, kind, words)?;
-                assert_eq!(rt; told.as_str(), wanted.trim_start(), "{words}");
-            }
+            Some((words, wanted)) => expect_row(rt, alloc, kind, words, wanted.trim_start())?,
             None => assert!(rt; row.is_empty() || row.starts_with("%"), "{row}"),
         }
     }
     Ok(())
 }
 
-/// What is told of words.
-fn told(alloc: Global, kind: Telling, words: &str) -> Result<String, NoMemory> {
+/// Expects what is told of words.
+fn expect_row(
+    rt: &impl Abort,
+    alloc: Global,
+    kind: Telling,
+    words: &str,
+    wanted: &str,
+) -> Result<(), NoMemory> {
     let mut told = String::new(alloc);
-    match kind {
-        Telling::Kinds => add_kinds(&mut told, words)?,
-        Telling::Steps => add_steps(&mut told, words.as_bytes(), false)?,
-        Telling::StepByStep => add_steps(&mut told, words.as_bytes(), true)?,
-        _ => add_told(&mut told, kind, words.as_bytes())?,
-    }
-    Ok(told)
+    add_told(&mut told, kind, words)?;
+    assert_eq!(rt; told.as_str(), wanted, "{words}");
+    Ok(())
 }
 
-/// Adds what is told of a run of words to its end.
-pub fn add_told(told: &mut String, kind: Telling, words: &[u8]) -> Result<(), NoMemory> {
-    let alloc = *told.allocator();
+/// Adds what is told of words.
+fn add_told(told: &mut String, kind: Telling, words: &str) -> Result<(), NoMemory> {
+    let bytes = words.as_bytes();
+    match kind {
+        Telling::Kinds => add_kinds(told, words),
+        Telling::Steps | Telling::StepByStep => {
+            let (digits, style) = bytes.split_at(digits_length(bytes));
+            add_after(told, kind, number(digits), after_white(style))
+        }
+        _ => add_after(told, kind, ENOUGH, bytes),
+    }
+}
+
+/// Adds what is told of words after so many steps.
+pub fn add_after(told: &mut String, kind: Telling, n: u64, words: &[u8]) -> Result<(), NoMemory> {
+    let (style, last) = style_for(*told.allocator(), kind, words)?;
+    add_run(told, kind, n, &style, last)
+}
+
+/// The style of words, and the place of its last token.
+fn style_for(alloc: Global, kind: Telling, words: &[u8]) -> Result<(Style, Place), NoMemory> {
     let [functions, front, back] = around(kind);
-    let (style, last) = match kind {
-        Telling::Site => style_of(alloc, &[words])?,
-        _ => style_around(alloc, functions, front, words, back)?,
-    };
-    add_run(told, kind, &style, last)
+    match kind {
+        Telling::Site | Telling::Steps | Telling::StepByStep => style_of(alloc, &[words]),
+        _ => style_around(alloc, functions, front, words, back),
+    }
 }
 
 /// The style of words with functions, with what stands before the words and with what stands behind them.
 fn style_around<'a>(
     alloc: Global,
-    functions: &'a [u8],
-    front: &'a [u8],
+    functions: &'a str,
+    front: &'a str,
     words: &'a [u8],
-    back: &'a [u8],
+    back: &'a str,
 ) -> Result<(Style, Place), NoMemory> {
+    let (functions, front, back) = (functions.as_bytes(), front.as_bytes(), back.as_bytes());
     style_of(alloc, &[functions, front, words, back])
 }
 
 /// What a body stands in where it runs for the first entry alone.
-const FIRST: &[u8] = br#"cite$ "A1" = {"#;
+const FIRST: &str = r#"cite$ "A1" = {"#;
 
-const FIRST_END: &[u8] = b"} 'skip$ if$ } READ ITERATE f";
+const FIRST_END: &str = "} 'skip$ if$ } READ ITERATE f";
 
 /// What stands around words: functions, what stands before them, and what behind.
-fn around(kind: Telling) -> [&'static [u8]; 3] {
+fn around(kind: Telling) -> [&'static str; 3] {
     match kind {
         Telling::Log => [operands::BEFORE, FIRST, FIRST_END],
         Telling::LogOfCuts => [writing::BEFORE, FIRST, FIRST_END],
-        Telling::Lengths => [writing::BEFORE, b"", b"} READ EXECUTE f"],
-        Telling::Order => [runs::KEYS, b"", b"EXECUTE newline$"],
-        Telling::Fault => [operands::BEFORE, b"", b"} READ ITERATE f"],
-        Telling::FaultWithoutEntry => [operands::BEFORE, b"", b"} READ EXECUTE f"],
-        _ => [b"", b"", b""],
+        Telling::Lengths => [writing::BEFORE, "", "} READ EXECUTE f"],
+        Telling::Order => [runs::KEYS, "", "EXECUTE newline$"],
+        Telling::Fault => [operands::BEFORE, "", "} READ ITERATE f"],
+        Telling::FaultWithoutEntry => [operands::BEFORE, "", "} READ EXECUTE f"],
+        _ => ["", "", ""],
     }
 }
 
-/// Adds what is told of a run to its end.
-fn add_run(told: &mut String, kind: Telling, style: &Style, last: Place) -> Result<(), NoMemory> {
-    let mut machine = machine_of(*told.allocator(), style)?;
-    add_end(told, kind, &mut machine, last)
-}
-
-/// Adds what is told of a machine at the end of its run.
-fn add_end(
+/// Adds what is told of a run of so many steps.
+fn add_run(
     told: &mut String,
     kind: Telling,
-    machine: &mut Machine<'_>,
+    n: u64,
+    style: &Style,
     last: Place,
 ) -> Result<(), NoMemory> {
-    match machine.run(ENOUGH)? {
-        Turn::Ended => add_text(told, kind, machine),
-        Turn::Faulted(fault, site) if is_named(kind, site, last) => {
+    let mut machine = machine_of(*told.allocator(), style)?;
+    let turn = turn_after(kind, n, &mut machine)?;
+    add_outcome(told, kind, &machine, turn, last)
+}
+
+/// What a machine comes to after so many steps.
+fn turn_after(kind: Telling, n: u64, machine: &mut Machine<'_>) -> Result<Turn, NoMemory> {
+    match kind {
+        Telling::StepByStep => step_by_step(machine, n),
+        _ => machine.run(n),
+    }
+}
+
+/// Adds what is told of what a machine has come to.
+fn add_outcome(
+    told: &mut String,
+    kind: Telling,
+    machine: &Machine<'_>,
+    turn: Turn,
+    last: Place,
+) -> Result<(), NoMemory> {
+    match (kind, turn) {
+        (Telling::Steps | Telling::StepByStep, _) => {
+            add_turn(told, machine, turn)?;
+            add_lines_so_far(told, machine)
+        }
+        (_, Turn::Ended) => add_text(told, kind, machine),
+        (_, Turn::Faulted(fault, site)) if is_named(kind, site, last) => {
             told.push_str(fault.name())?;
             Ok(())
         }
-        turn => add_turn(told, machine, turn),
+        _ => add_turn(told, machine, turn),
     }
 }
 

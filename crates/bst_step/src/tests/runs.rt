@@ -1,11 +1,8 @@
 //! How many steps runs take, and in which order they visit entries.
 
 use crate::machine::{Machine, Turn};
-use crate::tests::program::{machine_of, style_of};
-use crate::tests::rows::{Telling, add_bytes, add_turn, expect};
+use crate::tests::rows::{Telling, add_bytes, expect};
 use bv_base::memory::NoMemory;
-use bv_base::runs::{after_white, digits_length, number};
-use name_table::style::Style;
 use std::test::Fail;
 
 /// Numbers of steps, styles of one line, what they come to, and the lines that are written then.
@@ -54,32 +51,8 @@ fn runs_take_so_many_steps(rt: HostRuntime) -> Result<(), Fail> {
     Ok(expect(&rt, rt.alloc(), Telling::StepByStep, STEPS)?)
 }
 
-/// Adds what so many steps of a style come to, at once or one by one, and the lines that are written then.
-pub fn add_steps(told: &mut String, words: &[u8], one_by_one: bool) -> Result<(), NoMemory> {
-    let (digits, style) = words.split_at(digits_length(words));
-    let (style, _) = style_of(*told.allocator(), &[after_white(style)])?;
-    add_steps_of(told, &style, number(digits), one_by_one)
-}
-
-/// The same of a style.
-fn add_steps_of(
-    told: &mut String,
-    style: &Style,
-    n: u64,
-    one_by_one: bool,
-) -> Result<(), NoMemory> {
-    let mut machine = machine_of(*told.allocator(), style)?;
-    let turn = if one_by_one {
-        step_by_step(&mut machine, n)?
-    } else {
-        machine.run(n)?
-    };
-    add_turn(told, &machine, turn)?;
-    add_lines_so_far(told, &machine)
-}
-
 /// So many steps, one by one.
-fn step_by_step(machine: &mut Machine<'_>, n: u64) -> Result<Turn, NoMemory> {
+pub fn step_by_step(machine: &mut Machine<'_>, n: u64) -> Result<Turn, NoMemory> {
     let mut turn = machine.run(0)?;
     for _ in 0..n {
         turn = machine.step()?;
@@ -88,7 +61,7 @@ fn step_by_step(machine: &mut Machine<'_>, n: u64) -> Result<Turn, NoMemory> {
 }
 
 /// Adds a space and the lines that a machine has written, where there are any.
-fn add_lines_so_far(told: &mut String, machine: &Machine<'_>) -> Result<(), NoMemory> {
+pub fn add_lines_so_far(told: &mut String, machine: &Machine<'_>) -> Result<(), NoMemory> {
     let lines = machine.lines()?;
     if !lines.as_slice().is_empty() {
         told.push(' ')?;
@@ -97,8 +70,8 @@ fn add_lines_so_far(told: &mut String, machine: &Machine<'_>) -> Result<(), NoMe
 }
 
 /// Functions that give the entries sort keys, and one that writes the key of an entry.
-pub const KEYS: &[u8] =
-    br#"title.key{ title missing$ { "" } { title } if$ 'sort.key$ := } no.key{ "" 'sort.key$ := } cite.key{ cite$ 'sort.key$ := } w{ cite$ write$ }"#;
+pub const KEYS: &str =
+    r#"title.key{ title missing$ { "" } { title } if$ 'sort.key$ := } no.key{ "" 'sort.key$ := } cite.key{ cite$ 'sort.key$ := } w{ cite$ write$ }"#;
 
 /// Commands, and the line of keys that they write.
 const ORDERS: &str = r#"

@@ -6,8 +6,8 @@ use std::test::Fail;
 
 /// What stands before a body: a function that doubles a string, one that does so seven times, functions that give
 /// strings of `a`, of `b` and of spaces with so many bytes, and one that writes such a string of `a`.
-pub const BEFORE: &[u8] =
-    br#"d{ duplicate$ * } e{ d d d d d d d } cut{ 'i := e e d #1 i substring$ } a{ 'i := "a" i cut } b{ 'i := "b" i cut } sp{ 'i := "_" i cut } f{"#;
+pub const BEFORE: &str =
+    r#"d{ duplicate$ * } e{ d d d d d d d } cut{ 'i := e e d #1 i substring$ } a{ 'i := "a" i cut } b{ 'i := "b" i cut } sp{ 'i := "_" i cut } f{"#;
 
 /// What is logged where strings of so many bytes are assigned, and then the length and the end of what the variable has.
 const ASSIGNED: &str = r#"
