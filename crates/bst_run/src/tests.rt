@@ -90,6 +90,7 @@ macro_rules! nested {
     };
 }
 
+mod begun;
 mod check;
 mod data;
 mod run;

@@ -1,0 +1,153 @@
+//! Which files are begun.
+
+use crate::command::command;
+use crate::tests::check::{JOINS, NO_ENTRIES};
+use crate::tests::{File, add_files, owned};
+use bv_base::files::Begun;
+use bv_base::mem_files::MemFiles;
+use bv_base::mem_sink::MemSink;
+use std::alloc::Global;
+use std::process::Abort;
+use std::test::Fail;
+
+/// Words and files, and the names that are begun: each on a line, behind `-` where no file has it.
+#[derive(Clone, Copy)]
+struct Beginning {
+    words: &'static [&'static str],
+    files: &'static [File],
+    begun: &'static str,
+}
+
+macro_rules! begins {
+    ($words:expr, $files:expr => $begun:expr) => {
+        Beginning {
+            words: &$words,
+            files: $files,
+            begun: $begun,
+        }
+    };
+}
+
+const GOOD_STYLE: &[File] = &[
+    File {
+        name: "a.bst",
+        bytes: JOINS,
+    },
+    File {
+        name: "b.cert",
+        bytes: NO_ENTRIES,
+    },
+];
+
+const BAD_STYLE: &[File] = &[
+    File {
+        name: "a.bst",
+        bytes: b"FOO",
+    },
+    File {
+        name: "b.cert",
+        bytes: NO_ENTRIES,
+    },
+];
+
+/// Inputs below inputs, and a database that isn't there before one that is.
+const TREE: &[File] = &[
+    File {
+        name: "p.aux",
+        bytes: b"\\@input{i.aux}\n\\@input{j.aux}\n\\bibstyle{a}\n\\bibdata{d,e}\n",
+    },
+    File {
+        name: "i.aux",
+        bytes: b"\\@input{k.aux}\n",
+    },
+    File {
+        name: "j.aux",
+        bytes: b"\\citation{k}\n",
+    },
+    File {
+        name: "k.aux",
+        bytes: b"",
+    },
+    File {
+        name: "a.bst",
+        bytes: JOINS,
+    },
+    File {
+        name: "e.bib",
+        bytes: b"",
+    },
+];
+
+/// A file that inputs itself, and names a style.
+const ITSELF: &[File] = &[File {
+    name: "p.aux",
+    bytes: b"\\@input{p.aux}\n",
+}];
+
+/// An input that names a second style, and has an input of its own.
+const SECOND_STYLE: &[File] = &[
+    File {
+        name: "p.aux",
+        bytes: b"\\bibstyle{a}\n\\@input{i.aux}\n",
+    },
+    File {
+        name: "i.aux",
+        bytes: b"\\@input{k.aux}\n\\bibstyle{a}\n",
+    },
+];
+
+static BEGINNINGS: [Beginning; 8] = [
+    begins!(["check", "a.bst"], GOOD_STYLE => ""),
+    begins!(["check", "a.bst", "b.cert"], GOOD_STYLE => "a.bst\nb.cert\n"),
+    begins!(["check", "a.bst", "c.cert"], GOOD_STYLE => "a.bst\n-c.cert\n"),
+    begins!(["check", "a.bst", "b.cert"], BAD_STYLE => "a.bst\n"),
+    begins!(["check", "c.bst", "b.cert"], GOOD_STYLE => "-c.bst\n"),
+    begins!(["run", "p.aux", "9"], TREE => "p.aux\ni.aux\nk.aux\nj.aux\na.bst\n-d.bib\n"),
+    // The first file has depth 0, and sixteen may lie below it.
+    begins!(["run", "p.aux", "9"], ITSELF => "p.aux\np.aux\np.aux\np.aux\np.aux\np.aux\np.aux\np.aux\np.aux\np.aux\np.aux\np.aux\np.aux\np.aux\np.aux\np.aux\np.aux\n"),
+    begins!(["run", "p.aux", "9"], SECOND_STYLE => "p.aux\ni.aux\n"),
+];
+
+#[test]
+fn files_are_begun_that_are_named(rt: HostRuntime) -> Result<(), Fail> {
+    for row in &BEGINNINGS {
+        let files = files_after(rt.alloc(), row)?;
+        compare_begun(&rt, rt.alloc(), files.begun(), row.begun)?;
+    }
+    Ok(())
+}
+
+/// The files after the words were carried out.
+fn files_after(alloc: Global, row: &Beginning) -> Result<MemFiles, Fail> {
+    let mut files = MemFiles::new(alloc);
+    add_files(&mut files, row.files)?;
+    carry_out(alloc, row.words, &mut files)?;
+    Ok(files)
+}
+
+fn carry_out(alloc: Global, words: &[&str], files: &mut MemFiles) -> Result<(), Fail> {
+    let words = owned(alloc, words)?;
+    let mut out = MemSink::new(alloc);
+    let mut err = MemSink::new(alloc);
+    let _ = command(alloc, words.as_slice(), files, &mut out, &mut err);
+    Ok(())
+}
+
+/// Asserts what was begun.
+fn compare_begun(
+    rt: &impl Abort,
+    alloc: Global,
+    begun: &[Begun],
+    wanted: &str,
+) -> Result<(), Fail> {
+    let mut lines = Vec::new(alloc);
+    for file in begun {
+        if file.absent {
+            lines.push(b'-')?;
+        }
+        lines.extend_from_slice(file.name.as_slice())?;
+        lines.push(b'\n')?;
+    }
+    assert_eq!(rt; lines.as_slice(), wanted.as_bytes());
+    Ok(())
+}
