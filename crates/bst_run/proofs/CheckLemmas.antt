@@ -1,9 +1,10 @@
 -- From the two files to the decision.
-use Rattle.std.proofs.Common.{◌≡◌, ℕ, ◌≤◌, true, false, ◌||◌, not, nat_lt, cond, List, length, Option, None, Some, Result, Ok, Err, ◌∙◌, ap, subst, arith}
+use Rattle.std.proofs.Common.{◌≡◌, ℕ, ◌≤◌, true, false, ◌||◌, not, nat_lt, cond, List, length, Option, None, Some, Result, Ok, Err, refl, ◌∙◌, ap, subst, arith}
 use Rattle.std.specs.Prelude.{IfSome, IfOk, IfErr}
 use Rattle.std.specs.FinMap.{get}
 use Rattle.std.proofs.lemmas.Bool.Decides.{nat_tests}
 use Rattle.bv_base.specs.Outside.{Listing}
+use Rattle.bv_base.specs.declared.files.Begun.{Begun}
 use Rattle.bv_base.specs.declared.files.Files.{Ghosts}
 use Rattle.name_table.specs.declared.style.Style.{Style}
 use Rattle.bst_parse.specs.declared.fault.StyleFault.{StyleFault}
@@ -18,9 +19,11 @@ use Rattle.bv_base.specs.Answers.{then_do}
 use Rattle.bv_base.specs.declared.limits.TheConstants.{STYLE_BYTES}
 use Rattle.bst_run.specs.Files.{whole_file, file_in}
 use Rattle.bst_run.specs.Sources.{read_style}
+use Rattle.bst_run.specs.FilesBegun.{Begins, check_begun, file_begun, then_begun}
 use Rattle.bst_run.specs.Reads.{Reads}
 use Rattle.bst_run.specs.Stops.{Gives, Decides, IsInside}
 use Rattle.bst_run.specs.Top.{judged, decided, after_style, condition_in, IsDecidedWell, IsAccepted}
+use Rattle.bst_run.proofs.BegunLemmas.{begins_after, begins_next, begins_refused, begins_stopped}
 use Rattle.bst_run.proofs.ReadsLemmas.{reads_next, reads_nothing}
 
 -- a straight style that isn't too long and a short certificate are decided by the rules
@@ -90,3 +93,31 @@ accepts (Some t) told' style_name cert_name bytes bytes' bytes'' text text' styl
       cert_read = decided_well.cert_read;
       safe = decided_well.safe;
     }
+
+-- the style isn't read, and the certificate isn't begun
+pub style_unread_begun : (B : Type 0) (told : Option Listing) (style_name cert_name : List ℕ) (old new : List Begun) (stop : Stop)
+    → Gives {A = List ℕ} told (λ t. file_in t STYLE_BYTES style_name) (Err stop) → Begins {A = List ℕ} told (λ t. file_begun t style_name) old new (Err stop)
+    → Begins {A = B} told (λ t. check_begun t style_name cert_name) old new (Err stop)
+style_unread_begun B told style_name cert_name old new stop gives first =
+    begins_stopped {A = List ℕ} B told (λ t. file_in t STYLE_BYTES style_name) (λ t. file_begun t style_name)
+    (λ t b. then_begun {A = Style} (read_style (style_of b)) (λ _. file_begun t cert_name)) old new stop gives first
+
+-- the bytes are no style, and the certificate isn't begun
+pub style_refused_begun : (B : Type 0) (told : Option Listing) (style_name cert_name bytes bytes' : List ℕ) (old new : List Begun) (stop : Stop)
+    → bytes' ≡ bytes → Gives {A = List ℕ} told (λ t. file_in t STYLE_BYTES style_name) (Ok bytes) → Begins {A = List ℕ} told (λ t. file_begun t style_name) old new (Ok bytes)
+    → Decides {A = Style} (read_style (style_of bytes')) (Err stop)
+    → Begins {A = B} told (λ t. check_begun t style_name cert_name) old new (Err stop)
+style_refused_begun B told style_name cert_name bytes bytes' old new stop is gives first refused =
+    begins_next {A = List ℕ} {B = B} told told (λ t. file_in t STYLE_BYTES style_name) bytes bytes' (λ t. file_begun t style_name)
+    (λ t b. then_begun {A = Style} (read_style (style_of b)) (λ _. file_begun t cert_name)) old new new (Err stop) refl is gives first
+    (begins_refused {A = Style} B told (read_style (style_of bytes')) (λ t _. file_begun t cert_name) new stop refused)
+
+-- the style is read, and then the certificate is begun
+pub cert_begun : {B : Type 0} (told told' : Option Listing) (style_name cert_name bytes bytes' : List ℕ) (style : Style) (old mid new : List Begun) (result : Result B Stop)
+    → told' ≡ told → bytes' ≡ bytes → Gives {A = List ℕ} told (λ t. file_in t STYLE_BYTES style_name) (Ok bytes) → Begins {A = List ℕ} told (λ t. file_begun t style_name) old mid (Ok bytes)
+    → Decides {A = Style} (read_style (style_of bytes')) (Ok style) → Begins {A = B} told' (λ t. file_begun t cert_name) mid new result
+    → Begins {A = B} told (λ t. check_begun t style_name cert_name) old new result
+cert_begun {B = B} told told' style_name cert_name bytes bytes' style old mid new result same is gives first read more =
+    begins_next {A = List ℕ} {B = B} told told' (λ t. file_in t STYLE_BYTES style_name) bytes bytes' (λ t. file_begun t style_name)
+    (λ t b. then_begun {A = Style} (read_style (style_of b)) (λ _. file_begun t cert_name)) old mid new result same is gives first
+    (begins_after {A = Style} {B = B} told' (read_style (style_of bytes')) style (λ t _. file_begun t cert_name) mid new result read more)

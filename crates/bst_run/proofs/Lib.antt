@@ -5,6 +5,7 @@ pub mod CheckLemmas
 pub mod DeliveryLemmas
 pub mod CommandLemmas
 pub mod ReadsLemmas
+pub mod BegunLemmas
 pub mod ReadingLemmas
 pub mod RefusalPlaces
 pub mod RunLemmas

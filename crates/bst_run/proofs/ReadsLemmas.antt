@@ -116,3 +116,13 @@ reads_stopped see old new first next stop h = record {
   told = h.told;
   count = h.count;
 }
+
+-- memory is wanting
+pub reads_wanting : {F : Type 0} (A : Type 0) (see : Ghosts F) (old new : F) (wanted : Listing → Result A Outcome)
+    → see.told new ≡ see.told old → see.faults old ≤ see.faults new → Reads {F = F} {A = A} see old new wanted (Err NoMemory)
+reads_wanting A see old new wanted same count =
+    record { gives = by (see.told old); cause = tt; told = same; count = count }
+  where
+    by : (told : Option Listing) → Gives {A = A} told wanted (Err NoMemory)
+    by None = tt
+    by (Some t) = tt

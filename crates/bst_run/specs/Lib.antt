@@ -16,5 +16,6 @@ pub mod AuxChain
 pub mod InputTrees
 pub mod Sources
 pub mod Ran
+pub mod FilesBegun
 pub mod Delivery
 pub mod Top

@@ -1,6 +1,7 @@
 //! The words `check STYLE CERT`: from the two files to the decision.
 
 ghost use Rattle.std.specs.Prelude.{◌≡◌, IfOk, IfErr, IfSome};
+ghost use Rattle.bst_run.specs.FilesBegun.{Begins, check_begun};
 ghost use Rattle.bst_run.specs.Reads.{Reads};
 ghost use Rattle.bst_run.specs.Stops as stops;
 ghost use Rattle.bst_run.specs.Top as top;
@@ -30,6 +31,7 @@ pub fn check<F: Files>(
     cert_name: &str,
 ) -> Result<Outcome, Stop>
     ensures reads { Reads ⟦<F as Files>⟧ files.old files.new (λ told. top.check_outcome told style_name.now cert_name.now) result }
+    ensures begun { Begins (F.told files.old) (λ told. check_begun told style_name.now cert_name.now) (F.begun files.old) (F.begun files.new) result }
     ensures decided { IfOk result (λ outcome. stops.IsDecided outcome.status) }
     ensures safe { IfOk result (λ outcome. IfSome (F.told files.old) (λ told.
         top.IsAcceptance told style_name.now cert_name.now outcome)) }
@@ -48,6 +50,7 @@ fn judge<F: Files>(
     ensures accepted { IfOk result (λ cond. IfSome (F.told files.old) (λ told.
         top.IsAccepted told style_name.now cert_name.now cond)) }
     ensures reads { Reads ⟦<F as Files>⟧ files.old files.new (λ told. top.condition_in told style_name.now cert_name.now) result }
+    ensures begun { Begins (F.told files.old) (λ told. check_begun told style_name.now cert_name.now) (F.begun files.old) (F.begun files.new) result }
 {
     let source = style_file(alloc, files, style_name)?;
     let style = style_from(alloc, source.as_slice())?;

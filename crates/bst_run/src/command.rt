@@ -3,6 +3,7 @@
 ghost use Rattle.std.specs.Prelude.{◌≡◌, ◌≢◌, ◌⊎◌, None, Some, true, false, IfOk, IfSome, IsSomeAnd};
 ghost use Rattle.bv_base.specs.Outside.{Rose, appended, last_begun};
 ghost use Rattle.bst_run.specs.Delivery.{sunk, IsDelivered, TellsOfSinks};
+ghost use Rattle.bst_run.specs.FilesBegun.{HasBegun, files_begun, given_of};
 ghost use Rattle.bst_run.specs.Forms as forms;
 ghost use Rattle.bst_run.specs.Report as report;
 ghost use Rattle.bst_run.specs.Stops.{told_of};
@@ -35,9 +36,13 @@ pub fn command<F: Files, O: Sink, E: Sink>(
         IsDelivered report.usage result (sunk ⟦<O as Sink>⟧ out.old out.new) (sunk ⟦<E as Sink>⟧ err.old err.new) }
     ensures usage_silent { forms.form_of words.now ≡ None → O.written out.new ≡ O.written out.old }
     ensures usage_only { result ≡ Status.Usage → forms.form_of words.now ≡ None }
+    ensures usage_unread { forms.form_of words.now ≡ None → F.begun files.new ≡ F.begun files.old }
     // Where the files tell, the words and the files decide the answer and its texts.
     ensures answered { IfSome (forms.form_of words.now) (λ form. IfSome (F.told files.old) (λ told.
         top.IsAnswered (top.outcome_in told form) result (sunk ⟦<O as Sink>⟧ out.old out.new) (sunk ⟦<E as Sink>⟧ err.old err.new))) }
+    // Where the files tell, those are begun that the words and the `.aux` files name, up to the one that decides, and no other.
+    ensures begun { IfSome (forms.form_of words.now) (λ form. IfSome (F.told files.old) (λ told.
+        HasBegun ⟦<F as Files>⟧ files.old files.new (files_begun told form) result)) }
     // What the outside did shows in the answer.
     ensures no_file { result ≡ Status.NoFile → IsSomeAnd (last_begun (F.begun files.new)) (λ begun.
         (begun.absent ≡ true) × (E.written err.new ≡ appended (E.written err.old) (report.absent begun.name).err)) }
@@ -86,6 +91,7 @@ fn carry_out<F: Files, O: Sink, E: Sink>(
         (begun.absent ≡ true) × (E.written err.new ≡ appended (E.written err.old) (report.absent begun.name).err)) }
     ensures read_failed { result ≡ Status.ReadFailed → Rose (F.faults files.old) (F.faults files.new) × IsSomeAnd (last_begun (F.begun files.new)) (λ begun.
         (begun.absent ≡ false) × (E.written err.new ≡ appended (E.written err.old) (report.unread begun.name).err)) }
+    ensures begun { IfSome (F.told files.old) (λ told. HasBegun ⟦<F as Files>⟧ files.old files.new (files_begun told (forms.form_in form.entry)) result) }
     ensures sinks { TellsOfSinks result (sunk ⟦<O as Sink>⟧ out.old out.new) (sunk ⟦<E as Sink>⟧ err.old err.new) }
     ensures done { result ≡ Status.Done → IfSome (F.told files.old) (λ told. top.IsDoneWell told (forms.form_in form.entry)) }
     ensures safe { O.written out.new ≢ O.written out.old → IfSome (F.told files.old) (λ told.
@@ -97,7 +103,8 @@ fn carry_out<F: Files, O: Sink, E: Sink>(
 
 /// What the words of a form come to.
 fn answer<F: Files>(alloc: Global, form: Form<'_>, files: &mut F) -> Result<Outcome, NoMemory>
-    ensures { IfOk result (λ outcome. top.IsAnswer ⟦<F as Files>⟧ files.old files.new (forms.form_in form.entry) outcome) }
+    ensures answer { IfOk result (λ outcome. top.IsAnswer ⟦<F as Files>⟧ files.old files.new (forms.form_in form.entry) outcome) }
+    ensures begun { IfSome (F.told files.old) (λ told. HasBegun ⟦<F as Files>⟧ files.old files.new (files_begun told (forms.form_in form.entry)) (given_of result)) }
 {
     match form {
         Form::Check(style, cert) => answer_check(alloc, style, cert, files),
@@ -112,7 +119,8 @@ fn answer_check<F: Files>(
     cert: &str,
     files: &mut F,
 ) -> Result<Outcome, NoMemory>
-    ensures { IfOk result (λ outcome. top.IsAnswer ⟦<F as Files>⟧ files.old files.new (forms.Check style.now cert.now) outcome) }
+    ensures answer { IfOk result (λ outcome. top.IsAnswer ⟦<F as Files>⟧ files.old files.new (forms.Check style.now cert.now) outcome) }
+    ensures begun { IfSome (F.told files.old) (λ told. HasBegun ⟦<F as Files>⟧ files.old files.new (files_begun told (forms.Check style.now cert.now)) (given_of result)) }
 {
     let found = check(alloc, files, style, cert);
     told(alloc, found)
@@ -125,7 +133,8 @@ fn answer_run<F: Files>(
     steps: u32,
     files: &mut F,
 ) -> Result<Outcome, NoMemory>
-    ensures { IfOk result (λ outcome. top.IsAnswer ⟦<F as Files>⟧ files.old files.new (forms.Run aux.now steps) outcome) }
+    ensures answer { IfOk result (λ outcome. top.IsAnswer ⟦<F as Files>⟧ files.old files.new (forms.Run aux.now steps) outcome) }
+    ensures begun { IfSome (F.told files.old) (λ told. HasBegun ⟦<F as Files>⟧ files.old files.new (files_begun told (forms.Run aux.now steps)) (given_of result)) }
 {
     let found = run(alloc, files, aux, steps);
     told(alloc, found)

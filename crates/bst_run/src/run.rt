@@ -5,6 +5,7 @@ ghost use Rattle.bib_read.specs.Additions.{AreKeyed};
 ghost use Rattle.bst_step.specs.Machine.{configuration};
 ghost use Rattle.entry_list.specs.Joining.{joined};
 ghost use Rattle.entry_list.specs.Keys.{AreCitations};
+ghost use Rattle.bst_run.specs.FilesBegun.{Begins, sources_begun};
 ghost use Rattle.bst_run.specs.Ran as rule;
 ghost use Rattle.bst_run.specs.Reads.{Reads};
 ghost use Rattle.bst_run.specs.Stops.{IsDecided};
@@ -29,6 +30,7 @@ use std::alloc::Global;
 /// Reads what the `.aux` file of this name asks for, and takes the first steps of the style over it.
 pub fn run<F: Files>(alloc: Global, files: &mut F, aux: &str, steps: u32) -> Result<Outcome, Stop>
     ensures reads { Reads ⟦<F as Files>⟧ files.old files.new (λ told. rule.run_outcome told aux.now steps) result }
+    ensures begun { Begins (F.told files.old) (λ told. sources_begun told aux.now) (F.begun files.old) (F.begun files.new) result }
     ensures decided { IfOk result (λ outcome. IsDecided outcome.status) }
 {
     let sources = sources_of(alloc, files, aux)?;

@@ -6,6 +6,7 @@ ghost use Rattle.aux_read.specs.Keys.{HaveKeys};
 ghost use Rattle.entry_list.specs.Keys.{AreCitations};
 ghost use Rattle.bst_run.specs.AuxChain as chain;
 ghost use Rattle.bst_run.specs.FileNames.{NamesFiles, NeedsFiles};
+ghost use Rattle.bst_run.specs.FilesBegun.{Begins, aux_begun, file_begun, input_begun, inputs_begun, needs_begun};
 ghost use Rattle.bst_run.specs.Reads.{Reads};
 ghost use Rattle.bst_run.specs.Stops as stops;
 
@@ -30,6 +31,7 @@ const MOST_LEVELS: u32 = 16;
 /// What the `.aux` file of this name and its inputs ask for.
 pub fn needs_of<F: Files>(alloc: Global, files: &mut F, name: &str) -> Result<Needs, Stop>
     ensures reads { Reads ⟦<F as Files>⟧ files.old files.new (λ told. chain.needs_of told name.now) result }
+    ensures begun { Begins (F.told files.old) (λ told. needs_begun told name.now) (F.begun files.old) (F.begun files.new) result }
     ensures cited { IfOk result (λ needs. AreCitations needs.items) }
     ensures named { IfOk result NeedsFiles }
 {
@@ -46,6 +48,7 @@ fn needs_after<F: Files>(
 ) -> Result<Needs, Stop>
     requires { length text.now ≤ DATA_BYTES }
     ensures reads { Reads ⟦<F as Files>⟧ files.old files.new (λ told. chain.needs_after told name.now text.now) result }
+    ensures begun { Begins (F.told files.old) (λ told. inputs_begun told name.now text.now) (F.begun files.old) (F.begun files.new) result }
     ensures cited { IfOk result (λ needs. AreCitations needs.items) }
     ensures named { IfOk result NeedsFiles }
 {
@@ -77,6 +80,7 @@ fn take_aux<F: Files>(
     requires named { GivesFileNames aux }
     ensures reads { Reads ⟦<F as Files>⟧ files.old files.new (λ told.
         chain.take_aux levels (chain.take_input levels told) name.now before aux) result }
+    ensures begun { Begins (F.told files.old) (λ told. aux_begun levels (chain.take_input levels told) (input_begun levels told) before aux) (F.begun files.old) (F.begun files.new) result }
     ensures cited { IfOk result (λ requests. AreCitations requests.items) }
     ensures named { IfOk result NamesFiles }
 {
@@ -113,6 +117,7 @@ fn take_input<F: Files>(
     requires named_before { NamesFiles before }
     requires named { IsFileName name.now }
     ensures reads { Reads ⟦<F as Files>⟧ files.old files.new (λ told. chain.take_input levels told name.now before) result }
+    ensures begun { Begins (F.told files.old) (λ told. input_begun levels told name.now before) (F.begun files.old) (F.begun files.new) result }
     ensures cited { IfOk result (λ requests. AreCitations requests.items) }
     ensures named { IfOk result NamesFiles }
 {
@@ -127,6 +132,7 @@ fn take_input<F: Files>(
 /// What the file of this name asks for by itself.
 fn aux_file<F: Files>(alloc: Global, files: &mut F, name: &str) -> Result<Aux, Stop>
     ensures reads { Reads ⟦<F as Files>⟧ files.old files.new (λ told. chain.aux_file told name.now) result }
+    ensures begun { Begins (F.told files.old) (λ told. file_begun told name.now) (F.begun files.old) (F.begun files.new) result }
     ensures keys { IfOk result (λ aux. HaveKeys aux.items) }
     ensures named { IfOk result GivesFileNames }
 {

@@ -1,11 +1,13 @@
 //! All that a run reads.
 
-ghost use Rattle.std.specs.Prelude.{◌≡◌, ◌≤◌, length, IfOk, IfErr};
+ghost use Rattle.std.specs.Prelude.{◌≡◌, ◌≤◌, codes, length, IfOk, IfErr};
 ghost use Rattle.aux_read.specs.FileNames.{AreFileNames, IsFileName};
 ghost use Rattle.bib_read.specs.Additions.{AreKeyed};
 ghost use Rattle.bib_read.specs.Reading.{database_of};
 ghost use Rattle.entry_list.specs.Keys.{AreCitations};
 ghost use Rattle.bst_run.specs.FileNames.{NeedsFiles};
+ghost use Rattle.bst_run.specs.Files as file;
+ghost use Rattle.bst_run.specs.FilesBegun.{Begins, databases_begun, file_begun, sources_begun, sources_begun_for};
 ghost use Rattle.bst_run.specs.Sources as rule;
 ghost use Rattle.bst_run.specs.Reads.{Reads};
 ghost use Rattle.bst_run.specs.Stops as stops;
@@ -41,6 +43,7 @@ pub struct Sources {
 /// Reads the `.aux` file of this name with its inputs, the style and the databases, in this order.
 pub fn sources_of<F: Files>(alloc: Global, files: &mut F, name: &str) -> Result<Sources, Stop>
     ensures reads { Reads ⟦<F as Files>⟧ files.old files.new (λ told. rule.sources_of told name.now) result }
+    ensures begun { Begins (F.told files.old) (λ told. sources_begun told name.now) (F.begun files.old) (F.begun files.new) result }
     ensures cited { IfOk result (λ sources. AreCitations sources.items) }
     ensures keyed { IfOk result (λ sources. AreKeyed sources.database.entries) }
 {
@@ -52,6 +55,7 @@ pub fn sources_of<F: Files>(alloc: Global, files: &mut F, name: &str) -> Result<
 fn sources_for<F: Files>(alloc: Global, files: &mut F, needs: Needs) -> Result<Sources, Stop>
     requires { NeedsFiles needs }
     ensures reads { Reads ⟦<F as Files>⟧ files.old files.new (λ told. rule.sources_for told needs) result }
+    ensures begun { Begins (F.told files.old) (λ told. sources_begun_for told needs) (F.begun files.old) (F.begun files.new) result }
     ensures same { IfOk result (λ sources. sources.items ≡ needs.items) }
     ensures keyed { IfOk result (λ sources. AreKeyed sources.database.entries) }
 {
@@ -74,6 +78,7 @@ fn sources_for<F: Files>(alloc: Global, files: &mut F, needs: Needs) -> Result<S
 fn style_named<F: Files>(alloc: Global, files: &mut F, name: &Text) -> Result<Style, Stop>
     requires { IsFileName name.now }
     ensures reads { Reads ⟦<F as Files>⟧ files.old files.new (λ told. rule.style_named told name.now) result }
+    ensures begun { Begins (F.told files.old) (λ told. file_begun told (file.with_ending name.now (codes ".bst"))) (F.begun files.old) (F.begun files.new) result }
 {
     let name = with_ending(alloc, text_of(name), ".bst")?;
     let text = style_file(alloc, files, name.as_str())?;
@@ -90,6 +95,7 @@ fn databases_in<F: Files>(
     requires keyed { AreKeyed before.entries }
     requires named { AreFileNames names.now }
     ensures reads { Reads ⟦<F as Files>⟧ files.old files.new (λ told. rule.databases_in told names.now before) result }
+    ensures begun { Begins (F.told files.old) (λ told. databases_begun told names.now before) (F.begun files.old) (F.begun files.new) result }
     ensures keyed { IfOk result (λ database. AreKeyed database.entries) }
 {
     let mut database = before;
@@ -109,6 +115,7 @@ fn database_named<F: Files>(
     requires keyed { AreKeyed before.now.entries }
     requires named { IsFileName name.now }
     ensures reads { Reads ⟦<F as Files>⟧ files.old files.new (λ told. rule.database_named told name.now before.now) result }
+    ensures begun { Begins (F.told files.old) (λ told. file_begun told (file.with_ending name.now (codes ".bib"))) (F.begun files.old) (F.begun files.new) result }
     ensures keyed { IfOk result (λ database. AreKeyed database.entries) }
 {
     let name = with_ending(alloc, text_of(name), ".bib")?;

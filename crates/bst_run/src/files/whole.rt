@@ -2,6 +2,7 @@
 
 ghost use Rattle.std.specs.Prelude.{◌≤◌, length, IfOk};
 ghost use Rattle.bst_run.specs.Files as file;
+ghost use Rattle.bst_run.specs.FilesBegun.{Begins, file_begun};
 ghost use Rattle.bst_run.specs.Reads.{Reads};
 
 use crate::stop::Stop;
@@ -14,6 +15,7 @@ use std::alloc::Global;
 /// The whole file of a style or a certificate.
 pub fn style_file<F: Files>(alloc: Global, files: &mut F, name: &str) -> Result<Text, Stop>
     ensures reads { Reads ⟦<F as Files>⟧ files.old files.new (λ told. file.file_in told STYLE_BYTES name.now) result }
+    ensures begun { Begins (F.told files.old) (λ told. file_begun told name.now) (F.begun files.old) (F.begun files.new) result }
     ensures short { IfOk result (λ text. length text ≤ STYLE_BYTES) }
 {
     file_of(alloc, files, name, STYLE_BYTES as u32)
@@ -22,6 +24,7 @@ pub fn style_file<F: Files>(alloc: Global, files: &mut F, name: &str) -> Result<
 /// The whole file of an `.aux` file or a database.
 pub fn data_file<F: Files>(alloc: Global, files: &mut F, name: &str) -> Result<Text, Stop>
     ensures reads { Reads ⟦<F as Files>⟧ files.old files.new (λ told. file.file_in told DATA_BYTES name.now) result }
+    ensures begun { Begins (F.told files.old) (λ told. file_begun told name.now) (F.begun files.old) (F.begun files.new) result }
     ensures short { IfOk result (λ text. length text ≤ DATA_BYTES) }
 {
     file_of(alloc, files, name, DATA_BYTES as u32)
@@ -31,6 +34,7 @@ pub fn data_file<F: Files>(alloc: Global, files: &mut F, name: &str) -> Result<T
 #[tactic(auto, using(crate::proofs::ReadsLemmas::last_added))]
 fn file_of<F: Files>(alloc: Global, files: &mut F, name: &str, limit: u32) -> Result<Text, Stop>
     ensures reads { Reads ⟦<F as Files>⟧ files.old files.new (λ told. file.file_in told limit name.now) result }
+    ensures begun { Begins (F.told files.old) (λ told. file_begun told name.now) (F.begun files.old) (F.begun files.new) result }
     ensures short { IfOk result (λ text. length text ≤ limit) }
 {
     match read_file(alloc, files, name, limit) {

@@ -1,12 +1,19 @@
 use Rattle.std.proofs.Common.{refl}
+use Rattle.bst_run.specs.FilesBegun.{sources_begun}
 use Rattle.bst_run.specs.Forms.{Run}
 use Rattle.bst_run.specs.Ran.{run_outcome}
+use Rattle.bst_run.proofs.BegunLemmas.{told_begun}
 use Rattle.bst_run.proofs.CommandLemmas.{told_answer, run_promises}
 use Rattle.bst_run.proofs.command.answer_run.Goals as goal
 
-pub returns : goal.returns
-returns g c =
+pub returns-clause-answer : goal.returns-clause-answer
+returns-clause-answer g c =
     told_answer g.F.Files c.args.files.now c.run-found.new.files (Run c.args.aux.now c.args.steps)
     (λ t. run_outcome t c.args.aux.now c.args.steps) c.run-found.result c.told.result
     c.run-found.ensures.reads c.run-found.ensures.decided
     (run_promises (g.F.Files.told c.args.files.now) c.args.aux.now c.args.steps c.run-found.result) (λ t. refl) c.told.ensures
+
+pub returns-clause-begun : goal.returns-clause-begun
+returns-clause-begun g c =
+    told_begun g.F.Files c.args.files.now c.run-found.new.files (λ t. sources_begun t c.args.aux.now) (g.F.Files.told c.args.files.now) c.run-found.result c.told.result
+    c.run-found.ensures.begun c.run-found.ensures.reads.cause c.told.ensures
