@@ -7,5 +7,5 @@ mod Giving
 mod Kept
 mod Opened
 mod Permuted
-mod Placed
+pub mod Placed
 pub mod Replacing

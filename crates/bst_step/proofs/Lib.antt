@@ -6,3 +6,5 @@ pub mod SortSteps
 pub mod OpeningSteps
 pub mod RestSteps
 pub mod BrokenLines
+pub mod KeySteps
+pub mod PlaceSteps

@@ -1,9 +1,12 @@
 -- What is seen of a machine (docs/MACHINE.md): the configuration of its run, and whether memory was wanting.
-use Rattle.std.specs.Prelude.{ℕ, Bool, true, false, nat_eq, if◌then◌else◌, List, [], ◌∷◌, ◌++◌, Option, None, Some}
+use Rattle.std.specs.Prelude.{ℕ, Bool, true, false, nat_eq, if◌then◌else◌, List, [], ◌∷◌, ◌++◌, map, Option, None, Some, IsPermutation, slice_get}
+use Rattle.std.specs.Option.{option_map_or}
 use Rattle.std.specs.List.{flat_map}
 use Rattle.name_table.specs.declared.style.CommandAt.{CommandAt}
 use Rattle.name_table.specs.declared.style.Style.{Style}
+use Rattle.bst_meaning.specs.declared.entry.EntryList.{EntryList}
 use Rattle.bst_meaning.specs.Config.{Config, Frame, EntryState, Stopped}
+use Rattle.bst_meaning.specs.Keeping.{placed}
 use Rattle.bst_step.specs.declared.machine.Machine.{Machine}
 use Rattle.bst_step.specs.declared.machine.Turn.{Turn}
 use Rattle.bst_step.specs.declared.machine.Turn.TheVariants.{Went, Ended, Faulted}
@@ -49,3 +52,11 @@ log_of c = flat_map (λ line. line ++ 10 ∷ []) c.log
 abbrev pub key_at : ℕ → List EntryState → List ℕ
 key_at position [] = []
 key_at position (first ∷ entries) = if nat_eq first.position position then first.entry.key else key_at position entries
+
+-- the key of the entry at a position of a list, and no bytes where there is none
+abbrev pub key_of : ℕ → EntryList → List ℕ
+key_of position list = option_map_or (λ e. e.key) (slice_get list.entries position) []
+
+-- a configuration has the entries of another with their positions, in some order
+abbrev pub HasEntriesOf : Config → Config → Type 0
+HasEntriesOf old new = IsPermutation (map placed old.entries) (map placed new.entries)

@@ -1,9 +1,9 @@
 //! The steps of commands.
 
-ghost use Rattle.std.specs.Prelude.{◌≡◌, drop, OnOk};
+ghost use Rattle.std.specs.Prelude.{◌≡◌, drop, OnErr, OnOk};
 ghost use Rattle.bst_meaning.specs.Machine as rule;
 ghost use Rattle.bst_step.specs.State.{config_of, visit_in};
-ghost use Rattle.bst_step.specs.Machine.{at_rest};
+ghost use Rattle.bst_step.specs.Machine.{HasEntriesOf, at_rest};
 
 use crate::order::sort_entries;
 use crate::outcome::Part;
@@ -17,7 +17,8 @@ use name_table::style::{Command, Style};
 impl<'a> State<'a> {
     /// So many steps, or those up to where no step changes anything any more.
     pub fn advance_by(&mut self, style: &'a Style, n: u64) -> Result<(), NoMemory>
-        ensures { OnOk result (config_of self.new ≡ rule.steps style.now n (config_of self.old)) }
+        ensures moved { OnOk result (config_of self.new ≡ rule.steps style.now n (config_of self.old)) }
+        ensures places { HasEntriesOf (config_of self.old) (config_of self.new) }
     {
         let mut left = n;
         while left > 0 {
@@ -45,7 +46,8 @@ impl<'a> State<'a> {
 
     /// One step.
     fn advance(&mut self, style: &'a Style) -> Result<(), NoMemory>
-        ensures { OnOk result (config_of self.new ≡ rule.step style.now (config_of self.old)) }
+        ensures moved { OnOk result (config_of self.new ≡ rule.step style.now (config_of self.old)) }
+        ensures entries { OnErr result (self.new.entries.items ≡ self.old.entries.items) }
     {
         if self.stopped.is_some() {
             return Ok(());
@@ -58,7 +60,8 @@ impl<'a> State<'a> {
 
     /// A step where no frame is left.
     fn outer_step(&mut self) -> Result<(), NoMemory>
-        ensures { OnOk result (config_of self.new ≡ rule.outer_step self.old.running self.old.commands (config_of self.old)) }
+        ensures moved { OnOk result (config_of self.new ≡ rule.outer_step self.old.running self.old.commands (config_of self.old)) }
+        ensures entries { OnErr result (self.new.entries.items ≡ self.old.entries.items) }
     {
         let Some(first) = self.commands.top() else {
             return Ok(());
@@ -73,7 +76,8 @@ impl<'a> State<'a> {
 
     /// Begins, goes on with or takes away the first command.
     fn command_step(&mut self, command: Command, place: Place) -> Result<(), NoMemory>
-        ensures { OnOk result (config_of self.new ≡ rule.command_step command place (drop 1 self.old.commands) (config_of self.old)) }
+        ensures moved { OnOk result (config_of self.new ≡ rule.command_step command place (drop 1 self.old.commands) (config_of self.old)) }
+        ensures entries { OnErr result (self.new.entries.items ≡ self.old.entries.items) }
     {
         match command {
             Command::Execute(name) => self.begin_call(name, place),
@@ -92,7 +96,8 @@ impl<'a> State<'a> {
 
     /// Begins a call of the first command's name.
     fn begin_call(&mut self, name: NameId, place: Place) -> Result<(), NoMemory>
-        ensures { OnOk result (config_of self.new ≡ rule.with_call name place (config_of self.old)) }
+        ensures moved { OnOk result (config_of self.new ≡ rule.with_call name place (config_of self.old)) }
+        ensures entries { OnErr result (self.new.entries.items ≡ self.old.entries.items) }
     {
         self.running = true;
         self.enter(Rest::Call(name, place), place, Part::Whole)
@@ -100,8 +105,9 @@ impl<'a> State<'a> {
 
     /// Visits the next entry, or takes the command away where none is left.
     fn visit_step(&mut self, name: NameId, place: Place, backwards: bool) -> Result<(), NoMemory>
-        ensures { OnOk result (config_of self.new ≡
+        ensures moved { OnOk result (config_of self.new ≡
             rule.visit_step name place (drop 1 self.old.commands) (rule.visit_of backwards (config_of self.old).visit) (config_of self.old)) }
+        ensures entries { OnErr result (self.new.entries.items ≡ self.old.entries.items) }
     {
         let visit = match self.visit {
             Some(visit) => visit,
@@ -122,8 +128,9 @@ impl<'a> State<'a> {
 
     /// Ends a call, whose last frame is gone.
     fn call_end_step(&mut self, place: Place) -> Result<(), NoMemory>
-        ensures { OnOk result (config_of self.new ≡
+        ensures moved { OnOk result (config_of self.new ≡
             rule.call_end_step self.old.stack place (drop 1 self.old.commands) (config_of self.old)) }
+        ensures entries { OnErr result (self.new.entries.items ≡ self.old.entries.items) }
     {
         if self.stack.top().is_some() {
             self.stop(Fault::StackLeft, place);
@@ -134,8 +141,9 @@ impl<'a> State<'a> {
 
     /// Ends a call that leaves the stack empty: an EXECUTE is taken away, and a visit counts its entry.
     fn call_ended(&mut self) -> Result<(), NoMemory>
-        ensures { OnOk result (config_of self.new ≡
+        ensures moved { OnOk result (config_of self.new ≡
             rule.call_ended (config_of self.old).visit (drop 1 self.old.commands) (config_of self.old)) }
+        ensures entries { OnErr result (self.new.entries.items ≡ self.old.entries.items) }
     {
         self.running = false;
         match self.visit {

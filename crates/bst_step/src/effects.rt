@@ -1,6 +1,6 @@
 //! The effects of the built-in functions on the machine.
 
-ghost use Rattle.std.specs.Prelude.{◌≡◌, ◌∷◌, [], map, OnOk};
+ghost use Rattle.std.specs.Prelude.{◌≡◌, ◌∷◌, [], map, OnErr, OnOk};
 ghost use Rattle.bst_meaning.specs.StyleParts as parts;
 ghost use Rattle.bst_meaning.specs.Machine as rule;
 ghost use Rattle.bst_step.specs.Outcome.{effect_of, swapped};
@@ -38,7 +38,8 @@ impl<'a> State<'a> {
         outcome: Outcome,
         place: Place,
     ) -> Result<(), NoMemory>
-        ensures { OnOk result (config_of self.new ≡ rule.with_effect style.now (effect_of outcome self.old.stack) place (config_of self.old)) }
+        ensures moved { OnOk result (config_of self.new ≡ rule.with_effect style.now (effect_of outcome self.old.stack) place (config_of self.old)) }
+        ensures entries { OnErr result (self.new.entries.items ≡ self.old.entries.items) }
     {
         match outcome {
             Outcome::Push(taken, value) => {
@@ -73,7 +74,8 @@ impl<'a> State<'a> {
 
     /// Logs a line.
     fn log_line(&mut self, line: Text) -> Result<(), NoMemory>
-        ensures { OnOk result (config_of self.new ≡ with_log (line ∷ []) (config_of self.old)) }
+        ensures moved { OnOk result (config_of self.new ≡ with_log (line ∷ []) (config_of self.old)) }
+        ensures entries { OnErr result (self.new.entries.items ≡ self.old.entries.items) }
     {
         self.log.push(line)?;
         Ok(())
@@ -81,7 +83,8 @@ impl<'a> State<'a> {
 
     /// Logs lines, and takes all values from the stack.
     fn log_all(&mut self, lines: Vec<Text>) -> Result<(), NoMemory>
-        ensures { OnOk result (config_of self.new ≡ with_stack [] (with_log lines.items (config_of self.old))) }
+        ensures moved { OnOk result (config_of self.new ≡ with_stack [] (with_log lines.items (config_of self.old))) }
+        ensures entries { OnErr result (self.new.entries.items ≡ self.old.entries.items) }
     {
         let mut lines = lines;
         self.log.append(&mut lines)?;
@@ -91,7 +94,8 @@ impl<'a> State<'a> {
 
     /// Writes a text or a line's end.
     fn write(&mut self, event: Event) -> Result<(), NoMemory>
-        ensures { OnOk result (config_of self.new ≡ with_event (event_of event) (config_of self.old)) }
+        ensures moved { OnOk result (config_of self.new ≡ with_event (event_of event) (config_of self.old)) }
+        ensures entries { OnErr result (self.new.entries.items ≡ self.old.entries.items) }
     {
         self.events.push(event)?;
         Ok(())
@@ -99,7 +103,8 @@ impl<'a> State<'a> {
 
     /// Writes the string on top of the stack.
     fn write_top(&mut self) -> Result<(), NoMemory>
-        ensures { OnOk result (config_of self.new ≡ with_top_written self.old.stack (config_of self.old)) }
+        ensures moved { OnOk result (config_of self.new ≡ with_top_written self.old.stack (config_of self.old)) }
+        ensures entries { OnErr result (self.new.entries.items ≡ self.old.entries.items) }
     {
         match self.stack.pop() {
             Some(Value::Str(text)) => self.write(Event::Wrote(text)),
@@ -110,7 +115,8 @@ impl<'a> State<'a> {
 
     /// Exchanges the two topmost values.
     fn swap_top(&mut self) -> Result<(), NoMemory>
-        ensures { OnOk result (config_of self.new ≡ with_stack (swapped self.old.stack) (config_of self.old)) }
+        ensures moved { OnOk result (config_of self.new ≡ with_stack (swapped self.old.stack) (config_of self.old)) }
+        ensures entries { OnErr result (self.new.entries.items ≡ self.old.entries.items) }
     {
         let Some(b) = self.stack.pop() else {
             return Ok(());
@@ -124,7 +130,8 @@ impl<'a> State<'a> {
 
     /// Assigns the second value from the top, and takes both away.
     fn assign_second(&mut self, style: &Style, name: NameId) -> Result<(), NoMemory>
-        ensures { OnOk result (config_of self.new ≡ with_second_assigned style.now name self.old.stack (config_of self.old)) }
+        ensures moved { OnOk result (config_of self.new ≡ with_second_assigned style.now name self.old.stack (config_of self.old)) }
+        ensures entries { OnErr result (self.new.entries.items ≡ self.old.entries.items) }
     {
         self.stack.drop_top(1);
         if let Some(value) = self.stack.pop() {

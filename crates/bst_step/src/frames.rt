@@ -1,6 +1,6 @@
 //! The steps of frames.
 
-ghost use Rattle.std.specs.Prelude.{◌≡◌, ◌∷◌, map, OnOk};
+ghost use Rattle.std.specs.Prelude.{◌≡◌, ◌∷◌, map, OnErr, OnOk};
 ghost use Rattle.bst_meaning.specs.Machine as rule;
 ghost use Rattle.bst_step.specs.Outcome.{part_of};
 ghost use Rattle.bst_step.specs.State.{config_of, frame_of, tokens_left};
@@ -18,9 +18,10 @@ use name_table::style::{Style, Token};
 impl<'a> State<'a> {
     /// Executes the first token of a frame, which was taken off, or returns from it where it has none.
     pub fn frame_step(&mut self, style: &'a Style, frame: Frame<'a>) -> Result<(), NoMemory>
-        ensures { OnOk result (config_of self.new ≡
+        ensures moved { OnOk result (config_of self.new ≡
             rule.frame_step style.now (frame_of frame.entry) (map frame_of self.old.frames) (tokens_left frame.entry.rest)
             (with_frame_back (frame_of frame.entry) (config_of self.old))) }
+        ensures entries { OnErr result (self.new.entries.items ≡ self.old.entries.items) }
     {
         match frame.rest {
             Rest::Call(name, place) => {
@@ -37,7 +38,8 @@ impl<'a> State<'a> {
 
     /// Returns from a frame.
     fn return_step(&mut self, style: &'a Style, part: Part, place: Place) -> Result<(), NoMemory>
-        ensures { OnOk result (config_of self.new ≡ rule.return_step style.now (part_of part) place (config_of self.old)) }
+        ensures moved { OnOk result (config_of self.new ≡ rule.return_step style.now (part_of part) place (config_of self.old)) }
+        ensures entries { OnErr result (self.new.entries.items ≡ self.old.entries.items) }
     {
         match part {
             Part::Whole => Ok(()),
@@ -60,7 +62,8 @@ impl<'a> State<'a> {
         body: Target,
         place: Place,
     ) -> Result<(), NoMemory>
-        ensures { OnOk result (config_of self.new ≡ rule.test_ended style.now test body place self.old.stack (config_of self.old)) }
+        ensures moved { OnOk result (config_of self.new ≡ rule.test_ended style.now test body place self.old.stack (config_of self.old)) }
+        ensures entries { OnErr result (self.new.entries.items ≡ self.old.entries.items) }
     {
         match self.stack.pop() {
             Some(Value::Int(n)) => {

@@ -5,7 +5,7 @@ ghost use Rattle.bst_meaning.specs.Config as config;
 ghost use Rattle.bst_meaning.specs.Lines as rule;
 ghost use Rattle.bst_meaning.specs.Machine.{step, steps};
 ghost use Rattle.bst_step.specs.State.{state_of};
-ghost use Rattle.bst_step.specs.Machine.{configuration, style_of, is_broken, turn_of, log_of, key_at};
+ghost use Rattle.bst_step.specs.Machine.{HasEntriesOf, configuration, style_of, is_broken, turn_of, log_of, key_at};
 
 use crate::lines::{lines_of, with_ends};
 use crate::opening::opening;
@@ -52,12 +52,13 @@ impl<'a> Machine<'a> {
     }
 
     /// One step. A machine for which memory was wanting is broken from then on: it answers NoMemory to everything but
-    /// `key`.
+    /// `key`. Even then the entries are those of the list with which the run opened, with their positions.
     pub fn step(&mut self) -> Result<Turn, NoMemory>
         ensures moved { OnOk result (configuration self.new ≡ step (style_of self.old) (configuration self.old)) }
         ensures turn { IfOk result (λ turn. turn ≡ turn_of (configuration self.new)) }
         ensures whole { OnOk result ((is_broken self.old ≡ false) × (is_broken self.new ≡ false)) }
         ensures breaks { OnErr result (is_broken self.new ≡ true) }
+        ensures places { HasEntriesOf (configuration self.old) (configuration self.new) }
         ensures style { style_of self.new ≡ style_of self.old }
     {
         self.run(1)
@@ -69,6 +70,7 @@ impl<'a> Machine<'a> {
         ensures turn { IfOk result (λ turn. turn ≡ turn_of (configuration self.new)) }
         ensures whole { OnOk result ((is_broken self.old ≡ false) × (is_broken self.new ≡ false)) }
         ensures breaks { OnErr result (is_broken self.new ≡ true) }
+        ensures places { HasEntriesOf (configuration self.old) (configuration self.new) }
         ensures style { style_of self.new ≡ style_of self.old }
     {
         if self.broken {

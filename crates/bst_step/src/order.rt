@@ -1,6 +1,6 @@
 //! SORT: the entries in the order of `sort.key$`.
 
-ghost use Rattle.std.specs.Prelude.{◌≡◌, map, OnOk};
+ghost use Rattle.std.specs.Prelude.{◌≡◌, map, OnErr, OnOk};
 ghost use Rattle.bst_meaning.specs.Sorting as rule;
 ghost use Rattle.bst_step.specs.State.{state_of};
 
@@ -11,7 +11,8 @@ use name_table::opening::SORT_KEY;
 
 /// Orders the entries by their sort keys. Equal keys keep their order.
 pub fn sort_entries(entries: &mut Vec<EntryState>) -> Result<(), NoMemory>
-    ensures { OnOk result (map state_of entries.new.items ≡ rule.sorted (map state_of entries.old.items)) }
+    ensures sorted { OnOk result (map state_of entries.new.items ≡ rule.sorted (map state_of entries.old.items)) }
+    ensures kept { OnErr result (entries.new.items ≡ entries.old.items) }
 {
     entries.sort_by(|a, b| sort_key(a).cmp(sort_key(b)))?;
     Ok(())

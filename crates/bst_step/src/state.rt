@@ -140,14 +140,16 @@ impl<'a> State<'a> {
 
     /// Pushes a value.
     pub fn push(&mut self, value: Value) -> Result<(), NoMemory>
-        ensures { OnOk result (config_of self.new ≡ rule.with_value value (config_of self.old)) }
+        ensures moved { OnOk result (config_of self.new ≡ rule.with_value value (config_of self.old)) }
+        ensures entries { self.new.entries.items ≡ self.old.entries.items }
     {
         self.stack.push(value)
     }
 
     /// Enters what is to be executed, at a place.
     pub fn enter(&mut self, rest: Rest<'a>, place: Place, part: Part) -> Result<(), NoMemory>
-        ensures { OnOk result (config_of self.new ≡ rule.with_frame (tokens_left rest.entry) place (part_of part) (config_of self.old)) }
+        ensures moved { OnOk result (config_of self.new ≡ rule.with_frame (tokens_left rest.entry) place (part_of part) (config_of self.old)) }
+        ensures entries { self.new.entries.items ≡ self.old.entries.items }
     {
         self.frames.push(Frame { rest, place, part })
     }

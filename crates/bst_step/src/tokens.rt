@@ -1,6 +1,6 @@
 //! The execution of a token.
 
-ghost use Rattle.std.specs.Prelude.{◌≡◌, option_map, OnOk};
+ghost use Rattle.std.specs.Prelude.{◌≡◌, option_map, OnErr, OnOk};
 ghost use Rattle.std.specs.Option.{option_and_then};
 ghost use Rattle.bst_meaning.specs.StyleParts as parts;
 ghost use Rattle.bst_meaning.specs.Builtins.{built_in};
@@ -33,7 +33,8 @@ impl<'a> State<'a> {
         token: Token,
         place: Place,
     ) -> Result<(), NoMemory>
-        ensures { OnOk result (config_of self.new ≡ rule.token_step style.now token place (config_of self.old)) }
+        ensures moved { OnOk result (config_of self.new ≡ rule.token_step style.now token place (config_of self.old)) }
+        ensures entries { OnErr result (self.new.entries.items ≡ self.old.entries.items) }
     {
         match token {
             Token::Int(n) => self.push(Value::Int(n)),
@@ -49,7 +50,8 @@ impl<'a> State<'a> {
 
     /// Calls a name.
     fn call_step(&mut self, style: &'a Style, name: NameId, place: Place) -> Result<(), NoMemory>
-        ensures { OnOk result (config_of self.new ≡ rule.call_step style.now (parts.kind_of style.now name) name place (config_of self.old)) }
+        ensures moved { OnOk result (config_of self.new ≡ rule.call_step style.now (parts.kind_of style.now name) name place (config_of self.old)) }
+        ensures entries { OnErr result (self.new.entries.items ≡ self.old.entries.items) }
     {
         match kind_of(style, name) {
             Some(Kind::Builtin(op)) => self.built_in_step(style, op, place),
@@ -65,8 +67,9 @@ impl<'a> State<'a> {
 
     /// Calls a built-in function.
     fn built_in_step(&mut self, style: &'a Style, op: Builtin, place: Place) -> Result<(), NoMemory>
-        ensures { OnOk result (config_of self.new ≡
+        ensures moved { OnOk result (config_of self.new ≡
             rule.with_effect style.now (built_in op (rule.context_of style.now (config_of self.old)) self.old.stack) place (config_of self.old)) }
+        ensures entries { OnErr result (self.new.entries.items ≡ self.old.entries.items) }
     {
         let outcome = self.outcome(style, op);
         match outcome {
@@ -88,7 +91,8 @@ impl<'a> State<'a> {
 
     /// Pushes a field of the visited entry.
     fn push_field(&mut self, name: NameId, place: Place) -> Result<(), NoMemory>
-        ensures { OnOk result (config_of self.new ≡ with_field name place (config_of self.old)) }
+        ensures moved { OnOk result (config_of self.new ≡ with_field name place (config_of self.old)) }
+        ensures entries { OnErr result (self.new.entries.items ≡ self.old.entries.items) }
     {
         let alloc = self.alloc;
         match self.visited_entry() {
@@ -105,7 +109,8 @@ impl<'a> State<'a> {
 
     /// Pushes a variable of the visited entry.
     fn push_entry_variable(&mut self, name: NameId, place: Place) -> Result<(), NoMemory>
-        ensures { OnOk result (config_of self.new ≡ with_entry_value name place (config_of self.old)) }
+        ensures moved { OnOk result (config_of self.new ≡ with_entry_value name place (config_of self.old)) }
+        ensures entries { OnErr result (self.new.entries.items ≡ self.old.entries.items) }
     {
         let alloc = self.alloc;
         match self.entry_value(name) {
@@ -132,7 +137,8 @@ impl<'a> State<'a> {
 
     /// Pushes a variable of the whole style.
     fn push_global(&mut self, name: NameId, place: Place) -> Result<(), NoMemory>
-        ensures { OnOk result (config_of self.new ≡ with_global name place (config_of self.old)) }
+        ensures moved { OnOk result (config_of self.new ≡ with_global name place (config_of self.old)) }
+        ensures entries { OnErr result (self.new.entries.items ≡ self.old.entries.items) }
     {
         match value_at(name, self.globals.as_slice()) {
             Some(value) => {

@@ -4,8 +4,8 @@ use Rattle.std.proofs.lemmas.List.Sorted.{answers_always}
 use Rattle.bst_step.proofs.SortSteps.{key_lt, key_order, sorted_entries}
 use Rattle.bst_step.proofs.order.sort_entries.Goals as goal
 
-pub returns : goal.returns
-returns c =
+pub returns-clause-sorted : goal.returns-clause-sorted
+returns-clause-sorted c =
     sorted_entries c.args.entries.now.items c.sort_by.new.self.items
     (c.in_ok-sort_by.ensures.sorted key_lt key_order (answers_always _ _ _ (λ f a r g h. search rules)))
     (c.in_ok-sort_by.ensures.stable key_lt key_order (answers_always _ _ _ (λ f a r g h. search rules)))

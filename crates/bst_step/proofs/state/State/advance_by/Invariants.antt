@@ -1,11 +1,16 @@
 use Rattle.std.proofs.Common.{◌≡◌}
 use Rattle.bst_meaning.specs.Machine as rule
+use Rattle.bst_step.specs.Machine.{HasEntriesOf}
 use Rattle.bst_step.specs.State.{config_of}
 use Rattle.bst_step.proofs.state.State.advance_by.Given as goal
 
--- the steps that are left come to where all come to
+-- the steps that are left come to where all come to, and the entries have their positions
 abbrev pub invariant-loop-left : goal.invariant-loop-left
-invariant-loop-left l = rule.steps l.style l.left (config_of l.self) ≡ rule.steps l.style l.n (config_of l.fn.self)
+invariant-loop-left l =
+    record {
+      steps : rule.steps l.style l.left (config_of l.self) ≡ rule.steps l.style l.n (config_of l.fn.self);
+      places : HasEntriesOf (config_of l.fn.self) (config_of l.self);
+    }
 
 abbrev pub decreases-loop-left : goal.decreases-loop-left
 decreases-loop-left l = l.left
