@@ -316,12 +316,13 @@ fn special_characters_have_the_width_of_their_letters(rt: HostRuntime) -> Result
 
 /// Expects a function to make of texts what the rows tell.
 fn expect(rt: &impl Abort, alloc: Global, function: Function, rows: &str) -> Result<(), Fail> {
-    for row in rows.lines() {
-        if let Some((given, wanted)) = row.split_once("->") {
-            let mut made = String::new(alloc);
-            add_made(&mut made, function, given.trim_end())?;
-            assert_eq!(rt; made.as_str(), wanted.trim_start(), "{row}");
-        }
+    for row in rows.trim().lines() {
+        let Some((given, wanted)) = row.split_once("->") else {
+            panic!(rt; "a row without its arrow");
+        };
+        let mut made = String::new(alloc);
+        add_made(&mut made, function, given.trim_end())?;
+        assert_eq!(rt; made.as_str(), wanted.trim_start(), "{row}");
     }
     Ok(())
 }
@@ -414,25 +415,31 @@ fn add_text(made: &mut String, text: Result<Vec<u8>, NoMemory>) -> Result<(), Fa
 /// The text that is written so in a row.
 fn text_of(alloc: Global, written: &str) -> Result<Vec<u8>, NoMemory> {
     let mut text = Vec::new(alloc);
-    let mut rest = written.as_bytes();
-    while let [first, after @ ..] = rest {
-        rest = after;
-        match (*first, after) {
-            (b'_', _) => text.push(b' ')?,
-            (b'^', [b'^', high, low, after @ ..]) => {
-                rest = after;
-                text.push(16 * digit(*high) + digit(*low))?;
+    let mut marks = 0;
+    let mut high = 0;
+    for b in written.as_bytes() {
+        match (marks, *b) {
+            (0, b'^') => marks = 1,
+            (0, b'_') => text.push(b' ')?,
+            (0, b) => text.push(b)?,
+            (1, _) => marks = 2,
+            (2, b) => {
+                marks = 3;
+                high = digit(b);
             }
-            _ => text.push(*first)?,
+            (_, b) => {
+                marks = 0;
+                text.push(high.wrapping_mul(16).wrapping_add(digit(b)))?;
+            }
         }
     }
     Ok(text)
 }
 
-/// The value of a digit of base 16, below 16.
-fn digit(byte: u8) -> u8 {
-    match byte {
-        b'0'..=b'9' => byte - b'0',
-        _ => byte.wrapping_sub(b'a').wrapping_add(10) % 16,
+/// The value of a digit of base 16.
+fn digit(b: u8) -> u8 {
+    match b {
+        b'0'..=b'9' => b.wrapping_sub(b'0'),
+        _ => b.wrapping_sub(b'a').wrapping_add(10),
     }
 }
