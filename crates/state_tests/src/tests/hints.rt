@@ -1,60 +1,104 @@
-//! Hints from plain rows.
+//! Hints and proofs, as they are read.
 
 ghost use Rattle.std.specs.Prelude.{◌≤◌, length, IfOk};
-ghost use Rattle.std.specs.List.{All};
 ghost use Rattle.sym_state.specs.Demands.{HasFewUses};
 
-use bv_base::memory::NoMemory;
-use bv_base::seq::Seq;
+use crate::tests::reading::{Item, Unread, divided, halves, natural};
 use std::alloc::Global;
 use sym_state::hint::Hint;
-use sym_state::proof::{Proof, Use};
+use sym_state::proof::{Proof, Reference, Use};
+use sym_state::symbol::Sym;
 
-/// A hint. A case is dropped, or a row is shown, by a proof of this divisor and these uses.
-#[derive(Clone, Copy)]
-pub enum Given {
-    Keep,
-    Drop(u32, &'static [Use]),
-    Step(u32, &'static [Use]),
-    Apply,
-    Walk,
-    Loop,
-    Case,
-    Plain,
-}
+impl Item for Hint {
+    ghost use Rattle.sym_state.specs.Demands.{HasFewUses};
 
-pub fn hints(alloc: Global, given: &[Given]) -> Result<Vec<Hint>, NoMemory>
-    ensures { IfOk result (λ hints. All HasFewUses hints.items) }
-{
-    let mut hints = Vec::new(alloc);
-    for hint in given {
-        hints.push(hint_of(alloc, *hint)?)?;
+    ghost holds = { HasFewUses };
+
+    fn read(alloc: Global, text: &'static str) -> Result<Option<Hint>, Unread> {
+        Ok(Some(hint(alloc, text)?))
     }
-    Ok(hints)
 }
 
-fn hint_of(alloc: Global, given: Given) -> Result<Hint, NoMemory>
+fn hint(alloc: Global, text: &'static str) -> Result<Hint, Unread>
     ensures { IfOk result HasFewUses }
 {
-    Ok(match given {
-        Given::Keep => Hint::Keep,
-        Given::Drop(divisor, uses) => Hint::Drop(proof(alloc, divisor, uses)?),
-        Given::Step(divisor, uses) => Hint::Step(proof(alloc, divisor, uses)?),
-        Given::Apply => Hint::Apply(0),
-        Given::Walk => Hint::Walk,
-        Given::Loop => Hint::Loop(0),
-        Given::Case => Hint::Case(0),
-        Given::Plain => Hint::Plain,
+    let (word, rest) = halves(text, " ");
+    Ok(match word {
+        "drop" => Hint::Drop(proof(alloc, rest)?),
+        "step" => Hint::Step(proof(alloc, rest)?),
+        "apply" => Hint::Apply(natural(rest)?),
+        "loop" => Hint::Loop(natural(rest)?),
+        "case" => Hint::Case(natural(rest)?),
+        _ => return plain_hint(text),
     })
 }
 
-/// A proof by at most 64 uses.
-pub fn proof(alloc: Global, divisor: u32, uses: &[Use]) -> Result<Proof, NoMemory>
+/// A hint of one word.
+fn plain_hint(text: &'static str) -> Result<Hint, Unread>
+    ensures { IfOk result HasFewUses }
+{
+    Ok(match text {
+        "keep" => Hint::Keep,
+        "walk" => Hint::Walk,
+        "plain" => Hint::Plain,
+        _ => return Err(Unread::At(text)),
+    })
+}
+
+/// A proof of at most 64 uses.
+pub fn proof(alloc: Global, text: &'static str) -> Result<Proof, Unread>
     ensures { IfOk result (λ proof. length proof.uses ≤ 64) }
 {
-    let few = &uses[..uses.len().min(64)];
-    Ok(Proof {
-        divisor,
-        uses: Seq::from_vec(few.to_vec(alloc)?),
+    let (divisor, uses) = divided(alloc, text)?;
+    Ok(Proof { divisor, uses })
+}
+
+impl Item for Use {
+    ghost holds = { λ _. Unit {0} };
+
+    fn read(_alloc: Global, text: &'static str) -> Result<Option<Use>, Unread> {
+        let (times, reference) = text.split_once("*").unwrap_or(("1", text));
+        Ok(Some(Use {
+            reference: reference_of(reference)?,
+            times: natural(times)?,
+        }))
+    }
+}
+
+fn reference_of(text: &'static str) -> Result<Reference, Unread> {
+    let (name, symbol) = halves(text, ":");
+    if symbol.is_empty() {
+        return reference_to_entries(name);
+    }
+    reference_to(name, natural(symbol)?)
+}
+
+fn reference_to_entries(name: &'static str) -> Result<Reference, Unread> {
+    Ok(match name {
+        "PosLow" => Reference::PosLow,
+        "PosHigh" => Reference::PosHigh,
+        "CountLow" => Reference::CountLow,
+        "CountHigh" => Reference::CountHigh,
+        _ => return Err(Unread::At(name)),
+    })
+}
+
+/// What refers to a row or a symbol.
+fn reference_to(name: &'static str, number: u32) -> Result<Reference, Unread> {
+    let sym = Sym(number);
+    Ok(match name {
+        "Row" => Reference::Row(number),
+        "ValueLow" => Reference::ValueLow(sym),
+        "ValueHigh" => Reference::ValueHigh(sym),
+        "LengthLow" => Reference::LengthLow(sym),
+        "NamesLow" => Reference::NamesLow(sym),
+        "NamesHigh" => Reference::NamesHigh(sym),
+        "ExactLow" => Reference::ExactLow(sym),
+        "ExactHigh" => Reference::ExactHigh(sym),
+        "NonblankLength" => Reference::NonblankLength(sym),
+        "NonblankNames" => Reference::NonblankNames(sym),
+        "TextLow" => Reference::TextLow(sym),
+        "TextHigh" => Reference::TextHigh(sym),
+        _ => return Err(Unread::At(name)),
     })
 }

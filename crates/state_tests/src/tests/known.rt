@@ -1,41 +1,30 @@
-//! States from plain rows, and the condition and the style that they go with.
+//! States and pieces, as they are read, and the condition and the style that they go with.
 
-ghost use Rattle.std.specs.Prelude.{◌≡◌, ◌≤◌, length, IfOk, IfSome};
+ghost use Rattle.std.specs.Prelude.{◌≡◌, ◌≤◌, length, IfOk};
 ghost use Rattle.std.specs.List.{All};
 ghost use Rattle.sym_state.specs.WellMade.{HasBounds, HasShortText, IsBounded};
 
+use crate::tests::reading::{Item, Unread, halves, integer, list, natural};
+use crate::tests::rows::is_row;
 use bst_meaning::condition::Cond;
 use bv_base::memory::NoMemory;
 use bv_base::seq::Seq;
 use bv_base::text::Text;
-use lin_facts::row::{Part, Row, Term};
 use name_table::names::{Kind, NameId, Names};
 use name_table::style::Style;
 use std::alloc::Global;
 use sym_state::piece::Piece;
-use sym_state::references::exceeds;
 use sym_state::state::State;
 use sym_state::symbol::{Bind, Fact, Kinds, Sym};
 
-/// What is known of a symbol: a fact or a row. A row is a constant and so many times its value, its length or its names, or
-/// it says that the value is at least so much over that of another symbol, or within the length of another.
+/// Where a state is, the names that it binds, and its next symbol.
 #[derive(Clone, Copy)]
-pub enum Known {
-    Of(Kinds),
-    Int(i32),
-    Text(&'static [u8]),
-    /// The text of so many letters `a`, at most 300.
-    Letters(usize),
-    Name(u32),
-    Block(u32),
-    Blank,
-    Nonblank,
-    Wellformed,
-    Value(i32, i32),
-    Length(i32, i32),
-    Names(i32, i32),
-    Over(i32, u32),
-    Within(u32),
+pub struct Shape {
+    pub whole: bool,
+    pub at_entry: bool,
+    pub vars: &'static str,
+    pub fields: &'static str,
+    pub next: u32,
 }
 
 /// Where a state is: at an entry with the whole stack known, at no entry, or at one with the top of the stack known.
@@ -45,35 +34,6 @@ pub enum Setting {
     NoEntry,
     TopOfStack,
 }
-
-/// A name of a style.
-#[derive(Clone, Copy)]
-pub struct Named {
-    pub name: &'static [u8],
-    pub kind: Kind,
-}
-
-/// What a state has beside what is known of its symbols.
-#[derive(Clone, Copy)]
-pub struct Shape {
-    pub whole: bool,
-    pub at_entry: bool,
-    pub stack: &'static [u32],
-    pub vars: &'static [Bind],
-    pub fields: &'static [Bind],
-    pub next: u32,
-}
-
-/// The variables and the field of a state of 10 symbols.
-static VARIABLES: [Bind; 5] = [
-    bind!(38, 4),
-    bind!(39, 5),
-    bind!(40, 6),
-    bind!(41, 7),
-    bind!(42, 8),
-];
-
-static FIELDS: [Bind; 1] = [bind!(37, 9)];
 
 pub fn condition(alloc: Global) -> Cond {
     Cond {
@@ -88,6 +48,13 @@ pub fn condition(alloc: Global) -> Cond {
     }
 }
 
+/// A name of a style.
+#[derive(Clone, Copy)]
+pub struct Named {
+    pub name: &'static [u8],
+    pub kind: Kind,
+}
+
 /// A style with these names beside those of every style.
 pub fn style(alloc: Global, more: &[Named]) -> Result<Style, NoMemory>
     ensures { IfOk result (λ style. length style.names ≤ 65536) }
@@ -95,11 +62,11 @@ pub fn style(alloc: Global, more: &[Named]) -> Result<Style, NoMemory>
     let mut names = Names::opening(alloc)?;
     define(&mut names, more)?;
     Ok(Style {
-        names,
-        commands: Seq::new(alloc),
-        bodies: Seq::new(alloc),
-        texts: Seq::new(alloc),
         macros: Seq::new(alloc),
+        texts: Seq::new(alloc),
+        bodies: Seq::new(alloc),
+        commands: Seq::new(alloc),
+        names,
     })
 }
 
@@ -112,143 +79,182 @@ fn define(names: &mut Names, more: &[Named]) -> Result<(), NoMemory> {
     Ok(())
 }
 
-/// A state of 10 symbols with this stack, of which this is known. Symbols 4 to 8 are the values of variables, 9 is that of
-/// a field.
-pub fn state(
-    alloc: Global,
-    setting: Setting,
-    stack: &'static [u32],
-    known: &[(u32, Known)],
-) -> Result<State, NoMemory>
+/// A state of 10 symbols with a stack and what is known. Symbols 4 to 8 are the values of variables, 9 is that of a field.
+pub fn state(alloc: Global, setting: Setting, text: &'static str) -> Result<State, Unread>
     ensures bounds { IfOk result HasBounds }
     ensures next { IfOk result (λ state. state.next ≡ 10) }
 {
     let shape = Shape {
         whole: setting != Setting::TopOfStack,
         at_entry: setting != Setting::NoEntry,
-        stack,
-        vars: &VARIABLES,
-        fields: &FIELDS,
+        vars: "38=4; 39=5; 40=6; 41=7; 42=8",
+        fields: "37=9",
         next: 10,
     };
-    state_of(alloc, shape, known)
+    state_of(alloc, shape, text)
 }
 
-/// A state of this shape, of whose symbols this is known.
-pub fn state_of(alloc: Global, shape: Shape, known: &[(u32, Known)]) -> Result<State, NoMemory>
+/// A state of this shape with a stack and what is known.
+pub fn state_of(alloc: Global, shape: Shape, text: &'static str) -> Result<State, Unread>
     ensures bounds { IfOk result HasBounds }
     ensures next { IfOk result (λ state. state.next ≡ shape.next) }
 {
+    let Piece {
+        stack,
+        vars,
+        fields,
+        facts,
+        rows,
+    } = piece(alloc, text, shape.vars, shape.fields)?;
     Ok(State {
         alloc,
-        stack: symbols(alloc, shape.stack)?,
+        stack,
         whole: shape.whole,
         at_entry: shape.at_entry,
-        vars: Seq::from_vec(shape.vars.to_vec(alloc)?),
-        fields: Seq::from_vec(shape.fields.to_vec(alloc)?),
-        facts: Seq::from_vec(facts(alloc, known)?),
-        rows: Seq::from_vec(rows(alloc, known)?),
+        vars,
+        fields,
+        facts,
+        rows,
         next: shape.next,
     })
 }
 
-/// A piece of this stack and these names, of whose symbols this is known.
+/// A piece with a stack and what is known, and these variables and fields.
 pub fn piece(
     alloc: Global,
-    stack: &[u32],
-    vars: &[Bind],
-    fields: &[Bind],
-    known: &[(u32, Known)],
-) -> Result<Piece, NoMemory>
-    ensures { IfOk result (λ piece. All IsBounded piece.rows) }
+    text: &'static str,
+    vars: &'static str,
+    fields: &'static str,
+) -> Result<Piece, Unread>
+    ensures facts { IfOk result (λ piece. All HasShortText piece.facts) }
+    ensures rows { IfOk result (λ piece. All IsBounded piece.rows) }
 {
+    let (stack, known) = halves(text, "; ");
     Ok(Piece {
-        stack: symbols(alloc, stack)?,
-        vars: Seq::from_vec(vars.to_vec(alloc)?),
-        fields: Seq::from_vec(fields.to_vec(alloc)?),
-        facts: Seq::from_vec(facts(alloc, known)?),
-        rows: Seq::from_vec(rows(alloc, known)?),
+        stack: list(alloc, if stack == "empty" { "" } else { stack }, " ")?,
+        vars: list(alloc, vars, "; ")?,
+        fields: list(alloc, fields, "; ")?,
+        facts: list(alloc, known, "; ")?,
+        rows: list(alloc, known, "; ")?,
     })
 }
 
-fn symbols(alloc: Global, numbers: &[u32]) -> Result<Seq<Sym>, NoMemory> {
-    let mut symbols = Seq::new(alloc);
-    for number in numbers {
-        symbols.push(Sym(*number))?;
+impl Item for Sym {
+    ghost holds = { λ _. Unit {0} };
+
+    fn read(_alloc: Global, text: &'static str) -> Result<Option<Sym>, Unread> {
+        Ok(Some(Sym(natural(text)?)))
     }
-    Ok(symbols)
 }
 
-fn facts(alloc: Global, known: &[(u32, Known)]) -> Result<Vec<Fact>, NoMemory>
-    ensures { IfOk result (λ facts. All HasShortText facts.items) }
-{
-    let mut facts = Vec::new(alloc);
-    for (s, said) in known {
-        if let Some(fact) = fact(alloc, Sym(*s), *said)? {
-            facts.push(fact)?;
+impl Item for Bind {
+    ghost holds = { λ _. Unit {0} };
+
+    fn read(_alloc: Global, text: &'static str) -> Result<Option<Bind>, Unread> {
+        let (name, symbol) = halves(text, "=");
+        Ok(Some(Bind {
+            name: NameId(natural(name)?),
+            sym: Sym(natural(symbol)?),
+        }))
+    }
+}
+
+impl Item for Fact {
+    ghost use Rattle.sym_state.specs.WellMade.{HasShortText};
+
+    ghost holds = { HasShortText };
+
+    fn read(alloc: Global, text: &'static str) -> Result<Option<Fact>, Unread> {
+        if is_row(text) {
+            return Ok(None);
         }
+        Ok(Some(fact(alloc, text)?))
     }
-    Ok(facts)
 }
 
-fn fact(alloc: Global, sym: Sym, known: Known) -> Result<Option<Fact>, NoMemory>
-    ensures { IfOk result (λ fact. IfSome fact HasShortText) }
+fn fact(alloc: Global, text: &'static str) -> Result<Fact, Unread>
+    ensures { IfOk result HasShortText }
 {
-    Ok(Some(match known {
-        Known::Of(kind) => Fact::Is(sym, kind),
-        Known::Int(n) => Fact::Int(sym, n),
-        Known::Text(text) => Fact::Text(sym, front(alloc, text, 300)?),
-        Known::Letters(count) => Fact::Text(sym, front(alloc, &[b'a'; 300], count)?),
-        Known::Name(id) => Fact::Call(sym, NameId(id)),
-        Known::Block(number) => Fact::Block(sym, number),
-        Known::Blank => Fact::Blank(sym),
-        Known::Nonblank => Fact::Nonblank(sym),
-        Known::Wellformed => Fact::Wellformed(sym),
-        _ => return Ok(None),
-    }))
-}
-
-/// A text without what follows so many bytes.
-fn front(alloc: Global, text: &[u8], count: usize) -> Result<Text, NoMemory>
-    ensures { IfOk result (λ front. length front ≤ 300) }
-{
-    Text::from_slice(alloc, &text[..text.len().min(count).min(300)])
-}
-
-fn rows(alloc: Global, known: &[(u32, Known)]) -> Result<Vec<Row>, NoMemory>
-    ensures { IfOk result (λ rows. All IsBounded rows.items) }
-{
-    let mut rows = Vec::new(alloc);
-    for (s, said) in known {
-        if let Some(row) = row(alloc, *s, *said)? {
-            rows.push(row)?;
-        }
-    }
-    Ok(rows)
-}
-
-fn row(alloc: Global, s: u32, known: Known) -> Result<Option<Row>, NoMemory>
-    ensures { IfOk result (λ row. IfSome row IsBounded) }
-{
-    Ok(Some(match known {
-        Known::Value(constant, times) => row_of(alloc, constant, times, Term::Value(s))?,
-        Known::Length(constant, times) => row_of(alloc, constant, times, Term::Length(s))?,
-        Known::Names(constant, times) => row_of(alloc, constant, times, Term::Names(s))?,
-        Known::Over(n, other) => { exceeds(alloc, Term::Value(s), Term::Value(other), n as i64)? }
-        Known::Within(other) => exceeds(alloc, Term::Length(other), Term::Value(s), 0)?,
-        _ => return Ok(None),
-    }))
-}
-
-fn row_of(alloc: Global, constant: i32, times: i32, term: Term) -> Result<Row, NoMemory>
-    ensures { IfOk result IsBounded }
-{
-    let parts = [Part {
-        coefficient: times as i64,
-        term,
-    }];
-    Ok(Row {
-        constant: constant as i64,
-        parts: Seq::from_vec(parts.to_vec(alloc)?),
+    let (word, rest) = halves(text, " ");
+    let (number, said) = halves(rest, " ");
+    let sym = Sym(natural(number)?);
+    Ok(match word {
+        "is" => Fact::Is(sym, kind(said)?),
+        "int" => Fact::Int(sym, integer(said)?),
+        "call" => Fact::Call(sym, NameId(natural(said)?)),
+        "block" => Fact::Block(sym, natural(said)?),
+        "text" => return text_fact(sym, bytes(alloc, said)),
+        "letters" => return text_fact(sym, letters(alloc, said)),
+        _ => return plain_fact(word, sym, said),
     })
+}
+
+/// The fact that a symbol is a text, where that is read.
+fn text_fact(sym: Sym, text: Result<Text, Unread>) -> Result<Fact, Unread>
+    requires { IfOk text (λ text. length text ≤ 300) }
+    ensures { IfOk result HasShortText }
+{
+    Ok(Fact::Text(sym, text?))
+}
+
+/// A fact that says no more than its word.
+fn plain_fact(word: &'static str, sym: Sym, said: &'static str) -> Result<Fact, Unread>
+    ensures { IfOk result HasShortText }
+{
+    if !said.is_empty() {
+        return Err(Unread::At(said));
+    }
+    Ok(match word {
+        "blank" => Fact::Blank(sym),
+        "nonblank" => Fact::Nonblank(sym),
+        "wellformed" => Fact::Wellformed(sym),
+        _ => return Err(Unread::At(word)),
+    })
+}
+
+fn kind(word: &'static str) -> Result<Kinds, Unread> {
+    Ok(match word {
+        "Int" => Kinds::Int,
+        "Str" => Kinds::Str,
+        "Missing" => Kinds::Missing,
+        "Optional" => Kinds::Optional,
+        "Func" => Kinds::Func,
+        "Any" => Kinds::Any,
+        _ => return Err(Unread::At(word)),
+    })
+}
+
+/// The text of bytes, of which there are at most 300.
+fn bytes(alloc: Global, text: &'static str) -> Result<Text, Unread>
+    ensures { IfOk result (λ bytes. length bytes ≤ 300) }
+{
+    let inner = text.strip_prefix("[").ok_or(Unread::At(text))?;
+    let inner = inner.strip_suffix("]").ok_or(Unread::At(text))?;
+    let bytes = list::<u8>(alloc, inner, ", ")?;
+    if bytes.as_slice().len() > 300 {
+        return Err(Unread::At(text));
+    }
+    Ok(Text::from_vec(bytes.into_vec()))
+}
+
+impl Item for u8 {
+    ghost holds = { λ _. Unit {0} };
+
+    fn read(_alloc: Global, text: &'static str) -> Result<Option<u8>, Unread> {
+        match text.parse::<u8>() {
+            Ok(byte) => Ok(Some(byte)),
+            Err(_) => Err(Unread::At(text)),
+        }
+    }
+}
+
+/// The text of so many letters `a`, of which there are at most 300.
+fn letters(alloc: Global, text: &'static str) -> Result<Text, Unread>
+    ensures { IfOk result (λ letters. length letters ≤ 300) }
+{
+    let count = natural(text)?;
+    if count > 300 {
+        return Err(Unread::At(text));
+    }
+    Ok(Text::from_slice(alloc, &[b'a'; 300][..count as usize])?)
 }

@@ -1,13 +1,38 @@
-//! What a state says that another doesn't, as a line.
+//! The lines of tables: whether what comes of each is what is wanted, and what a state says that another doesn't.
 
+use crate::tests::reading::{Unread, halves};
 use bv_base::memory::NoMemory;
 use lin_facts::row::{Row, Term};
 use name_table::names::NameId;
+use std::alloc::Global;
 use std::fmt::Debug;
+use std::process::Abort;
 use sym_state::demand::EffectFault;
 use sym_state::facts::subject;
 use sym_state::state::State;
 use sym_state::symbol::{Bind, Fact};
+
+/// What has an answer to what is given.
+pub trait Answers {
+    /// Adds what comes of what is given.
+    fn add_answer(&self, line: &mut String, given: &'static str) -> Result<(), Unread>;
+}
+
+/// Whether what comes of each row is what is wanted.
+pub fn compare(rt: &impl Abort, alloc: Global, asked: &impl Answers, rows: &[&'static str]) {
+    for row in rows {
+        compare_row(rt, alloc, asked, row);
+    }
+}
+
+fn compare_row(rt: &impl Abort, alloc: Global, asked: &impl Answers, row: &'static str) {
+    let mut line = String::new(alloc);
+    let (given, want) = halves(row, " => ");
+    match asked.add_answer(&mut line, given) {
+        Ok(()) => assert_eq!(rt; line.as_str(), want, "{row}"),
+        Err(fault) => assert!(rt; false, "{row}: {fault:?}"),
+    }
+}
 
 /// What a line says in words of its own.
 trait Said: Debug {

@@ -1,117 +1,175 @@
 //! Rows, and the steps that show them (docs/CHECKER.md, "Rows").
 
-ghost use Rattle.std.specs.Prelude.{IfOk};
+ghost use Rattle.std.specs.Prelude.{◌≤◌, length, IfOk};
+ghost use Rattle.std.specs.List.{All};
 ghost use Rattle.lin_facts.specs.Rows.{IsSmall};
 ghost use Rattle.sym_state.specs.WellMade.{IsBounded};
 
+use crate::tests::lines::{Answers, compare};
+use crate::tests::reading::{Item, Unread, divided, halves, integer, natural, thirds};
 use bv_base::memory::NoMemory;
 use bv_base::seq::Seq;
 use lin_facts::follows::follows;
 use lin_facts::row::{Part, Row, Step, StepUse, Term};
 use std::alloc::Global;
-use std::process::Abort;
-use std::test::Fail;
 
-/// A constant and two parts.
-#[derive(Clone, Copy)]
-pub struct Form(pub i32, pub (i32, Term), pub (i32, Term));
+/// A row of one or two terms.
+pub fn row(alloc: Global, text: &'static str) -> Result<Row, Unread>
+    ensures small { IfOk result IsSmall }
+    ensures bounded { IfOk result IsBounded }
+{
+    let (constant, terms) = halves(text, " ");
+    let (first, second) = halves(terms, " ");
+    let (constant, first) = (integer(constant)?, term(first)?);
+    Ok(if second.is_empty() {
+        row_of_one(alloc, constant, first)?
+    } else {
+        row_of_two(alloc, constant, first, term(second)?)?
+    })
+}
 
-pub const NO_PART: (i32, Term) = (0, Term::Pos);
+/// A term, and how often it is taken.
+fn term(text: &'static str) -> Result<(i32, Term), Unread> {
+    for letter in LETTERS.as_slice() {
+        if let Some((times, symbol)) = text.split_once(*letter) {
+            return Ok((integer(times)?, term_of(letter, natural(symbol)?)));
+        }
+    }
+    Err(Unread::At(text))
+}
 
-pub fn row(alloc: Global, form: Form) -> Result<Row, NoMemory>
+static LETTERS: [&str; 5] = ["v", "l", "n", "p", "c"];
+
+fn term_of(letter: &'static str, symbol: u32) -> Term {
+    match letter {
+        "v" => Term::Value(symbol),
+        "l" => Term::Length(symbol),
+        "n" => Term::Names(symbol),
+        "p" => Term::Pos,
+        _ => Term::Count,
+    }
+}
+
+fn row_of_one(alloc: Global, constant: i32, first: (i32, Term)) -> Result<Row, NoMemory>
+    ensures small { IfOk result IsSmall }
+    ensures bounded { IfOk result IsBounded }
+{
+    let parts = [Part {
+        coefficient: first.0 as i64,
+        term: first.1,
+    }];
+    Ok(Row {
+        constant: constant as i64,
+        parts: Seq::from_vec(parts.to_vec(alloc)?),
+    })
+}
+
+fn row_of_two(
+    alloc: Global,
+    constant: i32,
+    first: (i32, Term),
+    second: (i32, Term),
+) -> Result<Row, NoMemory>
     ensures small { IfOk result IsSmall }
     ensures bounded { IfOk result IsBounded }
 {
     let parts = [
         Part {
-            coefficient: form.1.0 as i64,
-            term: form.1.1,
+            coefficient: first.0 as i64,
+            term: first.1,
         },
         Part {
-            coefficient: form.2.0 as i64,
-            term: form.2.1,
+            coefficient: second.0 as i64,
+            term: second.1,
         },
     ];
     Ok(Row {
-        constant: form.0 as i64,
+        constant: constant as i64,
         parts: Seq::from_vec(parts.to_vec(alloc)?),
     })
 }
 
-/// A row that is there or not, at most two uses of it with a divisor, a goal, and whether they show it.
-#[derive(Clone, Copy)]
-struct Example {
-    name: &'static str,
-    used: Form,
-    is_there: bool,
-    uses: usize,
-    divisor: u32,
-    goal: Form,
-    want: bool,
+/// A row begins with its constant, a fact with a word.
+pub fn is_row(text: &'static str) -> bool {
+    matches!(text.as_bytes(), [b'0'..=b'9' | b'-', ..])
 }
 
-/// An example as a row of a table.
-macro_rules! on {
-    ($name:literal, $used:expr, $is_there:literal, $uses:literal, $divisor:literal, $goal:expr => $want:literal) => {
-        Example {
-            name: $name,
-            used: $used,
-            is_there: $is_there,
-            uses: $uses,
-            divisor: $divisor,
-            goal: $goal,
-            want: $want,
+impl Item for Row {
+    ghost use Rattle.sym_state.specs.WellMade.{IsBounded};
+
+    ghost holds = { IsBounded };
+
+    fn read(alloc: Global, text: &'static str) -> Result<Option<Row>, Unread> {
+        if !is_row(text) {
+            return Ok(None);
         }
-    };
+        Ok(Some(row(alloc, text)?))
+    }
 }
 
-const LENGTH: (i32, Term) = (1, Term::Length(7));
+impl Item for StepUse {
+    ghost holds = { λ _. Unit {0} };
 
-const VALUE: (i32, Term) = (1, Term::Value(7));
+    fn read(_alloc: Global, text: &'static str) -> Result<Option<StepUse>, Unread> {
+        Ok(Some(StepUse {
+            row: natural(text)?,
+            times: 1,
+        }))
+    }
+}
 
-const SOME_LENGTH: Form = Form(-1, LENGTH, NO_PART);
-
-const TWICE_VALUE: Form = Form(-1, VALUE, VALUE);
-
-const ZERO: Form = Form(0, NO_PART, NO_PART);
-
-static STEPS: [Example; 11] = [
-    on!("length", SOME_LENGTH, true, 1, 1, Form(0, LENGTH, NO_PART) => true),
-    on!("less", SOME_LENGTH, true, 1, 1, Form(-2, LENGTH, NO_PART) => false),
-    on!("up", TWICE_VALUE, true, 1, 2, Form(-1, VALUE, NO_PART) => true),
-    on!("up twice", TWICE_VALUE, true, 1, 2, Form(-2, VALUE, NO_PART) => false),
-    on!("no row", SOME_LENGTH, false, 1, 1, ZERO => false),
-    on!("no divisor", SOME_LENGTH, false, 0, 0, ZERO => false),
-    on!("nothing", SOME_LENGTH, false, 0, 1, ZERO => true),
-    on!("minus 1", SOME_LENGTH, false, 0, 1, Form(-1, NO_PART, NO_PART) => false),
-    on!("sum", SOME_LENGTH, true, 2, 2, SOME_LENGTH => true),
-    on!("rest", Form(0, LENGTH, VALUE), true, 1, 1, Form(0, LENGTH, NO_PART) => false),
-    on!("other", Form(0, LENGTH, NO_PART), true, 1, 1, Form(0, VALUE, NO_PART) => false),
+/// A row that is there or `empty`, the divisor and the rows of a step, a goal, and whether the step shows it.
+static STEPS: [&str; 11] = [
+    "length: -1 1l7 0p0 | 1 0 | 0 1l7 0p0 => true",
+    "less: -1 1l7 0p0 | 1 0 | -2 1l7 0p0 => false",
+    "up: -1 1v7 1v7 | 2 0 | -1 1v7 0p0 => true",
+    "up twice: -1 1v7 1v7 | 2 0 | -2 1v7 0p0 => false",
+    "no row: empty | 1 0 | 0 0p0 0p0 => false",
+    "no divisor: empty | 0 | 0 0p0 0p0 => false",
+    "nothing: empty | 1 | 0 0p0 0p0 => true",
+    "minus 1: empty | 1 | -1 0p0 0p0 => false",
+    "sum: -1 1l7 0p0 | 2 0 0 | -1 1l7 0p0 => true",
+    "rest: 0 1l7 1v7 | 1 0 | 0 1l7 0p0 => false",
+    "other: 0 1l7 0p0 | 1 0 | 0 1v7 0p0 => false",
 ];
 
 #[test]
-fn steps_show_rows(rt: HostRuntime) -> Result<(), Fail> {
-    Ok(compare(&rt, rt.alloc(), &STEPS)?)
+fn steps_show_rows(rt: HostRuntime) {
+    compare(&rt, rt.alloc(), &Steps, &STEPS);
 }
 
-/// Whether each example shows what is wanted.
-fn compare(rt: &impl Abort, alloc: Global, examples: &[Example]) -> Result<(), NoMemory> {
-    for example in examples {
-        let (name, found) = (example.name, shown(alloc, *example)?);
-        assert_eq!(rt; found, example.want, "{name}");
+struct Steps;
+
+impl Answers for Steps {
+    fn add_answer(&self, line: &mut String, given: &'static str) -> Result<(), Unread> {
+        let (_, given) = halves(given, ": ");
+        let shown = is_shown(*line.allocator(), given)?;
+        add_truth(line, shown)
     }
-    Ok(())
 }
 
-/// Whether the uses show the goal.
-fn shown(alloc: Global, example: Example) -> Result<bool, NoMemory> {
-    let rows = [row(alloc, example.used)?];
-    let goal = row(alloc, example.goal)?;
-    let twice = [StepUse { row: 0, times: 1 }; 2];
-    let step = Step {
-        uses: Seq::from_vec(twice[..example.uses.min(2)].to_vec(alloc)?),
-        divisor: example.divisor,
-    };
-    let there = if example.is_there { 1 } else { 0 };
-    Ok(follows(&rows[..there], &step, &goal))
+/// Adds whether something is so.
+pub fn add_truth(line: &mut String, is_so: bool) -> Result<(), Unread> {
+    Ok(write!(line, "{is_so}")?)
+}
+
+/// Whether a step that uses the row shows the goal.
+fn is_shown(alloc: Global, given: &'static str) -> Result<bool, Unread> {
+    let (used, step, goal) = thirds(given);
+    let rows = rows_there(alloc, used)?;
+    let (divisor, uses) = divided(alloc, step)?;
+    let goal = row(alloc, goal)?;
+    Ok(follows(rows.as_slice(), &Step { uses, divisor }, &goal))
+}
+
+/// The row, where it is there.
+fn rows_there(alloc: Global, used: &'static str) -> Result<Seq<Row>, Unread>
+    ensures few { IfOk result (λ rows. length rows ≤ 64) }
+    ensures small { IfOk result (λ rows. All IsSmall rows) }
+{
+    let mut rows = Seq::new(alloc);
+    if used != "empty" {
+        rows.push(row(alloc, used)?)?;
+    }
+    Ok(rows)
 }

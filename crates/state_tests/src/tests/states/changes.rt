@@ -3,21 +3,34 @@
 ghost use Rattle.std.specs.Prelude.{◌≡◌};
 
 use crate::tests::known::{Shape, state_of};
+use crate::tests::lines::compare;
+use crate::tests::reading::Unread;
+use crate::tests::states::Asked;
 use crate::tests::states::example::started;
 use bv_base::memory::NoMemory;
 use name_table::names::NameId;
-use std::test::Fail;
 use sym_state::hint::{Hint, Hints};
 use sym_state::state::State;
 use sym_state::symbol::{Bind, Kinds, Sym};
 
+/// What comes off the stack before and after, and whether the state and a branch of it are as they have to be.
+static CHANGES: [&str; 1] = ["pop, push twice, pop, bind: 42 => None Some(Sym(3)) true true"];
+
 #[test]
-fn states_change(rt: HostRuntime) -> Result<(), Fail> {
-    let mut state = started(rt.alloc())?;
-    assert_eq!(rt; change(&mut state)?, [None, Some(Sym(3))]);
-    assert_eq!(rt; is_changed(&state), true);
-    assert_eq!(rt; is_branched_alike(&state)?, true);
-    Ok(())
+fn states_change(rt: HostRuntime) {
+    compare(&rt, rt.alloc(), &Asked::Changed, &CHANGES);
+}
+
+/// Adds what the changes give.
+pub fn add_changed(line: &mut String, _given: &'static str) -> Result<(), Unread> {
+    let mut state = started(*line.allocator())?;
+    add_changes(line, &mut state)
+}
+
+fn add_changes(line: &mut String, state: &mut State) -> Result<(), Unread> {
+    let [before, after] = change(state)?;
+    let (is_so, is_alike) = (is_changed(state), is_branched_alike(state)?);
+    Ok(write!(line, "{before:?} {after:?} {is_so} {is_alike}")?)
 }
 
 /// What comes off the stack before two symbols are put on it, and after.
@@ -47,18 +60,31 @@ static CHANGED: [Bind; 4] = [bind!(39, 1), bind!(40, 2), bind!(41, 0), bind!(42,
 static LAST: Shape = Shape {
     whole: true,
     at_entry: false,
-    stack: &[],
-    vars: &[],
-    fields: &[],
+    vars: "",
+    fields: "",
     next: 4294967293,
 };
 
+/// The two symbols, and how many facts there are.
+static SYMBOLS: [&str; 1] = ["of any kind, a string: 2 => Sym(4294967293) Sym(4294967294) 1"];
+
 #[test]
-fn symbols_come_in_order(rt: HostRuntime) -> Result<(), Fail> {
-    let mut state = state_of(rt.alloc(), LAST, &[])?;
-    assert_eq!(rt; next_two(&mut state)?, [Sym(4294967293), Sym(4294967294)]);
-    assert_eq!(rt; state.facts.as_slice().len(), 1);
-    Ok(())
+fn symbols_come_in_order(rt: HostRuntime) {
+    compare(&rt, rt.alloc(), &Asked::Last, &SYMBOLS);
+}
+
+/// Adds the symbols that come.
+pub fn add_last(line: &mut String, _given: &'static str) -> Result<(), Unread> {
+    let mut state = state_of(*line.allocator(), LAST, "empty")?;
+    add_symbols(line, &mut state)
+}
+
+fn add_symbols(line: &mut String, state: &mut State) -> Result<(), Unread>
+    requires { state.old.next ≡ 4294967293 }
+{
+    let [any, string] = next_two(state)?;
+    let facts = state.facts.as_slice().len();
+    Ok(write!(line, "{any:?} {string:?} {facts}")?)
 }
 
 /// The next symbol, of any kind, and the string after it.
@@ -71,10 +97,8 @@ fn next_two(state: &mut State) -> Result<[Sym; 2], NoMemory>
 }
 
 #[test]
-fn hints_come_in_order(rt: HostRuntime) -> Result<(), Fail> {
-    let list = [Hint::Walk, Hint::Keep];
-    assert_eq!(rt; come_in_order(&list), true);
-    Ok(())
+fn hints_come_in_order(rt: HostRuntime) {
+    assert!(rt; come_in_order(&[Hint::Walk, Hint::Keep]));
 }
 
 /// Whether a walk comes first, then what keeps a case, and then nothing.

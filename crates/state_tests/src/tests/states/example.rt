@@ -1,28 +1,25 @@
 //! The worked example of docs/STATES.md.
 
-ghost use Rattle.std.specs.Prelude.{◌≤◌, IfOk};
+ghost use Rattle.std.specs.Prelude.{◌≤◌, length, IfOk};
 ghost use Rattle.name_table.specs.declared.style.Style.{Style as StyleValue};
 ghost use Rattle.std.specs.List.{All};
-ghost use Rattle.sym_state.specs.Entailing.{line_count};
 ghost use Rattle.sym_state.specs.Starting.{IsNumbered, IsFit, symbols_of};
-ghost use Rattle.sym_state.specs.WellMade.{HasBounds, IsBounded};
+ghost use Rattle.sym_state.specs.WellMade.{HasBounds};
 
 use crate::tests::hints::proof;
-use crate::tests::known::{Named, condition, style};
-use crate::tests::rows::{Form, row};
-use crate::tests::states::is_shown;
+use crate::tests::known::{Named, condition, piece, style};
+use crate::tests::lines::compare;
+use crate::tests::reading::{Unread, halves};
+use crate::tests::states::{Asked, add_failing, add_shown};
 use bv_base::memory::NoMemory;
 use bv_base::seq::Seq;
-use lin_facts::row::Term;
 use name_table::names::Kind;
 use std::alloc::Global;
-use std::test::Fail;
-use sym_state::entails::entails;
 use sym_state::piece::Piece;
-use sym_state::proof::Use;
+use sym_state::proof::Proof;
 use sym_state::start::start;
 use sym_state::state::State;
-use sym_state::symbol::{Bind, Fact, Kinds, Sym};
+use sym_state::symbol::{Bind, Fact, Sym};
 
 /// A global integer and a global string.
 static NAMES: [Named; 2] = [
@@ -36,42 +33,76 @@ static NAMES: [Named; 2] = [
     },
 ];
 
-/// Row 0 and the exact integer of symbol 0.
-static USES: [Use; 2] = [using!(Row 0), using!(ExactLow Sym(0))];
+/// Whether the variables are bound as they have to be, the next symbol, and how many facts there are.
+static STARTED: [&str; 1] = ["the state: variables => true 4 5"];
 
 #[test]
-fn the_worked_example(rt: HostRuntime) -> Result<(), Fail> {
-    let state = started(rt.alloc())?;
-    assert_eq!(rt; state.vars.as_slice(), BINDS.as_slice());
-    assert_eq!(rt; (state.next, state.facts.as_slice().len()), (4, 5));
-    Ok(())
+fn the_worked_example(rt: HostRuntime) {
+    compare(&rt, rt.alloc(), &Asked::Started, &STARTED);
+    compare(&rt, rt.alloc(), &Asked::Shown, &SHOWN);
+    compare(&rt, rt.alloc(), &Asked::Entailed, &ENTAILED);
+}
+
+/// Adds what the state begins with.
+pub fn add_started(line: &mut String, _given: &'static str) -> Result<(), Unread> {
+    let state = started(*line.allocator())?;
+    add_beginning(line, &state)
+}
+
+fn add_beginning(line: &mut String, state: &State) -> Result<(), Unread> {
+    let is_bound = state.vars.as_slice() == BINDS.as_slice();
+    let (next, facts) = (state.next, state.facts.as_slice().len());
+    Ok(write!(line, "{is_bound} {next} {facts}")?)
 }
 
 static BINDS: [Bind; 4] = [bind!(39, 1), bind!(40, 2), bind!(41, 0), bind!(42, 3)];
 
-#[test]
-fn what_it_shows(rt: HostRuntime) -> Result<(), Fail> {
-    let state = started(rt.alloc())?;
-    let shown = [
-        is_shown(&state, &USES, goal(19903))?,
-        is_shown(&state, &USES, goal(19902))?,
-    ];
-    assert_eq!(rt; shown, [true, false]);
-    Ok(())
+/// A proof, a row, and whether the proof shows it.
+static SHOWN: [&str; 2] = [
+    "within the size: 1 Row:0 ExactLow:0 | 19903 1v0 -1l3 => true",
+    "one less: 1 Row:0 ExactLow:0 | 19902 1v0 -1l3 => false",
+];
+
+/// Adds whether the proof shows the row.
+pub fn add_example_shown(line: &mut String, given: &'static str) -> Result<(), Unread> {
+    let (uses, goal) = halves(given, " | ");
+    let state = started(*line.allocator())?;
+    add_shown(line, &state, uses, goal)
 }
 
-/// The row of a constant and the value of `n` less the length of `s`.
-fn goal(constant: i32) -> Form {
-    Form(constant, (1, Term::Value(0)), (-1, Term::Length(3)))
+/// A piece that binds `n` to 0 and `s` to 1, a proof of its row, and the first line that fails.
+static ENTAILED: [&str; 3] = [
+    "the piece: empty; is 1 Str; 19903 1v0 -1l1 | 1 Row:0 ExactLow:0 => None",
+    "another kind: empty; is 1 Int; 19903 1v0 -1l1 | 1 Row:0 ExactLow:0 => Some(3)",
+    "row 0 alone: empty; is 1 Str; 19903 1v0 -1l1 | 1 Row:0 => Some(4)",
+];
+
+/// Adds the first line that fails.
+pub fn add_entailed(line: &mut String, given: &'static str) -> Result<(), Unread> {
+    let state = started(*line.allocator())?;
+    add_by_proof(line, &state, given)
 }
 
-#[test]
-fn what_it_entails(rt: HostRuntime) -> Result<(), Fail> {
-    let state = started(rt.alloc())?;
-    assert_eq!(rt; line_of(&state, Kinds::Str, 2)?, None);
-    assert_eq!(rt; line_of(&state, Kinds::Int, 2)?, Some(3));
-    assert_eq!(rt; line_of(&state, Kinds::Str, 1)?, Some(4));
-    Ok(())
+/// Adds the first line that fails by a proof of its row.
+fn add_by_proof(line: &mut String, state: &State, given: &'static str) -> Result<(), Unread>
+    requires { HasBounds state.now }
+{
+    let (known, uses) = halves(given, " | ");
+    let proofs = [proof(state.alloc, uses)?];
+    add_ending(line, state, known, &proofs)
+}
+
+fn add_ending(
+    line: &mut String,
+    state: &State,
+    known: &'static str,
+    proofs: &[Proof],
+) -> Result<(), Unread>
+    requires state { HasBounds state.now }
+    requires proofs { All (λ proof. length proof.uses ≤ 64) proofs.now }
+{
+    let piece = piece(state.alloc, known, "41=0; 42=1", "")?;
+    add_failing(line, state, &piece, 0, proofs)
 }
 
 /// The piece that binds `n` to symbol 0, which is exactly 97.
@@ -101,48 +132,4 @@ pub fn started(alloc: Global) -> Result<State, NoMemory>
     let cond = condition(alloc);
     let pieces = [exact_n(alloc)?];
     start(alloc, &style, &cond, &pieces, true, false)
-}
-
-/// The first line that fails of the example's piece, with a kind for `s`, and with so many uses.
-fn line_of(state: &State, kind: Kinds, uses: usize) -> Result<Option<u32>, NoMemory>
-    requires { HasBounds state.now }
-{
-    let piece = ending(state.alloc, kind)?;
-    line_by(state, &piece, &USES[..uses.min(2)])
-}
-
-/// The first line of a piece that fails, where its row is shown by these uses.
-fn line_by(state: &State, piece: &Piece, uses: &[Use]) -> Result<Option<u32>, NoMemory>
-    requires state { HasBounds state.now }
-    requires rows { All IsBounded piece.now.rows }
-    requires lines { line_count piece.now ≤ 5 }
-{
-    let proofs = [proof(state.alloc, 1, uses)?];
-    entails(
-        state.alloc,
-        state,
-        &condition(state.alloc),
-        piece,
-        0,
-        &proofs,
-    )
-}
-
-/// The piece at the example's end.
-fn ending(alloc: Global, kind: Kinds) -> Result<Piece, NoMemory>
-    ensures rows { IfOk result (λ piece. All IsBounded piece.rows) }
-    ensures lines { IfOk result (λ piece. line_count piece ≤ 5) }
-{
-    let mut facts = Seq::new(alloc);
-    facts.push(Fact::Is(Sym(1), kind))?;
-    let mut rows = Seq::new(alloc);
-    let form = Form(19903, (1, Term::Value(0)), (-1, Term::Length(1)));
-    rows.push(row(alloc, form)?)?;
-    Ok(Piece {
-        stack: Seq::new(alloc),
-        vars: Seq::from_vec([bind!(41, 0), bind!(42, 1)].to_vec(alloc)?),
-        fields: Seq::new(alloc),
-        facts,
-        rows,
-    })
 }

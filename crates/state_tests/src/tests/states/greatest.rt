@@ -3,15 +3,14 @@
 ghost use Rattle.std.specs.Prelude.{◌≤◌, ◌≤ℤ◌, pos, length, IfOk};
 ghost use Rattle.sym_state.specs.WellMade.{HasBounds};
 
-use crate::tests::hints::proof;
-use crate::tests::known::condition;
+use crate::tests::lines::compare;
+use crate::tests::reading::{Unread, halves, natural};
+use crate::tests::states::{Asked, add_goal_shown};
 use bv_base::memory::NoMemory;
 use bv_base::seq::Seq;
 use lin_facts::row::{Part, Row, Term};
 use std::alloc::Global;
-use std::test::Fail;
 use sym_state::proof::{Proof, Reference, Use};
-use sym_state::shows::shows;
 use sym_state::state::State;
 
 /// A state with the row 2^39 + value 0 >= 0.
@@ -41,8 +40,36 @@ fn greatest_state(alloc: Global) -> Result<State, NoMemory>
     })
 }
 
-/// Whether so many uses of that row, each taken 4294967295 times, show 64 values and a constant by that divisor.
-fn greatest(state: &State, constant: i64, uses: usize) -> Result<bool, NoMemory>
+/// A constant, how many uses of that row, each taken 4294967295 times, and whether they show 64 values and the constant.
+static GREATEST: [&str; 3] = [
+    "the greatest: 35184372088832 64 => true",
+    "one less: 35184372088831 64 => false",
+    "one use less: 35184372088832 63 => false",
+];
+
+/// Adds whether they show it.
+pub fn add_greatest(line: &mut String, given: &'static str) -> Result<(), Unread> {
+    let (constant, uses) = halves(given, " ");
+    let (constant, uses) = (large(constant)?, natural(uses)? as usize);
+    let state = greatest_state(*line.allocator())?;
+    add_by_uses(line, &state, constant, uses)
+}
+
+/// An integer from 0 to 2^45.
+fn large(text: &'static str) -> Result<i64, Unread>
+    ensures low { IfOk result (λ n. pos 0 ≤ℤ n) }
+    ensures high { IfOk result (λ n. n ≤ℤ pos 35184372088832) }
+{
+    if let Ok(number) = text.parse::<i64>() {
+        if 0 <= number && number <= 35184372088832 {
+            return Ok(number);
+        }
+    }
+    Err(Unread::At(text))
+}
+
+/// Adds whether so many uses show it by the greatest divisor.
+fn add_by_uses(line: &mut String, state: &State, constant: i64, uses: usize) -> Result<(), Unread>
     requires bounds { HasBounds state.now }
     requires low { pos 0 ≤ℤ constant }
     requires high { constant ≤ℤ pos 35184372088832 }
@@ -51,12 +78,15 @@ fn greatest(state: &State, constant: i64, uses: usize) -> Result<bool, NoMemory>
         reference: Reference::Row(0),
         times: 4294967295,
     };
-    let proof = proof(state.alloc, 4294967295, &[take; 64][..uses.min(64)])?;
-    is_shown_by(state, constant, &proof)
+    let proof = Proof {
+        divisor: 4294967295,
+        uses: Seq::from_vec([take; 64][..uses.min(64)].to_vec(state.alloc)?),
+    };
+    add_goal(line, state, constant, &proof)
 }
 
-/// Whether a proof shows 64 values and a constant.
-fn is_shown_by(state: &State, constant: i64, proof: &Proof) -> Result<bool, NoMemory>
+/// Adds whether a proof shows 64 values and a constant.
+fn add_goal(line: &mut String, state: &State, constant: i64, proof: &Proof) -> Result<(), Unread>
     requires bounds { HasBounds state.now }
     requires low { pos 0 ≤ℤ constant }
     requires high { constant ≤ℤ pos 35184372088832 }
@@ -70,17 +100,10 @@ fn is_shown_by(state: &State, constant: i64, proof: &Proof) -> Result<bool, NoMe
         constant,
         parts: Seq::from_vec([twice; 32].to_vec(state.alloc)?),
     };
-    shows(state.alloc, state, &condition(state.alloc), proof, &goal)
+    add_goal_shown(line, state, proof, &goal)
 }
 
 #[test]
-fn greatest_sizes(rt: HostRuntime) -> Result<(), Fail> {
-    let state = greatest_state(rt.alloc())?;
-    let shown = [
-        greatest(&state, 35184372088832, 64)?,
-        greatest(&state, 35184372088831, 64)?,
-        greatest(&state, 35184372088832, 63)?,
-    ];
-    assert_eq!(rt; shown, [true, false, false]);
-    Ok(())
+fn greatest_sizes(rt: HostRuntime) {
+    compare(&rt, rt.alloc(), &Asked::Greatest, &GREATEST);
 }
