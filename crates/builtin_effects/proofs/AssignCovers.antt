@@ -26,7 +26,7 @@ use Rattle.sym_state.specs.declared.symbol.Kinds.TheVariants.{Func, Int, Str}
 use Rattle.sym_state.specs.declared.symbol.Sym.{Sym}
 use Rattle.sym_state.specs.Changes.{with_bind}
 use Rattle.sym_state.specs.Decided.{ByName, ByNumber, Function, exact_function, exact_text}
-use Rattle.sym_state.specs.Demands.{After, choice, gives, is_of_kind, of_kind}
+use Rattle.sym_state.specs.Demands.{After, choice, gives, is_of_kind, Chooses, Gives, Rule}
 use Rattle.sym_state.specs.Effects.{assigned_to, cut_bound, effect_of, fits_exactly, string_assigned}
 use Rattle.sym_state.specs.Effects as rule
 use Rattle.sym_state.specs.References.{at_most}
@@ -42,11 +42,11 @@ use Rattle.sym_state.proofs.Saying.{at_most_holds}
 use Rattle.sym_state.proofs.Spots.{Spot}
 use Rattle.builtin_effects.proofs.Assigned.{Assigned, assigned, rebound_stands, variable_bound}
 use Rattle.name_table.proofs.ByteLists.{bytes_taken}
-use Rattle.builtin_effects.proofs.Covering.{CoversAt, after_value, around, lower, others_old, row_met, term_new_length, tops_old, two_given, unseen, value_new}
+use Rattle.builtin_effects.proofs.Covering.{CoversAt, after_value, around, lower, row_met, term_new_length, two_given, unseen, value_new, CoversBy, CoversOf}
 use Rattle.builtin_effects.proofs.EntryCovers.{entry_given}
-use Rattle.builtin_effects.proofs.Inverting.{choice_ok, demand_ok, gives_is, two_ok}
 use Rattle.builtin_effects.proofs.OperandValues.{IsText, number_met, text_met}
 use Rattle.builtin_effects.proofs.Rebinding.{Unique, each_once}
+use Rattle.sym_state.proofs.Below.{one_below, three_below, two_below}
 
 -- a value and the name of a variable on top
 record Assigning (s : Spot) (name : NameId) (kind : Kind) (a f : Sym) (rest : List Sym) : Type 0 where
@@ -82,52 +82,47 @@ once_fields : (s : Spot) → Unique s.state.fields
 once_fields s = each_once (is_field s.state.at_entry) 0 s.style.names s.state.fields s.made.binds_fields
 
 -- the symbol of the value is bound
-symbol_bound : (s : Spot) (name : NameId) (kind : Kind) (a f : Sym) (rest : List Sym) (value : Value) (hints : List Hint) (after : After)
+symbol_bound : (s : Spot) (name : NameId) (kind : Kind) (a f : Sym) (rest : List Sym) (value : Value)
     → Assigning s name kind a f rest → s.v.value a.0 ≡ value
     → assign_to (around s) (Some kind) name value (lower s rest) ≡ Ok (assigning s rest name value [])
-    → gives hints (with_bind name a (without rest s.state)) ≡ Ok after → CoversAt s op.Assign after.state
-symbol_bound s name kind a f rest value hints after g is machine e =
-    let state : State = with_bind name a (without rest s.state) in
+    → CoversAt s op.Assign (with_bind name a (without rest s.state))
+symbol_bound s name kind a f rest value g is machine =
     let c : Config = before s rest [] in
     let new : Variable = record { name = name; value = value } in
     let there = assigned_there s name kind a f rest value [] g in
-    let stands = moved s.style s.admits s.list s.v s.state s.c s.below rest (reverse rest) (s.c.events ++ []) (s.c.log ++ []) s.stands (reverse-reverse rest) in
-    subst (λ (x : State). CoversAt s op.Assign x) (gives_is hints state after e) (record {
+    let stands = moved s.style s.admits s.list s.v s.state s.c s.below rest (reverse rest) (s.c.events ++ []) (s.c.log ++ []) s.stands (reverse-reverse rest) in record {
       effect = assigning s rest name value [];
       gives = machine_assigns s name kind a f rest value g is ∙ machine;
       assignment = s.v;
       agrees = agrees_self s.state.next s.v;
       stands = rebound_stands s s.v (without rest s.state) c (assigned_by (kind_of s.style name) new c) name a stands (once_vars s) (once_fields s)
           (subst (λ (x : Value). Assigned s.style name x c (assigned_by (kind_of s.style name) new c)) (sym is) there);
-    })
+    }
 
 -- a new symbol is bound, of a string that is no longer than the variable
 new_bound : (s : Spot) (name : NameId) (kind : Kind) (a f : Sym) (rest : List Sym) (bytes y : List ℕ) (size : ℕ) (logged : List (List ℕ))
-    (hints : List Hint) (after : After) → Assigning s name kind a f rest → s.v.value a.0 ≡ StrValue bytes → IsByteList y → length y ≤ size
+    → Assigning s name kind a f rest → s.v.value a.0 ≡ StrValue bytes → IsByteList y → length y ≤ size
     → assign_to (around s) (Some kind) name (StrValue bytes) (lower s rest) ≡ Ok (assigning s rest name (StrValue y) logged)
-    → cut_bound name size hints (without rest s.state) ≡ Ok after → CoversAt s op.Assign after.state
-new_bound s name kind a f rest bytes y size logged hints after g is fine few machine e =
+    → CoversBy s op.Assign (cut_bound name size (without rest s.state))
+new_bound s name kind a f rest bytes y size logged g is fine few machine =
     let r = LengthOf s.state.next in
     let rows = at_most r (pos size) ∷ [] in
     let value : Value = StrValue y in
     let w : Valuation = after_value s value in
     let wr : numbers w r ≡ pos (length y) = term_new_length s value in
     let inner : State = with_symbol Str [] rows (without rest s.state) in
-    let state : State = with_bind name (next_of s.state) inner in
     let c : Config = before s rest logged in
     let new : Variable = record { name = name; value = value } in
-    let old = others_old s a rest (others_old s f (a ∷ rest) (tops_old s (f ∷ (a ∷ rest)) g.tops)) in
     let there = assigned_there s name kind a f rest value logged g in
-    let stands = unseen s rest Str [] rows value (s.c.events ++ []) (s.c.log ++ logged) old fine refl tt
-    (at_most_holds (numbers w) r (pos size) (omega (arith, ints, wr, few)), tt) in
-    subst (λ (x : State). CoversAt s op.Assign x) (gives_is hints state after e) (record {
+    let stands = unseen s rest Str [] rows value (s.c.events ++ []) (s.c.log ++ logged) (two_below s.style s.state a f rest s.made g.tops).others fine refl tt
+    (at_most_holds (numbers w) r (pos size) (omega (arith, ints, wr, few)), tt) in record {
       effect = assigning s rest name value logged;
       gives = machine_assigns s name kind a f rest (StrValue bytes) g is ∙ machine;
       assignment = w;
       agrees = next_agrees s.state.next value s.v;
       stands = rebound_stands s w inner c (assigned_by (kind_of s.style name) new c) name (next_of s.state) stands (once_vars s) (once_fields s)
           (subst (λ (x : Value). Assigned s.style name x c (assigned_by (kind_of s.style name) new c)) (sym (value_new s value)) there);
-    })
+    }
 
 -- a string that isn't too long is assigned whole, and a longer one is cut
 whole_string : (s : Spot) (name : NameId) (size : ℕ) (bytes : List ℕ) (rest : List Sym) → nat_le (length bytes) size ≡ true
@@ -157,83 +152,69 @@ exact_fits s a bytes size is e =
       | None ↦ λ exact found. absurd (cc)
     ] refl e
 
-string_covers : (s : Spot) (name : NameId) (kind : Kind) (a f : Sym) (rest : List Sym) (size : ℕ) (hints : List Hint) (after : After)
-    → Assigning s name kind a f rest → (text : IsText s a)
+-- a string is bound whole or cut, whatever its length
+loosely_bound : (s : Spot) (name : NameId) (kind : Kind) (a f : Sym) (rest : List Sym) (size : ℕ) (text : IsText s a) → Assigning s name kind a f rest
     → assign_to (around s) (Some kind) name (StrValue text.bytes) (lower s rest) ≡ assigned_string s.style name size text.bytes (lower s rest)
-    → string_assigned s.admits s.state name size a (without rest s.state) hints ≡ Ok after → CoversAt s op.Assign after.state
-string_covers s name kind a f rest size hints after g text machine e =
+    → CoversBy s op.Assign (cut_bound name size (without rest s.state))
+loosely_bound s name kind a f rest size text g machine =
+    let x : List ℕ = text.bytes in
+    elim (nat_le (length x) size) as (λ (t : Bool). nat_le (length x) size ≡ t → CoversBy s op.Assign (cut_bound name size (without rest s.state))) [
+      | true ↦ λ few.
+          new_bound s name kind a f rest x x size [] g text.is text.fine (leb-true (length x) size few) (machine ∙ whole_string s name size x rest few)
+      | false ↦ λ long.
+          new_bound s name kind a f rest x (take size x) size (cut_warning s.style name size ∷ []) g text.is
+          (bytes_taken size x text.fine) (taken_few size x) (machine ∙ cut_string s name size x rest long)
+    ] refl
+
+string_covers : (s : Spot) (name : NameId) (kind : Kind) (a f : Sym) (rest : List Sym) (size : ℕ) → Assigning s name kind a f rest → (text : IsText s a)
+    → assign_to (around s) (Some kind) name (StrValue text.bytes) (lower s rest) ≡ assigned_string s.style name size text.bytes (lower s rest)
+    → CoversBy s op.Assign (string_assigned s.state name size a (without rest s.state))
+string_covers s name kind a f rest size g text machine =
     let x : List ℕ = text.bytes in
     let row = at_most (LengthOf a.0) (pos size) in
-    let kept = λ (left : List Hint). gives left (with_bind name a (without rest s.state)) in
-    let replaced = λ (left : List Hint). cut_bound name size left (without rest s.state) in
-    let all : nat_le (length x) size ≡ true → (left : List Hint) → kept left ≡ Ok after → CoversAt s op.Assign after.state =
-    λ few left found. symbol_bound s name kind a f rest (StrValue x) left after g text.is (machine ∙ whole_string s name size x rest few) found in
+    let kept : Rule = Gives (with_bind name a (without rest s.state)) in
+    let cut : Rule = cut_bound name size (without rest s.state) in
+    let all : nat_le (length x) size ≡ true → CoversBy s op.Assign kept =
+    λ few. symbol_bound s name kind a f rest (StrValue x) g text.is (machine ∙ whole_string s name size x rest few) in
     elim (fits_exactly (exact_text s.state.facts a.0) size) as (λ (t : Bool). fits_exactly (exact_text s.state.facts a.0) size ≡ t
-    → cond t (kept hints) (choice s.admits s.state true row hints kept replaced) ≡ Ok after → CoversAt s op.Assign after.state) [
-      | true ↦ λ fits found. all (exact_fits s a x size text.is fits) hints found
-      | false ↦ λ fits found. elim (choice_ok s.admits s.state true row hints kept replaced after found) [
-        | inl h ↦
-            let says = at_most_says (numbers s.v) (LengthOf a.0) (pos size) (row_met s h.1.proof row h.1.shown) in
+    → CoversBy s op.Assign (cond t kept (Chooses true row kept cut))) [
+      | true ↦ λ fits. all (exact_fits s a x size text.is fits)
+      | false ↦ λ fits. (
+        λ wanted shown.
+            let says = at_most_says (numbers s.v) (LengthOf a.0) (pos size) (row_met s row shown) in
             let length_is : numbers s.v (LengthOf a.0) ≡ pos (length x) = ap length_of text.is in
-            all (le-leb (length x) size (omega (arith, ints, says, length_is))) h.1.left h.1.given
-        | inr h ↦ elim (nat_le (length x) size) as (λ (t : Bool). nat_le (length x) size ≡ t → CoversAt s op.Assign after.state) [
-          | true ↦ λ few.
-              new_bound s name kind a f rest x x size [] h.left after g text.is text.fine (leb-true (length x) size few)
-              (machine ∙ whole_string s name size x rest few) h.given
-          | false ↦ λ long.
-              new_bound s name kind a f rest x (take size x) size (cut_warning s.style name size ∷ []) h.left after g text.is
-              (bytes_taken size x text.fine) (taken_few size x) (machine ∙ cut_string s name size x rest long) h.given
-        ] refl
-      ]
-    ] refl e
+            all (le-leb (length x) size (omega (arith, ints, says, length_is))),
+        loosely_bound s name kind a f rest size text g machine,
+      )
+    ] refl
 
 -- by the kind of the variable
-kind_covers : (s : Spot) (name : NameId) (kind : Option Kind) (a f : Sym) (rest : List Sym) (hints : List Hint) (after : After)
+kind_covers : (s : Spot) (name : NameId) (kind : Option Kind) (a f : Sym) (rest : List Sym)
     → reverse s.state.stack ≡ f ∷ (a ∷ rest) → s.v.value f.0 ≡ FuncValue (Named name) → kind_of s.style name ≡ kind
-    → rule.assigned s.admits s.state kind name a (without rest s.state) hints ≡ Ok after → CoversAt s op.Assign after.state
-kind_covers s name (Some IntGlobal) a f rest hints after tops target is e =
-    let met = demand_ok (is_of_kind s.state Int a) WrongKind 2 (gives hints (with_bind name a (without rest s.state))) after e in
-    let number = number_met s a met.0 in
-    symbol_bound s name IntGlobal a f rest (IntValue number.n) hints after (record { tops = tops; target = target; kind_is = is; variable = refl })
-    number.is refl met.1
-kind_covers s name (Some StrGlobal) a f rest hints after tops target is e =
-    let met = demand_ok (is_of_kind s.state Str a) WrongKind 2 (string_assigned s.admits s.state name 20000 a (without rest s.state) hints) after e in
-    string_covers s name StrGlobal a f rest 20000 hints after (record { tops = tops; target = target; kind_is = is; variable = refl })
-    (text_met s a met.0) refl met.1
-kind_covers s name (Some IntEntry) a f rest hints after tops target is e =
-    let last = gives hints (with_bind name a (without rest s.state)) in
-    let there = demand_ok s.state.at_entry NoEntry 0 (of_kind s.state Int 2 a last) after e in
-    let met = demand_ok (is_of_kind s.state Int a) WrongKind 2 last after there.1 in
-    let number = number_met s a met.0 in
-    let entry = entry_given s there.0 in
-    symbol_bound s name IntEntry a f rest (IntValue number.n) hints after (record { tops = tops; target = target; kind_is = is; variable = there.0 })
-    number.is
-    (ap (λ (o : Option EntryState). at_entry (option_map (λ x. x.entry) o) (λ _. assigned_integer name number.n (lower s rest))) entry.visited) met.1
-kind_covers s name (Some StrEntry) a f rest hints after tops target is e =
-    let last = string_assigned s.admits s.state name 250 a (without rest s.state) hints in
-    let there = demand_ok s.state.at_entry NoEntry 0 (of_kind s.state Str 2 a last) after e in
-    let met = demand_ok (is_of_kind s.state Str a) WrongKind 2 last after there.1 in
-    let text = text_met s a met.0 in
-    let entry = entry_given s there.0 in
-    string_covers s name StrEntry a f rest 250 hints after (record { tops = tops; target = target; kind_is = is; variable = there.0 }) text
-    (ap (λ (o : Option EntryState). at_entry (option_map (λ x. x.entry) o) (λ _. assigned_string s.style name 250 text.bytes (lower s rest))) entry.visited) met.1
-kind_covers s name (Some Field) a f rest hints after tops target is e = absurd (cc)
-kind_covers s name (Some (BuiltinKind o)) a f rest hints after tops target is e = absurd (cc)
-kind_covers s name (Some (Wizard body)) a f rest hints after tops target is e = absurd (cc)
-kind_covers s name None a f rest hints after tops target is e = absurd (cc)
+    → CoversBy s op.Assign (rule.assigned s.state kind name a (without rest s.state))
+kind_covers s name (Some IntGlobal) a f rest tops target is = λ met.
+    let number = number_met s a met in
+    symbol_bound s name IntGlobal a f rest (IntValue number.n) (record { tops = tops; target = target; kind_is = is; variable = refl }) number.is refl
+kind_covers s name (Some StrGlobal) a f rest tops target is = λ met.
+    string_covers s name StrGlobal a f rest 20000 (record { tops = tops; target = target; kind_is = is; variable = refl }) (text_met s a met) refl
+kind_covers s name (Some IntEntry) a f rest tops target is = λ there met.
+    let number = number_met s a met in
+    let entry = entry_given s there in
+    symbol_bound s name IntEntry a f rest (IntValue number.n) (record { tops = tops; target = target; kind_is = is; variable = there }) number.is
+    (ap (λ (o : Option EntryState). at_entry (option_map (λ x. x.entry) o) (λ _. assigned_integer name number.n (lower s rest))) entry.visited)
+kind_covers s name (Some StrEntry) a f rest tops target is = λ there met.
+    let text = text_met s a met in
+    let entry = entry_given s there in
+    string_covers s name StrEntry a f rest 250 (record { tops = tops; target = target; kind_is = is; variable = there }) text
+    (ap (λ (o : Option EntryState). at_entry (option_map (λ x. x.entry) o) (λ _. assigned_string s.style name 250 text.bytes (lower s rest))) entry.visited)
+kind_covers s name _ a f rest tops target is = tt
 
-pub assign_covers : (s : Spot) (hints : List Hint) (after : After) → effect_of s.style s.admits s.state op.Assign hints ≡ Ok after
-    → CoversAt s op.Assign after.state
-assign_covers s hints after e =
-    let to = λ (a f : Sym) (rest : State). assigned_to s.style s.admits s.state (exact_function s.state.facts f.0) a rest hints in
-    let two = two_ok s.state (λ a f rest. of_kind s.state Func 1 f (to a f rest)) after e in
-    let rest : State = without two.rest s.state in
-    let met = demand_ok (is_of_kind s.state Func two.b) WrongKind 1 (to two.a two.b rest) after two.given in
-    elim (exact_function s.state.facts two.b.0) as (λ (o : Option Function). exact_function s.state.facts two.b.0 ≡ o
-    → assigned_to s.style s.admits s.state o two.a rest hints ≡ Ok after → CoversAt s op.Assign after.state) [
-      | Some (ByName name) ↦ λ exact found.
-          kind_covers s name (kind_of s.style name) two.a two.b two.rest hints after two.tops
-          (name_is s.style s.v two.b.0 s.state.facts name s.stands.satisfied.facts exact) refl found
-      | Some (ByNumber number) ↦ λ exact found. absurd (cc)
-      | None ↦ λ exact found. absurd (cc)
-    ] refl met.1
+pub assign_covers : (s : Spot) → CoversOf s op.Assign
+assign_covers s = λ a f rest tops lower_met upper_met.
+    elim (exact_function s.state.facts f.0) as (λ (o : Option Function). exact_function s.state.facts f.0 ≡ o
+    → CoversBy s op.Assign (assigned_to s.style s.state o a (without rest s.state))) [
+      | Some (ByName name) ↦ λ exact.
+          kind_covers s name (kind_of s.style name) a f rest tops (name_is s.style s.v f.0 s.state.facts name s.stands.satisfied.facts exact) refl
+      | Some (ByNumber number) ↦ λ exact. tt
+      | None ↦ λ exact. tt
+    ] refl

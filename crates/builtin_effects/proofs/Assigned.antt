@@ -175,9 +175,7 @@ assigned style new IntEntry at_entry c old is variable found =
 assigned style new StrEntry at_entry c old is variable found =
     subst (λ (k : Option Kind). Assigned style new.name new.value c (assigned_by k new c)) (sym is)
     (entry_set style new c old found (λ d. ap (λ (k : Option Kind). value_by k new.name d) is))
-assigned style new Field at_entry c old is variable found = absurd (cc)
-assigned style new (BuiltinKind o) at_entry c old is variable found = absurd (cc)
-assigned style new (Wizard body) at_entry c old is variable found = absurd (cc)
+assigned style new _ at_entry c old is variable found = absurd (cc)
 
 -- a variable has a value
 pub record HasValue (s : Spot) (name : NameId) (kind : Kind) : Type 0 where

@@ -1,5 +1,5 @@
 -- The effects of `num.names$`, `text.length$` and `width$` cover the machine.
-use Rattle.std.proofs.Common.{◌≡◌, ℕ, ◌*◌, List, [], ◌∷◌, length, Ok, refl, ap, ◌∙◌, arith}
+use Rattle.std.proofs.Common.{◌≡◌, ℕ, ◌*◌, List, [], ◌∷◌, length, Ok, refl, ap, ◌∙◌, arith, true}
 use Rattle.std.specs.Prelude.{ℤ, pos, negsuc, neg_ℤ, ◌*ℤ◌}
 use Rattle.std.proofs.lemmas.Int.{ints}
 use borrow.Author.Differences.{product_is}
@@ -26,70 +26,56 @@ use Rattle.sym_state.proofs.Pushing.{without}
 use Rattle.sym_state.proofs.RowSums.{at_most_says, two_holds, two_says}
 use Rattle.sym_state.proofs.Saying.{at_least_holds, exceeds_holds, minus}
 use Rattle.sym_state.proofs.Spots.{Spot}
-use Rattle.builtin_effects.proofs.Covering.{CoversAt, after_value, lower, one_then, put, row_met, term_new_value, term_old}
+use Rattle.builtin_effects.proofs.Covering.{CoversAt, after_value, lower, one_then, put, row_met, term_new_value, term_old, CoversBy, CoversOf, around}
 use Rattle.builtin_effects.proofs.Integers.{in_range, number_bits}
-use Rattle.builtin_effects.proofs.Inverting.{step_ok}
-use Rattle.builtin_effects.proofs.OperandValues.{TextOperand, text_operand}
+use Rattle.builtin_effects.proofs.OperandValues.{TextTaken, text_taken}
 use Rattle.builtin_effects.proofs.TextSizes.{text_length_shorter, width_bounded}
+use Rattle.std.specs.List.{AllByRecursion}
+use Rattle.lin_facts.specs.Rows.{Holds}
+use Rattle.lin_facts.specs.declared.row.Row.{Row}
+use Rattle.name_table.specs.declared.builtin.Builtin.{Builtin}
+use Rattle.bst_meaning.specs.Builtins.{built_in}
+use Rattle.bst_meaning.specs.Operands.{has_32_bits, ranged}
 
-abbrev names_rule : Spot → List Hint → Sym → State → Outcome
-names_rule s hints a rest =
-    step s.admits s.state (at_most (NamesOf a.0) (pos 2147483647)) (fails IntRange 0) hints
-    (λ left. gives left (with_result Int [] (exceeds (ValueOf rest.next) (NamesOf a.0) (pos 0) ∷ exceeds (NamesOf a.0) (ValueOf rest.next) (pos 0) ∷ []) rest))
+-- a number is put on top that has 32 bits, as a step shows
+counted : (s : Spot) (o : Builtin) (a : Sym) (rest : List Sym) (n : ℕ) (rows : List Row) → (t : TextTaken s a rest) → has_32_bits (pos n) ≡ true
+    → built_in o (around s) (StrValue t.known.bytes ∷ lower s rest) ≡ ranged (pos n) (lower s rest)
+    → AllByRecursion (Holds (numbers (after_value s (IntValue (pos n))))) rows → CoversAt s o (with_result Int [] rows (without rest s.state))
+counted s o a rest n rows t bits machine hold =
+    put s o rest Int [] rows (IntValue (pos n)) t.others
+    (one_then s o a rest (StrValue t.known.bytes) (pushed (IntValue (pos n)) (lower s rest)) t.tops t.known.is (machine ∙ in_range (pos n) (lower s rest) bits))
+    bits refl tt hold
 
-names_counted : (s : Spot) (hints : List Hint) (after : After) → TextOperand s (names_rule s hints) after → CoversAt s op.NumNames after.state
-names_counted s hints after t =
+pub num_names_covers : (s : Spot) → CoversOf s op.NumNames
+num_names_covers s = λ a rest tops met enough.
+    let t = text_taken s a rest tops met in
     let r = ValueOf s.state.next in
-    let names = NamesOf t.a.0 in
-    let first = exceeds r names (pos 0) in
-    let second = exceeds names r (pos 0) in
-    let u = step_ok s.admits s.state (at_most names (pos 2147483647)) (fails IntRange 0) hints
-    (λ left. gives left (with_result Int [] (first ∷ second ∷ []) (without t.rest s.state))) after t.given in
+    let names = NamesOf a.0 in
     let n : ℕ = length (names_of t.known.bytes) in
     let count_is : numbers s.v names ≡ pos n = ap name_count_of t.known.is in
-    let most = at_most_says (numbers s.v) names (pos 2147483647) (row_met s u.proof (at_most names (pos 2147483647)) u.shown) in
-    let bits = number_bits n (omega (arith, ints, most, count_is)) in
+    let most = at_most_says (numbers s.v) names (pos 2147483647) (row_met s (at_most names (pos 2147483647)) enough) in
     let value : Value = IntValue (pos n) in
     let w = numbers (after_value s value) in
     let wr : w r ≡ pos n = term_new_value s value in
     let wn : w names ≡ pos n = term_old s value names t.old ∙ count_is in
-    put s op.NumNames t.rest Int [] (first ∷ second ∷ []) value u.left after t.others
-    (one_then s op.NumNames t.a t.rest (StrValue t.known.bytes) (pushed value (lower s t.rest)) t.tops t.known.is (in_range (pos n) (lower s t.rest) bits)) bits refl tt
-    (exceeds_holds w r names (pos 0) (omega (arith, ints, wr, wn)), (exceeds_holds w names r (pos 0) (omega (arith, ints, wr, wn)), tt)) u.given
+    counted s op.NumNames a rest n (exceeds r names (pos 0) ∷ exceeds names r (pos 0) ∷ []) t (number_bits n (omega (arith, ints, most, count_is))) refl
+    (exceeds_holds w r names (pos 0) (omega (arith, ints, wr, wn)), (exceeds_holds w names r (pos 0) (omega (arith, ints, wr, wn)), tt))
 
-pub num_names_covers : (s : Spot) (hints : List Hint) (after : After) → effect_of s.style s.admits s.state op.NumNames hints ≡ Ok after
-    → CoversAt s op.NumNames after.state
-num_names_covers s hints after e = names_counted s hints after (text_operand s (names_rule s hints) after e)
-
-abbrev characters_rule : Spot → List Hint → Sym → State → Outcome
-characters_rule s hints a rest =
-    step s.admits s.state (at_most (LengthOf a.0) (pos 2147483647)) (fails IntRange 0) hints
-    (λ left. gives left (with_result Int [] (at_least (ValueOf rest.next) (pos 0) ∷ exceeds (LengthOf a.0) (ValueOf rest.next) (pos 0) ∷ []) rest))
-
-characters_counted : (s : Spot) (hints : List Hint) (after : After) → TextOperand s (characters_rule s hints) after → CoversAt s op.TextLength after.state
-characters_counted s hints after t =
+pub text_length_covers : (s : Spot) → CoversOf s op.TextLength
+text_length_covers s = λ a rest tops met enough.
+    let t = text_taken s a rest tops met in
     let r = ValueOf s.state.next in
-    let bytes = LengthOf t.a.0 in
-    let first = at_least r (pos 0) in
-    let second = exceeds bytes r (pos 0) in
-    let u = step_ok s.admits s.state (at_most bytes (pos 2147483647)) (fails IntRange 0) hints
-    (λ left. gives left (with_result Int [] (first ∷ second ∷ []) (without t.rest s.state))) after t.given in
+    let bytes = LengthOf a.0 in
     let n : ℕ = text_length_of t.known.bytes in
     let few = text_length_shorter t.known.bytes in
     let length_is : numbers s.v bytes ≡ pos (length t.known.bytes) = ap length_of t.known.is in
-    let most = at_most_says (numbers s.v) bytes (pos 2147483647) (row_met s u.proof (at_most bytes (pos 2147483647)) u.shown) in
-    let bits = number_bits n (omega (arith, ints, most, length_is, few)) in
+    let most = at_most_says (numbers s.v) bytes (pos 2147483647) (row_met s (at_most bytes (pos 2147483647)) enough) in
     let value : Value = IntValue (pos n) in
     let w = numbers (after_value s value) in
     let wr : w r ≡ pos n = term_new_value s value in
     let wl : w bytes ≡ pos (length t.known.bytes) = term_old s value bytes t.old ∙ length_is in
-    put s op.TextLength t.rest Int [] (first ∷ second ∷ []) value u.left after t.others
-    (one_then s op.TextLength t.a t.rest (StrValue t.known.bytes) (pushed value (lower s t.rest)) t.tops t.known.is (in_range (pos n) (lower s t.rest) bits)) bits refl tt
-    (at_least_holds w r (pos 0) (omega (arith, ints, wr)), (exceeds_holds w bytes r (pos 0) (omega (arith, ints, wr, wl, few)), tt)) u.given
-
-pub text_length_covers : (s : Spot) (hints : List Hint) (after : After) → effect_of s.style s.admits s.state op.TextLength hints ≡ Ok after
-    → CoversAt s op.TextLength after.state
-text_length_covers s hints after e = characters_counted s hints after (text_operand s (characters_rule s hints) after e)
+    counted s op.TextLength a rest n (at_least r (pos 0) ∷ exceeds bytes r (pos 0) ∷ []) t (number_bits n (omega (arith, ints, most, length_is, few))) refl
+    (at_least_holds w r (pos 0) (omega (arith, ints, wr)), (exceeds_holds w bytes r (pos 0) (omega (arith, ints, wr, wl, few)), tt))
 
 -- a width in units of a byte's greatest one
 scaled : (n : ℕ) → pos 1028 *ℤ pos n ≡ pos (1028 * n)
@@ -98,41 +84,26 @@ scaled n = omega (arith, ints, product_is (pos 1028) (pos n))
 scaled_back : (n : ℕ) → negsuc 1027 *ℤ pos n ≡ neg_ℤ (pos (1028 * n))
 scaled_back n = omega (arith, ints, product_is (negsuc 1027) (pos n))
 
-abbrev width_rule : Spot → List Hint → Sym → State → Outcome
-width_rule s hints a rest =
-    step s.admits s.state (sum_of_two (pos 2147483647) (negsuc 1027) (LengthOf a.0) (pos 0) (LengthOf a.0)) (fails IntRange 0) hints
-    (λ left. gives left (with_result Int [] (
-    at_least (ValueOf rest.next) (pos 0) ∷ sum_of_two (pos 0) (pos 1028) (LengthOf a.0) (negsuc 0) (ValueOf rest.next) ∷ []
-    ) rest))
-
-width_measured : (s : Spot) (hints : List Hint) (after : After) → TextOperand s (width_rule s hints) after → CoversAt s op.Width after.state
-width_measured s hints after t =
+pub width_covers : (s : Spot) → CoversOf s op.Width
+width_covers s = λ a rest tops met enough.
+    let t = text_taken s a rest tops met in
     let r = ValueOf s.state.next in
-    let bytes = LengthOf t.a.0 in
-    let enough = sum_of_two (pos 2147483647) (negsuc 1027) bytes (pos 0) bytes in
-    let first = at_least r (pos 0) in
-    let second = sum_of_two (pos 0) (pos 1028) bytes (negsuc 0) r in
-    let u = step_ok s.admits s.state enough (fails IntRange 0) hints
-    (λ left. gives left (with_result Int [] (first ∷ second ∷ []) (without t.rest s.state))) after t.given in
+    let bytes = LengthOf a.0 in
+    let within = sum_of_two (pos 2147483647) (negsuc 1027) bytes (pos 0) bytes in
     let n : ℕ = width_of t.known.bytes in
     let l : ℕ = length t.known.bytes in
     let few = width_bounded t.known.bytes in
     let length_is : numbers s.v bytes ≡ pos l = ap length_of t.known.is in
     let wide : negsuc 1027 *ℤ numbers s.v bytes ≡ neg_ℤ (pos (1028 * l)) = ap (λ (k : ℤ). negsuc 1027 *ℤ k) length_is ∙ scaled_back l in
     let none = zero_mul (numbers s.v bytes) in
-    let most = two_says (numbers s.v) (pos 2147483647) (negsuc 1027) bytes (pos 0) bytes (row_met s u.proof enough u.shown) in
-    let bits = number_bits n (omega (arith, ints, most, wide, none, few)) in
+    let most = two_says (numbers s.v) (pos 2147483647) (negsuc 1027) bytes (pos 0) bytes (row_met s within enough) in
     let value : Value = IntValue (pos n) in
     let w = numbers (after_value s value) in
     let wr : w r ≡ pos n = term_new_value s value in
     let wl : w bytes ≡ pos l = term_old s value bytes t.old ∙ length_is in
     let whole : pos 1028 *ℤ w bytes ≡ pos (1028 * l) = ap (λ (k : ℤ). pos 1028 *ℤ k) wl ∙ scaled l in
-    put s op.Width t.rest Int [] (first ∷ second ∷ []) value u.left after t.others
-    (one_then s op.Width t.a t.rest (StrValue t.known.bytes) (pushed value (lower s t.rest)) t.tops t.known.is (in_range (pos n) (lower s t.rest) bits)) bits refl tt (
+    counted s op.Width a rest n (at_least r (pos 0) ∷ sum_of_two (pos 0) (pos 1028) bytes (negsuc 0) r ∷ []) t
+    (number_bits n (omega (arith, ints, most, wide, none, few))) refl (
       at_least_holds w r (pos 0) (omega (arith, ints, wr)),
       (two_holds w (pos 0) (pos 1028) bytes (negsuc 0) r (omega (arith, ints, wr, whole, few, minus (w r))), tt),
-    ) u.given
-
-pub width_covers : (s : Spot) (hints : List Hint) (after : After) → effect_of s.style s.admits s.state op.Width hints ≡ Ok after
-    → CoversAt s op.Width after.state
-width_covers s hints after e = width_measured s hints after (text_operand s (width_rule s hints) after e)
+    )

@@ -21,22 +21,31 @@ use Rattle.sym_state.specs.declared.symbol.Fact.{Fact}
 use Rattle.sym_state.specs.declared.symbol.Kinds.{Kinds}
 use Rattle.sym_state.specs.declared.symbol.Sym.{Sym}
 use Rattle.sym_state.specs.Covers.{Covers}
-use Rattle.sym_state.specs.Demands.{After, gives, is_of_kind}
+use Rattle.sym_state.specs.Demands.{After, gives, is_of_kind, Rule}
 use Rattle.sym_state.specs.Facts.{FactHolds, has_kind}
 use Rattle.sym_state.specs.References.{shows}
 use Rattle.sym_state.specs.Results.{with_result, with_symbol}
 use Rattle.sym_state.specs.Stands.{Stands}
 use Rattle.sym_state.specs.Symbols.{IsValue, Valuation, integer_of, length_of, numbers}
 use Rattle.sym_state.specs.WellMade.{IsTermBelow}
-use Rattle.sym_state.proofs.Frames.{agrees_self, list_agrees, next_agrees, next_is, term_agrees, with_next}
+use Rattle.sym_state.specs.Effects.{rule_of}
+use Rattle.sym_state.proofs.Below.{AreBelow, one_below}
+use Rattle.sym_state.proofs.Ensured.{Ensures, IsShown}
+use Rattle.sym_state.proofs.Frames.{value_list, agrees_self, list_agrees, next_agrees, next_is, term_agrees, with_next}
 use Rattle.sym_state.proofs.KnownKinds.{of_kind_holds}
-use Rattle.sym_state.proofs.Pushing.{moved, pushed as stands_pushed, stack_of_tops, tops_below, value_list, with_stack, without}
+use Rattle.sym_state.proofs.Pushing.{moved, pushed as stands_pushed, stack_of_tops, tops_below, with_stack, without}
 use Rattle.sym_state.proofs.Shown.{shown_holds}
 use Rattle.sym_state.proofs.Spots.{Spot}
-use Rattle.builtin_effects.proofs.Inverting.{gives_is}
 
 abbrev pub CoversAt : Spot → Builtin → State → Type 0
 CoversAt s o after = Covers s.style s.admits s.list s.v s.state s.c s.below s.place o after
+
+-- every state that a rule gives covers what the function does, and that of the function's own rule
+abbrev pub CoversBy : Spot → Builtin → Rule → Type 0
+CoversBy s o rule = Ensures s.admits s.state (CoversAt s o) rule
+
+abbrev pub CoversOf : Spot → Builtin → Type 0
+CoversOf s o = CoversBy s o (rule_of s.style s.admits s.state o)
 
 -- what surrounds the call, and the values of symbols below what is known
 abbrev pub around : Spot → Context
@@ -47,16 +56,7 @@ lower s rest = value_list s.v rest ++ s.below
 
 -- these symbols are the state's
 abbrev pub Old : Spot → List Sym → Type 0
-Old s syms = All (λ x. x.0 < s.state.next) syms
-
-pub tops_old : (s : Spot) (tops : List Sym) → reverse s.state.stack ≡ tops → Old s tops
-tops_old s tops e = tops_below s.style s.state tops s.made e
-
-pub first_old : (s : Spot) (a : Sym) (rest : List Sym) → Old s (a ∷ rest) → a.0 < s.state.next
-first_old s a rest old = All-head (λ x. x.0 < s.state.next) a rest old
-
-pub others_old : (s : Spot) (a : Sym) (rest : List Sym) → Old s (a ∷ rest) → Old s rest
-others_old s a rest old = All-tail (λ x. x.0 < s.state.next) a rest old
+Old s syms = AreBelow s.state syms
 
 -- the machine's stack begins with the values of the symbols on top
 pub machine_tops : (s : Spot) (tops : List Sym) → reverse s.state.stack ≡ tops → s.c.stack ≡ lower s tops
@@ -110,15 +110,12 @@ pub kind_met : (s : Spot) (kind : Kinds) (a : Sym) → is_of_kind s.state kind a
 kind_met s kind a e = of_kind_holds s.style s.v a.0 s.state.facts kind s.stands.satisfied.facts e
 
 -- a row that is shown holds
-pub row_met : (s : Spot) (proof : Proof) (row : Row) → shows s.admits s.state proof row ≡ true → Holds (numbers s.v) row
-row_met s proof row e = shown_holds s.style s.admits s.v s.state proof row s.stands.satisfied e
+pub row_met : (s : Spot) (row : Row) → IsShown s.admits s.state row → Holds (numbers s.v) row
+row_met s row shown = shown_holds s.style s.admits s.v s.state shown.0 row s.stands.satisfied shown.1
 
 -- with a new value the terms on symbols that were there are what they were, and those on the new one are the value's
 abbrev pub after_value : Spot → Value → Valuation
 after_value s value = with_next s.state.next value s.v
-
-pub value_old : (s : Spot) (value : Value) (a : Sym) → a.0 < s.state.next → (after_value s value).value a.0 ≡ s.v.value a.0
-value_old s value a less = let agrees = next_agrees s.state.next value s.v in agrees.value a.0 less
 
 pub value_new : (s : Spot) (value : Value) → (after_value s value).value s.state.next ≡ value
 value_new s value = next_is s.state.next value s.v
@@ -133,20 +130,18 @@ pub term_new_length : (s : Spot) (value : Value) → numbers (after_value s valu
 term_new_length s value = ap length_of (value_new s value)
 
 -- a new value is put on top of what is left
-pub put : (s : Spot) (o : Builtin) (rest : List Sym) (kind : Kinds) (facts : List Fact) (rows : List Row) (value : Value) (hints : List Hint) (after : After)
+pub put : (s : Spot) (o : Builtin) (rest : List Sym) (kind : Kinds) (facts : List Fact) (rows : List Row) (value : Value)
     → Old s rest → built_in o (around s) s.c.stack ≡ pushed value (lower s rest) → IsValue value → has_kind kind value ≡ true
     → AllByRecursion (FactHolds s.style (after_value s value)) facts → AllByRecursion (Holds (numbers (after_value s value))) rows
-    → gives hints (with_result kind facts rows (without rest s.state)) ≡ Ok after → CoversAt s o after.state
-put s o rest kind facts rows value hints after old machine is of_kind fine shown e =
-    let state : State = with_result kind facts rows (without rest s.state) in
-    subst (λ (x : State). CoversAt s o x) (gives_is hints state after e) (record {
-      effect = left (value ∷ lower s rest);
-      gives = machine;
-      assignment = after_value s value;
-      agrees = next_agrees s.state.next value s.v;
-      stands = stands_pushed s.style s.admits s.list s.v s.state s.c s.below rest kind facts rows value (s.c.events ++ []) (s.c.log ++ [])
-          s.made s.stands old is of_kind fine shown;
-    })
+    → CoversAt s o (with_result kind facts rows (without rest s.state))
+put s o rest kind facts rows value old machine is of_kind fine shown = record {
+  effect = left (value ∷ lower s rest);
+  gives = machine;
+  assignment = after_value s value;
+  agrees = next_agrees s.state.next value s.v;
+  stands = stands_pushed s.style s.admits s.list s.v s.state s.c s.below rest kind facts rows value (s.c.events ++ []) (s.c.log ++ [])
+      s.made s.stands old is of_kind fine shown;
+}
 
 -- a new value that isn't put on the stack
 pub unseen : (s : Spot) (rest : List Sym) (kind : Kinds) (facts : List Fact) (rows : List Row) (value : Value) (events : List Event) (log : List (List ℕ))
@@ -165,27 +160,24 @@ unseen s rest kind facts rows value events log old is of_kind fine shown =
 pub untaken : (state : State) → without (reverse state.stack) state ≡ state
 untaken state = ap (λ (l : List Sym). record state { stack = l }) (reverse-reverse state.stack)
 
-pub put_first : (s : Spot) (o : Builtin) (kind : Kinds) (facts : List Fact) (rows : List Row) (value : Value) (hints : List Hint) (after : After)
+pub put_first : (s : Spot) (o : Builtin) (kind : Kinds) (facts : List Fact) (rows : List Row) (value : Value)
     → built_in o (around s) s.c.stack ≡ pushed value s.c.stack → IsValue value → has_kind kind value ≡ true
     → AllByRecursion (FactHolds s.style (after_value s value)) facts → AllByRecursion (Holds (numbers (after_value s value))) rows
-    → gives hints (with_result kind facts rows s.state) ≡ Ok after → CoversAt s o after.state
-put_first s o kind facts rows value hints after machine is of_kind fine shown e =
+    → CoversAt s o (with_result kind facts rows s.state)
+put_first s o kind facts rows value machine is of_kind fine shown =
     let tops : List Sym = reverse s.state.stack in
-    put s o tops kind facts rows value hints after (tops_old s tops refl)
-    (machine ∙ ap (λ (l : List Value). pushed value l) (machine_tops s tops refl)) is of_kind fine shown
-    (subst (λ (x : State). gives hints (with_result kind facts rows x) ≡ Ok after) (sym (untaken s.state)) e)
+    subst (λ (x : State). CoversAt s o (with_result kind facts rows x)) (untaken s.state)
+    (put s o tops kind facts rows value (tops_below s.style s.state tops s.made refl)
+    (machine ∙ ap (λ (l : List Value). pushed value l) (machine_tops s tops refl)) is of_kind fine shown)
 
 -- symbols are moved, and something is written or logged
-pub shift : (s : Spot) (o : Builtin) (tops stack : List Sym) (wrote : List Event) (logged : List (List ℕ)) (hints : List Hint) (after : After)
-    → reverse stack ≡ tops
+pub shift : (s : Spot) (o : Builtin) (tops stack : List Sym) (wrote : List Event) (logged : List (List ℕ)) → reverse stack ≡ tops
     → built_in o (around s) s.c.stack ≡ Ok (record (left (lower s tops)) { wrote = wrote; logged = logged })
-    → gives hints (record s.state { stack = stack }) ≡ Ok after → CoversAt s o after.state
-shift s o tops stack wrote logged hints after is machine e =
-    let state : State = record s.state { stack = stack } in
-    subst (λ (x : State). CoversAt s o x) (gives_is hints state after e) (record {
-      effect = record (left (lower s tops)) { wrote = wrote; logged = logged };
-      gives = machine;
-      assignment = s.v;
-      agrees = agrees_self s.state.next s.v;
-      stands = moved s.style s.admits s.list s.v s.state s.c s.below tops stack (s.c.events ++ wrote) (s.c.log ++ logged) s.stands is;
-    })
+    → CoversAt s o (record s.state { stack = stack })
+shift s o tops stack wrote logged is machine = record {
+  effect = record (left (lower s tops)) { wrote = wrote; logged = logged };
+  gives = machine;
+  assignment = s.v;
+  agrees = agrees_self s.state.next s.v;
+  stands = moved s.style s.admits s.list s.v s.state s.c s.below tops stack (s.c.events ++ wrote) (s.c.log ++ logged) s.stands is;
+}

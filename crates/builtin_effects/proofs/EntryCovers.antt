@@ -31,8 +31,7 @@ use Rattle.sym_state.specs.Results.{next_of, with_result}
 use Rattle.sym_state.specs.Symbols.{numbers}
 use Rattle.sym_state.proofs.Saying.{at_most_holds}
 use Rattle.sym_state.proofs.Spots.{Spot}
-use Rattle.builtin_effects.proofs.Covering.{CoversAt, after_value, around, put_first, term_new_length, value_new}
-use Rattle.builtin_effects.proofs.Inverting.{demand_ok}
+use Rattle.builtin_effects.proofs.Covering.{CoversAt, after_value, around, put_first, term_new_length, value_new, CoversBy, CoversOf}
 
 element : {X : Type 0} (P : X → Type 0) (xs : List X) (i : ℕ) (x : X) → All P xs → slice_get xs i ≡ Some x → P x
 element P xs i x all e = subst P (get_or_from_slice_get xs i x x e) (All-get_or P xs i x (slice_get_within xs i x e) all)
@@ -66,49 +65,43 @@ entry_given s e =
     }
 
 -- a new string that is no longer than the condition says
-limited_put : (s : Spot) (o : Builtin) (limit : ℕ) (bytes : List ℕ) (hints : List Hint) (after : After) → IsByteList bytes → length bytes ≤ limit
-    → built_in o (around s) s.c.stack ≡ pushed (StrValue bytes) s.c.stack → limited limit hints s.state ≡ Ok after → CoversAt s o after.state
-limited_put s o limit bytes hints after fine few machine e =
+limited_put : (s : Spot) (o : Builtin) (limit : ℕ) (bytes : List ℕ) → IsByteList bytes → length bytes ≤ limit
+    → built_in o (around s) s.c.stack ≡ pushed (StrValue bytes) s.c.stack → CoversBy s o (limited limit s.state)
+limited_put s o limit bytes fine few machine =
     let r = LengthOf s.state.next in
     let value : Value = StrValue bytes in
     let w = numbers (after_value s value) in
     let wr : w r ≡ pos (length bytes) = term_new_length s value in
-    put_first s o Str [] (at_most r (pos limit) ∷ []) value hints after machine fine refl tt (at_most_holds w r (pos limit) (omega (arith, ints, wr, few)), tt) e
+    put_first s o Str [] (at_most r (pos limit) ∷ []) value machine fine refl tt (at_most_holds w r (pos limit) (omega (arith, ints, wr, few)), tt)
 
 -- `cite$`
-pub cite_covers : (s : Spot) (hints : List Hint) (after : After) → effect_of s.style s.admits s.state op.Cite hints ≡ Ok after
-    → CoversAt s op.Cite after.state
-cite_covers s hints after e =
-    let met = demand_ok s.state.at_entry NoEntry 0 (limited s.admits.key hints s.state) after e in
-    let at = entry_given s met.0 in
-    limited_put s op.Cite s.admits.key at.entry.entry.key hints after at.fits.key_bytes at.meets.key
-    (ap (λ (o : Option EntryState). at_entry (option_map (λ x. x.entry) o) (λ x. pushed (StrValue x.key) s.c.stack)) at.visited) met.1
+pub cite_covers : (s : Spot) → CoversOf s op.Cite
+cite_covers s = λ met.
+    let at = entry_given s met in
+    limited_put s op.Cite s.admits.key at.entry.entry.key at.fits.key_bytes at.meets.key
+    (ap (λ (o : Option EntryState). at_entry (option_map (λ x. x.entry) o) (λ x. pushed (StrValue x.key) s.c.stack)) at.visited)
 
 -- `type$`
 type_bytes : (unknown : Bool) (name : List ℕ) → IsByteList name → IsByteList (cond unknown [] name)
 type_bytes true name h = tt
 type_bytes false name h = h
 
-pub type_name_covers : (s : Spot) (hints : List Hint) (after : After) → effect_of s.style s.admits s.state op.TypeName hints ≡ Ok after
-    → CoversAt s op.TypeName after.state
-type_name_covers s hints after e =
-    let met = demand_ok s.state.at_entry NoEntry 0 (gives hints (with_result Str [] [] s.state)) after e in
-    let at = entry_given s met.0 in
+pub type_name_covers : (s : Spot) → CoversOf s op.TypeName
+type_name_covers s = λ met.
+    let at = entry_given s met in
     let name : List ℕ = at.entry.entry.entry_type in
-    put_first s op.TypeName Str [] [] (StrValue (type_name s.style name)) hints after
+    put_first s op.TypeName Str [] [] (StrValue (type_name s.style name))
     (ap (λ (o : Option EntryState). at_entry (option_map (λ x. x.entry) o) (λ x. pushed (StrValue (type_name s.style x.entry_type)) s.c.stack)) at.visited)
-    (type_bytes (is_none (type_function name s.style)) name at.fits.type_bytes) refl tt tt met.1
+    (type_bytes (is_none (type_function name s.style)) name at.fits.type_bytes) refl tt tt
 
 -- `preamble$`
-pub preamble_covers : (s : Spot) (hints : List Hint) (after : After) → effect_of s.style s.admits s.state op.Preamble hints ≡ Ok after
-    → CoversAt s op.Preamble after.state
-preamble_covers s hints after e =
-    limited_put s op.Preamble s.admits.preamble s.list.preamble hints after s.stands.has_list.fits.preamble_bytes s.stands.has_list.meets.preamble
-    (ap (λ (l : List ℕ). pushed (StrValue l) s.c.stack) s.stands.has_list.preamble) e
+pub preamble_covers : (s : Spot) → CoversOf s op.Preamble
+preamble_covers s =
+    limited_put s op.Preamble s.admits.preamble s.list.preamble s.stands.has_list.fits.preamble_bytes s.stands.has_list.meets.preamble
+    (ap (λ (l : List ℕ). pushed (StrValue l) s.c.stack) s.stands.has_list.preamble)
 
 -- `quote$`
-pub quote_covers : (s : Spot) (hints : List Hint) (after : After) → effect_of s.style s.admits s.state op.Quote hints ≡ Ok after
-    → CoversAt s op.Quote after.state
-quote_covers s hints after e =
+pub quote_covers : (s : Spot) → CoversOf s op.Quote
+quote_covers s =
     let value : Value = StrValue (codes "\"") in
-    put_first s op.Quote Str (TextFact (next_of s.state) (codes "\"") ∷ []) [] value hints after refl (omega arith, tt) refl (value_new s value, tt) tt e
+    put_first s op.Quote Str (TextFact (next_of s.state) (codes "\"") ∷ []) [] value refl (omega arith, tt) refl (value_new s value, tt) tt

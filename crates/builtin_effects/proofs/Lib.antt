@@ -6,9 +6,7 @@ pub mod Covering
 pub mod EffectsCover
 pub mod EntryCovers
 pub mod FormatCovers
-pub mod Fronts
 pub mod Integers
-pub mod Inverting
 pub mod Keeping
 pub mod MovesCover
 pub mod OperandValues

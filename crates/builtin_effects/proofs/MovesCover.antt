@@ -4,116 +4,75 @@ use Rattle.std.proofs.lemmas.List.{reverse-append, reverse-reverse}
 use Rattle.name_table.specs.declared.builtin.Builtin.TheVariants as op
 use Rattle.bst_meaning.specs.declared.value.Value.{Value}
 use Rattle.bst_meaning.specs.declared.value.Value.TheVariants.{Str as StrValue}
-use Rattle.bst_meaning.specs.Builtins.{shown, warning}
+use Rattle.bst_meaning.specs.Builtins.{shown, warning, built_in}
 use Rattle.bst_meaning.specs.Config.{EndedLine, Event, Wrote}
 use Rattle.bst_meaning.specs.Effect.{left}
 use Rattle.sym_state.specs.declared.demand.DemandKind.TheVariants.{WholeStack, WrongKind}
 use Rattle.sym_state.specs.declared.hint.Hint.{Hint}
 use Rattle.sym_state.specs.declared.symbol.Kinds.TheVariants.{Str}
 use Rattle.sym_state.specs.declared.symbol.Sym.{Sym}
-use Rattle.sym_state.specs.Demands.{After, gives, is_of_kind, of_kind}
+use Rattle.sym_state.specs.Demands.{After, gives, is_of_kind}
 use Rattle.sym_state.specs.Effects.{effect_of}
 use Rattle.sym_state.specs.Results.{with_top}
 use Rattle.sym_state.proofs.KnownKinds.{string_is}
 use Rattle.sym_state.proofs.Pushing.{without}
 use Rattle.sym_state.proofs.Spots.{Spot}
-use Rattle.builtin_effects.proofs.Covering.{CoversAt, kind_met, lower, machine_gives, shift}
-use Rattle.builtin_effects.proofs.Inverting.{demand_ok, one_ok, two_ok}
+use Rattle.builtin_effects.proofs.Covering.{CoversAt, kind_met, lower, machine_gives, shift, CoversBy, CoversOf, around, one_then}
+use Rattle.builtin_effects.proofs.OperandValues.{text_met}
+use Rattle.name_table.specs.declared.builtin.Builtin.{Builtin}
 
 on_top : (rest : List Sym) (a : Sym) → reverse (reverse rest ++ a ∷ []) ≡ a ∷ rest
 on_top rest a = reverse-append (reverse rest) (a ∷ []) ∙ ap (λ (l : List Sym). a ∷ l) (reverse-reverse rest)
 
-pub duplicate_covers : (s : Spot) (hints : List Hint) (after : After) → effect_of s.style s.admits s.state op.Duplicate hints ≡ Ok after
-    → CoversAt s op.Duplicate after.state
-duplicate_covers s hints after e =
-    let one = one_ok s.state (λ a rest. gives hints (with_top a s.state)) after e in
-    let tops : List Sym = one.a ∷ (one.a ∷ one.rest) in
-    shift s op.Duplicate tops (s.state.stack ++ one.a ∷ []) [] [] hints after
-    (reverse-append s.state.stack (one.a ∷ []) ∙ ap (λ (l : List Sym). one.a ∷ l) one.tops)
-    (machine_gives s op.Duplicate (one.a ∷ one.rest) (lower s (one.a ∷ one.rest)) (left (lower s tops)) one.tops refl refl) one.given
+pub duplicate_covers : (s : Spot) → CoversOf s op.Duplicate
+duplicate_covers s = λ a rest tops met.
+    shift s op.Duplicate (a ∷ (a ∷ rest)) (s.state.stack ++ a ∷ []) [] []
+    (reverse-append s.state.stack (a ∷ []) ∙ ap (λ (l : List Sym). a ∷ l) tops)
+    (machine_gives s op.Duplicate (a ∷ rest) (lower s (a ∷ rest)) (left (lower s (a ∷ (a ∷ rest)))) tops refl refl)
 
-pub swap_covers : (s : Spot) (hints : List Hint) (after : After) → effect_of s.style s.admits s.state op.Swap hints ≡ Ok after
-    → CoversAt s op.Swap after.state
-swap_covers s hints after e =
-    let two = two_ok s.state (λ a b rest. gives hints (with_top a (with_top b rest))) after e in
-    let tops : List Sym = two.a ∷ (two.b ∷ two.rest) in
-    let under : List Sym = reverse two.rest ++ two.b ∷ [] in
-    shift s op.Swap tops (under ++ two.a ∷ []) [] [] hints after
-    (reverse-append under (two.a ∷ []) ∙ ap (λ (l : List Sym). two.a ∷ l) (on_top two.rest two.b))
-    (machine_gives s op.Swap (two.b ∷ (two.a ∷ two.rest)) (lower s (two.b ∷ (two.a ∷ two.rest))) (left (lower s tops)) two.tops refl refl) two.given
+pub swap_covers : (s : Spot) → CoversOf s op.Swap
+swap_covers s = λ a b rest tops lower_met upper_met.
+    let under : List Sym = reverse rest ++ b ∷ [] in
+    shift s op.Swap (a ∷ (b ∷ rest)) (under ++ a ∷ []) [] []
+    (reverse-append under (a ∷ []) ∙ ap (λ (l : List Sym). a ∷ l) (on_top rest b))
+    (machine_gives s op.Swap (b ∷ (a ∷ rest)) (lower s (b ∷ (a ∷ rest))) (left (lower s (a ∷ (b ∷ rest)))) tops refl refl)
 
-pub pop_covers : (s : Spot) (hints : List Hint) (after : After) → effect_of s.style s.admits s.state op.Pop hints ≡ Ok after
-    → CoversAt s op.Pop after.state
-pop_covers s hints after e =
-    let one = one_ok s.state (λ a rest. gives hints rest) after e in
-    shift s op.Pop one.rest (reverse one.rest) [] [] hints after (reverse-reverse one.rest)
-    (machine_gives s op.Pop (one.a ∷ one.rest) (lower s (one.a ∷ one.rest)) (left (lower s one.rest)) one.tops refl refl) one.given
+-- an operand is dropped, and something is written or logged
+dropped : (s : Spot) (o : Builtin) (a : Sym) (rest : List Sym) (wrote : List Event) (logged : List (List ℕ)) (x : Value)
+    → reverse s.state.stack ≡ a ∷ rest → s.v.value a.0 ≡ x
+    → built_in o (around s) (x ∷ lower s rest) ≡ Ok (record (left (lower s rest)) { wrote = wrote; logged = logged })
+    → CoversAt s o (without rest s.state)
+dropped s o a rest wrote logged x tops is machine =
+    shift s o rest (reverse rest) wrote logged (reverse-reverse rest)
+    (one_then s o a rest x (Ok (record (left (lower s rest)) { wrote = wrote; logged = logged })) tops is machine)
 
-pub top_covers : (s : Spot) (hints : List Hint) (after : After) → effect_of s.style s.admits s.state op.Top hints ≡ Ok after
-    → CoversAt s op.Top after.state
-top_covers s hints after e =
-    let one = one_ok s.state (λ a rest. gives hints rest) after e in
-    let logged : List (List ℕ) = shown s.style (s.v.value one.a.0) ∷ [] in
-    shift s op.Top one.rest (reverse one.rest) [] logged hints after (reverse-reverse one.rest)
-    (machine_gives s op.Top (one.a ∷ one.rest) (lower s (one.a ∷ one.rest)) (record (left (lower s one.rest)) { logged = logged }) one.tops refl refl)
-    one.given
+pub pop_covers : (s : Spot) → CoversOf s op.Pop
+pop_covers s = λ a rest tops met. dropped s op.Pop a rest [] [] (s.v.value a.0) tops refl refl
 
-pub newline_covers : (s : Spot) (hints : List Hint) (after : After) → effect_of s.style s.admits s.state op.Newline hints ≡ Ok after
-    → CoversAt s op.Newline after.state
-newline_covers s hints after e =
+pub top_covers : (s : Spot) → CoversOf s op.Top
+top_covers s = λ a rest tops met. dropped s op.Top a rest [] (shown s.style (s.v.value a.0) ∷ []) (s.v.value a.0) tops refl refl
+
+pub write_covers : (s : Spot) → CoversOf s op.Write
+write_covers s = λ a rest tops met.
+    let text = text_met s a met in dropped s op.Write a rest (Wrote text.bytes ∷ []) [] (StrValue text.bytes) tops text.is refl
+
+pub warning_covers : (s : Spot) → CoversOf s op.Warning
+warning_covers s = λ a rest tops met.
+    let text = text_met s a met in dropped s op.Warning a rest [] (warning text.bytes ∷ []) (StrValue text.bytes) tops text.is refl
+
+pub newline_covers : (s : Spot) → CoversOf s op.Newline
+newline_covers s =
     let tops : List Sym = reverse s.state.stack in
-    shift s op.Newline tops s.state.stack (EndedLine ∷ []) [] hints after refl
-    (machine_gives s op.Newline tops (lower s tops) (record (left (lower s tops)) { wrote = EndedLine ∷ [] }) refl refl refl) e
+    shift s op.Newline tops s.state.stack (EndedLine ∷ []) [] refl
+    (machine_gives s op.Newline tops (lower s tops) (record (left (lower s tops)) { wrote = EndedLine ∷ [] }) refl refl refl)
 
-pub skip_covers : (s : Spot) (hints : List Hint) (after : After) → effect_of s.style s.admits s.state op.Skip hints ≡ Ok after
-    → CoversAt s op.Skip after.state
-skip_covers s hints after e =
+pub skip_covers : (s : Spot) → CoversOf s op.Skip
+skip_covers s =
     let tops : List Sym = reverse s.state.stack in
-    shift s op.Skip tops s.state.stack [] [] hints after refl (machine_gives s op.Skip tops (lower s tops) (left (lower s tops)) refl refl refl) e
+    shift s op.Skip tops s.state.stack [] [] refl (machine_gives s op.Skip tops (lower s tops) (left (lower s tops)) refl refl refl)
 
-pub stack_covers : (s : Spot) (hints : List Hint) (after : After) → effect_of s.style s.admits s.state op.Stack hints ≡ Ok after
-    → CoversAt s op.Stack after.state
-stack_covers s hints after e =
-    let met = demand_ok s.state.whole WholeStack 0 (gives hints (record s.state { stack = [] })) after e in
+pub stack_covers : (s : Spot) → CoversOf s op.Stack
+stack_covers s = λ whole.
     let logged : List (List ℕ) = map (shown s.style) s.c.stack in
-    shift s op.Stack [] [] [] logged hints after refl
-    (ap (λ (l : List Value). Ok (record (left l) { logged = logged })) (sym (s.stands.whole met.0))) met.1
-
--- a string is written or logged
-record Taken (s : Spot) (hints : List Hint) (after : After) : Type 0 where
-  pub a : Sym
-  pub rest : List Sym
-  pub tops : reverse s.state.stack ≡ a ∷ rest
-  pub bytes : List ℕ
-  pub values : lower s (a ∷ rest) ≡ StrValue bytes ∷ lower s rest
-  pub given : gives hints (without rest s.state) ≡ Ok after
-
-string_taken : (s : Spot) (hints : List Hint) (after : After) → effect_of s.style s.admits s.state op.Write hints ≡ Ok after → Taken s hints after
-string_taken s hints after e =
-    let one = one_ok s.state (λ a rest. of_kind s.state Str 1 a (gives hints rest)) after e in
-    let met = demand_ok (is_of_kind s.state Str one.a) WrongKind 1 (gives hints (without one.rest s.state)) after one.given in
-    let string = string_is (s.v.value one.a.0) (kind_met s Str one.a met.0) in record {
-      a = one.a;
-      rest = one.rest;
-      tops = one.tops;
-      bytes = string.0;
-      values = ap (λ (x : Value). x ∷ lower s one.rest) string.1;
-      given = met.1;
-    }
-
-pub write_covers : (s : Spot) (hints : List Hint) (after : After) → effect_of s.style s.admits s.state op.Write hints ≡ Ok after
-    → CoversAt s op.Write after.state
-write_covers s hints after e =
-    let t = string_taken s hints after e in
-    let wrote : List Event = Wrote t.bytes ∷ [] in
-    shift s op.Write t.rest (reverse t.rest) wrote [] hints after (reverse-reverse t.rest)
-    (machine_gives s op.Write (t.a ∷ t.rest) (StrValue t.bytes ∷ lower s t.rest) (record (left (lower s t.rest)) { wrote = wrote }) t.tops t.values refl) t.given
-
-pub warning_covers : (s : Spot) (hints : List Hint) (after : After) → effect_of s.style s.admits s.state op.Warning hints ≡ Ok after
-    → CoversAt s op.Warning after.state
-warning_covers s hints after e =
-    let t = string_taken s hints after e in
-    let logged : List (List ℕ) = warning t.bytes ∷ [] in
-    shift s op.Warning t.rest (reverse t.rest) [] logged hints after (reverse-reverse t.rest)
-    (machine_gives s op.Warning (t.a ∷ t.rest) (StrValue t.bytes ∷ lower s t.rest) (record (left (lower s t.rest)) { logged = logged }) t.tops t.values refl)
-    t.given
+    shift s op.Stack [] [] [] logged refl
+    (ap (λ (l : List Value). Ok (record (left l) { logged = logged })) (sym (s.stands.whole whole)))

@@ -1,5 +1,5 @@
 -- The effect of `substring$` covers the machine.
-use Rattle.std.proofs.Common.{◌≡◌, ℕ, ◌+◌, ◌-◌, ◌<◌, ◌≤◌, ◌⊎◌, inl, inr, true, ◌&&◌, List, [], ◌∷◌, length, Option, None, Some, Ok, refl, sym, ap, subst, ◌∙◌, arith}
+use Rattle.std.proofs.Common.{◌≡◌, ℕ, ◌+◌, ◌-◌, ◌<◌, ◌≤◌, ◌⊎◌, inl, inr, true, ◌&&◌, List, [], ◌∷◌, length, Option, None, Some, Ok, refl, sym, ap, subst, ◌∙◌, arith, Bool, false}
 use Rattle.std.specs.Prelude.{ℤ, pos, negsuc}
 use Rattle.std.specs.List.{AllByRecursion}
 use Rattle.std.proofs.lemmas.Bool.{and_parts}
@@ -18,7 +18,7 @@ use Rattle.sym_state.specs.declared.state.State.{State}
 use Rattle.sym_state.specs.declared.symbol.Kinds.TheVariants.{Int, Str}
 use Rattle.sym_state.specs.declared.symbol.Sym.{Sym}
 use Rattle.sym_state.specs.Decided.{exact_integer}
-use Rattle.sym_state.specs.Demands.{After, is_of_kind, of_kind}
+use Rattle.sym_state.specs.Demands.{After, is_of_kind}
 use Rattle.sym_state.specs.Effects.{at_most_known, effect_of, is_length, is_start, known_size, of_length, shorter, substring_of}
 use Rattle.sym_state.specs.References.{at_least, at_most, exceeds}
 use Rattle.sym_state.specs.Results.{next_of}
@@ -29,10 +29,10 @@ use Rattle.sym_state.proofs.RowSums.{at_least_says}
 use Rattle.sym_state.proofs.Saying.{at_least_holds, at_most_holds, exceeds_holds}
 use Rattle.sym_state.proofs.Spots.{Spot}
 use Rattle.bst_meaning.proofs.ByteTexts.{substring_bytes}
-use Rattle.builtin_effects.proofs.Covering.{CoversAt, Old, after_value, around, first_old, lower, others_old, put, row_met, term_new_length, term_old, three_given, tops_old}
-use Rattle.builtin_effects.proofs.Inverting.{choice_ok, demand_ok, three_ok}
+use Rattle.builtin_effects.proofs.Covering.{CoversAt, Old, after_value, around, lower, put, row_met, term_new_length, term_old, three_given, CoversBy, CoversOf}
 use Rattle.builtin_effects.proofs.OperandValues.{IsText, number_met, text_met}
 use Rattle.builtin_effects.proofs.TextSizes.{substring_few, substring_known, substring_none, substring_shorter}
+use Rattle.sym_state.proofs.Below.{one_below, three_below, two_below}
 
 -- a string, a start and a length on top, and what the machine gives of them
 record Cutting (s : Spot) (a b c : Sym) (rest : List Sym) : Type 0 where
@@ -50,28 +50,21 @@ known_is : (s : Spot) (b : Sym) (n m : ℤ) → s.v.value b.0 ≡ IntValue n →
 known_is s b n m is exact =
     let same : IntValue n ≡ IntValue m = sym is ∙ exact_integer_is s.style s.v b.0 s.state.facts m s.stands.satisfied.facts exact in cc
 
-start_known : (s : Spot) (b : Sym) (n : ℤ) → s.v.value b.0 ≡ IntValue n → is_start (exact_integer s.state.facts b.0) ≡ true
-    → exact_integer s.state.facts b.0 ≡ Some n
-start_known s b n is e =
-    elim (exact_integer s.state.facts b.0) as (λ (o : Option ℤ). exact_integer s.state.facts b.0 ≡ o → is_start o ≡ true → o ≡ Some n) [
-      | Some m ↦ λ exact found. ap (λ (k : ℤ). Some k) (sym (known_is s b n m is exact))
-      | None ↦ λ exact found. absurd (cc)
-    ] refl e
-
-length_known : (s : Spot) (b : Sym) (n : ℤ) → s.v.value b.0 ≡ IntValue n → is_length (exact_integer s.state.facts b.0) ≡ true
-    → exact_integer s.state.facts b.0 ≡ Some n
-length_known s b n is e =
-    elim (exact_integer s.state.facts b.0) as (λ (o : Option ℤ). exact_integer s.state.facts b.0 ≡ o → is_length o ≡ true → o ≡ Some n) [
+-- what a test that `None` fails finds is the value
+tested_known : (s : Spot) (b : Sym) (n : ℤ) (test : Option ℤ → Bool) → test None ≡ false → s.v.value b.0 ≡ IntValue n
+    → test (exact_integer s.state.facts b.0) ≡ true → exact_integer s.state.facts b.0 ≡ Some n
+tested_known s b n test none is e =
+    elim (exact_integer s.state.facts b.0) as (λ (o : Option ℤ). exact_integer s.state.facts b.0 ≡ o → test o ≡ true → o ≡ Some n) [
       | Some m ↦ λ exact found. ap (λ (k : ℤ). Some k) (sym (known_is s b n m is exact))
       | None ↦ λ exact found. absurd (cc)
     ] refl e
 
 -- the string is long enough
-exactly_cut : (s : Spot) (a b c : Sym) (rest : List Sym) (start len : Option ℤ) (hints : List Hint) (after : After) → (g : Cutting s a b c rest)
+exactly_cut : (s : Spot) (a b c : Sym) (rest : List Sym) (start len : Option ℤ) → (g : Cutting s a b c rest)
     → start ≡ Some g.start → len ≡ Some g.count → is_start start ≡ true → is_length len ≡ true
     → Holds (numbers s.v) (at_least (LengthOf a.0) (pos (known_size start + known_size len - 1)))
-    → of_length (known_size len) hints (without rest s.state) ≡ Ok after → CoversAt s op.Substring after.state
-exactly_cut s a b c rest start len hints after g start_is len_is starts counts shown e =
+    → CoversBy s op.Substring (of_length (known_size len) (without rest s.state))
+exactly_cut s a b c rest start len g start_is len_is starts counts shown =
     let size : ℕ = known_size len in
     let least : ℕ = known_size start + known_size len - 1 in
     let says = at_least_says (numbers s.v) (LengthOf a.0) (pos least) shown in
@@ -89,9 +82,9 @@ exactly_cut s a b c rest start len hints after g start_is len_is starts counts s
     let value : Value = StrValue x in
     let w = numbers (after_value s value) in
     let wr : w r ≡ pos (length x) = term_new_length s value in
-    put s op.Substring rest Str [] (at_least r (pos size) ∷ at_most r (pos size) ∷ []) value hints after g.others g.machine
+    put s op.Substring rest Str [] (at_least r (pos size) ∷ at_most r (pos size) ∷ []) value g.others g.machine
     (substring_bytes g.text.bytes g.start g.count g.text.fine) refl tt
-    (at_least_holds w r (pos size) (omega (arith, ints, wr, exact)), (at_most_holds w r (pos size) (omega (arith, ints, wr, exact)), tt)) e
+    (at_least_holds w r (pos size) (omega (arith, ints, wr, exact)), (at_most_holds w r (pos size) (omega (arith, ints, wr, exact)), tt))
 
 -- it is no longer than the string, nor than a length that is known
 known_holds : (s : Spot) (text : List ℕ) (start count : ℤ) (len : Option ℤ) → (len ≡ None) ⊎ (len ≡ Some count)
@@ -122,9 +115,9 @@ known_or_not s b n is =
       | None ↦ λ exact. inl refl
     ] refl
 
-loosely_cut : (s : Spot) (a b c : Sym) (rest : List Sym) (hints : List Hint) (after : After) → Cutting s a b c rest
-    → shorter a (exact_integer s.state.facts c.0) hints (without rest s.state) ≡ Ok after → CoversAt s op.Substring after.state
-loosely_cut s a b c rest hints after g e =
+loosely_cut : (s : Spot) (a b c : Sym) (rest : List Sym) → Cutting s a b c rest
+    → CoversBy s op.Substring (shorter a (exact_integer s.state.facts c.0) (without rest s.state))
+loosely_cut s a b c rest g =
     let len = exact_integer s.state.facts c.0 in
     let x : List ℕ = cut g.text.bytes g.start g.count in
     let r = LengthOf s.state.next in
@@ -133,50 +126,34 @@ loosely_cut s a b c rest hints after g e =
     let wr : w r ≡ pos (length x) = term_new_length s value in
     let wa : w (LengthOf a.0) ≡ pos (length g.text.bytes) = term_old s value (LengthOf a.0) g.old ∙ ap length_of g.text.is in
     let few = substring_shorter g.text.bytes g.start g.count in
-    put s op.Substring rest Str [] (exceeds (LengthOf a.0) r (pos 0) ∷ at_most_known len (next_of s.state)) value hints after g.others g.machine
+    put s op.Substring rest Str [] (exceeds (LengthOf a.0) r (pos 0) ∷ at_most_known len (next_of s.state)) value g.others g.machine
     (substring_bytes g.text.bytes g.start g.count g.text.fine) refl tt (
       exceeds_holds w (LengthOf a.0) r (pos 0) (omega (arith, ints, wr, wa, few)),
       known_holds s g.text.bytes g.start g.count len (known_or_not s c g.count g.count_is),
-    ) e
+    )
 
-either_cut : (s : Spot) (a b c : Sym) (rest : List Sym) (hints : List Hint) (after : After) → Cutting s a b c rest
-    → substring_of s.admits s.state a (exact_integer s.state.facts b.0) (exact_integer s.state.facts c.0) (without rest s.state) hints ≡ Ok after
-    → CoversAt s op.Substring after.state
-either_cut s a b c rest hints after g e =
-    let start = exact_integer s.state.facts b.0 in
-    let len = exact_integer s.state.facts c.0 in
-    let row = at_least (LengthOf a.0) (pos (known_size start + known_size len - 1)) in
-    let first = λ (left : List Hint). of_length (known_size len) left (without rest s.state) in
-    let second = λ (left : List Hint). shorter a len left (without rest s.state) in
-    elim (choice_ok s.admits s.state (is_start start && is_length len) row hints first second after e) [
-      | inl h ↦
-          let both = and_parts (is_start start) (is_length len) h.0 in
-          exactly_cut s a b c rest start len h.1.left after g (start_known s b g.start g.start_is both.0) (length_known s c g.count g.count_is both.1)
-          both.0 both.1 (row_met s h.1.proof row h.1.shown) h.1.given
-      | inr h ↦ loosely_cut s a b c rest h.left after g h.given
-    ]
-
-pub substring_covers : (s : Spot) (hints : List Hint) (after : After) → effect_of s.style s.admits s.state op.Substring hints ≡ Ok after
-    → CoversAt s op.Substring after.state
-substring_covers s hints after e =
-    let rule = λ (a b c : Sym) (rest : State). substring_of s.admits s.state a (exact_integer s.state.facts b.0) (exact_integer s.state.facts c.0) rest hints in
-    let t = three_ok s.state (λ a b c rest. of_kind s.state Int 1 c (of_kind s.state Int 2 b (of_kind s.state Str 3 a (rule a b c rest)))) after e in
-    let last = rule t.a t.b t.c (without t.rest s.state) in
-    let one = demand_ok (is_of_kind s.state Int t.c) WrongKind 1 (of_kind s.state Int 2 t.b (of_kind s.state Str 3 t.a last)) after t.given in
-    let two = demand_ok (is_of_kind s.state Int t.b) WrongKind 2 (of_kind s.state Str 3 t.a last) after one.1 in
-    let three = demand_ok (is_of_kind s.state Str t.a) WrongKind 3 last after two.1 in
-    let count = number_met s t.c one.0 in
-    let start = number_met s t.b two.0 in
-    let text = text_met s t.a three.0 in
-    let all = tops_old s (t.c ∷ (t.b ∷ (t.a ∷ t.rest))) t.tops in
-    let under = others_old s t.b (t.a ∷ t.rest) (others_old s t.c (t.b ∷ (t.a ∷ t.rest)) all) in
-    either_cut s t.a t.b t.c t.rest hints after (record {
+pub substring_covers : (s : Spot) → CoversOf s op.Substring
+substring_covers s = λ a b c rest tops lowest_met middle_met top_met.
+    let count = number_met s c top_met in
+    let start = number_met s b middle_met in
+    let text = text_met s a lowest_met in
+    let below = three_below s.style s.state a b c rest s.made tops in
+    let g : Cutting s a b c rest = record {
       text = text;
       start = start.n;
       count = count.n;
       start_is = start.is;
       count_is = count.is;
-      old = first_old s t.a t.rest under;
-      others = others_old s t.a t.rest under;
-      machine = three_given s op.Substring t.a t.b t.c t.rest (StrValue text.bytes) (IntValue start.n) (IntValue count.n) t.tops text.is start.is count.is;
-    }) three.1
+      old = below.lower;
+      others = below.others;
+      machine = three_given s op.Substring a b c rest (StrValue text.bytes) (IntValue start.n) (IntValue count.n) tops text.is start.is count.is;
+    } in
+    let known_start = exact_integer s.state.facts b.0 in
+    let len = exact_integer s.state.facts c.0 in
+    let row = at_least (LengthOf a.0) (pos (known_size known_start + known_size len - 1)) in (
+      λ wanted shown.
+          let both = and_parts (is_start known_start) (is_length len) wanted in
+          exactly_cut s a b c rest known_start len g (tested_known s b start.n is_start refl start.is both.0)
+          (tested_known s c count.n is_length refl count.is both.1) both.0 both.1 (row_met s row shown),
+      loosely_cut s a b c rest g,
+    )

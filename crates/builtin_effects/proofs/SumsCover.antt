@@ -15,7 +15,7 @@ use Rattle.sym_state.specs.declared.symbol.Fact.TheVariants.{Int as IntFact}
 use Rattle.sym_state.specs.declared.symbol.Kinds.TheVariants.{Int}
 use Rattle.sym_state.specs.declared.symbol.Sym.{Sym}
 use Rattle.sym_state.specs.Decided.{exact_integer}
-use Rattle.sym_state.specs.Demands.{After, fails, gives, is_of_kind, of_kind}
+use Rattle.sym_state.specs.Demands.{After, fails, gives, is_of_kind, Demands}
 use Rattle.sym_state.specs.Effects.{effect_of, exact_sum, known_integer, sum, summed}
 use Rattle.sym_state.specs.Results.{next_of, sum_of_three, sum_of_two, with_result}
 use Rattle.sym_state.specs.Symbols.{integer_of, numbers}
@@ -25,9 +25,10 @@ use Rattle.sym_state.proofs.Pushing.{without}
 use Rattle.sym_state.proofs.RowSums.{three_holds, two_says}
 use Rattle.sym_state.proofs.Saying.{minus, once}
 use Rattle.sym_state.proofs.Spots.{Spot}
-use Rattle.builtin_effects.proofs.Covering.{CoversAt, after_value, around, first_old, kind_met, lower, others_old, put, row_met, term_new_value, term_old, tops_old, two_then, value_new}
+use Rattle.builtin_effects.proofs.Covering.{CoversAt, after_value, around, kind_met, lower, put, row_met, term_new_value, term_old, two_then, value_new, CoversBy, CoversOf}
 use Rattle.builtin_effects.proofs.Integers.{bits_from, in_range}
-use Rattle.builtin_effects.proofs.Inverting.{demand_ok, steps_ok, two_ok}
+use Rattle.sym_state.proofs.Ensured.{IsShown}
+use Rattle.sym_state.proofs.Below.{one_below, three_below, two_below}
 
 -- a rule that adds its second operand with a sign
 record Signed (sign : ℤ) (rule : ℤ → ℤ → ℤ) : Type 0 where
@@ -43,25 +44,23 @@ record Summing (s : Spot) (o : Builtin) (rule : ℤ → ℤ → ℤ) (a b : Sym)
   pub upper_is : s.v.value b.0 ≡ IntValue y
   pub machine : built_in o (around s) s.c.stack ≡ ranged (rule x y) (lower s rest)
 
-exact_covers : (s : Spot) (o : Builtin) (rule : ℤ → ℤ → ℤ) (a b : Sym) (rest : List Sym) (m n : ℤ) (hints : List Hint) (after : After)
+exact_covers : (s : Spot) (o : Builtin) (rule : ℤ → ℤ → ℤ) (a b : Sym) (rest : List Sym) (m n : ℤ)
     → Summing s o rule a b rest → exact_integer s.state.facts a.0 ≡ Some m → exact_integer s.state.facts b.0 ≡ Some n
-    → has_32_bits (rule m n) ≡ true → known_integer (rule m n) hints (without rest s.state) ≡ Ok after → CoversAt s o after.state
-exact_covers s o rule a b rest m n hints after g exact_a exact_b bits e =
+    → CoversBy s o (Demands (has_32_bits (rule m n)) IntRange 0 (known_integer (rule m n) (without rest s.state)))
+exact_covers s o rule a b rest m n g exact_a exact_b = λ bits.
     let facts = s.stands.satisfied.facts in
     let x_is : IntValue g.x ≡ IntValue m = sym g.lower_is ∙ exact_integer_is s.style s.v a.0 s.state.facts m facts exact_a in
     let y_is : IntValue g.y ≡ IntValue n = sym g.upper_is ∙ exact_integer_is s.style s.v b.0 s.state.facts n facts exact_b in
     let xm : g.x ≡ m = cc in
     let yn : g.y ≡ n = cc in
     let z : ℤ = rule m n in
-    put s o rest Int (IntFact (next_of s.state) z ∷ []) [] (IntValue z) hints after
-    (others_old s a rest (others_old s b (a ∷ rest) (tops_old s (b ∷ (a ∷ rest)) g.tops)))
+    put s o rest Int (IntFact (next_of s.state) z ∷ []) [] (IntValue z) (two_below s.style s.state a b rest s.made g.tops).others
     (g.machine ∙ ap (λ (k : ℤ). ranged (rule k g.y) (lower s rest)) xm ∙ ap (λ (k : ℤ). ranged (rule m k) (lower s rest)) yn ∙ in_range z (lower s rest) bits)
-    bits refl (value_new s (IntValue z), tt) tt e
+    bits refl (value_new s (IntValue z), tt) tt
 
-inexact_covers : (s : Spot) (o : Builtin) (sign : ℤ) (rule : ℤ → ℤ → ℤ) (a b : Sym) (rest : List Sym) (hints : List Hint) (after : After)
-    → Signed sign rule → Summing s o rule a b rest → summed s.admits s.state sign a b (without rest s.state) None hints ≡ Ok after
-    → CoversAt s o after.state
-inexact_covers s o sign rule a b rest hints after signed g e =
+inexact_covers : (s : Spot) (o : Builtin) (sign : ℤ) (rule : ℤ → ℤ → ℤ) (a b : Sym) (rest : List Sym) → Signed sign rule → Summing s o rule a b rest
+    → CoversBy s o (summed sign a b (without rest s.state) None)
+inexact_covers s o sign rule a b rest signed g = λ low_shown high_shown.
     let ra = ValueOf a.0 in
     let rb = ValueOf b.0 in
     let r = ValueOf s.state.next in
@@ -69,85 +68,65 @@ inexact_covers s o sign rule a b rest hints after signed g e =
     let high = sum_of_two (pos 2147483647) (negsuc 0) ra (neg_ℤ sign) rb in
     let first = sum_of_three (pos 0) (pos 1) r (negsuc 0) ra (neg_ℤ sign) rb in
     let second = sum_of_three (pos 0) (negsuc 0) r (pos 1) ra sign rb in
-    let t = steps_ok s.admits s.state low high (fails IntRange 0) hints
-    (λ left. gives left (with_result Int [] (first ∷ second ∷ []) (without rest s.state))) after e in
-    let old = tops_old s (b ∷ (a ∷ rest)) g.tops in
-    let b_old = first_old s b (a ∷ rest) old in
-    let a_old = first_old s a rest (others_old s b (a ∷ rest) old) in
+    let below = two_below s.style s.state a b rest s.made g.tops in
     let xs : numbers s.v ra ≡ g.x = ap integer_of g.lower_is in
     let ys : numbers s.v rb ≡ g.y = ap integer_of g.upper_is in
     let z : ℤ = rule g.x g.y in
     let total : z ≡ g.x +ℤ sign *ℤ g.y = signed.sum g.x g.y in
     let by_y : sign *ℤ numbers s.v rb ≡ sign *ℤ g.y = ap (λ (k : ℤ). sign *ℤ k) ys in
     let opposite : neg_ℤ sign *ℤ numbers s.v rb ≡ neg_ℤ (sign *ℤ numbers s.v rb) = signed.opposite (numbers s.v rb) in
-    let low_says = two_says (numbers s.v) (pos 2147483648) (pos 1) ra sign rb (row_met s t.one low t.first_shown) in
-    let high_says = two_says (numbers s.v) (pos 2147483647) (negsuc 0) ra (neg_ℤ sign) rb (row_met s t.other high t.second_shown) in
+    let low_says = two_says (numbers s.v) (pos 2147483648) (pos 1) ra sign rb (row_met s low low_shown) in
+    let high_says = two_says (numbers s.v) (pos 2147483647) (negsuc 0) ra (neg_ℤ sign) rb (row_met s high high_shown) in
     let plus_x = once (numbers s.v ra) in
     let minus_x = minus (numbers s.v ra) in
     let bits = bits_from z (omega (arith, ints, xs, total, by_y, low_says, plus_x)) (omega (arith, ints, xs, total, by_y, opposite, high_says, minus_x)) in
     let value : Value = IntValue z in
     let w = numbers (after_value s value) in
     let wr : w r ≡ z = term_new_value s value in
-    let wa : w ra ≡ g.x = term_old s value ra a_old ∙ xs in
-    let wb : w rb ≡ g.y = term_old s value rb b_old ∙ ys in
+    let wa : w ra ≡ g.x = term_old s value ra below.lower ∙ xs in
+    let wb : w rb ≡ g.y = term_old s value rb below.upper ∙ ys in
     let wby : sign *ℤ w rb ≡ sign *ℤ g.y = ap (λ (k : ℤ). sign *ℤ k) wb in
     let wopposite : neg_ℤ sign *ℤ w rb ≡ neg_ℤ (sign *ℤ w rb) = signed.opposite (w rb) in
-    put s o rest Int [] (first ∷ second ∷ []) value t.left after
-    (others_old s a rest (others_old s b (a ∷ rest) old)) (g.machine ∙ in_range z (lower s rest) bits) bits refl tt (
+    put s o rest Int [] (first ∷ second ∷ []) value below.others (g.machine ∙ in_range z (lower s rest) bits) bits refl tt (
       three_holds w (pos 0) (pos 1) r (negsuc 0) ra (neg_ℤ sign) rb (omega (arith, ints, wr, wa, wby, wopposite, total, once (w r), minus (w ra))),
       (three_holds w (pos 0) (negsuc 0) r (pos 1) ra sign rb (omega (arith, ints, wr, wa, wby, total, minus (w r), once (w ra))), tt),
-    ) t.given
+    )
 
-summed_covers : (s : Spot) (o : Builtin) (sign : ℤ) (rule : ℤ → ℤ → ℤ) (a b : Sym) (rest : List Sym) (hints : List Hint) (after : After)
-    → Signed sign rule → Summing s o rule a b rest
-    → summed s.admits s.state sign a b (without rest s.state) (exact_sum (exact_integer s.state.facts a.0) (exact_integer s.state.facts b.0) rule) hints ≡ Ok after
-    → CoversAt s o after.state
-summed_covers s o sign rule a b rest hints after signed g e =
+summed_covers : (s : Spot) (o : Builtin) (sign : ℤ) (rule : ℤ → ℤ → ℤ) (a b : Sym) (rest : List Sym) → Signed sign rule → Summing s o rule a b rest
+    → CoversBy s o (summed sign a b (without rest s.state) (exact_sum (exact_integer s.state.facts a.0) (exact_integer s.state.facts b.0) rule))
+summed_covers s o sign rule a b rest signed g =
     elim (exact_integer s.state.facts a.0) as (λ (p : Option ℤ). exact_integer s.state.facts a.0 ≡ p
-    → summed s.admits s.state sign a b (without rest s.state) (exact_sum p (exact_integer s.state.facts b.0) rule) hints ≡ Ok after → CoversAt s o after.state) [
-      | None ↦ λ none found. inexact_covers s o sign rule a b rest hints after signed g found
-      | Some m ↦ λ exact_a found. elim (exact_integer s.state.facts b.0) as (λ (q : Option ℤ). exact_integer s.state.facts b.0 ≡ q
-          → summed s.admits s.state sign a b (without rest s.state) (exact_sum (Some m) q rule) hints ≡ Ok after → CoversAt s o after.state) [
-            | None ↦ λ none all. inexact_covers s o sign rule a b rest hints after signed g all
-            | Some n ↦ λ exact_b all.
-                let met = demand_ok (has_32_bits (rule m n)) IntRange 0 (known_integer (rule m n) hints (without rest s.state)) after all in
-                exact_covers s o rule a b rest m n hints after g exact_a exact_b met.0 met.1
-          ] refl found
-    ] refl e
+    → CoversBy s o (summed sign a b (without rest s.state) (exact_sum p (exact_integer s.state.facts b.0) rule))) [
+      | None ↦ λ none. inexact_covers s o sign rule a b rest signed g
+      | Some m ↦ λ exact_a. elim (exact_integer s.state.facts b.0) as (λ (q : Option ℤ). exact_integer s.state.facts b.0 ≡ q
+          → CoversBy s o (summed sign a b (without rest s.state) (exact_sum (Some m) q rule))) [
+            | None ↦ λ none. inexact_covers s o sign rule a b rest signed g
+            | Some n ↦ λ exact_b. exact_covers s o rule a b rest m n g exact_a exact_b
+          ] refl
+    ] refl
 
 -- the operands of a sum that has an effect
-sum_covers : (s : Spot) (o : Builtin) (sign : ℤ) (rule : ℤ → ℤ → ℤ) (hints : List Hint) (after : After) → Signed sign rule
+sum_covers : (s : Spot) (o : Builtin) (sign : ℤ) (rule : ℤ → ℤ → ℤ) → Signed sign rule
     → ((x y : ℤ) (stack : List Value) → built_in o (around s) (IntValue y ∷ (IntValue x ∷ stack)) ≡ ranged (rule x y) stack)
-    → sum s.admits s.state sign rule hints ≡ Ok after → CoversAt s o after.state
-sum_covers s o sign rule hints after signed machine e =
-    let by = λ (a b : Sym). exact_sum (exact_integer s.state.facts a.0) (exact_integer s.state.facts b.0) rule in
-    let two = two_ok s.state (λ a b rest. of_kind s.state Int 1 b (of_kind s.state Int 2 a (summed s.admits s.state sign a b rest (by a b) hints))) after e in
-    let rest = without two.rest s.state in
-    let last = summed s.admits s.state sign two.a two.b rest (by two.a two.b) hints in
-    let upper = demand_ok (is_of_kind s.state Int two.b) WrongKind 1 (of_kind s.state Int 2 two.a last) after two.given in
-    let under = demand_ok (is_of_kind s.state Int two.a) WrongKind 2 last after upper.1 in
-    let x = integer_is (s.v.value two.a.0) (kind_met s Int two.a under.0) in
-    let y = integer_is (s.v.value two.b.0) (kind_met s Int two.b upper.0) in
-    summed_covers s o sign rule two.a two.b two.rest hints after signed (record {
+    → CoversBy s o (sum s.state sign rule)
+sum_covers s o sign rule signed machine = λ a b rest tops lower_met upper_met.
+    let x = integer_is (s.v.value a.0) (kind_met s Int a lower_met) in
+    let y = integer_is (s.v.value b.0) (kind_met s Int b upper_met) in
+    summed_covers s o sign rule a b rest signed (record {
       x = x.0;
       y = y.0;
-      tops = two.tops;
+      tops = tops;
       lower_is = x.1;
       upper_is = y.1;
-      machine = two_then s o two.a two.b two.rest (IntValue x.0) (IntValue y.0) (ranged (rule x.0 y.0) (lower s two.rest)) two.tops x.1 y.1
-          (machine x.0 y.0 (lower s two.rest));
-    }) under.1
+      machine = two_then s o a b rest (IntValue x.0) (IntValue y.0) (ranged (rule x.0 y.0) (lower s rest)) tops x.1 y.1 (machine x.0 y.0 (lower s rest));
+    })
 
-pub plus_covers : (s : Spot) (hints : List Hint) (after : After) → effect_of s.style s.admits s.state op.Plus hints ≡ Ok after
-    → CoversAt s op.Plus after.state
-plus_covers s hints after e =
-    sum_covers s op.Plus (pos 1) (λ a b. a +ℤ b) hints after
-    (record { sum = λ x y. omega (arith, ints, once y); opposite = λ y. omega (arith, ints, once y, minus y) })
-    (λ x y stack. refl) e
+pub plus_covers : (s : Spot) → CoversOf s op.Plus
+plus_covers s =
+    sum_covers s op.Plus (pos 1) (λ a b. a +ℤ b)
+    (record { sum = λ x y. omega (arith, ints, once y); opposite = λ y. omega (arith, ints, once y, minus y) }) (λ x y stack. refl)
 
-pub minus_covers : (s : Spot) (hints : List Hint) (after : After) → effect_of s.style s.admits s.state op.Minus hints ≡ Ok after
-    → CoversAt s op.Minus after.state
-minus_covers s hints after e =
-    sum_covers s op.Minus (negsuc 0) (λ a b. a -ℤ b) hints after
-    (record { sum = λ x y. omega (arith, ints, minus y); opposite = λ y. omega (arith, ints, once y, minus y) })
-    (λ x y stack. refl) e
+pub minus_covers : (s : Spot) → CoversOf s op.Minus
+minus_covers s =
+    sum_covers s op.Minus (negsuc 0) (λ a b. a -ℤ b)
+    (record { sum = λ x y. omega (arith, ints, minus y); opposite = λ y. omega (arith, ints, once y, minus y) }) (λ x y stack. refl)

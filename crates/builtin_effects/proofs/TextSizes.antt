@@ -26,7 +26,8 @@ use Rattle.text_ops.proofs.PartSteps.{parts_drop, word_length}
 use Rattle.text_ops.proofs.PieceSteps.{pieces_beyond, special_level, beyond_bound}
 use Rattle.text_ops.proofs.WidthBounds.{bounded_pieces}
 use Rattle.bst_meaning.specs.Operands.{has_32_bits}
-use Rattle.sym_state.specs.Effects.{size, known_size, is_start, is_length}
+use Rattle.sym_state.specs.Effects.{known_size, is_start, is_length}
+use Rattle.sym_state.specs.WellMade.{size}
 
 at_most : {X : Type 0} (v : Bool) (xs ys : List X) (n : ℕ) → length xs ≤ n → length ys ≤ n → length (if v then xs else ys) ≤ n
 at_most true xs ys n h k = h

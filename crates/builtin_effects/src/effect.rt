@@ -4,11 +4,12 @@ ghost use Rattle.std.specs.Prelude.{◌≡◌, ◌≢◌, ◌<◌, ◌≤◌, �
 ghost use Rattle.std.specs.List.{All};
 ghost use Rattle.sym_state.specs.declared.demand.EffectFault.TheVariants.{NoMemory as WantOfMemory};
 ghost use Rattle.sym_state.specs.Demands.{HasFewUses, IsReady};
-ghost use Rattle.sym_state.specs.Effects.{effect_of, is_plain};
+ghost use Rattle.sym_state.specs.Effects.{effect_of, is_plain, rule_of};
 ghost use Rattle.sym_state.specs.WellMade.{HasBounds, WellMade};
-ghost use Rattle.builtin_effects.specs.Given.{Gives};
+ghost use Rattle.builtin_effects.specs.Given.{Gives, outcome_at};
 
 use crate::assign::assign;
+use crate::at::At;
 use crate::substring::substring;
 use crate::{moves, numbers, surroundings, texts};
 use bst_meaning::condition::Cond;
@@ -39,7 +40,7 @@ pub fn effect(
     // For the proof of `kept`, which has no range of a field behind a reference: nothing is done.
     limits_are_small(cond.key, cond.preamble);
     let mut left = Hints::new(hints.rest());
-    let after = effect_by(style, state, cond, op, &mut left)?;
+    let after = effect_by(style, &At { state, cond }, op, &mut left)?;
     *hints = left;
     Ok(after)
 }
@@ -53,41 +54,40 @@ fn limits_are_small(key: u32, preamble: u32)
 /// The same, with a cursor that may have moved after a fault.
 fn effect_by(
     style: &Style,
-    state: &State,
-    cond: &Cond,
+    at: &At<'_>,
     op: Builtin,
-    cursor: &mut Hints<'_>,
+    hints: &mut Hints<'_>,
 ) -> Result<State, EffectFault>
-    requires { IsReady state.now cursor.old }
-    ensures { Gives result cursor.new (effect_of style.now cond.now state.now op cursor.old) }
+    requires { IsReady at.now.state.now hints.old }
+    ensures { Gives result hints.new (outcome_at at.now (rule_of style.now at.now.cond.now at.now.state.now op) hints.old) }
 {
     match op {
-        Builtin::Plus => numbers::plus(state, cond, cursor),
-        Builtin::Minus => numbers::minus(state, cond, cursor),
-        Builtin::Join => texts::join(state),
-        Builtin::Assign => assign(style, state, cond, cursor),
-        Builtin::AddPeriod => texts::add_period(state),
-        Builtin::ChangeCase => texts::change_case(state),
-        Builtin::ChrToInt => numbers::chr_to_int(state, cond, cursor),
-        Builtin::Cite => surroundings::cite(state, cond),
-        Builtin::Duplicate => moves::duplicate(state),
-        Builtin::FormatName => texts::format_name(state, cond, cursor),
-        Builtin::IntToChr => numbers::int_to_chr(state, cond, cursor),
-        Builtin::IntToStr => numbers::int_to_str(state),
-        Builtin::Newline | Builtin::Skip => moves::same(state),
-        Builtin::NumNames => numbers::num_names(state, cond, cursor),
-        Builtin::Pop | Builtin::Top => moves::pop(state),
-        Builtin::Preamble => surroundings::preamble(state, cond),
-        Builtin::Purify => texts::purify(state),
-        Builtin::Quote => surroundings::quote(state),
-        Builtin::Stack => moves::log_stack(state),
-        Builtin::Substring => substring(state, cond, cursor),
-        Builtin::Swap => moves::swap(state),
-        Builtin::TextLength => numbers::text_length(state, cond, cursor),
-        Builtin::TextPrefix => texts::text_prefix(state),
-        Builtin::TypeName => surroundings::type_name(state),
-        Builtin::Warning | Builtin::Write => moves::pop_string(state),
-        Builtin::Width => numbers::width(state, cond, cursor),
+        Builtin::Plus => numbers::plus(at, hints),
+        Builtin::Minus => numbers::minus(at, hints),
+        Builtin::Join => texts::join(at),
+        Builtin::Assign => assign(style, at, hints),
+        Builtin::AddPeriod => texts::add_period(at),
+        Builtin::ChangeCase => texts::change_case(at),
+        Builtin::ChrToInt => numbers::chr_to_int(at, hints),
+        Builtin::Cite => surroundings::cite(at),
+        Builtin::Duplicate => moves::duplicate(at),
+        Builtin::FormatName => texts::format_name(at, hints),
+        Builtin::IntToChr => numbers::int_to_chr(at, hints),
+        Builtin::IntToStr => numbers::int_to_str(at),
+        Builtin::Newline | Builtin::Skip => moves::same(at),
+        Builtin::NumNames => numbers::num_names(at, hints),
+        Builtin::Pop | Builtin::Top => moves::pop(at),
+        Builtin::Preamble => surroundings::preamble(at),
+        Builtin::Purify => texts::purify(at),
+        Builtin::Quote => surroundings::quote(at),
+        Builtin::Stack => moves::log_stack(at),
+        Builtin::Substring => substring(at, hints),
+        Builtin::Swap => moves::swap(at),
+        Builtin::TextLength => numbers::text_length(at, hints),
+        Builtin::TextPrefix => texts::text_prefix(at),
+        Builtin::TypeName => surroundings::type_name(at),
+        Builtin::Warning | Builtin::Write => moves::pop_string(at),
+        Builtin::Width => numbers::width(at, hints),
         _ => Err(EffectFault::unmet(DemandKind::WrongKind, 0)),
     }
 }

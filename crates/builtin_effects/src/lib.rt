@@ -2,11 +2,11 @@
 #![tactic(auto)]
 
 mod assign;
+mod at;
 pub mod effect;
 mod laws;
 mod moves;
 mod numbers;
-mod operands;
 mod results;
 mod steps;
 mod substring;

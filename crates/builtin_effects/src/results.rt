@@ -1,16 +1,13 @@
 //! Results (docs/EFFECTS.md, "Results"): states with a new symbol, with what is said of it.
 
-ghost use Rattle.std.specs.Prelude.{◌≡◌, ◌<◌, ◌++◌, None, Some, drop, reverse, OnOk, IfOk};
+ghost use Rattle.std.specs.Prelude.{◌≡◌, ◌<◌, ◌++◌, None, Some, OnOk, IfOk};
 ghost use Rattle.std.specs.Option.{option_to_list};
 ghost use Rattle.sym_state.specs.Results as rule;
 ghost use Rattle.builtin_effects.specs.Given.{facts_of, rows_of};
-ghost use Rattle.builtin_effects.specs.Taken.{without};
+ghost use Rattle.sym_state.specs.Demands.{without};
 
 use bv_base::memory::NoMemory;
-use bv_base::seq::Seq;
 use lin_facts::row::{Part, Row, Term};
-use std::alloc::Global;
-use sym_state::copies;
 use sym_state::state::State;
 use sym_state::symbol::{Fact, Kinds, Sym};
 
@@ -72,38 +69,12 @@ pub fn with_symbol(state: &State, taken: usize, kind: Kinds, said: Said) -> Resu
     requires { state.now.next < 4294967295 }
     ensures { IfOk result (λ after. after ≡ rule.with_symbol kind (facts_of said) (rows_of said) (without taken state.now)) }
 {
-    let mut after = without(state, taken)?;
+    let mut after = state.without(taken)?;
     after.fresh(kind)?;
     add_fact(&mut after, said.fact)?;
     add_row(&mut after, said.first)?;
     add_row(&mut after, said.second)?;
     Ok(after)
-}
-
-/// A state without so many of its topmost operands.
-pub fn without(state: &State, taken: usize) -> Result<State, NoMemory>
-    ensures { IfOk result (λ after. after ≡ without taken state.now) }
-{
-    Ok(State {
-        alloc: state.alloc,
-        stack: Seq::from_vec(front(state.alloc, state.stack.as_slice(), taken)?),
-        whole: state.whole,
-        at_entry: state.at_entry,
-        vars: Seq::from_vec(state.vars.as_slice().to_vec(state.alloc)?),
-        fields: Seq::from_vec(state.fields.as_slice().to_vec(state.alloc)?),
-        facts: Seq::from_vec(copies::facts_of(state.alloc, state.facts.as_slice())?),
-        rows: Seq::from_vec(copies::rows_of(state.alloc, state.rows.as_slice())?),
-        next: state.next,
-    })
-}
-
-/// The symbols below the topmost ones.
-#[tactic(auto, using(crate::proofs::Fronts::front_left))]
-fn front(alloc: Global, stack: &[Sym], taken: usize) -> Result<Vec<Sym>, NoMemory>
-    ensures { IfOk result (λ left. left.items ≡ reverse (drop taken (reverse stack.now))) }
-{
-    let left = stack.len().saturating_sub(taken);
-    Ok(stack[..left].to_vec(alloc)?)
 }
 
 /// Adds a fact.

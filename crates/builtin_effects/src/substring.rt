@@ -1,62 +1,57 @@
 //! `substring$`.
 
-ghost use Rattle.std.specs.Prelude.{◌≡◌, ◌<◌, ◌≤◌, ◌+◌, ◌-◌, ◌&&◌, pos, List, IfOk};
-ghost use Rattle.std.specs.Option.{option_to_list};
 ghost use Rattle.sym_state.specs.declared.hint.Hint.{Hint};
-ghost use Rattle.sym_state.specs.Demands.{IsReady};
+ghost use Rattle.std.specs.Prelude.{◌≡◌, ◌<◌, ◌≤◌, ◌+◌, ◌-◌, ◌&&◌, pos, IfOk, List};
+ghost use Rattle.std.specs.Option.{option_to_list};
+ghost use Rattle.sym_state.specs.Demands.{IsReady, without};
 ghost use Rattle.lin_facts.specs.declared.row.Term.TheVariants.{Length};
 ghost use Rattle.sym_state.specs.Effects as rule;
 ghost use Rattle.sym_state.specs.References as references;
 ghost use Rattle.sym_state.specs.WellMade.{IsBounded};
-ghost use Rattle.builtin_effects.specs.Given.{Gives};
-ghost use Rattle.builtin_effects.specs.Taken.{without};
+ghost use Rattle.builtin_effects.specs.Given.{Gives, outcome_at};
 
-use crate::operands::{of_kind, three};
+use crate::at::At;
 use crate::results::{Said, with_result};
 use crate::steps::choice;
-use bst_meaning::condition::Cond;
 use bv_base::memory::NoMemory;
 use lin_facts::row::{Row, Term};
 use std::alloc::Global;
 use sym_state::demand::EffectFault;
 use sym_state::facts::exact_integer;
 use sym_state::hint::Hints;
+use sym_state::operands::three;
 use sym_state::references::{at_least, at_most, exceeds};
 use sym_state::state::State;
 use sym_state::symbol::{Kinds, Sym};
 
 /// `substring$`
-pub fn substring(state: &State, cond: &Cond, hints: &mut Hints<'_>) -> Result<State, EffectFault>
-    requires { IsReady state.now hints.old }
-    ensures { Gives result hints.new (rule.substring cond.now state.now hints.old) }
+pub fn substring(at: &At<'_>, hints: &mut Hints<'_>) -> Result<State, EffectFault>
+    requires { IsReady at.now.state.now hints.old }
+    ensures { Gives result hints.new (outcome_at at.now (rule.substring at.now.state.now) hints.old) }
 {
-    let (a, b, c) = three(state)?;
-    of_kind(state, Kinds::Int, 1, c)?;
-    of_kind(state, Kinds::Int, 2, b)?;
-    of_kind(state, Kinds::Str, 3, a)?;
-    let facts = state.facts.as_slice();
+    let (a, b, c) = three(at.state, Kinds::Str, Kinds::Int, Kinds::Int)?;
+    let facts = at.state.facts.as_slice();
     let (start, len) = (exact_integer(facts, b), exact_integer(facts, c));
-    substring_of(state, cond, a, start, len, hints)
+    substring_of(at, a, start, len, hints)
 }
 
 /// The string from a start, of a length: of that length where a step shows that the string is long enough.
 fn substring_of(
-    state: &State,
-    cond: &Cond,
+    at: &At<'_>,
     a: Sym,
     start: Option<i32>,
     len: Option<i32>,
     hints: &mut Hints<'_>,
 ) -> Result<State, EffectFault>
-    requires { IsReady state.now hints.old }
-    ensures { Gives result hints.new (rule.substring_of cond.now state.now a start len (without 3 state.now) hints.old) }
+    requires { IsReady at.now.state.now hints.old }
+    ensures { Gives result hints.new (outcome_at at.now (rule.substring_of a start len (without 3 at.now.state.now)) hints.old) }
 {
-    let row = enough(state.alloc, a, start, len)?;
+    let row = enough(at.state.alloc, a, start, len)?;
     let wanted = is_wanted(start, len);
-    if choice(state, cond, wanted, &row, hints)? {
-        long_enough(state, len)
+    if choice(at, wanted, &row, hints)? {
+        long_enough(at, len)
     } else {
-        no_longer(state, a, len)
+        no_longer(at, a, len)
     }
 }
 
@@ -77,33 +72,33 @@ fn is_wanted(start: Option<i32>, len: Option<i32>) -> bool
 }
 
 /// A new string of a length that is known.
-fn long_enough(state: &State, len: Option<i32>) -> Result<State, EffectFault>
-    requires { state.now.next < 4294967295 }
-    ensures { (hints : List Hint) → Gives result hints (rule.of_length (rule.known_size len) hints (without 3 state.now)) }
+fn long_enough(at: &At<'_>, len: Option<i32>) -> Result<State, EffectFault>
+    requires { at.now.state.now.next < 4294967295 }
+    ensures { (hints : List Hint) → Gives result hints (outcome_at at.now (rule.of_length (rule.known_size len) (without 3 at.now.state.now)) hints) }
 {
-    let r = Term::Length(state.next);
+    let r = Term::Length(at.state.next);
     let size = known_size(len);
-    let alloc = state.alloc;
+    let alloc = at.state.alloc;
     let said = Said::rows(
         at_least(alloc, r, size as i64)?,
         at_most(alloc, r, size as i64)?,
     );
-    Ok(with_result(state, 3, Kinds::Str, said)?)
+    Ok(with_result(at.state, 3, Kinds::Str, said)?)
 }
 
 /// A new string that is no longer than another, nor than a length that is known.
-fn no_longer(state: &State, a: Sym, len: Option<i32>) -> Result<State, EffectFault>
-    requires { state.now.next < 4294967295 }
-    ensures { (hints : List Hint) → Gives result hints (rule.shorter a len hints (without 3 state.now)) }
+fn no_longer(at: &At<'_>, a: Sym, len: Option<i32>) -> Result<State, EffectFault>
+    requires { at.now.state.now.next < 4294967295 }
+    ensures { (hints : List Hint) → Gives result hints (outcome_at at.now (rule.shorter a len (without 3 at.now.state.now)) hints) }
 {
-    let alloc = state.alloc;
-    let r = Sym(state.next);
+    let alloc = at.state.alloc;
+    let r = Sym(at.state.next);
     let said = Said {
         fact: None,
         first: Some(exceeds(alloc, Term::Length(a.0), Term::Length(r.0), 0)?),
         second: at_most_known(alloc, len, r)?,
     };
-    Ok(with_result(state, 3, Kinds::Str, said)?)
+    Ok(with_result(at.state, 3, Kinds::Str, said)?)
 }
 
 /// A string is no longer than a length that is known.

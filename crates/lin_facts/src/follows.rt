@@ -143,7 +143,7 @@ fn coefficient_of(parts: &[Part], term: Term) -> i64
 }
 
 /// Whether two terms are one.
-fn same_term(a: Term, b: Term) -> bool
+pub fn same_term(a: Term, b: Term) -> bool
     ensures { result ≡ same_term a b }
 {
     match (a, b) {

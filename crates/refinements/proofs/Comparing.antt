@@ -35,9 +35,12 @@ use Rattle.sym_state.proofs.Pushing.{without}
 use Rattle.sym_state.proofs.Resulting.{Fits, both_fit, exceeds_fits, nothing_fits, one_fits, row_fits, rows_fit}
 use Rattle.sym_state.proofs.Saying.{exceeds_holds}
 use Rattle.sym_state.specs.declared.demand.DemandKind.TheVariants.{WrongKind}
-use Rattle.sym_state.proofs.Frames.{facts_joined}
+use Rattle.sym_state.proofs.Frames.{joined}
 use Rattle.sym_state.proofs.Spots.{Spot}
-use Rattle.refinements.proofs.Taking.{AtSpot, Found, at_two, both_found, decided_found, integers_cases, one_below, pair_cases, second_below, taken_two, weighed_found}
+use Rattle.sym_state.proofs.Below.{two_below}
+use Rattle.sym_state.proofs.Ensured.{two_taken}
+use Rattle.refinements.proofs.Taking.{AtSpot, Found, at_two, both_found, decided_found, taken_two, weighed_found}
+use Rattle.bst_meaning.specs.declared.value.Value.{Value}
 
 -- rows on two integers hold
 pub above_zero : (z : ℤ) → is_positive z ≡ true → pos 1 ≤ℤ z
@@ -104,33 +107,41 @@ equal_fit style next a b lower upper =
     (exceeds_fits next (ValueOf a.0) (ValueOf b.0) (pos 0) lower upper (omega arith))
     (exceeds_fits next (ValueOf b.0) (ValueOf a.0) (pos 0) upper lower (omega arith))
 
--- what decides a test of integers is what the machine gives
+-- what decides a test of two values is what the machine gives: both are of one symbol, or both are known
+sure : {X : Type 0} (p : Spot) (made : X → Value) (found : ℕ → Option X) (test : X → X → Bool) (reflexive : Bool) (a b : Sym) (x y : X) (t : Bool)
+    → ((m n : X) → made m ≡ made n → m ≡ n) → ((s : ℕ) (n : X) → found s ≡ Some n → p.v.value s ≡ made n) → ((n : X) → test n n ≡ reflexive)
+    → p.v.value a.0 ≡ made x → p.v.value b.0 ≡ made y → answer_of (nat_eq a.0 b.0) reflexive (answer test (found a.0) (found b.0)) ≡ Some t → test x y ≡ t
+sure {X} p made found test reflexive a b x y t one_value is_found same lower upper e =
+    elim (nat_eq a.0 b.0) as (λ (one : Bool). nat_eq a.0 b.0 ≡ one
+    → answer_of one reflexive (answer test (found a.0) (found b.0)) ≡ Some t → test x y ≡ t) [
+      | true ↦ λ one all.
+          let xy : x ≡ y = one_value x y (sym lower ∙ ap p.v.value (same_number a.0 b.0 one) ∙ upper) in
+          let is : reflexive ≡ t = cc in
+          subst (λ (n : X). test x n ≡ reflexive) xy (same x) ∙ is
+      | false ↦ λ one all. elim (found a.0) as (λ (o : Option X). found a.0 ≡ o → answer test o (found b.0) ≡ Some t → test x y ≡ t) [
+        | None ↦ λ none some. absurd (cc)
+        | Some m ↦ λ low some. elim (found b.0) as (λ (o : Option X). found b.0 ≡ o → answer test (Some m) o ≡ Some t → test x y ≡ t) [
+          | None ↦ λ none both. absurd (cc)
+          | Some n ↦ λ high both.
+              let xm : x ≡ m = one_value x m (sym lower ∙ is_found a.0 m low) in
+              let yn : y ≡ n = one_value y n (sym upper ∙ is_found b.0 n high) in
+              let is : test m n ≡ t = cc in
+              ap (λ (k : X). test k y) xm ∙ ap (λ (k : X). test m k) yn ∙ is
+        ] refl some
+      ] refl all
+    ] refl e
+
+one_integer : (m n : ℤ) → IntValue m ≡ IntValue n → m ≡ n
+one_integer m n e = cc
+
+one_text : (m n : List ℕ) → StrValue m ≡ StrValue n → m ≡ n
+one_text m n e = cc
+
 integers_sure : (p : Spot) (test : ℤ → ℤ → Bool) (reflexive : Bool) (a b : Sym) (x y : ℤ) (t : Bool) → ((n : ℤ) → test n n ≡ reflexive) → Known p a b x y
     → integers_decided test reflexive p.state.facts a b ≡ Some t → test x y ≡ t
 integers_sure p test reflexive a b x y t same known e =
-    elim (nat_eq a.0 b.0) as (λ (one : Bool). nat_eq a.0 b.0 ≡ one
-    → answer_of one reflexive (answer test (exact_integer p.state.facts a.0) (exact_integer p.state.facts b.0)) ≡ Some t → test x y ≡ t) [
-      | true ↦ λ one found.
-          let values : IntValue x ≡ IntValue y = sym known.lower ∙ ap p.v.value (same_number a.0 b.0 one) ∙ known.upper in
-          let xy : x ≡ y = cc in
-          let is : reflexive ≡ t = cc in
-          subst (λ (n : ℤ). test x n ≡ reflexive) xy (same x) ∙ is
-      | false ↦ λ one found. elim (exact_integer p.state.facts a.0) as (λ (o : Option ℤ). exact_integer p.state.facts a.0 ≡ o
-          → answer test o (exact_integer p.state.facts b.0) ≡ Some t → test x y ≡ t) [
-            | None ↦ λ none some. absurd (cc)
-            | Some m ↦ λ lower some. elim (exact_integer p.state.facts b.0) as (λ (o : Option ℤ). exact_integer p.state.facts b.0 ≡ o
-                → answer test (Some m) o ≡ Some t → test x y ≡ t) [
-                  | None ↦ λ none all. absurd (cc)
-                  | Some n ↦ λ upper all.
-                      let low : IntValue x ≡ IntValue m = sym known.lower ∙ exact_integer_is p.style p.v a.0 p.state.facts m p.stands.satisfied.facts lower in
-                      let high : IntValue y ≡ IntValue n = sym known.upper ∙ exact_integer_is p.style p.v b.0 p.state.facts n p.stands.satisfied.facts upper in
-                      let xm : x ≡ m = cc in
-                      let yn : y ≡ n = cc in
-                      let is : test m n ≡ t = cc in
-                      ap (λ (k : ℤ). test k y) xm ∙ ap (λ (k : ℤ). test m k) yn ∙ is
-                ] refl some
-          ] refl found
-    ] refl e
+    sure p (λ n. IntValue n) (λ s. exact_integer p.state.facts s) test reflexive a b x y t one_integer
+    (λ s n is. exact_integer_is p.style p.v s p.state.facts n p.stands.satisfied.facts is) same known.lower known.upper e
 
 integers_found : (p : Spot) (op : Builtin) (rest : List Sym) (test : ℤ → ℤ → Bool) (reflexive : Bool) (a b : Sym) (x y : ℤ)
     (holds refuted : List Row) (hints : List Hint) (cases : Cases) → Known p a b x y → ((n : ℤ) → test n n ≡ reflexive)
@@ -159,17 +170,18 @@ values_of_two p a b lower upper =
 -- `<`
 pub less_found : (p : Spot) (hints : List Hint) (cases : Cases) → less p.admits p.state hints ≡ Ok cases → Found p op.Less cases
 less_found p hints cases e =
-    let f = integers_cases p.state (λ two. integer_cases p.admits (integers_decided is_less false p.state.facts two.lower two.upper)
+    let f = two_taken Int Int p.state (λ two. integer_cases p.admits (integers_decided is_less false p.state.facts two.lower two.upper)
     (less_rows two.lower two.upper) (at_least_rows two.lower two.upper) two.rest hints) cases e in
-    let a = f.pair.lower in
-    let b = f.pair.upper in
-    let lower = second_below p.style p.state a b f.pair.rest p.made f.pair.tops in
-    let upper = one_below p.style p.state b (a ∷ f.pair.rest) p.made f.pair.tops in
-    let values = values_of_two p a b f.lower_kind f.upper_kind in
-    integers_found p op.Less f.pair.rest is_less false a b values.x values.y (less_rows a b) (at_least_rows a b) hints cases values.known never_less
-    (at_two p op.Less a b f.pair.rest (IntValue values.x) (IntValue values.y) (is_less values.x values.y) f.pair.tops values.known.lower values.known.upper refl)
+    let a = f.a in
+    let b = f.b in
+    let below = two_below p.style p.state a b f.rest p.made f.tops in
+    let lower = below.lower in
+    let upper = below.upper in
+    let values = values_of_two p a b f.lower_met f.upper_met in
+    integers_found p op.Less f.rest is_less false a b values.x values.y (less_rows a b) (at_least_rows a b) hints cases values.known never_less
+    (at_two p op.Less a b f.rest (IntValue values.x) (IntValue values.y) (is_less values.x values.y) f.tops values.known.lower values.known.upper refl)
     (exceeding p.style p.state.next b a (pos 1) upper lower (omega arith)) (exceeding p.style p.state.next a b (pos 0) lower upper (omega arith))
-    (less_hold p a b values.x values.y values.known) (at_least_hold p a b values.x values.y values.known) f.pair.given
+    (less_hold p a b values.x values.y values.known) (at_least_hold p a b values.x values.y values.known) f.given
 
 turned : (p : Spot) (a b : Sym) (x y : ℤ) → Known p a b x y → Known p b a y x
 turned p a b x y known = record { lower = known.upper; upper = known.lower }
@@ -177,18 +189,19 @@ turned p a b x y known = record { lower = known.upper; upper = known.lower }
 -- `>`
 pub greater_found : (p : Spot) (hints : List Hint) (cases : Cases) → greater p.admits p.state hints ≡ Ok cases → Found p op.Greater cases
 greater_found p hints cases e =
-    let f = integers_cases p.state (λ two. integer_cases p.admits (integers_decided is_greater false p.state.facts two.lower two.upper)
+    let f = two_taken Int Int p.state (λ two. integer_cases p.admits (integers_decided is_greater false p.state.facts two.lower two.upper)
     (less_rows two.upper two.lower) (at_least_rows two.upper two.lower) two.rest hints) cases e in
-    let a = f.pair.lower in
-    let b = f.pair.upper in
-    let lower = second_below p.style p.state a b f.pair.rest p.made f.pair.tops in
-    let upper = one_below p.style p.state b (a ∷ f.pair.rest) p.made f.pair.tops in
-    let values = values_of_two p a b f.lower_kind f.upper_kind in
-    integers_found p op.Greater f.pair.rest is_greater false a b values.x values.y (less_rows b a) (at_least_rows b a) hints cases values.known never_less
-    (at_two p op.Greater a b f.pair.rest (IntValue values.x) (IntValue values.y) (is_greater values.x values.y) f.pair.tops values.known.lower values.known.upper refl)
+    let a = f.a in
+    let b = f.b in
+    let below = two_below p.style p.state a b f.rest p.made f.tops in
+    let lower = below.lower in
+    let upper = below.upper in
+    let values = values_of_two p a b f.lower_met f.upper_met in
+    integers_found p op.Greater f.rest is_greater false a b values.x values.y (less_rows b a) (at_least_rows b a) hints cases values.known never_less
+    (at_two p op.Greater a b f.rest (IntValue values.x) (IntValue values.y) (is_greater values.x values.y) f.tops values.known.lower values.known.upper refl)
     (exceeding p.style p.state.next a b (pos 1) lower upper (omega arith)) (exceeding p.style p.state.next b a (pos 0) upper lower (omega arith))
     (less_hold p b a values.y values.x (turned p a b values.x values.y values.known))
-    (at_least_hold p b a values.y values.x (turned p a b values.x values.y values.known)) f.pair.given
+    (at_least_hold p b a values.y values.x (turned p a b values.x values.y values.known)) f.given
 
 -- `=` of two integers
 equal_integers_found : (p : Spot) (a b : Sym) (rest : List Sym) (hints : List Hint) (cases : Cases) → reverse p.state.stack ≡ b ∷ (a ∷ rest)
@@ -196,8 +209,9 @@ equal_integers_found : (p : Spot) (a b : Sym) (rest : List Sym) (hints : List Hi
     → integer_cases p.admits (integers_decided is_equal true p.state.facts a b) (equal_rows a b) [] (without rest p.state) hints ≡ Ok cases
     → Found p op.Equal cases
 equal_integers_found p a b rest hints cases tops lower_kind upper_kind e =
-    let lower = second_below p.style p.state a b rest p.made tops in
-    let upper = one_below p.style p.state b (a ∷ rest) p.made tops in
+    let below = two_below p.style p.state a b rest p.made tops in
+    let lower = below.lower in
+    let upper = below.upper in
     let one = integer_is (p.v.value a.0) (of_kind_holds p.style p.v a.0 p.state.facts Int p.stands.satisfied.facts lower_kind) in
     let two = integer_is (p.v.value b.0) upper_kind in
     let known : Known p a b one.0 two.0 = record { lower = one.1; upper = two.1 } in
@@ -219,29 +233,8 @@ record Texts (p : Spot) (a b : Sym) (x y : List ℕ) : Type 0 where
 
 texts_sure : (p : Spot) (a b : Sym) (x y : List ℕ) (t : Bool) → Texts p a b x y → texts_decided p.state.facts a b ≡ Some t → pointwise nat_eq x y ≡ t
 texts_sure p a b x y t known e =
-    elim (nat_eq a.0 b.0) as (λ (one : Bool). nat_eq a.0 b.0 ≡ one
-    → answer_of one true (answer (pointwise nat_eq) (exact_text p.state.facts a.0) (exact_text p.state.facts b.0)) ≡ Some t → pointwise nat_eq x y ≡ t) [
-      | true ↦ λ one found.
-          let values : StrValue x ≡ StrValue y = sym known.lower ∙ ap p.v.value (same_number a.0 b.0 one) ∙ known.upper in
-          let xy : x ≡ y = cc in
-          let is : true ≡ t = cc in
-          subst (λ (n : List ℕ). pointwise nat_eq x n ≡ true) xy (same_self x) ∙ is
-      | false ↦ λ one found. elim (exact_text p.state.facts a.0) as (λ (o : Option (List ℕ)). exact_text p.state.facts a.0 ≡ o
-          → answer (pointwise nat_eq) o (exact_text p.state.facts b.0) ≡ Some t → pointwise nat_eq x y ≡ t) [
-            | None ↦ λ none some. absurd (cc)
-            | Some m ↦ λ lower some. elim (exact_text p.state.facts b.0) as (λ (o : Option (List ℕ)). exact_text p.state.facts b.0 ≡ o
-                → answer (pointwise nat_eq) (Some m) o ≡ Some t → pointwise nat_eq x y ≡ t) [
-                  | None ↦ λ none all. absurd (cc)
-                  | Some n ↦ λ upper all.
-                      let low : StrValue x ≡ StrValue m = sym known.lower ∙ exact_text_is p.style p.v a.0 p.state.facts m p.stands.satisfied.facts lower in
-                      let high : StrValue y ≡ StrValue n = sym known.upper ∙ exact_text_is p.style p.v b.0 p.state.facts n p.stands.satisfied.facts upper in
-                      let xm : x ≡ m = cc in
-                      let yn : y ≡ n = cc in
-                      let is : pointwise nat_eq m n ≡ t = cc in
-                      ap (λ (k : List ℕ). pointwise nat_eq k y) xm ∙ ap (λ (k : List ℕ). pointwise nat_eq m k) yn ∙ is
-                ] refl some
-          ] refl found
-    ] refl e
+    sure p (λ n. StrValue n) (λ s. exact_text p.state.facts s) (pointwise nat_eq) true a b x y t one_text
+    (λ s n is. exact_text_is p.style p.v s p.state.facts n p.stands.satisfied.facts is) same_self known.lower known.upper e
 
 -- a text that passes to another symbol
 passed_holds : (p : Spot) (a b : Sym) → p.v.value a.0 ≡ p.v.value b.0 → AllByRecursion (FactHolds p.style p.v) (passed (exact_text p.state.facts a.0) b)
@@ -264,8 +257,9 @@ equal_texts_found : (p : Spot) (a b : Sym) (rest : List Sym) (hints : List Hint)
     → is_of_kind p.state Str a ≡ true → has_kind Str (p.v.value b.0) ≡ true
     → text_cases (texts_decided p.state.facts a b) (passed_both p.state.facts a b) (without rest p.state) hints ≡ Ok cases → Found p op.Equal cases
 equal_texts_found p a b rest hints cases tops lower_kind upper_kind e =
-    let lower = second_below p.style p.state a b rest p.made tops in
-    let upper = one_below p.style p.state b (a ∷ rest) p.made tops in
+    let below = two_below p.style p.state a b rest p.made tops in
+    let lower = below.lower in
+    let upper = below.upper in
     let one = string_is (p.v.value a.0) (of_kind_holds p.style p.v a.0 p.state.facts Str p.stands.satisfied.facts lower_kind) in
     let two = string_is (p.v.value b.0) upper_kind in
     let known : Texts p a b one.0 two.0 = record { lower = one.1; upper = two.1 } in
@@ -280,7 +274,7 @@ equal_texts_found p a b rest hints cases tops lower_kind upper_kind e =
           (nothing_fits p.style p.state.next)
           (λ same.
           let values : p.v.value a.0 ≡ p.v.value b.0 = one.1 ∙ ap (λ (bytes : List ℕ). StrValue bytes) (same_bytes one.0 two.0 same) ∙ sym two.1 in
-          facts_joined p.style p.v (passed (exact_text p.state.facts a.0) b) (passed (exact_text p.state.facts b.0) a)
+          joined (FactHolds p.style p.v) (passed (exact_text p.state.facts a.0) b) (passed (exact_text p.state.facts b.0) a)
           (passed_holds p a b values) (passed_holds p b a (sym values)))
           (λ unequal. tt) found
     ] refl e
@@ -301,14 +295,11 @@ equal_of_kind p a b rest hints cases Str tops upper e =
       | true ↦ λ lower found. equal_texts_found p a b rest hints cases tops lower upper found
       | false ↦ λ lower found. absurd (cc)
     ] refl e
-equal_of_kind p a b rest hints cases Missing tops upper e = absurd (cc)
-equal_of_kind p a b rest hints cases Optional tops upper e = absurd (cc)
-equal_of_kind p a b rest hints cases Func tops upper e = absurd (cc)
-equal_of_kind p a b rest hints cases Any tops upper e = absurd (cc)
+equal_of_kind p a b rest hints cases _ tops upper e = absurd (cc)
 
 -- `=`
 pub equal_found : (p : Spot) (hints : List Hint) (cases : Cases) → equal p.admits p.state hints ≡ Ok cases → Found p op.Equal cases
 equal_found p hints cases e =
-    let f = pair_cases p.state (λ two. equal_by p.admits p.state (known_kind p.state.facts two.upper.0) two hints) cases e in
-    equal_of_kind p f.lower f.upper f.rest hints cases (known_kind p.state.facts f.upper.0) f.tops
-    (known_kind_holds p.style p.v f.upper.0 p.state.facts p.stands.satisfied.facts) f.given
+    let f = two_taken Any Any p.state (λ two. equal_by p.admits p.state (known_kind p.state.facts two.upper.0) two hints) cases e in
+    equal_of_kind p f.a f.b f.rest hints cases (known_kind p.state.facts f.b.0) f.tops
+    (known_kind_holds p.style p.v f.b.0 p.state.facts p.stands.satisfied.facts) f.given

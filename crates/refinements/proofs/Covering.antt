@@ -1,5 +1,5 @@
 -- Which of the cases covers what the machine does.
-use Rattle.std.proofs.Common.{◌≡◌, ℕ, ◌<◌, Bool, true, false, List, [], ◌∷◌, ◌++◌, Ok, Err, refl, sym, ap, subst, ◌∙◌, inl, inr, arith}
+use Rattle.std.proofs.Common.{◌≡◌, ℕ, ◌<◌, ◌≤◌, ◌⊎◌, Bool, true, false, cond, List, [], ◌∷◌, ◌++◌, drop, length, Ok, Err, refl, sym, ap, subst, ◌∙◌, inl, inr, arith}
 use Rattle.std.specs.List.{All, AllByRecursion}
 use Rattle.std.proofs.lemmas.Int.{ints}
 use Rattle.bv_base.specs.declared.place.Place.{Place}
@@ -17,14 +17,14 @@ use Rattle.bst_meaning.specs.Effect.{left, pushed}
 use Rattle.bst_meaning.specs.Machine.{context_of}
 use Rattle.bst_meaning.specs.Operands.{truth}
 use Rattle.sym_state.specs.declared.hint.Hint.{Hint}
-use Rattle.sym_state.specs.declared.hint.Hint.TheVariants.{Apply, Walk, Loop, Case, Plain, Keep, Drop, Step}
+use Rattle.sym_state.specs.declared.hint.Hint.TheVariants.{Keep, Drop}
 use Rattle.sym_state.specs.declared.proof.Proof.{Proof}
 use Rattle.sym_state.specs.declared.state.State.{State}
 use Rattle.sym_state.specs.declared.symbol.Fact.{Fact}
 use Rattle.sym_state.specs.declared.symbol.Fact.TheVariants.{Int as IntFact}
 use Rattle.sym_state.specs.declared.symbol.Kinds.TheVariants.{Int}
 use Rattle.sym_state.specs.declared.symbol.Sym.{Sym}
-use Rattle.sym_state.specs.Cases.{Cases, Split, absurdity, before, both, decided, followed_by, number_of, weighed, weighed_both, with_case, with_truth}
+use Rattle.sym_state.specs.Cases.{Cases, Split, absurdity, both, decided, given, number_of, weighed, weighed_both, with_case, with_truth}
 use Rattle.sym_state.specs.Covers.{Covers}
 use Rattle.sym_state.specs.Facts.{FactHolds, has_kind}
 use Rattle.sym_state.specs.References.{shows}
@@ -32,12 +32,15 @@ use Rattle.sym_state.specs.Results.{next_of}
 use Rattle.sym_state.specs.Stands.{Satisfies, Stands}
 use Rattle.sym_state.specs.Symbols.{Valuation, IsValue, numbers}
 use Rattle.sym_state.specs.WellMade.{WellMade}
-use Rattle.sym_state.proofs.Frames.{next_agrees, next_is, with_next}
-use Rattle.sym_state.proofs.Pushing.{pushed as stands_pushed, value_list, with_stack, without}
+use Rattle.sym_state.proofs.Frames.{next_agrees, next_is, with_next, value_list}
+use Rattle.bv_base.specs.Answers.{then_do}
+use Rattle.sym_state.proofs.Ensured.{IsShown}
+use Rattle.sym_state.proofs.Pushing.{pushed as stands_pushed, with_stack, without}
 use Rattle.sym_state.proofs.Resulting.{Fits}
 use Rattle.sym_state.proofs.Shown.{shown_holds}
 use Rattle.refinements.specs.Covered.{IsAmong}
 use Rattle.refinements.proofs.Fitting.{case_made, case_stands}
+use Rattle.sym_state.specs.declared.demand.EffectFault.TheVariants.{NotEntailed}
 
 -- a row that never holds isn't shown in a state that is satisfied
 not_shown : {X : Type 0} (style : Style) (admits : Cond) (v : Valuation) (state : State) (proof : Proof) → Satisfies style admits v state
@@ -46,40 +49,54 @@ not_shown style admits v state proof h e =
     let holds : Holds (numbers v) absurdity = shown_holds style admits v state proof absurdity h e in
     absurd (omega (arith, ints))
 
+-- a case that is weighed takes one hint: it is kept, or shown not to come about
+pub record Weighed (admits : Cond) (state : State) (hints : List Hint) (cases : Cases) : Type 0 where
+  pub there : 1 ≤ length hints
+  pub left : cases.hints ≡ drop 1 hints
+  pub states : (cases.states ≡ state ∷ []) ⊎ ((cases.states ≡ []) × IsShown admits state absurdity)
+
+dropped : (admits : Cond) (state : State) (proof : Proof) (hints : List Hint) (cases : Cases) (t : Bool) → shows admits state proof absurdity ≡ t
+    → cond t (given [] hints) (Err (NotEntailed 0)) ≡ Ok cases → Weighed admits state (Drop proof ∷ hints) cases
+dropped admits state proof hints cases true is e =
+    let same : record { states = []; hints = hints } ≡ cases = cc in
+    record { there = omega arith; left = sym (ap (λ (c : Cases). c.hints) same); states = inr (sym (ap (λ (c : Cases). c.states) same), (proof, is)) }
+dropped admits state proof hints cases false is e = absurd (cc)
+
+pub weighed_is : (admits : Cond) (state : State) (hints : List Hint) (cases : Cases) → weighed admits state hints ≡ Ok cases → Weighed admits state hints cases
+weighed_is admits state (Keep ∷ hints) cases e =
+    let same : record { states = state ∷ []; hints = hints } ≡ cases = cc in
+    record { there = omega arith; left = sym (ap (λ (c : Cases). c.hints) same); states = inl (sym (ap (λ (c : Cases). c.states) same)) }
+weighed_is admits state (Drop proof ∷ hints) cases e = dropped admits state proof hints cases (shows admits state proof absurdity) refl e
+weighed_is admits state _ cases e = absurd (cc)
+
 -- a case that is satisfied is kept, if it has a hint that is taken
 kept : (style : Style) (admits : Cond) (v : Valuation) (state : State) (hints : List Hint) (cases : Cases) → Satisfies style admits v state
     → weighed admits state hints ≡ Ok cases → cases.states ≡ state ∷ []
-kept style admits v state [] cases h e = absurd (cc)
-kept style admits v state (Keep ∷ hints) cases h e =
-    let same : record { states = state ∷ []; hints = hints } ≡ cases = cc in ap (λ (c : Cases). c.states) (sym same)
-kept style admits v state (Drop proof ∷ hints) cases h e =
-    elim (shows admits state proof absurdity) as (λ (t : Bool). shows admits state proof absurdity ≡ t → cases.states ≡ state ∷ []) [
-      | true ↦ λ is. not_shown style admits v state proof h is
-      | false ↦ λ is. absurd (cc)
-    ] refl
-kept style admits v state (Apply k ∷ hints) cases h e = absurd (cc)
-kept style admits v state (Walk ∷ hints) cases h e = absurd (cc)
-kept style admits v state (Loop k ∷ hints) cases h e = absurd (cc)
-kept style admits v state (Case k ∷ hints) cases h e = absurd (cc)
-kept style admits v state (Plain ∷ hints) cases h e = absurd (cc)
-kept style admits v state (Step proof ∷ hints) cases h e = absurd (cc)
+kept style admits v state hints cases h e =
+    let w = weighed_is admits state hints cases e in
+    elim w.states [
+      | inl is ↦ is
+      | inr none ↦ not_shown style admits v state none.1.0 h none.1.1
+    ]
 
 -- what comes of two cases
-pub record Two (admits : Cond) (first second : State) (hints : List Hint) (states : List State) : Type 0 where
+pub record Two (admits : Cond) (first second : State) (hints : List Hint) (cases : Cases) : Type 0 where
   pub one : Cases
   pub other : Cases
   pub first_weighed : weighed admits first hints ≡ Ok one
   pub second_weighed : weighed admits second one.hints ≡ Ok other
-  pub joined : states ≡ one.states ++ other.states
+  pub joined : cases.states ≡ one.states ++ other.states
+  pub left : cases.hints ≡ other.hints
 
 pub both_weighed : (admits : Cond) (first second : State) (hints : List Hint) (cases : Cases) → weighed_both admits first second hints ≡ Ok cases
-    → Two admits first second hints cases.states
+    → Two admits first second hints cases
 both_weighed admits first second hints cases e =
-    elim (weighed admits first hints) as (λ (o : Split). weighed admits first hints ≡ o → followed_by o (weighed admits second) ≡ Ok cases
-    → Two admits first second hints cases.states) [
+    let joined : Cases → Cases → Split = λ one other. given (one.states ++ other.states) other.hints in
+    elim (weighed admits first hints) as (λ (o : Split). weighed admits first hints ≡ o
+    → then_do o (λ one. then_do (weighed admits second one.hints) (joined one)) ≡ Ok cases → Two admits first second hints cases) [
       | Err fault ↦ λ is found. absurd (cc)
-      | Ok one ↦ λ is found. elim (weighed admits second one.hints) as (λ (o : Split). weighed admits second one.hints ≡ o → before one.states o ≡ Ok cases
-          → Two admits first second hints cases.states) [
+      | Ok one ↦ λ is found. elim (weighed admits second one.hints) as (λ (o : Split). weighed admits second one.hints ≡ o
+          → then_do o (joined one) ≡ Ok cases → Two admits first second hints cases) [
             | Err fault ↦ λ other_is wrong. absurd (cc)
             | Ok other ↦ λ other_is all.
                 let same : record { states = one.states ++ other.states; hints = other.hints } ≡ cases = cc in record {
@@ -88,6 +105,7 @@ both_weighed admits first second hints cases e =
                   first_weighed = is;
                   second_weighed = other_is;
                   joined = ap (λ (c : Cases). c.states) (sym same);
+                  left = ap (λ (c : Cases). c.hints) (sym same);
                 }
           ] refl found
     ] refl e

@@ -20,7 +20,7 @@ use Rattle.sym_state.specs.Results.{next_of}
 use Rattle.sym_state.specs.Stands.{Stands}
 use Rattle.sym_state.specs.Symbols.{Valuation, numbers}
 use Rattle.sym_state.specs.WellMade.{WellMade}
-use Rattle.sym_state.proofs.Frames.{facts_joined, rows_joined}
+use Rattle.sym_state.proofs.Frames.{joined}
 use Rattle.sym_state.proofs.Pushing.{without}
 use Rattle.sym_state.proofs.Resulting.{Fits, more_made, one_fits, rest_made, result_made}
 
@@ -37,8 +37,8 @@ case_stands style admits list v state c below facts rows h fine shown = record {
     values = h.satisfied.values;
     count = h.satisfied.count;
     position = h.satisfied.position;
-    facts = facts_joined style v state.facts facts h.satisfied.facts fine;
-    rows = rows_joined v state.rows rows h.satisfied.rows shown;
+    facts = joined (FactHolds style v) state.facts facts h.satisfied.facts fine;
+    rows = joined (Holds (numbers v)) state.rows rows h.satisfied.rows shown;
   };
   has_list = h.has_list;
   visiting = h.visiting;

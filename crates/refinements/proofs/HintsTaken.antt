@@ -1,5 +1,5 @@
 -- A test that has cases takes as many hints as it needs.
-use Rattle.std.proofs.Common.{◌≡◌, ℕ, ◌+◌, ◌≤◌, Bool, true, false, cond, ◌&&◌, List, [], ◌∷◌, ◌++◌, Option, None, Some, Ok, Err, length, length-drop, drop, drop-drop, reverse, refl, sym, ap, subst, ◌∙◌, arith}
+use Rattle.std.proofs.Common.{◌≡◌, ℕ, ◌+◌, ◌≤◌, Bool, true, false, cond, ◌&&◌, List, [], ◌∷◌, ◌++◌, Option, None, Some, Result, Ok, Err, length, length-drop, drop, drop-drop, reverse, refl, sym, ap, subst, ◌∙◌, arith}
 use Rattle.std.specs.Prelude.{ℤ}
 use Rattle.lin_facts.specs.declared.row.Row.{Row}
 use Rattle.bst_meaning.specs.declared.condition.Cond.{Cond}
@@ -13,12 +13,15 @@ use Rattle.sym_state.specs.declared.symbol.Kinds.TheVariants.{Any, Func, Int, Mi
 use Rattle.sym_state.specs.declared.symbol.Sym.{Sym}
 use Rattle.sym_state.specs.declared.test.Test.{Test}
 use Rattle.sym_state.specs.declared.test.Test.TheVariants.{Above, Empty, Equal, Greater, Less, Missing as IsMissing}
-use Rattle.sym_state.specs.Cases.{Cases, One, Split, above_cases, absurdity, at_least_rows, before, empty_cases, equal_by, equal_decided, equal_rows, followed_by, given, greater_decided, hints_of, hints_on, integer_cases, less_decided, less_rows, missing_cases, needs_of, passed_both, refused, split_of, text_cases, texts_decided, top_integers, weighed, weighed_both}
+use Rattle.sym_state.specs.Cases.{Cases, Split, above_cases, at_least_rows, empty_cases, equal_by, equal_decided, equal_rows, given, greater_decided, hints_of, hints_on, integer_cases, less_decided, less_rows, missing_cases, needs_of, passed_both, split_of, text_cases, texts_decided, weighed_both}
 use Rattle.sym_state.specs.Decided.{emptiness_said, exact_integer, first_said, includes, known_kind}
-use Rattle.sym_state.specs.Demands.{is_of_kind}
+use Rattle.sym_state.specs.declared.demand.EffectFault.{EffectFault}
+use Rattle.sym_state.specs.Demands.{One, Two, demand, fails, is_of_kind, two_by, two_of}
+use Rattle.sym_state.proofs.Ensured.{one_taken, two_taken}
+use Rattle.refinements.proofs.Covering.{both_weighed, weighed_is}
 use Rattle.sym_state.specs.References.{shows}
 use Rattle.sym_state.specs.declared.demand.EffectFault.TheVariants.{NotEntailed}
-use Rattle.refinements.proofs.Taking.{field_cases, integers_cases, pair_cases, taken_one, taken_two}
+use Rattle.refinements.proofs.Taking.{taken_one, taken_two}
 
 -- so many hints are taken, and the others are left
 pub record Took (n : ℕ) (hints : List Hint) (cases : Cases) : Type 0 where
@@ -30,43 +33,15 @@ none_took states hints cases e =
     let same : record { states = states; hints = hints } ≡ cases = cc in
     record { there = omega arith; left = sym (ap (λ (c : Cases). c.hints) same) }
 
-one_took : (admits : Cond) (state : State) (hints : List Hint) (cases : Cases) → weighed admits state hints ≡ Ok cases → Took 1 hints cases
-one_took admits state [] cases e = absurd (cc)
-one_took admits state (Keep ∷ hints) cases e =
-    let none = none_took (state ∷ []) hints cases e in record { there = omega arith; left = none.left }
-one_took admits state (Drop proof ∷ hints) cases e = by (shows admits state proof absurdity) e
-  where
-    by : (t : Bool) → cond t (given [] hints) (Err (NotEntailed 0)) ≡ Ok cases → Took 1 (Drop proof ∷ hints) cases
-    by true e = let none = none_took [] hints cases e in record { there = omega arith; left = none.left }
-    by false e = absurd (cc)
-one_took admits state (Apply n ∷ hints) cases e = absurd (cc)
-one_took admits state (Walk ∷ hints) cases e = absurd (cc)
-one_took admits state (Loop n ∷ hints) cases e = absurd (cc)
-one_took admits state (Case n ∷ hints) cases e = absurd (cc)
-one_took admits state (Plain ∷ hints) cases e = absurd (cc)
-one_took admits state (Step proof ∷ hints) cases e = absurd (cc)
-
 both_took : (admits : Cond) (first second : State) (hints : List Hint) (cases : Cases) → weighed_both admits first second hints ≡ Ok cases
     → Took 2 hints cases
-both_took admits first second hints cases = by (weighed admits first hints) refl
-  where
-    after : (kept : Cases) → weighed admits first hints ≡ Ok kept → (r : Split) → weighed admits second kept.hints ≡ r
-        → before kept.states r ≡ Ok cases → Took 2 hints cases
-    after kept one (Err fault) other e = absurd (cc)
-    after kept one (Ok more) other e =
-        let a = one_took admits first hints kept one in
-        let b = one_took admits second kept.hints more other in
-        let long = ap length a.left ∙ length-drop 1 hints in
-        let some = a.there in
-        let same : record { states = kept.states ++ more.states; hints = more.hints } ≡ cases = cc in
-        record {
-          there = omega (arith, b.there);
-          left = sym (ap (λ (c : Cases). c.hints) same) ∙ b.left ∙ ap (drop 1) a.left ∙ drop-drop 1 1 hints;
-        }
-
-    by : (r : Split) → weighed admits first hints ≡ r → followed_by r (weighed admits second) ≡ Ok cases → Took 2 hints cases
-    by (Err fault) is e = absurd (cc)
-    by (Ok kept) is e = after kept is (weighed admits second kept.hints) refl e
+both_took admits first second hints cases e =
+    let two = both_weighed admits first second hints cases e in
+    let a = weighed_is admits first hints two.one two.first_weighed in
+    let b = weighed_is admits second two.one.hints two.other two.second_weighed in
+    let long = ap length a.left ∙ length-drop 1 hints in
+    let some = a.there in
+    record { there = omega (arith, b.there); left = two.left ∙ b.left ∙ ap (drop 1) a.left ∙ drop-drop 1 1 hints }
 
 integer_took : (admits : Cond) (found : Option Bool) (holds refuted : List Row) (rest : State) (hints : List Hint) (cases : Cases)
     → integer_cases admits found holds refuted rest hints ≡ Ok cases → Took (hints_of found) hints cases
@@ -80,18 +55,18 @@ text_took None facts rest hints cases e = none_took _ hints cases e
 
 -- the hints of a test on two symbols that are on top
 needed : (state : State) (rule : Sym → Sym → Option Bool) (a b : Sym) (rest : List Sym) → reverse state.stack ≡ b ∷ (a ∷ rest)
-    → is_of_kind state Int b ≡ true → is_of_kind state Int a ≡ true
-    → hints_on rule (top_integers state (reverse state.stack)) ≡ hints_of (rule a b)
+    → is_of_kind state Int b ≡ true → is_of_kind state Int a ≡ true → hints_on rule (two_of Int Int state) ≡ hints_of (rule a b)
 needed state rule a b rest tops upper lower =
-    ap (λ (l : List Sym). hints_on rule (top_integers state l)) tops
-    ∙ ap (λ (t : Bool). hints_on rule (cond (t && is_of_kind state Int a) (Some (a, b)) None)) upper
-    ∙ ap (λ (t : Bool). hints_on rule (cond t (Some (a, b)) None)) lower
+    let last : Result Two EffectFault = Ok (taken_two a b rest state) in
+    ap (λ (l : List Sym). hints_on rule (two_by Int Int l state)) tops
+    ∙ ap (λ (t : Bool). hints_on rule (demand t WrongKind 1 (demand (is_of_kind state Int a) WrongKind 2 last))) upper
+    ∙ ap (λ (t : Bool). hints_on rule (demand t WrongKind 2 last)) lower
 
 not_needed : (state : State) (rule : Sym → Sym → Option Bool) (a b : Sym) (rest : List Sym) → reverse state.stack ≡ b ∷ (a ∷ rest)
-    → is_of_kind state Int b ≡ false → hints_on rule (top_integers state (reverse state.stack)) ≡ 0
+    → is_of_kind state Int b ≡ false → hints_on rule (two_of Int Int state) ≡ 0
 not_needed state rule a b rest tops upper =
-    ap (λ (l : List Sym). hints_on rule (top_integers state l)) tops
-    ∙ ap (λ (t : Bool). hints_on rule (cond (t && is_of_kind state Int a) (Some (a, b)) None)) upper
+    ap (λ (l : List Sym). hints_on rule (two_by Int Int l state)) tops
+    ∙ ap (λ (t : Bool). hints_on rule (demand t WrongKind 1 (demand (is_of_kind state Int a) WrongKind 2 (Ok (taken_two a b rest state))))) upper
 
 equal_took : (admits : Cond) (state : State) (kind : Kinds) (a b : Sym) (rest : List Sym) (hints : List Hint) (cases : Cases)
     → reverse state.stack ≡ b ∷ (a ∷ rest) → known_kind state.facts b.0 ≡ kind
@@ -99,7 +74,7 @@ equal_took : (admits : Cond) (state : State) (kind : Kinds) (a b : Sym) (rest : 
 equal_took admits state Int a b rest hints cases tops is e = by (is_of_kind state Int a) refl e
   where
     by : (t : Bool) → is_of_kind state Int a ≡ t
-        → cond t (integer_cases admits (equal_decided state.facts a b) (equal_rows a b) [] (taken_two a b rest state).rest hints) (refused WrongKind 2) ≡ Ok cases
+        → cond t (integer_cases admits (equal_decided state.facts a b) (equal_rows a b) [] (taken_two a b rest state).rest hints) (Err (fails WrongKind 2)) ≡ Ok cases
         → Took (needs_of state Equal) hints cases
     by true lower e =
         subst (λ (n : ℕ). Took n hints cases) (sym (needed state (equal_decided state.facts) a b rest tops (ap (includes Int) is) lower))
@@ -108,16 +83,13 @@ equal_took admits state Int a b rest hints cases tops is e = by (is_of_kind stat
 equal_took admits state Str a b rest hints cases tops is e = by (is_of_kind state Str a) e
   where
     by : (t : Bool)
-        → cond t (text_cases (texts_decided state.facts a b) (passed_both state.facts a b) (taken_two a b rest state).rest hints) (refused WrongKind 2) ≡ Ok cases
+        → cond t (text_cases (texts_decided state.facts a b) (passed_both state.facts a b) (taken_two a b rest state).rest hints) (Err (fails WrongKind 2)) ≡ Ok cases
         → Took (needs_of state Equal) hints cases
     by true e =
         subst (λ (n : ℕ). Took n hints cases) (sym (not_needed state (equal_decided state.facts) a b rest tops (ap (includes Int) is)))
         (text_took (texts_decided state.facts a b) (passed_both state.facts a b) (taken_two a b rest state).rest hints cases e)
     by false e = absurd (cc)
-equal_took admits state Missing a b rest hints cases tops is e = absurd (cc)
-equal_took admits state Optional a b rest hints cases tops is e = absurd (cc)
-equal_took admits state Func a b rest hints cases tops is e = absurd (cc)
-equal_took admits state Any a b rest hints cases tops is e = absurd (cc)
+equal_took admits state _ a b rest hints cases tops is e = absurd (cc)
 
 empty_took : (found : Option Bool) (one : One) (hints : List Hint) (cases : Cases) → empty_cases found one hints ≡ Ok cases → Took 0 hints cases
 empty_took (Some answer) one hints cases e = none_took _ hints cases e
@@ -140,24 +112,24 @@ above_took admits state s None hints cases e = both_took admits _ _ hints cases 
 pub test_took : (admits : Cond) (state : State) (test : Test) (hints : List Hint) (cases : Cases)
     → split_of admits state test hints ≡ Ok cases → Took (needs_of state test) hints cases
 test_took admits state Empty hints cases e =
-    let f = field_cases state (λ one. empty_cases (first_said emptiness_said one.operand.0 state.facts) one hints) cases e in
-    empty_took (first_said emptiness_said f.operand.0 state.facts) (taken_one f.operand f.rest state) hints cases f.given
+    let f = one_taken Optional state (λ one. empty_cases (first_said emptiness_said one.operand.0 state.facts) one hints) cases e in
+    empty_took (first_said emptiness_said f.a.0 state.facts) (taken_one f.a f.rest state) hints cases f.given
 test_took admits state IsMissing hints cases e =
-    let f = field_cases state (λ one. missing_cases (known_kind state.facts one.operand.0) one hints) cases e in
-    missing_took (known_kind state.facts f.operand.0) (taken_one f.operand f.rest state) hints cases f.given
+    let f = one_taken Optional state (λ one. missing_cases (known_kind state.facts one.operand.0) one hints) cases e in
+    missing_took (known_kind state.facts f.a.0) (taken_one f.a f.rest state) hints cases f.given
 test_took admits state Equal hints cases e =
-    let f = pair_cases state (λ two. equal_by admits state (known_kind state.facts two.upper.0) two hints) cases e in
-    equal_took admits state (known_kind state.facts f.upper.0) f.lower f.upper f.rest hints cases f.tops refl f.given
+    let f = two_taken Any Any state (λ two. equal_by admits state (known_kind state.facts two.upper.0) two hints) cases e in
+    equal_took admits state (known_kind state.facts f.b.0) f.a f.b f.rest hints cases f.tops refl f.given
 test_took admits state Less hints cases e =
-    let f = integers_cases state (λ two. integer_cases admits (less_decided state.facts two.lower two.upper) (less_rows two.lower two.upper) (at_least_rows two.lower two.upper) two.rest hints) cases e in
-    let a = f.pair.lower in
-    let b = f.pair.upper in
-    subst (λ (n : ℕ). Took n hints cases) (sym (needed state (less_decided state.facts) a b f.pair.rest f.pair.tops f.upper_kind f.lower_kind))
-    (integer_took admits (less_decided state.facts a b) (less_rows a b) (at_least_rows a b) (taken_two a b f.pair.rest state).rest hints cases f.pair.given)
+    let f = two_taken Int Int state (λ two. integer_cases admits (less_decided state.facts two.lower two.upper) (less_rows two.lower two.upper) (at_least_rows two.lower two.upper) two.rest hints) cases e in
+    let a = f.a in
+    let b = f.b in
+    subst (λ (n : ℕ). Took n hints cases) (sym (needed state (less_decided state.facts) a b f.rest f.tops f.upper_met f.lower_met))
+    (integer_took admits (less_decided state.facts a b) (less_rows a b) (at_least_rows a b) (taken_two a b f.rest state).rest hints cases f.given)
 test_took admits state Greater hints cases e =
-    let f = integers_cases state (λ two. integer_cases admits (greater_decided state.facts two.lower two.upper) (less_rows two.upper two.lower) (at_least_rows two.upper two.lower) two.rest hints) cases e in
-    let a = f.pair.lower in
-    let b = f.pair.upper in
-    subst (λ (n : ℕ). Took n hints cases) (sym (needed state (greater_decided state.facts) a b f.pair.rest f.pair.tops f.upper_kind f.lower_kind))
-    (integer_took admits (greater_decided state.facts a b) (less_rows b a) (at_least_rows b a) (taken_two a b f.pair.rest state).rest hints cases f.pair.given)
+    let f = two_taken Int Int state (λ two. integer_cases admits (greater_decided state.facts two.lower two.upper) (less_rows two.upper two.lower) (at_least_rows two.upper two.lower) two.rest hints) cases e in
+    let a = f.a in
+    let b = f.b in
+    subst (λ (n : ℕ). Took n hints cases) (sym (needed state (greater_decided state.facts) a b f.rest f.tops f.upper_met f.lower_met))
+    (integer_took admits (greater_decided state.facts a b) (less_rows b a) (at_least_rows b a) (taken_two a b f.rest state).rest hints cases f.given)
 test_took admits state (Above s) hints cases e = above_took admits state s (exact_integer state.facts s.0) hints cases e

@@ -1,5 +1,5 @@
 -- Each state that the cases of a test give is well made.
-use Rattle.std.proofs.Common.{◌≡◌, ◌<◌, Bool, true, false, cond, List, [], ◌∷◌, ◌++◌, reverse, Option, None, Some, Ok, Err, subst, arith}
+use Rattle.std.proofs.Common.{◌≡◌, ◌<◌, Bool, true, false, cond, List, [], ◌∷◌, ◌++◌, reverse, Option, None, Some, Ok, Err, subst, arith, inl, inr}
 use Rattle.std.specs.Prelude.{ℤ, pos}
 use Rattle.std.specs.List.{All}
 use Rattle.std.proofs.lemmas.List.Elements.{All-append, All-cons, All-nil, All-same, All-tail}
@@ -24,18 +24,17 @@ use Rattle.sym_state.specs.Decided.{emptiness_said, exact_integer, exact_text, f
 use Rattle.sym_state.specs.Demands.{fails, is_of_kind}
 use Rattle.sym_state.specs.References.{at_least, at_most, shows}
 use Rattle.sym_state.specs.WellMade.{WellMade}
-use Rattle.sym_state.proofs.Pushing.{tops_below, without}
+use Rattle.sym_state.proofs.Below.{AreBelow, one_below, two_below}
+use Rattle.sym_state.proofs.Ensured.{one_taken, two_taken}
+use Rattle.sym_state.proofs.Pushing.{without}
 use Rattle.sym_state.proofs.Resulting.{Fits, at_least_fits, at_most_fits, both_fit, nothing_fits, one_fits, row_fits}
 use Rattle.refinements.proofs.Comparing.{equal_fit, exceeding, passed_fits}
-use Rattle.refinements.proofs.Covering.{both_weighed}
+use Rattle.refinements.proofs.Covering.{both_weighed, weighed_is}
 use Rattle.refinements.proofs.Fitting.{case_made, truth_made}
-use Rattle.refinements.proofs.Taking.{field_cases, integers_cases, one_below, pair_cases, second_below, taken_one, taken_two}
+use Rattle.refinements.proofs.Taking.{taken_one, taken_two}
 
 abbrev AreMade : Style → Cases → Type 0
 AreMade style cases = All (WellMade style) cases.states
-
-abbrev AreBelow : State → List Sym → Type 0
-AreBelow state rest = All (λ s. s.0 < state.next) rest
 
 truth_case_made : (style : Style) (state : State) (rest : List Sym) (t : Bool) (facts : List Fact) (rows : List Row) → WellMade style state
     → AreBelow state rest → Fits style state.next facts rows → WellMade style (with_truth t (with_case facts rows (without rest state)))
@@ -61,22 +60,12 @@ both_made style state rest first second hints cases made old fits others e =
 
 weighed_made : (style : Style) (admits : Cond) (state : State) (hints : List Hint) (cases : Cases) → WellMade style state
     → weighed admits state hints ≡ Ok cases → AreMade style cases
-weighed_made style admits state [] cases made e = absurd (cc)
-weighed_made style admits state (Keep ∷ hints) cases made e =
-    let same : record { states = state ∷ []; hints = hints } ≡ cases = cc in
-    subst (λ (c : Cases). AreMade style c) same (All-cons (WellMade style) state [] made (All-nil (WellMade style)))
-weighed_made style admits state (Drop proof ∷ hints) cases made e =
-    elim (shows admits state proof absurdity) as (λ (t : Bool). cond t (Ok (record { states = []; hints = hints })) (Err (NotEntailed 0)) ≡ Ok cases → AreMade style cases) [
-      | true ↦ λ found. let same : record { states = []; hints = hints } ≡ cases = cc in
-          subst (λ (c : Cases). AreMade style c) same (All-nil (WellMade style))
-      | false ↦ λ found. absurd (cc)
-    ] e
-weighed_made style admits state (Apply k ∷ hints) cases made e = absurd (cc)
-weighed_made style admits state (Walk ∷ hints) cases made e = absurd (cc)
-weighed_made style admits state (Loop k ∷ hints) cases made e = absurd (cc)
-weighed_made style admits state (Case k ∷ hints) cases made e = absurd (cc)
-weighed_made style admits state (Plain ∷ hints) cases made e = absurd (cc)
-weighed_made style admits state (Step proof ∷ hints) cases made e = absurd (cc)
+weighed_made style admits state hints cases made e =
+    let w = weighed_is admits state hints cases e in
+    elim w.states [
+      | inl is ↦ All-same (WellMade style) cases.states (state ∷ []) is (All-cons (WellMade style) state [] made (All-nil (WellMade style)))
+      | inr none ↦ All-same (WellMade style) cases.states [] none.0 (All-nil (WellMade style))
+    ]
 
 weighed_both_made : (style : Style) (admits : Cond) (first second : State) (hints : List Hint) (cases : Cases) → WellMade style first → WellMade style second
     → weighed_both admits first second hints ≡ Ok cases → AreMade style cases
@@ -94,33 +83,26 @@ integers_made style admits state rest None first second hints cases made old fit
     weighed_both_made style admits (with_truth true (with_case [] first (without rest state))) (with_truth false (with_case [] second (without rest state))) hints cases
     (truth_case_made style state rest true [] first made old fits) (truth_case_made style state rest false [] second made old others) e
 
--- what is below two operands, or one
-one_rest : (style : Style) (state : State) (a : Sym) (rest : List Sym) → WellMade style state → reverse state.stack ≡ a ∷ rest → AreBelow state rest
-one_rest style state a rest made tops = All-tail (λ s. s.0 < state.next) a rest (tops_below style state (a ∷ rest) made tops)
-
-two_rest : (style : Style) (state : State) (a b : Sym) (rest : List Sym) → WellMade style state → reverse state.stack ≡ b ∷ (a ∷ rest) → AreBelow state rest
-two_rest style state a b rest made tops = All-tail (λ s. s.0 < state.next) a rest (one_rest style state b (a ∷ rest) made tops)
-
 empty_kept : (style : Style) (state : State) (a : Sym) (rest : List Sym) (o : Option Bool) (hints : List Hint) (cases : Cases) → WellMade style state
     → reverse state.stack ≡ a ∷ rest → empty_cases o (taken_one a rest state) hints ≡ Ok cases → AreMade style cases
-empty_kept style state a rest (Some t) hints cases made tops e = decided_made style state rest t hints cases made (one_rest style state a rest made tops) e
+empty_kept style state a rest (Some t) hints cases made tops e = decided_made style state rest t hints cases made (one_below style state a rest made tops).others e
 empty_kept style state a rest None hints cases made tops e =
-    let less = one_below style state a rest made tops in
-    both_made style state rest (Blank a ∷ []) (Is a Str ∷ (Nonblank a ∷ [])) hints cases made (one_rest style state a rest made tops)
+    let less = (one_below style state a rest made tops).old in
+    both_made style state rest (Blank a ∷ []) (Is a Str ∷ (Nonblank a ∷ [])) hints cases made (one_below style state a rest made tops).others
     (one_fits style state.next (Blank a) less tt tt tt tt)
     (both_fit style state.next (Is a Str ∷ []) (Nonblank a ∷ []) [] [] (one_fits style state.next (Is a Str) less tt tt tt tt) (one_fits style state.next (Nonblank a) less tt tt tt tt)) e
 
 missing_both : (style : Style) (state : State) (a : Sym) (rest : List Sym) (hints : List Hint) (cases : Cases) → WellMade style state
     → reverse state.stack ≡ a ∷ rest → both (Is a Missing ∷ []) (Is a Str ∷ []) (without rest state) hints ≡ Ok cases → AreMade style cases
 missing_both style state a rest hints cases made tops e =
-    let less = one_below style state a rest made tops in
-    both_made style state rest (Is a Missing ∷ []) (Is a Str ∷ []) hints cases made (one_rest style state a rest made tops)
+    let less = (one_below style state a rest made tops).old in
+    both_made style state rest (Is a Missing ∷ []) (Is a Str ∷ []) hints cases made (one_below style state a rest made tops).others
     (one_fits style state.next (Is a Missing) less tt tt tt tt) (one_fits style state.next (Is a Str) less tt tt tt tt) e
 
 missing_kept : (style : Style) (state : State) (a : Sym) (rest : List Sym) (kind : Kinds) (hints : List Hint) (cases : Cases) → WellMade style state
     → reverse state.stack ≡ a ∷ rest → missing_cases kind (taken_one a rest state) hints ≡ Ok cases → AreMade style cases
-missing_kept style state a rest Missing hints cases made tops e = decided_made style state rest true hints cases made (one_rest style state a rest made tops) e
-missing_kept style state a rest Str hints cases made tops e = decided_made style state rest false hints cases made (one_rest style state a rest made tops) e
+missing_kept style state a rest Missing hints cases made tops e = decided_made style state rest true hints cases made (one_below style state a rest made tops).others e
+missing_kept style state a rest Str hints cases made tops e = decided_made style state rest false hints cases made (one_below style state a rest made tops).others e
 missing_kept style state a rest Int hints cases made tops e = missing_both style state a rest hints cases made tops e
 missing_kept style state a rest Optional hints cases made tops e = missing_both style state a rest hints cases made tops e
 missing_kept style state a rest Func hints cases made tops e = missing_both style state a rest hints cases made tops e
@@ -128,11 +110,11 @@ missing_kept style state a rest Any hints cases made tops e = missing_both style
 
 texts_kept : (style : Style) (state : State) (a b : Sym) (rest : List Sym) (o : Option Bool) (hints : List Hint) (cases : Cases) → WellMade style state
     → reverse state.stack ≡ b ∷ (a ∷ rest) → text_cases o (passed_both state.facts a b) (without rest state) hints ≡ Ok cases → AreMade style cases
-texts_kept style state a b rest (Some t) hints cases made tops e = decided_made style state rest t hints cases made (two_rest style state a b rest made tops) e
+texts_kept style state a b rest (Some t) hints cases made tops e = decided_made style state rest t hints cases made (two_below style state a b rest made tops).others e
 texts_kept style state a b rest None hints cases made tops e =
-    both_made style state rest (passed_both state.facts a b) [] hints cases made (two_rest style state a b rest made tops)
+    both_made style state rest (passed_both state.facts a b) [] hints cases made (two_below style state a b rest made tops).others
     (both_fit style state.next (passed (exact_text state.facts a.0) b) (passed (exact_text state.facts b.0) a) [] []
-    (passed_fits style state a b made (one_below style state b (a ∷ rest) made tops)) (passed_fits style state b a made (second_below style state a b rest made tops)))
+    (passed_fits style state a b made (two_below style state a b rest made tops).upper) (passed_fits style state b a made (two_below style state a b rest made tops).lower))
     (nothing_fits style state.next) e
 
 equal_kept : (style : Style) (admits : Cond) (state : State) (a b : Sym) (rest : List Sym) (kind : Kinds) (hints : List Hint) (cases : Cases) → WellMade style state
@@ -140,8 +122,8 @@ equal_kept : (style : Style) (admits : Cond) (state : State) (a b : Sym) (rest :
 equal_kept style admits state a b rest Int hints cases made tops e =
     elim (is_of_kind state Int a) as (λ (t : Bool). cond t (integer_cases admits (equal_decided state.facts a b) (equal_rows a b) [] (without rest state) hints) (Err (fails WrongKind 2)) ≡ Ok cases
     → AreMade style cases) [
-      | true ↦ λ found. integers_made style admits state rest (equal_decided state.facts a b) (equal_rows a b) [] hints cases made (two_rest style state a b rest made tops)
-          (equal_fit style state.next a b (second_below style state a b rest made tops) (one_below style state b (a ∷ rest) made tops)) (nothing_fits style state.next) found
+      | true ↦ λ found. integers_made style admits state rest (equal_decided state.facts a b) (equal_rows a b) [] hints cases made (two_below style state a b rest made tops).others
+          (equal_fit style state.next a b (two_below style state a b rest made tops).lower (two_below style state a b rest made tops).upper) (nothing_fits style state.next) found
       | false ↦ λ found. absurd (cc)
     ] e
 equal_kept style admits state a b rest Str hints cases made tops e =
@@ -150,10 +132,7 @@ equal_kept style admits state a b rest Str hints cases made tops e =
       | true ↦ λ found. texts_kept style state a b rest (texts_decided state.facts a b) hints cases made tops found
       | false ↦ λ found. absurd (cc)
     ] e
-equal_kept style admits state a b rest Missing hints cases made tops e = absurd (cc)
-equal_kept style admits state a b rest Optional hints cases made tops e = absurd (cc)
-equal_kept style admits state a b rest Func hints cases made tops e = absurd (cc)
-equal_kept style admits state a b rest Any hints cases made tops e = absurd (cc)
+equal_kept style admits state a b rest _ hints cases made tops e = absurd (cc)
 
 -- the rows of a sign fit
 positive_fits : (style : Style) (state : State) (s : Sym) → s.0 < state.next → Fits style state.next [] (positive_rows s)
@@ -178,32 +157,34 @@ above_kept style admits state s None hints cases made less e =
 pub split_made : (style : Style) (admits : Cond) (state : State) (test : Test) (hints : List Hint) (cases : Cases) → WellMade style state → IsTestOf state test
     → split_of admits state test hints ≡ Ok cases → All (WellMade style) cases.states
 split_made style admits state Empty hints cases made is e =
-    let f = field_cases state (λ one. empty_cases (first_said emptiness_said one.operand.0 state.facts) one hints) cases e in
-    empty_kept style state f.operand f.rest (first_said emptiness_said f.operand.0 state.facts) hints cases made f.tops f.given
+    let f = one_taken Optional state (λ one. empty_cases (first_said emptiness_said one.operand.0 state.facts) one hints) cases e in
+    empty_kept style state f.a f.rest (first_said emptiness_said f.a.0 state.facts) hints cases made f.tops f.given
 split_made style admits state IsMissing hints cases made is e =
-    let f = field_cases state (λ one. missing_cases (known_kind state.facts one.operand.0) one hints) cases e in
-    missing_kept style state f.operand f.rest (known_kind state.facts f.operand.0) hints cases made f.tops f.given
+    let f = one_taken Optional state (λ one. missing_cases (known_kind state.facts one.operand.0) one hints) cases e in
+    missing_kept style state f.a f.rest (known_kind state.facts f.a.0) hints cases made f.tops f.given
 split_made style admits state Equal hints cases made is e =
-    let f = pair_cases state (λ two. equal_by admits state (known_kind state.facts two.upper.0) two hints) cases e in
-    equal_kept style admits state f.lower f.upper f.rest (known_kind state.facts f.upper.0) hints cases made f.tops f.given
+    let f = two_taken Any Any state (λ two. equal_by admits state (known_kind state.facts two.upper.0) two hints) cases e in
+    equal_kept style admits state f.a f.b f.rest (known_kind state.facts f.b.0) hints cases made f.tops f.given
 split_made style admits state Less hints cases made is e =
-    let f = integers_cases state (λ two. integer_cases admits (less_decided state.facts two.lower two.upper)
+    let f = two_taken Int Int state (λ two. integer_cases admits (less_decided state.facts two.lower two.upper)
     (less_rows two.lower two.upper) (at_least_rows two.lower two.upper) two.rest hints) cases e in
-    let a = f.pair.lower in
-    let b = f.pair.upper in
-    let lower = second_below style state a b f.pair.rest made f.pair.tops in
-    let upper = one_below style state b (a ∷ f.pair.rest) made f.pair.tops in
-    integers_made style admits state f.pair.rest (less_decided state.facts a b) (less_rows a b) (at_least_rows a b) hints cases made
-    (two_rest style state a b f.pair.rest made f.pair.tops) (exceeding style state.next b a (pos 1) upper lower (omega arith))
-    (exceeding style state.next a b (pos 0) lower upper (omega arith)) f.pair.given
+    let a = f.a in
+    let b = f.b in
+    let below = two_below style state a b f.rest made f.tops in
+    let lower = below.lower in
+    let upper = below.upper in
+    integers_made style admits state f.rest (less_decided state.facts a b) (less_rows a b) (at_least_rows a b) hints cases made
+    (two_below style state a b f.rest made f.tops).others (exceeding style state.next b a (pos 1) upper lower (omega arith))
+    (exceeding style state.next a b (pos 0) lower upper (omega arith)) f.given
 split_made style admits state Greater hints cases made is e =
-    let f = integers_cases state (λ two. integer_cases admits (greater_decided state.facts two.lower two.upper)
+    let f = two_taken Int Int state (λ two. integer_cases admits (greater_decided state.facts two.lower two.upper)
     (less_rows two.upper two.lower) (at_least_rows two.upper two.lower) two.rest hints) cases e in
-    let a = f.pair.lower in
-    let b = f.pair.upper in
-    let lower = second_below style state a b f.pair.rest made f.pair.tops in
-    let upper = one_below style state b (a ∷ f.pair.rest) made f.pair.tops in
-    integers_made style admits state f.pair.rest (greater_decided state.facts a b) (less_rows b a) (at_least_rows b a) hints cases made
-    (two_rest style state a b f.pair.rest made f.pair.tops) (exceeding style state.next a b (pos 1) lower upper (omega arith))
-    (exceeding style state.next b a (pos 0) upper lower (omega arith)) f.pair.given
+    let a = f.a in
+    let b = f.b in
+    let below = two_below style state a b f.rest made f.tops in
+    let lower = below.lower in
+    let upper = below.upper in
+    integers_made style admits state f.rest (greater_decided state.facts a b) (less_rows b a) (at_least_rows b a) hints cases made
+    (two_below style state a b f.rest made f.tops).others (exceeding style state.next a b (pos 1) lower upper (omega arith))
+    (exceeding style state.next b a (pos 0) upper lower (omega arith)) f.given
 split_made style admits state (Above s) hints cases made is e = above_kept style admits state s (exact_integer state.facts s.0) hints cases made is e

@@ -17,12 +17,14 @@ use Rattle.sym_state.specs.declared.state.State.{State}
 use Rattle.sym_state.specs.declared.symbol.Fact.{Fact}
 use Rattle.sym_state.specs.declared.symbol.Kinds.TheVariants.{Int, Optional}
 use Rattle.sym_state.specs.declared.symbol.Sym.{Sym}
-use Rattle.sym_state.specs.Cases.{Cases, One, Split, Two, both, decided, field_met, field_of, integers_met, integers_of, one_of, split_by, two_of, weighed_both, with_case, with_truth}
-use Rattle.sym_state.specs.Demands.{fails, is_of_kind}
+use Rattle.sym_state.specs.Cases.{Cases, both, decided, weighed_both, with_case, with_truth}
+use Rattle.sym_state.specs.Demands.{One, Two}
 use Rattle.sym_state.specs.Facts.{FactHolds}
 use Rattle.sym_state.specs.Symbols.{numbers}
 use Rattle.sym_state.specs.WellMade.{WellMade}
-use Rattle.sym_state.proofs.Pushing.{stack_of_tops, tops_below, value_list, without}
+use Rattle.sym_state.proofs.Below.{one_below, two_below}
+use Rattle.sym_state.proofs.Frames.{value_list}
+use Rattle.sym_state.proofs.Pushing.{stack_of_tops, without}
 use Rattle.sym_state.proofs.Resulting.{Fits}
 use Rattle.sym_state.proofs.Spots.{Spot}
 use Rattle.refinements.specs.Covered.{OneCovers}
@@ -40,74 +42,6 @@ taken_one a rest state = record { operand = a; rest = without rest state }
 abbrev pub taken_two : Sym → Sym → List Sym → State → Two
 taken_two a b rest state = record { lower = a; upper = b; rest = without rest state }
 
--- one operand, a string or a missing field
-pub record Field (state : State) (rule : One → Split) (cases : Cases) : Type 0 where
-  pub operand : Sym
-  pub rest : List Sym
-  pub tops : reverse state.stack ≡ operand ∷ rest
-  pub kind : is_of_kind state Optional operand ≡ true
-  pub given : rule (taken_one operand rest state) ≡ Ok cases
-
-field_from : (state : State) (rule : One → Split) (cases : Cases) (tops : List Sym) → reverse state.stack ≡ tops
-    → split_by (field_met state (one_of tops state)) rule ≡ Ok cases → Field state rule cases
-field_from state rule cases [] is e = absurd (cc)
-field_from state rule cases (a ∷ rest) is e =
-    elim (is_of_kind state Optional a) as (λ (t : Bool). is_of_kind state Optional a ≡ t
-    → split_by (cond t (Ok (taken_one a rest state)) (Err (fails WrongKind 1))) rule ≡ Ok cases → Field state rule cases) [
-      | true ↦ λ kind found. record { operand = a; rest = rest; tops = is; kind = kind; given = found }
-      | false ↦ λ kind found. absurd (cc)
-    ] refl e
-
-pub field_cases : (state : State) (rule : One → Split) (cases : Cases) → split_by (field_of state) rule ≡ Ok cases → Field state rule cases
-field_cases state rule cases e = field_from state rule cases (reverse state.stack) refl e
-
--- two operands
-pub record Pair (state : State) (rule : Two → Split) (cases : Cases) : Type 0 where
-  pub lower : Sym
-  pub upper : Sym
-  pub rest : List Sym
-  pub tops : reverse state.stack ≡ upper ∷ (lower ∷ rest)
-  pub given : rule (taken_two lower upper rest state) ≡ Ok cases
-
-pair_from : (state : State) (rule : Two → Split) (cases : Cases) (tops : List Sym) → reverse state.stack ≡ tops
-    → split_by (two_of tops state) rule ≡ Ok cases → Pair state rule cases
-pair_from state rule cases [] is e = absurd (cc)
-pair_from state rule cases (b ∷ []) is e = absurd (cc)
-pair_from state rule cases (b ∷ (a ∷ rest)) is e = record { lower = a; upper = b; rest = rest; tops = is; given = e }
-
-pub pair_cases : (state : State) (rule : Two → Split) (cases : Cases) → split_by (two_of (reverse state.stack) state) rule ≡ Ok cases
-    → Pair state rule cases
-pair_cases state rule cases e = pair_from state rule cases (reverse state.stack) refl e
-
--- two integers
-pub record Integers (state : State) (rule : Two → Split) (cases : Cases) : Type 0 where
-  pub pair : Pair state rule cases
-  pub upper_kind : is_of_kind state Int pair.upper ≡ true
-  pub lower_kind : is_of_kind state Int pair.lower ≡ true
-
-integers_from : (state : State) (rule : Two → Split) (cases : Cases) (tops : List Sym) → reverse state.stack ≡ tops
-    → split_by (integers_met state (two_of tops state)) rule ≡ Ok cases → Integers state rule cases
-integers_from state rule cases [] is e = absurd (cc)
-integers_from state rule cases (b ∷ []) is e = absurd (cc)
-integers_from state rule cases (b ∷ (a ∷ rest)) is e =
-    elim (is_of_kind state Int b) as (λ (t : Bool). is_of_kind state Int b ≡ t
-    → split_by (cond t (cond (is_of_kind state Int a) (Ok (taken_two a b rest state)) (Err (fails WrongKind 2))) (Err (fails WrongKind 1))) rule ≡ Ok cases
-    → Integers state rule cases) [
-      | true ↦ λ upper found. elim (is_of_kind state Int a) as (λ (t : Bool). is_of_kind state Int a ≡ t
-          → split_by (cond t (Ok (taken_two a b rest state)) (Err (fails WrongKind 2))) rule ≡ Ok cases → Integers state rule cases) [
-            | true ↦ λ lower all. record {
-              pair = record { lower = a; upper = b; rest = rest; tops = is; given = all };
-              upper_kind = upper;
-              lower_kind = lower;
-            }
-            | false ↦ λ lower all. absurd (cc)
-          ] refl found
-      | false ↦ λ upper found. absurd (cc)
-    ] refl e
-
-pub integers_cases : (state : State) (rule : Two → Split) (cases : Cases) → split_by (integers_of state) rule ≡ Ok cases → Integers state rule cases
-integers_cases state rule cases e = integers_from state rule cases (reverse state.stack) refl e
-
 -- the machine at an operand, or at two
 pub at_one : (p : Spot) (op : Builtin) (a : Sym) (rest : List Sym) (t : Bool) → reverse p.state.stack ≡ a ∷ rest
     → built_in op (context_of p.style p.c) (p.v.value a.0 ∷ (value_list p.v rest ++ p.below)) ≡ pushed (truth t) (value_list p.v rest ++ p.below)
@@ -115,7 +49,7 @@ pub at_one : (p : Spot) (op : Builtin) (a : Sym) (rest : List Sym) (t : Bool) �
 at_one p op a rest t tops gives = record {
   made = p.made;
   stands = p.stands;
-  old = All-tail (λ s. s.0 < p.state.next) a rest (tops_below p.style p.state (a ∷ rest) p.made tops);
+  old = (one_below p.style p.state a rest p.made tops).others;
   gives = ap (λ (l : List Value). built_in op (context_of p.style p.c) l)
       (stack_of_tops p.style p.admits p.list p.v p.state p.c p.below (a ∷ rest) p.stands tops) ∙ gives;
 }
@@ -127,21 +61,13 @@ pub at_two : (p : Spot) (op : Builtin) (a b : Sym) (rest : List Sym) (x y : Valu
 at_two p op a b rest x y t tops x_is y_is gives = record {
   made = p.made;
   stands = p.stands;
-  old = All-tail (λ s. s.0 < p.state.next) a rest (All-tail (λ s. s.0 < p.state.next) b (a ∷ rest) (tops_below p.style p.state (b ∷ (a ∷ rest)) p.made tops));
+  old = (two_below p.style p.state a b rest p.made tops).others;
   gives = ap (λ (l : List Value). built_in op (context_of p.style p.c) l)
       (stack_of_tops p.style p.admits p.list p.v p.state p.c p.below (b ∷ (a ∷ rest)) p.stands tops)
       ∙ ap (λ (z : Value). built_in op (context_of p.style p.c) (z ∷ (p.v.value a.0 ∷ (value_list p.v rest ++ p.below)))) y_is
       ∙ ap (λ (z : Value). built_in op (context_of p.style p.c) (y ∷ (z ∷ (value_list p.v rest ++ p.below)))) x_is
       ∙ gives;
 }
-
--- the operands are the state's
-pub one_below : (style : Style) (state : State) (a : Sym) (rest : List Sym) → WellMade style state → reverse state.stack ≡ a ∷ rest → a.0 < state.next
-one_below style state a rest made tops = All-head (λ s. s.0 < state.next) a rest (tops_below style state (a ∷ rest) made tops)
-
-pub second_below : (style : Style) (state : State) (a b : Sym) (rest : List Sym) → WellMade style state → reverse state.stack ≡ b ∷ (a ∷ rest) → a.0 < state.next
-second_below style state a b rest made tops =
-    All-head (λ s. s.0 < state.next) a rest (All-tail (λ s. s.0 < state.next) b (a ∷ rest) (tops_below style state (b ∷ (a ∷ rest)) made tops))
 
 -- a decided test, one whose cases take no hint, and one whose cases take hints: the machine gives the truth of t
 pub decided_found : (p : Spot) (op : Builtin) (rest : List Sym) (t answer : Bool) (hints : List Hint) (cases : Cases) → AtSpot p rest op t

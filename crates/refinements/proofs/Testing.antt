@@ -18,18 +18,20 @@ use Rattle.sym_state.specs.Decided.{emptiness_said, first_said, known_kind}
 use Rattle.sym_state.specs.Facts.{emptiness, has_kind}
 use Rattle.sym_state.proofs.Deciding.{emptiness_fact, from_facts}
 use Rattle.sym_state.proofs.KnownKinds.{known_kind_holds, of_kind_holds}
-use Rattle.sym_state.proofs.Pushing.{value_list, without}
+use Rattle.sym_state.proofs.Below.{one_below}
+use Rattle.sym_state.proofs.Ensured.{one_taken}
+use Rattle.sym_state.proofs.Frames.{value_list}
+use Rattle.sym_state.proofs.Pushing.{without}
 use Rattle.sym_state.proofs.Resulting.{both_fit, one_fits}
 use Rattle.sym_state.proofs.Spots.{Spot}
-use Rattle.refinements.proofs.Taking.{Found, at_one, both_found, decided_found, field_cases, one_below, taken_one}
+use Rattle.refinements.proofs.Taking.{Found, at_one, both_found, decided_found, taken_one}
 
 -- `empty$`
 machine_empty : (context : Context) (value : Value) (b : Bool) (stack : List Value) → emptiness value ≡ Some b
     → built_in op.Empty context (value ∷ stack) ≡ pushed (truth b) stack
 machine_empty context (StrValue bytes) b stack e = let same : blank bytes ≡ b = cc in ap (λ (t : Bool). pushed (truth t) stack) same
 machine_empty context (MissingValue name) b stack e = let same : true ≡ b = cc in ap (λ (t : Bool). pushed (truth t) stack) same
-machine_empty context (IntValue n) b stack e = absurd (cc)
-machine_empty context (FuncValue target) b stack e = absurd (cc)
+machine_empty context _ b stack e = absurd (cc)
 
 record Emptiness (value : Value) : Type 0 where
   pub empty : Bool
@@ -38,20 +40,17 @@ record Emptiness (value : Value) : Type 0 where
 has_emptiness : (value : Value) → has_kind Optional value ≡ true → Emptiness value
 has_emptiness (StrValue bytes) e = record { empty = blank bytes; is = refl }
 has_emptiness (MissingValue name) e = record { empty = true; is = refl }
-has_emptiness (IntValue n) e = absurd (cc)
-has_emptiness (FuncValue target) e = absurd (cc)
+has_emptiness _ e = absurd (cc)
 
 not_empty_string : (value : Value) → emptiness value ≡ Some false → has_kind Str value ≡ true
 not_empty_string (StrValue bytes) e = refl
-not_empty_string (MissingValue name) e = absurd (cc)
-not_empty_string (IntValue n) e = absurd (cc)
-not_empty_string (FuncValue target) e = absurd (cc)
+not_empty_string _ e = absurd (cc)
 
 empty_undecided : (p : Spot) (a : Sym) (rest : List Sym) (hints : List Hint) (cases : Cases) (b : Bool) → reverse p.state.stack ≡ a ∷ rest
     → emptiness (p.v.value a.0) ≡ Some b → both (Blank a ∷ []) (Is a Str ∷ (Nonblank a ∷ [])) (without rest p.state) hints ≡ Ok cases
     → Found p op.Empty cases
 empty_undecided p a rest hints cases b tops is e =
-    let less = one_below p.style p.state a rest p.made tops in
+    let less = (one_below p.style p.state a rest p.made tops).old in
     both_found p op.Empty rest b (Blank a ∷ []) (Is a Str ∷ (Nonblank a ∷ [])) hints cases
     (at_one p op.Empty a rest b tops (machine_empty (context_of p.style p.c) (p.v.value a.0) b (value_list p.v rest ++ p.below) is))
     (one_fits p.style p.state.next (Blank a) less tt tt tt tt)
@@ -62,17 +61,17 @@ empty_undecided p a rest hints cases b tops is e =
 
 pub empty_found : (p : Spot) (hints : List Hint) (cases : Cases) → empty p.state hints ≡ Ok cases → Found p op.Empty cases
 empty_found p hints cases e =
-    let f = field_cases p.state (λ one. empty_cases (first_said emptiness_said one.operand.0 p.state.facts) one hints) cases e in
-    elim (first_said emptiness_said f.operand.0 p.state.facts) as (λ (o : Option Bool). first_said emptiness_said f.operand.0 p.state.facts ≡ o
-    → empty_cases o (taken_one f.operand f.rest p.state) hints ≡ Ok cases → Found p op.Empty cases) [
+    let f = one_taken Optional p.state (λ one. empty_cases (first_said emptiness_said one.operand.0 p.state.facts) one hints) cases e in
+    elim (first_said emptiness_said f.a.0 p.state.facts) as (λ (o : Option Bool). first_said emptiness_said f.a.0 p.state.facts ≡ o
+    → empty_cases o (taken_one f.a f.rest p.state) hints ≡ Ok cases → Found p op.Empty cases) [
       | Some b ↦ λ is found.
-          let source = from_facts emptiness_said p.style p.v f.operand.0 p.state.facts b p.stands.satisfied.facts is in
-          let says = emptiness_fact p.style (p.v.value f.operand.0) source.fact b source.says source.holds in
+          let source = from_facts emptiness_said p.style p.v f.a.0 p.state.facts b p.stands.satisfied.facts is in
+          let says = emptiness_fact p.style (p.v.value f.a.0) source.fact b source.says source.holds in
           decided_found p op.Empty f.rest b b hints cases
-          (at_one p op.Empty f.operand f.rest b f.tops (machine_empty (context_of p.style p.c) (p.v.value f.operand.0) b (value_list p.v f.rest ++ p.below) says)) refl found
+          (at_one p op.Empty f.a f.rest b f.tops (machine_empty (context_of p.style p.c) (p.v.value f.a.0) b (value_list p.v f.rest ++ p.below) says)) refl found
       | None ↦ λ is found.
-          let some = has_emptiness (p.v.value f.operand.0) (of_kind_holds p.style p.v f.operand.0 p.state.facts Optional p.stands.satisfied.facts f.kind) in
-          empty_undecided p f.operand f.rest hints cases some.empty f.tops some.is found
+          let some = has_emptiness (p.v.value f.a.0) (of_kind_holds p.style p.v f.a.0 p.state.facts Optional p.stands.satisfied.facts f.met) in
+          empty_undecided p f.a f.rest hints cases some.empty f.tops some.is found
     ] refl f.given
 
 -- `missing$`
@@ -84,38 +83,29 @@ machine_missing : (context : Context) (value : Value) (stack : List Value) → h
     → built_in op.Missing context (value ∷ stack) ≡ pushed (truth (is_missing value)) stack
 machine_missing context (StrValue bytes) stack e = refl
 machine_missing context (MissingValue name) stack e = refl
-machine_missing context (IntValue n) stack e = absurd (cc)
-machine_missing context (FuncValue target) stack e = absurd (cc)
+machine_missing context _ stack e = absurd (cc)
 
 missing_one : (value : Value) → has_kind Missing value ≡ true → is_missing value ≡ true
 missing_one (MissingValue name) e = refl
-missing_one (StrValue bytes) e = absurd (cc)
-missing_one (IntValue n) e = absurd (cc)
-missing_one (FuncValue target) e = absurd (cc)
+missing_one _ e = absurd (cc)
 
 string_one : (value : Value) → has_kind Str value ≡ true → is_missing value ≡ false
 string_one (StrValue bytes) e = refl
-string_one (MissingValue name) e = absurd (cc)
-string_one (IntValue n) e = absurd (cc)
-string_one (FuncValue target) e = absurd (cc)
+string_one _ e = absurd (cc)
 
 one_missing : (value : Value) → is_missing value ≡ true → has_kind Missing value ≡ true
 one_missing (MissingValue name) e = refl
-one_missing (StrValue bytes) e = absurd (cc)
-one_missing (IntValue n) e = absurd (cc)
-one_missing (FuncValue target) e = absurd (cc)
+one_missing _ e = absurd (cc)
 
 one_string : (value : Value) → has_kind Optional value ≡ true → is_missing value ≡ false → has_kind Str value ≡ true
 one_string (StrValue bytes) o e = refl
-one_string (MissingValue name) o e = absurd (cc)
-one_string (IntValue n) o e = absurd (cc)
-one_string (FuncValue target) o e = absurd (cc)
+one_string _ o e = absurd (cc)
 
 missing_undecided : (p : Spot) (a : Sym) (rest : List Sym) (hints : List Hint) (cases : Cases) → reverse p.state.stack ≡ a ∷ rest
     → has_kind Optional (p.v.value a.0) ≡ true → both (Is a Missing ∷ []) (Is a Str ∷ []) (without rest p.state) hints ≡ Ok cases
     → Found p op.Missing cases
 missing_undecided p a rest hints cases tops kind e =
-    let less = one_below p.style p.state a rest p.made tops in
+    let less = (one_below p.style p.state a rest p.made tops).old in
     both_found p op.Missing rest (is_missing (p.v.value a.0)) (Is a Missing ∷ []) (Is a Str ∷ []) hints cases
     (at_one p op.Missing a rest (is_missing (p.v.value a.0)) tops (machine_missing (context_of p.style p.c) (p.v.value a.0) (value_list p.v rest ++ p.below) kind))
     (one_fits p.style p.state.next (Is a Missing) less tt tt tt tt) (one_fits p.style p.state.next (Is a Str) less tt tt tt tt)
@@ -139,7 +129,7 @@ missing_decided p a rest hints cases Any tops o kind e = missing_undecided p a r
 
 pub missing_found : (p : Spot) (hints : List Hint) (cases : Cases) → missing p.state hints ≡ Ok cases → Found p op.Missing cases
 missing_found p hints cases e =
-    let f = field_cases p.state (λ one. missing_cases (known_kind p.state.facts one.operand.0) one hints) cases e in
-    missing_decided p f.operand f.rest hints cases (known_kind p.state.facts f.operand.0) f.tops
-    (of_kind_holds p.style p.v f.operand.0 p.state.facts Optional p.stands.satisfied.facts f.kind)
-    (known_kind_holds p.style p.v f.operand.0 p.state.facts p.stands.satisfied.facts) f.given
+    let f = one_taken Optional p.state (λ one. missing_cases (known_kind p.state.facts one.operand.0) one hints) cases e in
+    missing_decided p f.a f.rest hints cases (known_kind p.state.facts f.a.0) f.tops
+    (of_kind_holds p.style p.v f.a.0 p.state.facts Optional p.stands.satisfied.facts f.met)
+    (known_kind_holds p.style p.v f.a.0 p.state.facts p.stands.satisfied.facts) f.given

@@ -10,7 +10,6 @@ ghost use Rattle.refinements.specs.Given.{Gives};
 
 use crate::cases::{decided, with_case, with_truth};
 use crate::deciding::{equal_decided, greater_decided, less_decided};
-use crate::operands::{integers_of, two_of};
 use crate::strings::equal_texts;
 use crate::weighing::{one, weighed_both};
 use bst_meaning::condition::Cond;
@@ -20,6 +19,7 @@ use std::alloc::Global;
 use sym_state::demand::{DemandKind, EffectFault};
 use sym_state::facts::{exact_integer, is_of_kind, known_kind};
 use sym_state::hint::Hints;
+use sym_state::operands::two;
 use sym_state::references::{at_least, at_most, exceeds};
 use sym_state::state::State;
 use sym_state::symbol::{Kinds, Sym};
@@ -29,7 +29,8 @@ pub fn less(state: &State, cond: &Cond, hints: &mut Hints<'_>) -> Result<Vec<Sta
     requires { IsReady state.now hints.old }
     ensures { Gives result hints.new (rule.less cond.now state.now hints.old) }
 {
-    let (a, b, rest) = integers_of(state)?;
+    let (a, b) = two(state, Kinds::Int, Kinds::Int)?;
+    let rest = state.without(2)?;
     match less_decided(state.facts.as_slice(), a, b) {
         Some(answer) => Ok(decided(answer, rest)?),
         None => ordered(cond, a, b, rest, hints),
@@ -41,7 +42,8 @@ pub fn greater(state: &State, cond: &Cond, hints: &mut Hints<'_>) -> Result<Vec<
     requires { IsReady state.now hints.old }
     ensures { Gives result hints.new (rule.greater cond.now state.now hints.old) }
 {
-    let (a, b, rest) = integers_of(state)?;
+    let (a, b) = two(state, Kinds::Int, Kinds::Int)?;
+    let rest = state.without(2)?;
     match greater_decided(state.facts.as_slice(), a, b) {
         Some(answer) => Ok(decided(answer, rest)?),
         None => ordered(cond, b, a, rest, hints),
@@ -116,7 +118,8 @@ pub fn equal(state: &State, cond: &Cond, hints: &mut Hints<'_>) -> Result<Vec<St
     requires { IsReady state.now hints.old }
     ensures { Gives result hints.new (rule.equal cond.now state.now hints.old) }
 {
-    let (a, b, rest) = two_of(state)?;
+    let (a, b) = two(state, Kinds::Any, Kinds::Any)?;
+    let rest = state.without(2)?;
     match known_kind(state.facts.as_slice(), b) {
         Kinds::Int => {
             if !is_of_kind(state.facts.as_slice(), Kinds::Int, a) {

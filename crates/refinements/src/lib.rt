@@ -25,7 +25,6 @@ mod deciding;
 mod integers;
 mod laws;
 mod needed;
-mod operands;
 mod strings;
 mod weighing;
 

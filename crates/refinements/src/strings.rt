@@ -1,19 +1,21 @@
 //! The cases of tests on strings and missing fields, which take no hint.
 
-ghost use Rattle.std.specs.Prelude.{◌≡◌, ◌<◌, [], Ok, IfOk};
+ghost use Rattle.std.specs.Prelude.{◌≡◌, ◌<◌, [], Ok, Err, IfOk, MatchResult};
+ghost use Rattle.sym_state.specs.declared.symbol.Kinds.TheVariants.{Optional};
+ghost use Rattle.sym_state.specs.Demands as demands;
 ghost use Rattle.sym_state.specs.Cases as rule;
 ghost use Rattle.sym_state.specs.Decided.{exact_text};
 ghost use Rattle.refinements.specs.Given.{Gives};
 
 use crate::cases::{both, decided};
 use crate::deciding::texts_decided;
-use crate::operands::field_of;
 use bv_base::memory::NoMemory;
 use bv_base::text::Text;
 use std::alloc::Global;
 use sym_state::demand::EffectFault;
 use sym_state::facts::{exact_text, known_emptiness, known_kind};
 use sym_state::hint::Hints;
+use sym_state::operands::one;
 use sym_state::state::State;
 use sym_state::symbol::{Fact, Kinds, Sym};
 
@@ -22,9 +24,19 @@ pub fn empty(state: &State, hints: &Hints<'_>) -> Result<Vec<State>, EffectFault
     requires { state.now.next < 4294967295 }
     ensures { Gives result hints.now (rule.empty state.now hints.now) }
 {
-    let (operand, rest) = field_of(state)?;
+    let operand = field_of(state)?;
+    let rest = state.without(1)?;
     let known = known_emptiness(state.facts.as_slice(), operand);
     Ok(empty_cases(known, operand, rest)?)
+}
+
+/// The top operand, a string or a missing field.
+fn field_of(state: &State) -> Result<Sym, EffectFault>
+    ensures { MatchResult result
+        (λ a. demands.one_of Optional state.now ≡ Ok (record { operand = a; rest = demands.without 1 state.now }))
+        (λ fault. demands.one_of Optional state.now ≡ Err fault) }
+{
+    one(state, Kinds::Optional)
 }
 
 /// The cases of `empty$` of an operand, by what is known.
@@ -48,7 +60,8 @@ pub fn missing(state: &State, hints: &Hints<'_>) -> Result<Vec<State>, EffectFau
     requires { state.now.next < 4294967295 }
     ensures { Gives result hints.now (rule.missing state.now hints.now) }
 {
-    let (operand, rest) = field_of(state)?;
+    let operand = field_of(state)?;
+    let rest = state.without(1)?;
     let known = known_kind(state.facts.as_slice(), operand);
     Ok(missing_cases(known, operand, rest)?)
 }

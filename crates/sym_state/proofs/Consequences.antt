@@ -26,14 +26,11 @@ use Rattle.sym_state.proofs.Deciding.{integer_fact, text_fact, emptiness_fact, s
 optional_of : (value : Value) (b : Bool) → emptiness value ≡ Some b → has_kind Optional value ≡ true
 optional_of (StrValue bytes) b e = refl
 optional_of (MissingValue name) b e = refl
-optional_of (IntValue n) b e = absurd (cc)
-optional_of (FuncValue target) b e = absurd (cc)
+optional_of _ b e = absurd (cc)
 
 pub string_of : (value : Value) → emptiness value ≡ Some false → has_kind Str value ≡ true
 string_of (StrValue bytes) e = refl
-string_of (MissingValue name) e = absurd (cc)
-string_of (IntValue n) e = absurd (cc)
-string_of (FuncValue target) e = absurd (cc)
+string_of _ e = absurd (cc)
 
 function_of : (style : Style) (number : ℕ) (value : Value) → IsBlock style number value → has_kind Func value ≡ true
 function_of style number (FuncValue target) h = refl
@@ -112,23 +109,11 @@ passing test None e = absurd (cc)
 
 name_fact : (style : Style) (value : Value) (fact : Fact) (name : NameId) → name_said fact ≡ Some name → Says style fact value → value ≡ FuncValue (Named name)
 name_fact style value (Call s other) name e h = let same : other ≡ name = cc in h ∙ ap (λ (n : NameId). FuncValue (Named n)) same
-name_fact style value (Is s k) name e h = absurd (cc)
-name_fact style value (Int s k) name e h = absurd (cc)
-name_fact style value (Text s k) name e h = absurd (cc)
-name_fact style value (Block s k) name e h = absurd (cc)
-name_fact style value (Blank s) name e h = absurd (cc)
-name_fact style value (Nonblank s) name e h = absurd (cc)
-name_fact style value (Wellformed s) name e h = absurd (cc)
+name_fact style value _ name e h = absurd (cc)
 
 block_fact : (style : Style) (value : Value) (fact : Fact) (number : ℕ) → block_said fact ≡ Some number → Says style fact value → IsBlock style number value
 block_fact style value (Block s other) number e h = let same : other ≡ number = cc in subst (λ (n : ℕ). IsBlock style n value) same h
-block_fact style value (Is s k) number e h = absurd (cc)
-block_fact style value (Int s k) number e h = absurd (cc)
-block_fact style value (Text s k) number e h = absurd (cc)
-block_fact style value (Call s k) number e h = absurd (cc)
-block_fact style value (Blank s) number e h = absurd (cc)
-block_fact style value (Nonblank s) number e h = absurd (cc)
-block_fact style value (Wellformed s) number e h = absurd (cc)
+block_fact style value _ number e h = absurd (cc)
 
 pub same_bytes : (a b : List ℕ) → pointwise nat_eq a b ≡ true → a ≡ b
 same_bytes [] [] e = refl
@@ -169,18 +154,7 @@ consequence style value fact (Wellformed s) e h = wellformed_holds style value f
 
 nothing_said : (style : Style) (value : Value) (wanted : Fact) → says_nothing wanted ≡ true → Says style wanted value
 nothing_said style value (Is s Any) e = refl
-nothing_said style value (Is s IntKind) e = absurd (cc)
-nothing_said style value (Is s Str) e = absurd (cc)
-nothing_said style value (Is s Missing) e = absurd (cc)
-nothing_said style value (Is s Optional) e = absurd (cc)
-nothing_said style value (Is s Func) e = absurd (cc)
-nothing_said style value (Int s n) e = absurd (cc)
-nothing_said style value (Text s n) e = absurd (cc)
-nothing_said style value (Call s n) e = absurd (cc)
-nothing_said style value (Block s n) e = absurd (cc)
-nothing_said style value (Blank s) e = absurd (cc)
-nothing_said style value (Nonblank s) e = absurd (cc)
-nothing_said style value (Wellformed s) e = absurd (cc)
+nothing_said style value _ e = absurd (cc)
 
 pub some_gives : (style : Style) (v : Valuation) (s : ℕ) (facts : List Fact) (wanted : Fact) → AllByRecursion (FactHolds style v) facts
     → list_any (λ fact. nat_eq (subject fact) s && gives fact wanted) facts ≡ true → Says style wanted (v.value s)

@@ -38,28 +38,14 @@ from_facts {X} said style v s (fact ∷ facts) x all e =
 
 pub integer_fact : (style : Style) (value : Value) (fact : Fact) (n : ℤ) → integer_said fact ≡ Some n → Says style fact value → value ≡ IntValue n
 integer_fact style value (Int s m) n e h = let same : m ≡ n = cc in h ∙ ap (λ (k : ℤ). IntValue k) same
-integer_fact style value (Is s k) n e h = absurd (cc)
-integer_fact style value (Text s k) n e h = absurd (cc)
-integer_fact style value (Call s k) n e h = absurd (cc)
-integer_fact style value (Block s k) n e h = absurd (cc)
-integer_fact style value (Blank s) n e h = absurd (cc)
-integer_fact style value (Nonblank s) n e h = absurd (cc)
-integer_fact style value (Wellformed s) n e h = absurd (cc)
+integer_fact style value _ n e h = absurd (cc)
 
 pub text_fact : (style : Style) (value : Value) (fact : Fact) (text : List ℕ) → text_said fact ≡ Some text → Says style fact value → value ≡ StrValue text
 text_fact style value (Text s m) text e h = let same : m ≡ text = cc in h ∙ ap (λ (k : List ℕ). StrValue k) same
-text_fact style value (Is s k) text e h = absurd (cc)
-text_fact style value (Int s k) text e h = absurd (cc)
-text_fact style value (Call s k) text e h = absurd (cc)
-text_fact style value (Block s k) text e h = absurd (cc)
-text_fact style value (Blank s) text e h = absurd (cc)
-text_fact style value (Nonblank s) text e h = absurd (cc)
-text_fact style value (Wellformed s) text e h = absurd (cc)
+text_fact style value _ text e h = absurd (cc)
 
 missing_empty : (style : Style) (value : Value) → Says style (Is (record { 0 = 0 }) Missing) value → emptiness value ≡ Some true
 missing_empty style (MissingValue name) h = refl
-missing_empty style (IntValue n) h = absurd (cc)
-missing_empty style (StrValue n) h = absurd (cc)
 missing_empty style _ h = absurd (cc)
 
 -- what a fact says that `empty$` gives is what it gives
@@ -73,10 +59,7 @@ emptiness_fact style value (Is s Any) b e h = absurd (cc)
 emptiness_fact style value (Text s text) b e h = ap emptiness h ∙ e
 emptiness_fact style value (Blank s) b e h = h ∙ e
 emptiness_fact style value (Nonblank s) b e h = h ∙ e
-emptiness_fact style value (Int s k) b e h = absurd (cc)
-emptiness_fact style value (Call s k) b e h = absurd (cc)
-emptiness_fact style value (Block s k) b e h = absurd (cc)
-emptiness_fact style value (Wellformed s) b e h = absurd (cc)
+emptiness_fact style value _ b e h = absurd (cc)
 
 pub exact_integer_is : (style : Style) (v : Valuation) (s : ℕ) (facts : List Fact) (n : ℤ)
     → AllByRecursion (FactHolds style v) facts → exact_integer facts s ≡ Some n → v.value s ≡ IntValue n

@@ -29,13 +29,7 @@ said_where {X} said P Q (fact ∷ facts) s x gives all e =
 
 small_said : (n : ℤ) (fact : Fact) → HasSmallInteger fact → integer_said fact ≡ Some n → has_32_bits n ≡ true
 small_said n (Int s m) h e = let same : m ≡ n = cc in subst (λ (z : ℤ). has_32_bits z ≡ true) same h
-small_said n (Is s k) h e = absurd (cc)
-small_said n (Text s k) h e = absurd (cc)
-small_said n (Call s k) h e = absurd (cc)
-small_said n (Block s k) h e = absurd (cc)
-small_said n (Blank s) h e = absurd (cc)
-small_said n (Nonblank s) h e = absurd (cc)
-small_said n (Wellformed s) h e = absurd (cc)
+small_said n _ h e = absurd (cc)
 
 pub exact_small : (facts : List Fact) (s : ℕ) (n : ℤ) → All HasSmallInteger facts → exact_integer facts s ≡ Some n → has_32_bits n ≡ true
 exact_small facts s n all e = said_where integer_said HasSmallInteger (λ (z : ℤ). has_32_bits z ≡ true) facts s n (small_said n) all e
@@ -45,13 +39,7 @@ text_has : (P : Fact → Type 0) (Q : List ℕ → Type 0) (text : List ℕ) (fa
     → P fact → text_said fact ≡ Some text → Q text
 text_has P Q text (Text s other) gives h e =
     let same : other ≡ text = cc in gives s (subst (λ (t : List ℕ). P (Text s t)) same h)
-text_has P Q text (Is s k) gives h e = absurd (cc)
-text_has P Q text (Int s k) gives h e = absurd (cc)
-text_has P Q text (Call s k) gives h e = absurd (cc)
-text_has P Q text (Block s k) gives h e = absurd (cc)
-text_has P Q text (Blank s) gives h e = absurd (cc)
-text_has P Q text (Nonblank s) gives h e = absurd (cc)
-text_has P Q text (Wellformed s) gives h e = absurd (cc)
+text_has P Q text _ gives h e = absurd (cc)
 
 pub exact_short : (facts : List Fact) (s : ℕ) (text : List ℕ) → All HasShortText facts → exact_text facts s ≡ Some text → length text ≤ 2 ^ 45
 exact_short facts s text all e =

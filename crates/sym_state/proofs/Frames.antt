@@ -1,9 +1,10 @@
 -- What a state says stays where an assignment agrees with another, and a new symbol is added.
-use Rattle.std.proofs.Common.{◌≡◌, ℕ, ◌<◌, Bool, true, false, cond, nat_eq, List, [], ◌∷◌, ◌++◌, map, Some, refl, sym, ap, subst, ◌∙◌, arith}
+use Rattle.std.proofs.Common.{◌≡◌, ℕ, suc, ◌<◌, Bool, true, false, cond, nat_eq, List, [], ◌∷◌, ◌++◌, map, reverse, Some, refl, sym, ap, subst, ◌∙◌, arith}
 use Rattle.std.specs.Prelude.{ℤ, ◌+ℤ◌, ◌*ℤ◌, ◌≤ℤ◌, pos}
 use Rattle.std.specs.List.{All, AllByRecursion}
 use Rattle.std.proofs.lemmas.Bool.Decides.{nat_tests}
-use Rattle.std.proofs.lemmas.List.Elements.{All-head, All-tail}
+use Rattle.std.proofs.lemmas.List.{reverse-append}
+use Rattle.std.proofs.lemmas.List.Elements.{All-append, All-cons, All-head, All-nil, All-same, All-tail}
 use Rattle.lin_facts.specs.Rows.{Holds, sum_of}
 use Rattle.lin_facts.specs.declared.row.Part.{Part}
 use Rattle.lin_facts.specs.declared.row.Row.{Row}
@@ -15,10 +16,9 @@ use Rattle.bst_meaning.specs.Config.{Config}
 use Rattle.sym_state.specs.declared.symbol.Sym.{Sym}
 use Rattle.sym_state.specs.declared.symbol.Bind.{Bind}
 use Rattle.sym_state.specs.declared.symbol.Fact.{Fact}
-use Rattle.sym_state.specs.Covers.{Agrees}
 use Rattle.sym_state.specs.Facts.{FactHolds, Says, subject}
 use Rattle.sym_state.specs.Stands.{IsBound}
-use Rattle.sym_state.specs.Symbols.{Valuation, integer_of, length_of, name_count_of, numbers}
+use Rattle.sym_state.specs.Symbols.{Agrees, IsValue, Valuation, integer_of, length_of, name_count_of, numbers}
 use Rattle.sym_state.specs.WellMade.{IsTermBelow}
 
 -- with one symbol more, which has this value
@@ -43,6 +43,17 @@ next_is next value v = ap (λ (t : Bool). cond t value (v.value next)) (same_sel
 
 pub agrees_self : (next : ℕ) (v : Valuation) → Agrees next v v
 agrees_self next v = record { value = λ s less. refl; position = refl; count = refl }
+
+pub agrees_further : (next : ℕ) (u v w : Valuation) → Agrees next u v → Agrees (suc next) v w → Agrees next u w
+agrees_further next u v w a b = record {
+  value = λ s less. b.value s (omega arith) ∙ a.value s less;
+  position = b.position ∙ a.position;
+  count = b.count ∙ a.count;
+}
+
+pub value_case : (value : Value) (v : Valuation) → IsValue value → ((s : ℕ) → IsValue (v.value s)) → (s : ℕ) (t : Bool) → IsValue (cond t value (v.value s))
+value_case value v is all s true = is
+value_case value v is all s false = all s
 
 -- terms, rows, facts and bindings on the symbols that were there
 pub term_agrees : (next : ℕ) (v w : Valuation) (t : Term) → Agrees next v w → IsTermBelow next t → numbers w t ≡ numbers v t
@@ -91,7 +102,8 @@ binds_agree style next v w c (bind ∷ binds) a all h = (
   binds_agree style next v w c binds a (All-tail (λ bind. bind.sym.0 < next) bind binds all) h.1,
 )
 
-abbrev value_list : Valuation → List Sym → List Value
+-- the values of symbols, in their order
+abbrev pub value_list : Valuation → List Sym → List Value
 value_list v syms = map (λ s. v.value s.0) syms
 
 pub list_agrees : (next : ℕ) (v w : Valuation) (syms : List Sym) → Agrees next v w → All (λ s. s.0 < next) syms
@@ -101,12 +113,15 @@ list_agrees next v w (s ∷ syms) a all =
     ap (λ (x : Value). x ∷ value_list w syms) (a.value s.0 (All-head (λ s. s.0 < next) s syms all))
     ∙ ap (λ (l : List Value). v.value s.0 ∷ l) (list_agrees next v w syms a (All-tail (λ s. s.0 < next) s syms all))
 
-pub facts_joined : (style : Style) (v : Valuation) (a b : List Fact) → AllByRecursion (FactHolds style v) a → AllByRecursion (FactHolds style v) b
-    → AllByRecursion (FactHolds style v) (a ++ b)
-facts_joined style v [] b h more = more
-facts_joined style v (fact ∷ a) b h more = (h.0, facts_joined style v a b h.1 more)
+-- symbols in the opposite order
+pub all_reversed : (next : ℕ) (xs : List Sym) → All (λ s. s.0 < next) xs → All (λ s. s.0 < next) (reverse xs)
+all_reversed next [] all = All-nil (λ s. s.0 < next)
+all_reversed next (x ∷ xs) all =
+    All-same (λ s. s.0 < next) (reverse (x ∷ xs)) (reverse xs ++ x ∷ []) (reverse-append (x ∷ []) xs)
+    (All-append (λ s. s.0 < next) (reverse xs) (x ∷ []) (all_reversed next xs (All-tail (λ s. s.0 < next) x xs all))
+    (All-cons (λ s. s.0 < next) x [] (All-head (λ s. s.0 < next) x xs all) (All-nil (λ s. s.0 < next))))
 
-pub rows_joined : (v : Valuation) (a b : List Row) → AllByRecursion (Holds (numbers v)) a → AllByRecursion (Holds (numbers v)) b
-    → AllByRecursion (Holds (numbers v)) (a ++ b)
-rows_joined v [] b h more = more
-rows_joined v (row ∷ a) b h more = (h.0, rows_joined v a b h.1 more)
+-- what holds of two lists holds of both together
+pub joined : {X : Type 0} (P : X → Type 0) (xs ys : List X) → AllByRecursion P xs → AllByRecursion P ys → AllByRecursion P (xs ++ ys)
+joined P [] ys h more = more
+joined P (x ∷ xs) ys h more = (h.0, joined P xs ys h.1 more)

@@ -24,8 +24,7 @@ single_is IntKind x e = cc
 single_is Str x e = cc
 single_is Missing x e = cc
 single_is Func x e = cc
-single_is Optional x e = absurd (cc)
-single_is Any x e = absurd (cc)
+single_is _ x e = absurd (cc)
 
 -- the kind that is known
 pub known_kind_holds : (style : Style) (v : Valuation) (s : ℕ) (facts : List Fact) → AllByRecursion (FactHolds style v) facts
@@ -52,32 +51,20 @@ of_kind_holds style v s facts kind all e =
 
 pub string_is : (value : Value) → has_kind Str value ≡ true → (bytes : List ℕ) × (value ≡ StrValue bytes)
 string_is (StrValue bytes) e = (bytes, refl)
-string_is (IntValue n) e = absurd (cc)
-string_is (MissingValue name) e = absurd (cc)
-string_is (FuncValue target) e = absurd (cc)
+string_is _ e = absurd (cc)
 
 pub integer_is : (value : Value) → has_kind IntKind value ≡ true → (n : ℤ) × (value ≡ IntValue n)
 integer_is (IntValue n) e = (n, refl)
-integer_is (StrValue bytes) e = absurd (cc)
-integer_is (MissingValue name) e = absurd (cc)
-integer_is (FuncValue target) e = absurd (cc)
+integer_is _ e = absurd (cc)
 
 pub function_is : (value : Value) → has_kind Func value ≡ true → (target : Target) × (value ≡ FuncValue target)
 function_is (FuncValue target) e = (target, refl)
-function_is (StrValue bytes) e = absurd (cc)
-function_is (MissingValue name) e = absurd (cc)
-function_is (IntValue n) e = absurd (cc)
+function_is _ e = absurd (cc)
 
 function_fact : (style : Style) (value : Value) (fact : Fact) (name : NameId) → function_said fact ≡ Some (ByName name) → Says style fact value
     → value ≡ FuncValue (Named name)
 function_fact style value (Call s other) name e h = let same : other ≡ name = cc in h ∙ ap (λ (n : NameId). FuncValue (Named n)) same
-function_fact style value (Block s n) name e h = absurd (cc)
-function_fact style value (Is s k) name e h = absurd (cc)
-function_fact style value (Int s k) name e h = absurd (cc)
-function_fact style value (Text s k) name e h = absurd (cc)
-function_fact style value (Blank s) name e h = absurd (cc)
-function_fact style value (Nonblank s) name e h = absurd (cc)
-function_fact style value (Wellformed s) name e h = absurd (cc)
+function_fact style value _ name e h = absurd (cc)
 
 -- a function that is known by its name
 pub name_is : (style : Style) (v : Valuation) (s : ℕ) (facts : List Fact) (name : NameId) → AllByRecursion (FactHolds style v) facts

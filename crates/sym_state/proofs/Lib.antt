@@ -1,9 +1,11 @@
+pub mod Below
 pub mod Bindings
 pub mod BlankNames
 pub mod Bounds
 pub mod Consequences
 pub mod Counting
 pub mod Deciding
+pub mod Ensured
 pub mod Entailed
 pub mod Exact
 pub mod Making
@@ -17,6 +19,7 @@ pub mod Spots
 pub mod Started
 pub mod Sums
 pub mod Frames
+pub mod Fronts
 pub mod KnownKinds
 pub mod Pushing
 pub mod Resulting

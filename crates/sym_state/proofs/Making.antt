@@ -77,8 +77,7 @@ raised_term : (n m k : ℕ) (t : Term) → k + m ≤ n → IsTermBelow m t → I
 raised_term n m k (Value s) few h = omega arith
 raised_term n m k (Length s) few h = omega arith
 raised_term n m k (Names s) few h = omega arith
-raised_term n m k Pos few h = tt
-raised_term n m k Count few h = tt
+raised_term n m k _ few h = tt
 
 abbrev pub RowBelow : ℕ → Row → Type 0
 RowBelow n row = All (λ part. IsTermBelow n part.term) row.parts
@@ -96,43 +95,20 @@ raised_rows n k piece few numbered =
 
 short_renamed : (k : ℕ) (fact : Fact) → HasShortText fact → HasShortText (fact_renamed (raised k) fact)
 short_renamed k (Text s x) h = h
-short_renamed k (Is s x) h = tt
-short_renamed k (Int s x) h = tt
-short_renamed k (Call s x) h = tt
-short_renamed k (Block s x) h = tt
-short_renamed k (Blank s) h = tt
-short_renamed k (Nonblank s) h = tt
-short_renamed k (Wellformed s) h = tt
+short_renamed k _ h = tt
 
 small_renamed : (k : ℕ) (fact : Fact) → HasSmallInteger fact → HasSmallInteger (fact_renamed (raised k) fact)
 small_renamed k (Int s x) h = h
-small_renamed k (Is s x) h = tt
-small_renamed k (Text s x) h = tt
-small_renamed k (Call s x) h = tt
-small_renamed k (Block s x) h = tt
-small_renamed k (Blank s) h = tt
-small_renamed k (Nonblank s) h = tt
-small_renamed k (Wellformed s) h = tt
+small_renamed k _ h = tt
 
 bytes_renamed : (k : ℕ) (fact : Fact) → HasByteText fact → HasByteText (fact_renamed (raised k) fact)
 bytes_renamed k (Text s x) h = h
-bytes_renamed k (Is s x) h = tt
-bytes_renamed k (Int s x) h = tt
-bytes_renamed k (Call s x) h = tt
-bytes_renamed k (Block s x) h = tt
-bytes_renamed k (Blank s) h = tt
-bytes_renamed k (Nonblank s) h = tt
-bytes_renamed k (Wellformed s) h = tt
+bytes_renamed k _ h = tt
 
 style_renamed : (style : Style) (k : ℕ) (fact : Fact) → IsOfStyle style fact → IsOfStyle style (fact_renamed (raised k) fact)
 style_renamed style k (Call s x) h = h
 style_renamed style k (Block s x) h = h
-style_renamed style k (Text s x) h = tt
-style_renamed style k (Is s x) h = tt
-style_renamed style k (Int s x) h = tt
-style_renamed style k (Blank s) h = tt
-style_renamed style k (Nonblank s) h = tt
-style_renamed style k (Wellformed s) h = tt
+style_renamed style k _ h = tt
 
 abbrev part_renamed : ℕ → Part → Part
 part_renamed k part = record { coefficient = part.coefficient; term = term_renamed (raised k) part.term }

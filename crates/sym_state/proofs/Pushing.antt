@@ -26,18 +26,7 @@ use Rattle.sym_state.specs.Results.{next_of, with_result, with_symbol}
 use Rattle.sym_state.specs.Stands.{HasList, IsBound, IsVisiting, Satisfies, Stands, value_by, values_of}
 use Rattle.sym_state.specs.Symbols.{Valuation, IsValue, numbers}
 use Rattle.sym_state.specs.WellMade.{WellMade}
-use Rattle.sym_state.proofs.Frames.{binds_agree, facts_agree, facts_joined, list_agrees, next_agrees, next_is, rows_agree, rows_joined, with_next}
-
--- the values of symbols, in their order
-abbrev pub value_list : Valuation → List Sym → List Value
-value_list v syms = map (λ s. v.value s.0) syms
-
-pub all_reversed : (next : ℕ) (xs : List Sym) → All (λ s. s.0 < next) xs → All (λ s. s.0 < next) (reverse xs)
-all_reversed next [] all = All-nil (λ s. s.0 < next)
-all_reversed next (x ∷ xs) all =
-    All-same (λ s. s.0 < next) (reverse (x ∷ xs)) (reverse xs ++ x ∷ []) (reverse-append (x ∷ []) xs)
-    (All-append (λ s. s.0 < next) (reverse xs) (x ∷ []) (all_reversed next xs (All-tail (λ s. s.0 < next) x xs all))
-    (All-cons (λ s. s.0 < next) x [] (All-head (λ s. s.0 < next) x xs all) (All-nil (λ s. s.0 < next))))
+use Rattle.sym_state.proofs.Frames.{all_reversed, binds_agree, facts_agree, joined, list_agrees, next_agrees, next_is, rows_agree, value_case, value_list, with_next}
 
 -- the symbols on the stack, the top first
 pub tops_below : (style : Style) (state : State) (tops : List Sym) → WellMade style state → reverse state.stack ≡ tops
@@ -106,11 +95,6 @@ moved style admits list v state c below tops stack events log h e = record {
   fields = binds_same style v (value_list v tops ++ below) events log c state.fields h.fields;
 }
 
-value_case : (next : ℕ) (value : Value) (v : Valuation) → IsValue value → ((s : ℕ) → IsValue (v.value s)) → (s : ℕ) (t : Bool)
-    → IsValue (cond t value (v.value s))
-value_case next value v is all s true = is
-value_case next value v is all s false = all s
-
 kind_fact : (style : Style) (kind : Kinds) (s : Sym) (value : Value) (w : Valuation) → w.value s.0 ≡ value → has_kind kind value ≡ true
     → AllByRecursion (FactHolds style w) (kind_facts s kind)
 kind_fact style Any s value w e h = tt
@@ -129,14 +113,14 @@ pub satisfies_next : (style : Style) (admits : Cond) (v : Valuation) (state : St
 satisfies_next style admits v state kind facts rows value made h is of_kind fine shown =
     let w = with_next state.next value v in
     let a = next_agrees state.next value v in record {
-      values = λ s. value_case state.next value v is h.values s (nat_eq s state.next);
+      values = λ s. value_case value v is h.values s (nat_eq s state.next);
       count = h.count;
       position = h.position;
-      facts = facts_joined style w state.facts (kind_facts (next_of state) kind ++ facts)
+      facts = joined (FactHolds style w) state.facts (kind_facts (next_of state) kind ++ facts)
           (facts_agree style state.next v w state.facts a made.facts h.facts)
-          (facts_joined style w (kind_facts (next_of state) kind) facts
+          (joined (FactHolds style w) (kind_facts (next_of state) kind) facts
           (kind_fact style kind (next_of state) value w (next_is state.next value v) of_kind) fine);
-      rows = rows_joined w state.rows rows (rows_agree state.next v w state.rows a made.rows h.rows) shown;
+      rows = joined (Holds (numbers w)) state.rows rows (rows_agree state.next v w state.rows a made.rows h.rows) shown;
     }
 
 top_first : (w : Valuation) (rest : List Sym) (s : Sym) (below : List Value)

@@ -34,5 +34,4 @@ read_as style IntEntry name place c e = refl
 read_as style StrEntry name place c e = refl
 read_as style IntGlobal name place c e = refl
 read_as style StrGlobal name place c e = refl
-read_as style (Builtin op) name place c e = absurd (cc)
-read_as style (Wizard body) name place c e = absurd (cc)
+read_as style _ name place c e = absurd (cc)

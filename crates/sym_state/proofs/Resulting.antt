@@ -27,7 +27,8 @@ use Rattle.sym_state.specs.WellMade.{HasByteText, HasShortText, HasSmallInteger,
 use Rattle.sym_state.proofs.Bindings.{bind_kept}
 use Rattle.sym_state.proofs.Bounds.{within_size}
 use Rattle.sym_state.proofs.Making.{RowBelow}
-use Rattle.sym_state.proofs.Pushing.{all_reversed, without}
+use Rattle.sym_state.proofs.Frames.{all_reversed}
+use Rattle.sym_state.proofs.Pushing.{without}
 use Rattle.sym_state.proofs.Sums.{three_bounded, two_bounded}
 
 -- a fact on a symbol below a number, which says what can be said of a value, within the bounds of facts
@@ -79,8 +80,7 @@ term_raised : (m n : ℕ) (t : Term) → m ≤ n → IsTermBelow m t → IsTermB
 term_raised m n (Value s) more h = omega arith
 term_raised m n (Length s) more h = omega arith
 term_raised m n (Names s) more h = omega arith
-term_raised m n Pos more h = tt
-term_raised m n Count more h = tt
+term_raised m n _ more h = tt
 
 row_raised : (m n : ℕ) (row : Row) → m ≤ n → RowBelow m row → RowBelow n row
 row_raised m n row more h =

@@ -79,9 +79,7 @@ not_empty (Str (b ∷ bytes)) e =
     let one : 1 ≤ length (b ∷ bytes) = omega arith in
     let named : 1 ≤ length (names_of (b ∷ bytes)) = names_at_least (b ∷ bytes) one in
     (omega (arith, ints), omega (arith, ints))
-not_empty (Missing name) e = absurd (cc)
-not_empty (Int n) e = absurd (cc)
-not_empty (Func target) e = absurd (cc)
+not_empty _ e = absurd (cc)
 
 -- a row on a symbol is there where the symbol is the state's
 there : {X : Type 0} (b : Bool) (row : Option X) (r : X) → cond b row None ≡ Some r → row ≡ Some r

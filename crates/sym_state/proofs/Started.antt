@@ -2,7 +2,7 @@
 use Rattle.std.proofs.Common.{◌≡◌, ℕ, zero, suc, ◌+◌, ◌≤◌, ◌<◌, Bool, true, false, cond, ap, sym, ◌∙◌, subst, List, [], ◌∷◌, ◌++◌, length, map, drop, arith, Some, add-one, append_assoc}
 use Rattle.std.specs.List.{All, filter, flat_map}
 use Rattle.std.specs.Global.{Global}
-use Rattle.std.proofs.lemmas.List.Elements.{All-nil, All-cons, All-head, All-tail}
+use Rattle.std.proofs.lemmas.List.Elements.{All-cons, All-head, All-nil, All-same, All-tail}
 use Rattle.lin_facts.specs.declared.row.Row.{Row}
 use Rattle.name_table.specs.Names.{kind_at}
 use Rattle.name_table.specs.declared.names.Kind.{Kind}
@@ -61,7 +61,7 @@ ids_from-length test at (name ∷ names) =
     ]
 
 -- bindings of names below a number
-pub names_within : (n : ℕ) (binds : List Bind) (names : List NameId) → map (λ b. b.name) binds ≡ names → All (λ name. name.0 < n) names → All (λ b. b.name.0 < n) binds
+names_within : (n : ℕ) (binds : List Bind) (names : List NameId) → map (λ b. b.name) binds ≡ names → All (λ name. name.0 < n) names → All (λ b. b.name.0 < n) binds
 names_within n [] names e all = All-nil (λ b. b.name.0 < n)
 names_within n (b ∷ binds) [] e all = absurd (cc)
 names_within n (b ∷ binds) (name ∷ names) e all =
@@ -70,6 +70,12 @@ names_within n (b ∷ binds) (name ∷ names) e all =
     All-cons (λ c. c.name.0 < n) b binds
     (subst (λ (id : NameId). id.0 < n) (sym first) (All-head (λ id. id.0 < n) name names all))
     (names_within n binds names rest (All-tail (λ id. id.0 < n) name names all))
+
+-- the bindings that are seen in a slice have names that are within the style's
+pub seen_within : (n : ℕ) (binds seen : List Bind) (names known : List NameId) → seen ≡ binds → map (λ b. b.name) binds ≡ names → names ≡ known
+    → All (λ name. name.0 < n) known → All (λ b. b.name.0 < n) seen
+seen_within n binds seen names known same named is all =
+    All-same (λ b. b.name.0 < n) seen binds same (names_within n binds names named (All-same (λ name. name.0 < n) names known is all))
 
 pub started_is : (alloc : Global) (style : Style) (admits : Cond) (pieces : List Piece) (whole at_entry : Bool)
     (stack : List Sym) (bound seated vars fields : List Bind) (names : List NameId) (facts : List Fact) (rows : List Row) (first next : ℕ)

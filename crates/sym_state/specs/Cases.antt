@@ -1,13 +1,13 @@
 -- The cases of a test on a state (docs/EFFECTS.md, "Cases"): that of 1 or of a number above 0 first, then that of 0. A test that is
 -- decided has one case. Each case of an undecided test on integers takes a hint: it is kept, or dropped where it can't come about.
-use Rattle.std.specs.Prelude.{ℕ, ◌<◌, ℤ, pos, negsuc, ◌-ℤ◌, Bool, true, false, ◌&&◌, nat_eq, if◌then◌else◌, List, [], ◌∷◌, ◌++◌, reverse, Option, None, Some, Result, Ok, Err}
+use Rattle.std.specs.Prelude.{ℕ, ◌<◌, ℤ, pos, negsuc, ◌-ℤ◌, Bool, true, false, nat_eq, if◌then◌else◌, List, [], ◌∷◌, ◌++◌, Option, None, Some, Result, Ok, Err}
 use Rattle.std.specs.Cmp.Lexicographic.{pointwise}
+use Rattle.bv_base.specs.Answers.{then_do}
 use Rattle.lin_facts.specs.declared.row.Row.{Row}
 use Rattle.lin_facts.specs.declared.row.Term.TheVariants.{Value}
 use Rattle.bst_meaning.specs.Operands.{is_positive, is_zero}
 use Rattle.bst_meaning.specs.declared.condition.Cond.{Cond}
-use Rattle.sym_state.specs.declared.demand.DemandKind.{DemandKind}
-use Rattle.sym_state.specs.declared.demand.DemandKind.TheVariants.{EmptyPop, WrongKind}
+use Rattle.sym_state.specs.declared.demand.DemandKind.TheVariants.{WrongKind}
 use Rattle.sym_state.specs.declared.demand.EffectFault.{EffectFault}
 use Rattle.sym_state.specs.declared.demand.EffectFault.TheVariants.{NotEntailed, HintsShort, WrongHint}
 use Rattle.sym_state.specs.declared.hint.Hint.{Hint}
@@ -19,9 +19,9 @@ use Rattle.sym_state.specs.declared.test.Test.TheVariants.{Empty, Missing as IsM
 use Rattle.sym_state.specs.declared.symbol.Fact.{Fact}
 use Rattle.sym_state.specs.declared.symbol.Fact.TheVariants.{Is, Int as IntFact, Text as TextFact, Blank, Nonblank}
 use Rattle.sym_state.specs.declared.symbol.Kinds.{Kinds}
-use Rattle.sym_state.specs.declared.symbol.Kinds.TheVariants.{Int, Str, Missing, Optional}
+use Rattle.sym_state.specs.declared.symbol.Kinds.TheVariants.{Int, Str, Missing, Optional, Any}
 use Rattle.sym_state.specs.Decided.{emptiness_said, exact_integer, exact_text, first_said, known_kind}
-use Rattle.sym_state.specs.Demands.{fails, is_of_kind}
+use Rattle.sym_state.specs.Demands.{One, Two, demand, fails, is_of_kind, one_of, two_of}
 pub use Rattle.sym_state.specs.Demands.{HasFewUses}
 use Rattle.sym_state.specs.References.{at_least, at_most, exceeds, shows}
 use Rattle.sym_state.specs.Results.{next_of, row, with_result}
@@ -38,10 +38,6 @@ Split = Result Cases EffectFault
 -- the cases of a test, where no hint is taken any more
 abbrev pub given : List State → List Hint → Split
 given states hints = Ok (record { states = states; hints = hints })
-
--- a demand of a test isn't met
-abbrev pub refused : DemandKind → ℕ → Split
-refused kind operand = Err (fails kind operand)
 
 -- a state with what a case adds: facts and rows
 abbrev pub with_case : List Fact → List Row → State → State
@@ -80,67 +76,10 @@ abbrev pub weighed : Cond → State → List Hint → Split
 weighed cond state [] = Err HintsShort
 weighed cond state (hint ∷ hints) = weighed_by cond state hint hints
 
--- cases, and those that come of the hints that are left
-abbrev pub before : List State → Split → Split
-before states (Ok cases) = given (states ++ cases.states) cases.hints
-before states (Err fault) = Err fault
-
--- a rule for the hints that the cases before it left
-abbrev pub followed_by : Split → (List Hint → Split) → Split
-followed_by (Ok cases) rule = before cases.states (rule cases.hints)
-followed_by (Err fault) rule = Err fault
-
 -- two cases, each of which takes a hint
 abbrev pub weighed_both : Cond → State → State → List Hint → Split
-weighed_both cond first second hints = followed_by (weighed cond first hints) (weighed cond second)
-
--- an operand, and the state without it
-pub record One : Type 0 where
-  pub operand : Sym
-  pub rest : State
-
--- two operands, the top one and the one below, and the state without them
-pub record Two : Type 0 where
-  pub lower : Sym
-  pub upper : Sym
-  pub rest : State
-
--- the top operand, of a stack whose top comes first
-abbrev pub one_of : List Sym → State → Result One EffectFault
-one_of [] state = Err (fails EmptyPop 1)
-one_of (a ∷ rest) state = Ok (record { operand = a; rest = record state { stack = reverse rest } })
-
--- the two topmost, of a stack whose top comes first
-abbrev pub two_of : List Sym → State → Result Two EffectFault
-two_of [] state = Err (fails EmptyPop 1)
-two_of (b ∷ []) state = Err (fails EmptyPop 2)
-two_of (b ∷ (a ∷ rest)) state = Ok (record { lower = a; upper = b; rest = record state { stack = reverse rest } })
-
--- a string or a missing field
-abbrev pub field_met : State → Result One EffectFault → Result One EffectFault
-field_met state (Ok one) = if is_of_kind state Optional one.operand then Ok one else Err (fails WrongKind 1)
-field_met state (Err fault) = Err fault
-
--- the operand of `empty$` and of `missing$`
-abbrev pub field_of : State → Result One EffectFault
-field_of state = field_met state (one_of (reverse state.stack) state)
-
--- two integers, the top one's kind first
-abbrev pub integers_met : State → Result Two EffectFault → Result Two EffectFault
-integers_met state (Ok two) =
-    if is_of_kind state Int two.upper
-    then (if is_of_kind state Int two.lower then Ok two else Err (fails WrongKind 2))
-    else Err (fails WrongKind 1)
-integers_met state (Err fault) = Err fault
-
--- the operands of `<` and of `>`
-abbrev pub integers_of : State → Result Two EffectFault
-integers_of state = integers_met state (two_of (reverse state.stack) state)
-
--- what follows where demands are met
-abbrev pub split_by : {X : Type 0} → Result X EffectFault → (X → Split) → Split
-split_by (Ok operands) rule = rule operands
-split_by (Err fault) rule = Err fault
+weighed_both cond first second hints =
+    then_do (weighed cond first hints) (λ one. then_do (weighed cond second one.hints) (λ other. given (one.states ++ other.states) other.hints))
 
 -- `empty$`
 abbrev pub empty_cases : Option Bool → One → List Hint → Split
@@ -150,7 +89,7 @@ empty_cases None one hints =
 
 -- it takes a string or a missing field
 abbrev pub empty : State → List Hint → Split
-empty state hints = split_by (field_of state) (λ one. empty_cases (first_said emptiness_said one.operand.0 state.facts) one hints)
+empty state hints = then_do (one_of Optional state) (λ one. empty_cases (first_said emptiness_said one.operand.0 state.facts) one hints)
 
 -- `missing$`
 abbrev pub missing_cases : Kinds → One → List Hint → Split
@@ -160,7 +99,7 @@ missing_cases _ one hints = both (Is one.operand Missing ∷ []) (Is one.operand
 
 -- it takes the same
 abbrev pub missing : State → List Hint → Split
-missing state hints = split_by (field_of state) (λ one. missing_cases (known_kind state.facts one.operand.0) one hints)
+missing state hints = then_do (one_of Optional state) (λ one. missing_cases (known_kind state.facts one.operand.0) one hints)
 
 -- the answer of a test on two values that are both known
 abbrev pub answer : {X : Type 0} → (X → X → Bool) → Option X → Option X → Option Bool
@@ -221,12 +160,12 @@ equal_rows a b = exceeds (Value a.0) (Value b.0) (pos 0) ∷ exceeds (Value b.0)
 
 -- `<`
 abbrev pub less : Cond → State → List Hint → Split
-less cond state hints = split_by (integers_of state) (λ two.
+less cond state hints = then_do (two_of Int Int state) (λ two.
     integer_cases cond (less_decided state.facts two.lower two.upper) (less_rows two.lower two.upper) (at_least_rows two.lower two.upper) two.rest hints)
 
 -- `>`
 abbrev pub greater : Cond → State → List Hint → Split
-greater cond state hints = split_by (integers_of state) (λ two.
+greater cond state hints = then_do (two_of Int Int state) (λ two.
     integer_cases cond (greater_decided state.facts two.lower two.upper) (less_rows two.upper two.lower) (at_least_rows two.upper two.lower) two.rest hints)
 
 -- `=` of two strings: in the case of 1 a text that one has exactly passes to the other
@@ -251,18 +190,16 @@ text_cases None facts rest hints = both facts [] rest hints
 -- `=`: two integers or two strings
 abbrev pub equal_by : Cond → State → Kinds → Two → List Hint → Split
 equal_by cond state Int two hints =
-    if is_of_kind state Int two.lower
-    then integer_cases cond (equal_decided state.facts two.lower two.upper) (equal_rows two.lower two.upper) [] two.rest hints
-    else refused WrongKind 2
+    demand (is_of_kind state Int two.lower) WrongKind 2
+    (integer_cases cond (equal_decided state.facts two.lower two.upper) (equal_rows two.lower two.upper) [] two.rest hints)
 equal_by cond state Str two hints =
-    if is_of_kind state Str two.lower
-    then text_cases (texts_decided state.facts two.lower two.upper) (passed_both state.facts two.lower two.upper) two.rest hints
-    else refused WrongKind 2
-equal_by cond state _ two hints = refused WrongKind 1
+    demand (is_of_kind state Str two.lower) WrongKind 2
+    (text_cases (texts_decided state.facts two.lower two.upper) (passed_both state.facts two.lower two.upper) two.rest hints)
+equal_by cond state _ two hints = Err (fails WrongKind 1)
 
 -- it takes two integers or two strings, as the top one is
 abbrev pub equal : Cond → State → List Hint → Split
-equal cond state hints = split_by (two_of (reverse state.stack) state) (λ two.
+equal cond state hints = then_do (two_of Any Any state) (λ two.
     equal_by cond state (known_kind state.facts two.upper.0) two hints)
 
 -- whether an integer is above 0: nothing is taken from the stack or put on it
@@ -288,26 +225,21 @@ split_of cond state Less hints = less cond state hints
 split_of cond state Greater hints = greater cond state hints
 split_of cond state (Above s) hints = above_cases cond state s (exact_integer state.facts s.0) hints
 
--- the two topmost symbols, the lower one first, where both are known to be integers
-abbrev pub top_integers : State → List Sym → Option (Sym × Sym)
-top_integers state (b ∷ (a ∷ rest)) = if (is_of_kind state Int b && is_of_kind state Int a) then Some (a, b) else None
-top_integers state _ = None
-
 -- two hints where a test isn't decided
 abbrev pub hints_of : {X : Type 0} → Option X → ℕ
 hints_of (Some x) = 0
 hints_of None = 2
 
 -- how many hints the cases of a test on two integers take: none where they aren't there
-abbrev pub hints_on : (Sym → Sym → Option Bool) → Option (Sym × Sym) → ℕ
-hints_on rule (Some tops) = hints_of (rule tops.0 tops.1)
-hints_on rule None = 0
+abbrev pub hints_on : (Sym → Sym → Option Bool) → Result Two EffectFault → ℕ
+hints_on rule (Ok two) = hints_of (rule two.lower two.upper)
+hints_on rule (Err fault) = 0
 
 -- how many hints the cases of a test take
 abbrev pub needs_of : State → Test → ℕ
-needs_of state Equal = hints_on (equal_decided state.facts) (top_integers state (reverse state.stack))
-needs_of state Less = hints_on (less_decided state.facts) (top_integers state (reverse state.stack))
-needs_of state Greater = hints_on (greater_decided state.facts) (top_integers state (reverse state.stack))
+needs_of state Equal = hints_on (equal_decided state.facts) (two_of Int Int state)
+needs_of state Less = hints_on (less_decided state.facts) (two_of Int Int state)
+needs_of state Greater = hints_on (greater_decided state.facts) (two_of Int Int state)
 needs_of state (Above s) = hints_of (exact_integer state.facts s.0)
 needs_of state _ = 0
 

@@ -1,5 +1,5 @@
 -- What it is for an effect, or for cases, to cover what the machine does (docs/EFFECTS.md, "What effects cover").
-use Rattle.std.specs.Prelude.{◌≡◌, ℕ, ◌<◌, List, Ok}
+use Rattle.std.specs.Prelude.{◌≡◌, List, Ok}
 use Rattle.bv_base.specs.declared.place.Place.{Place}
 use Rattle.name_table.specs.declared.builtin.Builtin.{Builtin}
 use Rattle.name_table.specs.declared.style.Style.{Style}
@@ -12,13 +12,7 @@ use Rattle.bst_meaning.specs.Effect.{Effect}
 use Rattle.bst_meaning.specs.Machine.{context_of, with_effect}
 use Rattle.sym_state.specs.declared.state.State.{State}
 use Rattle.sym_state.specs.Stands.{Stands}
-use Rattle.sym_state.specs.Symbols.{Valuation}
-
--- an assignment agrees with another on the symbols below a number, and on the entries
-pub record Agrees (next : ℕ) (v w : Valuation) : Type 0 where
-  pub value : (s : ℕ) → s < next → w.value s ≡ v.value s
-  pub position : w.position ≡ v.position
-  pub count : w.count ≡ v.count
+use Rattle.sym_state.specs.Symbols.{Agrees, Valuation}
 
 -- where a state stands for a configuration by an assignment: a built-in function gives no fault there, and the state after it
 -- stands for the configuration after it, by an assignment that agrees on the symbols that were there, above the same values

@@ -18,7 +18,7 @@ use Rattle.sym_state.specs.declared.symbol.Kinds.TheVariants.{Int, Str, Optional
 use Rattle.sym_state.specs.Facts.{FactHolds, emptiness, has_good_names, has_kind}
 use Rattle.sym_state.specs.Stands.{HasList, IsBound, IsVisiting, Stands, value_by, values_of}
 use Rattle.sym_state.specs.Starting.{bound_by, is_nonblank, most_names, names_in_play, numbered_on}
-use Rattle.sym_state.specs.Symbols.{IsValue, Valuation, length_of, name_count_of, numbers}
+use Rattle.sym_state.specs.Symbols.{Agrees, IsValue, Valuation, length_of, name_count_of, numbers}
 
 -- the value of a field is a string or missing, and as the condition says
 pub record IsFieldValue (cond : Cond) (name : NameId) (value : Value) : Type 0 where
@@ -49,12 +49,6 @@ pub record PiecesHold (style : Style) (v : Valuation) (pieces : List Piece) (c :
   pub binds : AllByRecursion (IsBound style v c) (bound_by pieces)
   pub facts : AllByRecursion (FactHolds style v) (flat_map (λ piece. piece.facts) pieces)
   pub rows : AllByRecursion (Holds (numbers v)) (flat_map (λ piece. piece.rows) pieces)
-
--- an assignment agrees with another on the symbols below a number, and on the two numbers
-pub record Agrees (bound : ℕ) (v w : Valuation) : Type 0 where
-  pub values : (s : ℕ) → s < bound → w.value s ≡ v.value s
-  pub position : w.position ≡ v.position
-  pub count : w.count ≡ v.count
 
 -- the state that starts from pieces stands, by an assignment that agrees with theirs on their symbols
 pub record StandsOpen (style : Style) (cond : Cond) (list : EntryList) (v : Valuation) (symbols : ℕ) (state : State) (c : Config) (below : List Value) : Type 0 where

@@ -1,5 +1,5 @@
 -- What symbols stand for (docs/STATES.md, "Assignments"): values, and the integers of rows that they give.
-use Rattle.std.specs.Prelude.{ℕ, ℤ, pos, length}
+use Rattle.std.specs.Prelude.{◌≡◌, ℕ, ◌<◌, ℤ, pos, length}
 use Rattle.lin_facts.specs.Rows.{Assignment}
 use Rattle.lin_facts.specs.declared.row.Term.TheVariants.{Value as ValueOf, Length as LengthOf, Names as NamesOf, Pos, Count}
 use Rattle.name_split.specs.Names.{names_of}
@@ -13,6 +13,12 @@ pub record Valuation : Type 0 where
   pub value : ℕ → Value
   pub position : ℕ
   pub count : ℕ
+
+-- an assignment agrees with another on the symbols below a number, and on the entries
+pub record Agrees (next : ℕ) (v w : Valuation) : Type 0 where
+  pub value : (s : ℕ) → s < next → w.value s ≡ v.value s
+  pub position : w.position ≡ v.position
+  pub count : w.count ≡ v.count
 
 -- the integer that a value is, and 0 where it is none
 abbrev pub integer_of : Value → ℤ

@@ -10,6 +10,7 @@ pub mod facts;
 pub mod hint;
 pub mod laws;
 pub mod matching;
+pub mod operands;
 pub mod piece;
 pub mod proof;
 pub mod raising;

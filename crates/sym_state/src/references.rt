@@ -31,11 +31,23 @@ pub fn row_said(
 {
     match reference {
         Reference::Row(k) => row_at(alloc, state.rows.as_slice(), k),
-        Reference::ValueLow(s) => low(alloc, state, s, Term::Value(s.0), -2147483648),
-        Reference::ValueHigh(s) => high(alloc, state, s, Term::Value(s.0), 2147483647),
-        Reference::LengthLow(s) => low(alloc, state, s, Term::Length(s.0), 0),
-        Reference::NamesLow(s) => low(alloc, state, s, Term::Names(s.0), 0),
-        Reference::NamesHigh(s) => names_high(alloc, state, s),
+        Reference::ValueLow(s) => Ok(on_symbol(
+            state,
+            s,
+            at_least(alloc, Term::Value(s.0), -2147483648)?,
+        )),
+        Reference::ValueHigh(s) => Ok(on_symbol(
+            state,
+            s,
+            at_most(alloc, Term::Value(s.0), 2147483647)?,
+        )),
+        Reference::LengthLow(s) => Ok(on_symbol(state, s, at_least(alloc, Term::Length(s.0), 0)?)),
+        Reference::NamesLow(s) => Ok(on_symbol(state, s, at_least(alloc, Term::Names(s.0), 0)?)),
+        Reference::NamesHigh(s) => Ok(on_symbol(
+            state,
+            s,
+            exceeds(alloc, Term::Length(s.0), Term::Names(s.0), 0)?,
+        )),
         Reference::ExactLow(s) => exact_low(alloc, state, s),
         Reference::ExactHigh(s) => exact_high(alloc, state, s),
         Reference::NonblankLength(s) => nonblank(alloc, state, s, Term::Length(s.0)),
@@ -61,42 +73,13 @@ fn row_at(alloc: Global, rows: &[Row], k: u32) -> Result<Option<Row>, NoMemory>
     }
 }
 
-/// A symbol's term is at least a number, where it is the state's.
-fn low(alloc: Global, state: &State, s: Sym, term: Term, n: i64) -> Result<Option<Row>, NoMemory>
-    requires { IsWithin (2 ^ 45) n }
-    ensures said { IfOk result (λ row. row ≡ rule.on_symbol state.now s (Some (rule.at_least term n))) }
-    ensures small { IfOk result (λ row. IfSome row IsSmall) }
+/// A row on a symbol, where it is the state's.
+fn on_symbol(state: &State, s: Sym, row: Row) -> Option<Row>
+    requires { IsSmall row }
+    ensures said { result ≡ rule.on_symbol state.now s (Some row) }
+    ensures small { IfSome result IsSmall }
 {
-    if s.0 < state.next {
-        Ok(Some(at_least(alloc, term, n)?))
-    } else {
-        Ok(None)
-    }
-}
-
-/// A symbol's term is at most a number, where it is the state's.
-fn high(alloc: Global, state: &State, s: Sym, term: Term, n: i64) -> Result<Option<Row>, NoMemory>
-    requires { IsWithin (2 ^ 45) n }
-    ensures said { IfOk result (λ row. row ≡ rule.on_symbol state.now s (Some (rule.at_most term n))) }
-    ensures small { IfOk result (λ row. IfSome row IsSmall) }
-{
-    if s.0 < state.next {
-        Ok(Some(at_most(alloc, term, n)?))
-    } else {
-        Ok(None)
-    }
-}
-
-/// A string has no more names than bytes.
-fn names_high(alloc: Global, state: &State, s: Sym) -> Result<Option<Row>, NoMemory>
-    ensures said { IfOk result (λ row. row ≡ rule.on_symbol state.now s (Some (rule.exceeds (Term.Length s.0) (Term.Names s.0) (pos 0)))) }
-    ensures small { IfOk result (λ row. IfSome row IsSmall) }
-{
-    if s.0 < state.next {
-        Ok(Some(exceeds(alloc, Term::Length(s.0), Term::Names(s.0), 0)?))
-    } else {
-        Ok(None)
-    }
+    if s.0 < state.next { Some(row) } else { None }
 }
 
 /// An exact integer is at least itself.
@@ -106,7 +89,7 @@ fn exact_low(alloc: Global, state: &State, s: Sym) -> Result<Option<Row>, NoMemo
     ensures small { IfOk result (λ row. IfSome row IsSmall) }
 {
     match exact_integer(state.facts.as_slice(), s) {
-        Some(n) => low(alloc, state, s, Term::Value(s.0), n as i64),
+        Some(n) => Ok(on_symbol(state, s, at_least(alloc, Term::Value(s.0), n as i64)?)),
         None => Ok(None),
     }
 }
@@ -118,7 +101,7 @@ fn exact_high(alloc: Global, state: &State, s: Sym) -> Result<Option<Row>, NoMem
     ensures small { IfOk result (λ row. IfSome row IsSmall) }
 {
     match exact_integer(state.facts.as_slice(), s) {
-        Some(n) => high(alloc, state, s, Term::Value(s.0), n as i64),
+        Some(n) => Ok(on_symbol(state, s, at_most(alloc, Term::Value(s.0), n as i64)?)),
         None => Ok(None),
     }
 }
@@ -130,7 +113,7 @@ fn nonblank(alloc: Global, state: &State, s: Sym, term: Term) -> Result<Option<R
     ensures small { IfOk result (λ row. IfSome row IsSmall) }
 {
     if is_known_nonblank(state.facts.as_slice(), s) {
-        low(alloc, state, s, term, 1)
+        Ok(on_symbol(state, s, at_least(alloc, term, 1)?))
     } else {
         Ok(None)
     }
@@ -144,7 +127,11 @@ fn text_low(alloc: Global, state: &State, s: Sym) -> Result<Option<Row>, NoMemor
     ensures small { IfOk result (λ row. IfSome row IsSmall) }
 {
     match exact_text(state.facts.as_slice(), s) {
-        Some(text) => low(alloc, state, s, Term::Length(s.0), text.len() as i64),
+        Some(text) => Ok(on_symbol(
+            state,
+            s,
+            at_least(alloc, Term::Length(s.0), text.len() as i64)?,
+        )),
         None => Ok(None),
     }
 }
@@ -157,7 +144,11 @@ fn text_high(alloc: Global, state: &State, s: Sym) -> Result<Option<Row>, NoMemo
     ensures small { IfOk result (λ row. IfSome row IsSmall) }
 {
     match exact_text(state.facts.as_slice(), s) {
-        Some(text) => high(alloc, state, s, Term::Length(s.0), text.len() as i64),
+        Some(text) => Ok(on_symbol(
+            state,
+            s,
+            at_most(alloc, Term::Length(s.0), text.len() as i64)?,
+        )),
         None => Ok(None),
     }
 }

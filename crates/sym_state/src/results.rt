@@ -2,13 +2,13 @@
 
 ghost use Rattle.std.specs.Prelude.{◌≡◌, ◌≤◌, ◌^◌, ◌+ℤ◌, ◌++◌, [], length, IfOk, OnOk};
 ghost use Rattle.std.specs.List.{All, sum_by};
-ghost use Rattle.lin_facts.specs.Rows as rows;
 ghost use Rattle.lin_facts.specs.Rows.{IsWithin};
 ghost use Rattle.sym_state.specs.Results as rule;
 ghost use Rattle.sym_state.specs.WellMade.{IsBounded, size};
 
 use bv_base::memory::NoMemory;
 use bv_base::seq::Seq;
+use lin_facts::follows::same_term;
 use lin_facts::row::{Part, Row, Term};
 use std::alloc::Global;
 
@@ -50,8 +50,7 @@ pub fn sum_of_three(
 /// A constant and parts.
 fn row(constant: i64, parts: Vec<Part>) -> Row
     requires constant { IsWithin (2 ^ 45) constant }
-    requires few { length parts.items ≤ 32 }
-    requires coefficients { sum_by (λ part. size part.coefficient) parts.items ≤ 2 ^ 45 }
+    requires parts { (length parts.items ≤ 32) × (sum_by (λ part. size part.coefficient) parts.items ≤ 2 ^ 45) }
     ensures said { result ≡ rule.row constant parts.items }
     ensures bounded { IsBounded result }
 {
@@ -105,18 +104,4 @@ fn push_kept(all: &mut Vec<Part>, coefficient: i64, term: Term) -> Result<(), No
         all.push(Part { coefficient, term })?;
     }
     Ok(())
-}
-
-/// Whether two terms are one.
-fn same_term(a: Term, b: Term) -> bool
-    ensures { result ≡ rows.same_term a b }
-{
-    match (a, b) {
-        (Term::Value(m), Term::Value(n)) => m == n,
-        (Term::Length(m), Term::Length(n)) => m == n,
-        (Term::Names(m), Term::Names(n)) => m == n,
-        (Term::Pos, Term::Pos) => true,
-        (Term::Count, Term::Count) => true,
-        _ => false,
-    }
 }

@@ -1,9 +1,10 @@
 //! Symbolic states.
 
-ghost use Rattle.std.specs.Prelude.{◌≡◌, ◌<◌, ◌++◌, [], ◌∷◌, OnOk, OnErr, IfOk, MatchOption};
+ghost use Rattle.std.specs.Prelude.{◌≡◌, ◌<◌, ◌++◌, [], ◌∷◌, drop, reverse, OnOk, OnErr, IfOk, MatchOption};
 ghost use Rattle.name_table.specs.declared.style.Style.{Style};
 ghost use Rattle.sym_state.specs.Changes as change;
-ghost use Rattle.sym_state.specs.WellMade.{WellMade};
+ghost use Rattle.sym_state.specs.Demands.{without};
+ghost use Rattle.sym_state.specs.WellMade.{HasBounds, WellMade};
 
 use crate::binds::rebound;
 use crate::copies::{facts_of, rows_of};
@@ -88,9 +89,25 @@ impl State {
     pub fn branch(&self) -> Result<State, NoMemory>
         ensures { IfOk result (λ state. state ≡ self.now) }
     {
+        self.over(self.stack.as_slice().to_vec(self.alloc)?)
+    }
+
+    /// A state that is the same without so many of its topmost operands.
+    pub fn without(&self, taken: usize) -> Result<State, NoMemory>
+        ensures left { IfOk result (λ state. state ≡ without taken self.now) }
+        ensures next { IfOk result (λ state. state.next ≡ self.now.next) }
+        ensures bounds { HasBounds self.now → IfOk result HasBounds }
+    {
+        self.over(front(self.alloc, self.stack.as_slice(), taken)?)
+    }
+
+    /// A state that is the same over another stack.
+    fn over(&self, stack: Vec<Sym>) -> Result<State, NoMemory>
+        ensures { IfOk result (λ state. state ≡ record self.now { stack = stack.items }) }
+    {
         Ok(State {
             alloc: self.alloc,
-            stack: Seq::from_vec(self.stack.as_slice().to_vec(self.alloc)?),
+            stack: Seq::from_vec(stack),
             whole: self.whole,
             at_entry: self.at_entry,
             vars: Seq::from_vec(self.vars.as_slice().to_vec(self.alloc)?),
@@ -100,4 +117,13 @@ impl State {
             next: self.next,
         })
     }
+}
+
+/// The symbols below the topmost ones.
+#[tactic(auto, using(crate::proofs::Fronts::front_left))]
+fn front(alloc: Global, stack: &[Sym], taken: usize) -> Result<Vec<Sym>, NoMemory>
+    ensures { IfOk result (λ left. left.items ≡ reverse (drop taken (reverse stack.now))) }
+{
+    let left = stack.len().saturating_sub(taken);
+    Ok(stack[..left].to_vec(alloc)?)
 }

@@ -13,20 +13,11 @@ and_part-requires-2-clause-parts c =
     subst (λ (ps : List Part). All (λ (p : Part). IsWithin (2 ^ 42) p.coefficient) ps) (sym (c.as_slice.ensures.value ∙ c.in_ok-parts.ensures))
     (one_within c.args.first.coefficient c.args.first.term c.requires.first)
 
-pub row-requires-clause-few : goal.row-requires-clause-few
-row-requires-clause-few c =
+pub row-requires-clause-parts : goal.row-requires-clause-parts
+row-requires-clause-parts c =
     let parts =
     c.in_ok-parts-2.ensures
     ∙ ap (λ (ps : List Part). and_part c.args.second.coefficient c.args.second.term ps) (c.as_slice.ensures.value ∙ c.in_ok-parts.ensures) in
-    subst (λ (ps : List Part). length ps ≤ 32) (sym parts)
-    (two_bounded c.args.constant c.args.first.coefficient c.args.first.term c.args.second.coefficient c.args.second.term
-    c.requires.constant c.requires.first c.requires.second).parts
-
-pub row-requires-clause-coefficients : goal.row-requires-clause-coefficients
-row-requires-clause-coefficients c =
-    let parts =
-    c.in_ok-parts-2.ensures
-    ∙ ap (λ (ps : List Part). and_part c.args.second.coefficient c.args.second.term ps) (c.as_slice.ensures.value ∙ c.in_ok-parts.ensures) in
-    subst (λ (ps : List Part). sum_by (λ (p : Part). size p.coefficient) ps ≤ 2 ^ 45) (sym parts)
-    (two_bounded c.args.constant c.args.first.coefficient c.args.first.term c.args.second.coefficient c.args.second.term
-    c.requires.constant c.requires.first c.requires.second).coefficients
+    let bounded = two_bounded c.args.constant c.args.first.coefficient c.args.first.term c.args.second.coefficient c.args.second.term
+    c.requires.constant c.requires.first c.requires.second in
+    subst (λ (ps : List Part). (length ps ≤ 32) × (sum_by (λ (p : Part). size p.coefficient) ps ≤ 2 ^ 45)) (sym parts) (bounded.parts, bounded.coefficients)

@@ -1,5 +1,5 @@
 -- The parts are those of the definition.
-use Rattle.std.proofs.Common.{◌<◌, ap, subst, sym, ◌∙◌, List, ◌++◌, length, arith}
+use Rattle.std.proofs.Common.{ap, subst, sym, ◌∙◌, List, ◌++◌, length, arith}
 use Rattle.std.specs.List.{All, filter, flat_map}
 use Rattle.lin_facts.specs.declared.row.Row.{Row}
 use Rattle.bst_meaning.specs.StyleParts.{kind_of}
@@ -13,7 +13,7 @@ use Rattle.sym_state.specs.Starting.{all_symbols, has_kind, numbered_on, own_fac
 use Rattle.sym_state.specs.WellMade.{IsBounded, WellMade, is_field, is_variable, takes_part}
 use Rattle.sym_state.proofs.Making.{pieces_bounded, started_made}
 use Rattle.sym_state.proofs.Opened.{opened}
-use Rattle.sym_state.proofs.Started.{ids_from-length, names_within, started_is}
+use Rattle.sym_state.proofs.Started.{ids_from-length, seen_within, started_is}
 use Rattle.sym_state.proofs.start.start.Goals as goal
 
 pub seats-requires : goal.seats-requires
@@ -24,27 +24,23 @@ seats-requires c =
 
 pub add_own_facts-requires : goal.add_own_facts-requires
 add_own_facts-requires c =
-    All-same (λ b. b.name.0 < length c.args.style.now.names) _ _ c.as_slice-3.ensures.value
-    (names_within (length c.args.style.now.names) c.in_ok-binds.binds.items c.as_slice-2.result.now c.in_ok-binds.ensures.names
-    (All-same (λ name. name.0 < length c.args.style.now.names) _ _ c.as_slice-2.ensures.value c.in_ok-names.ensures.within))
+    seen_within (length c.args.style.now.names) c.in_ok-binds.binds.items c.as_slice-3.result.now c.as_slice-2.result.now c.in_ok-names.names.items
+    c.as_slice-3.ensures.value c.in_ok-binds.ensures.names c.as_slice-2.ensures.value c.in_ok-names.ensures.within
 
 pub add_own_rows-requires : goal.add_own_rows-requires
 add_own_rows-requires c =
-    All-same (λ b. b.name.0 < length c.args.style.now.names) _ _ c.as_slice-4.ensures.value
-    (names_within (length c.args.style.now.names) c.in_ok-binds.binds.items c.as_slice-2.result.now c.in_ok-binds.ensures.names
-    (All-same (λ name. name.0 < length c.args.style.now.names) _ _ c.as_slice-2.ensures.value c.in_ok-names.ensures.within))
+    seen_within (length c.args.style.now.names) c.in_ok-binds.binds.items c.as_slice-4.result.now c.as_slice-2.result.now c.in_ok-names.names.items
+    c.as_slice-4.ensures.value c.in_ok-binds.ensures.names c.as_slice-2.ensures.value c.in_ok-names.ensures.within
 
 pub variables-requires : goal.variables-requires
 variables-requires c =
-    All-same (λ b. b.name.0 < length c.args.style.now.names) _ _ c.as_slice-5.ensures.value
-    (names_within (length c.args.style.now.names) c.in_ok-binds.binds.items c.as_slice-2.result.now c.in_ok-binds.ensures.names
-    (All-same (λ name. name.0 < length c.args.style.now.names) _ _ c.as_slice-2.ensures.value c.in_ok-names.ensures.within))
+    seen_within (length c.args.style.now.names) c.in_ok-binds.binds.items c.as_slice-5.result.now c.as_slice-2.result.now c.in_ok-names.names.items
+    c.as_slice-5.ensures.value c.in_ok-binds.ensures.names c.as_slice-2.ensures.value c.in_ok-names.ensures.within
 
 pub fields-requires : goal.fields-requires
 fields-requires c =
-    All-same (λ b. b.name.0 < length c.args.style.now.names) _ _ c.as_slice-6.ensures.value
-    (names_within (length c.args.style.now.names) c.in_ok-binds.binds.items c.as_slice-2.result.now c.in_ok-binds.ensures.names
-    (All-same (λ name. name.0 < length c.args.style.now.names) _ _ c.as_slice-2.ensures.value c.in_ok-names.ensures.within))
+    seen_within (length c.args.style.now.names) c.in_ok-binds.binds.items c.as_slice-6.result.now c.as_slice-2.result.now c.in_ok-names.names.items
+    c.as_slice-6.ensures.value c.in_ok-binds.ensures.names c.as_slice-2.ensures.value c.in_ok-names.ensures.within
 
 pub returns-clause-started : goal.returns-clause-started
 returns-clause-started c =
