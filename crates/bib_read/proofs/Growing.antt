@@ -4,7 +4,6 @@ use Rattle.std.specs.List.{list_all}
 use Rattle.bv_base.specs.Bytes.{is_white as white}
 use Rattle.bv_base.specs.Keys.{IsKey}
 use Rattle.bv_base.specs.Runs.{after_white, length_before}
-use Rattle.bv_base.specs.Answers.{then_do}
 use Rattle.name_table.specs.Names.{lowered, same_name}
 use Rattle.name_table.specs.declared.style.Macro.{Macro}
 use Rattle.bib_read.specs.declared.database.Database.{Database}
@@ -21,7 +20,10 @@ use Rattle.bib_read.specs.Runs.{after_at, ends_key}
 use Rattle.bib_read.specs.Squeeze.{squeezed}
 use Rattle.bib_read.specs.Stops.{unexpected}
 use Rattle.bib_read.specs.Values.{take_equals, take_value}
-use Rattle.bib_read.proofs.Kept.{GivesKept, Kept, Same, equals_kept, fields_kept, identifier_kept, mark_kept, opening_kept, value_kept}
+use Rattle.bib_read.proofs.Kept.{Same, equals_kept, fields_kept, identifier_kept, mark_kept, opening_kept, value_kept, SameAfter}
+use Rattle.bv_base.proofs.ThenLemmas.{then_holds}
+use Rattle.std.proofs.lemmas.Bool.{cond_both}
+use Rattle.std.specs.Prelude.{IfOk}
 
 -- what was read stays, and what is added comes after it
 abbrev pub Grown : Progress → Progress → Type 0
@@ -30,8 +32,7 @@ Grown s q =
     × IsLonger s.warnings q.warnings
 
 abbrev Grew : Progress → Result Progress Stop → Type 0
-Grew s (Ok q) = Grown s q
-Grew s (Err stop) = Unit {0}
+Grew s r = IfOk r (Grown s)
 
 none_added : (s q : Progress) → Same s q → Grown s q
 none_added s q same =
@@ -60,21 +61,6 @@ grown_on s p q x y = (
   longer_on s.preamble p.preamble q.preamble x.2 y.2,
   longer_on s.warnings p.warnings q.warnings x.3 y.3,
 )
-
-then_grew : (s : Progress) (r : Result Progress Stop) (next : Progress → Result Progress Stop) → Kept s r
-    → ((q : Progress) → Same s q → Grew s (next q)) → Grew s (then_do r next)
-then_grew s (Ok q) next first rest = rest q first
-then_grew s (Err stop) next first rest = tt
-
-given_grew : {T : Type 0} (s : Progress) (r : Result (T × Progress) Stop) (next : T × Progress → Result Progress Stop)
-    → GivesKept s r → ((found : T × Progress) → Same s found.1 → Grew s (next found)) → Grew s (then_do r next)
-given_grew s (Ok found) next first rest = rest found first
-given_grew s (Err stop) next first rest = tt
-
-cond_grew : (b : Bool) (s : Progress) (x y : Result Progress Stop) → (b ≡ true → Grew s x) → (b ≡ false → Grew s y)
-    → Grew s (cond b x y)
-cond_grew true s x y a b = a refl
-cond_grew false s x y a b = b refl
 
 -- a byte that doesn't end a key is no white space
 no_white : (close b : ℕ) → ends_key close b ≡ false → white b ≡ false
@@ -125,17 +111,17 @@ entry_at_grew s close entry_type bytes p same =
     let left : List ℕ = drop (length_before (ends_key close) bytes) bytes in
     let key : List ℕ = take (length_before (ends_key close) bytes) bytes in
     let begun : Progress = record p { left = left; fields = [] } in
-    cond_grew (nat_eq (length_before (ends_key close) bytes) 0) s (Err (unexpected bytes)) _ (λ holds. tt)
-    (λ some. cond_grew (has_entry (lowered key) p.entries) s (Err (RepeatedKey (length bytes))) _ (λ holds. tt)
-    (λ absent. then_grew s (take_fields (length left) close key begun) (λ q. Ok (with_entry key entry_type q))
+    cond_both (nat_eq (length_before (ends_key close) bytes) 0) (Err (unexpected bytes)) _ (Grew s) (λ holds. tt)
+    (λ some. cond_both (has_entry (lowered key) p.entries) (Err (RepeatedKey (length bytes))) _ (Grew s) (λ holds. tt)
+    (λ absent. then_holds (Same s) (Grown s) (take_fields (length left) close key begun) (λ q. Ok (with_entry key entry_type q))
     (fields_kept (length left) s close key begun same)
     (λ q kept. one_added s q key entry_type kept (front_key close bytes some)
     (ap (has_entry (lowered key)) (sym same.1) ∙ absent))))
 
 definition_grew : (s : Progress) (close : ℕ) (name : List ℕ) (p : Progress) → Same s p → Grew s (take_definition close name p)
 definition_grew s close name p same =
-    then_grew s (take_equals p) _ (equals_kept s p same)
-    (λ q kept. then_grew s (take_mark close q) (λ r. Ok (with_definition name r)) (mark_kept s close q kept)
+    then_holds (Same s) (Grown s) (take_equals p) _ (equals_kept s p same)
+    (λ q kept. then_holds (Same s) (Grown s) (take_mark close q) (λ r. Ok (with_definition name r)) (mark_kept s close q kept)
     (λ r more. (
       (record { name = name; value = squeezed false r.text } ∷ [], ap (defined name (squeezed false r.text)) more.0),
       ([], more.1 ∙ sym (append-nil s.entries), tt),
@@ -145,8 +131,8 @@ definition_grew s close name p same =
 
 preamble_grew : (s : Progress) (close : ℕ) (p : Progress) → Same s p → Grew s (take_preamble close p)
 preamble_grew s close p same =
-    then_grew s (take_value p) _ (value_kept s p same)
-    (λ q kept. then_grew s (take_mark close q) (λ r. Ok (with_preamble r)) (mark_kept s close q kept)
+    then_holds (Same s) (Grown s) (take_value p) _ (value_kept s p same)
+    (λ q kept. then_holds (Same s) (Grown s) (take_mark close q) (λ r. Ok (with_preamble r)) (mark_kept s close q kept)
     (λ r more. (
       ([], more.0),
       ([], more.1 ∙ sym (append-nil s.entries), tt),
@@ -156,17 +142,17 @@ preamble_grew s close p same =
 
 opened_grew : (s : Progress) (word : List ℕ) (close : ℕ) (p : Progress) → Same s p → Grew s (take_opened word close p)
 opened_grew s word close p same =
-    cond_grew (same_name word (codes "string")) s (take_string close p) _
-    (λ holds. given_grew s (take_identifier p) (λ found. take_definition close found.0 found.1) (identifier_kept s p same)
+    cond_both (same_name word (codes "string")) (take_string close p) _ (Grew s)
+    (λ holds. then_holds (SameAfter s) (Grown s) (take_identifier p) (λ found. take_definition close found.0 found.1) (identifier_kept s p same)
     (λ found kept. definition_grew s close found.0 found.1 kept))
-    (λ fails. cond_grew (same_name word (codes "preamble")) s (take_preamble close p) (take_entry close word p)
+    (λ fails. cond_both (same_name word (codes "preamble")) (take_preamble close p) (take_entry close word p) (Grew s)
     (λ holds. preamble_grew s close p same) (λ fails2. entry_at_grew s close word (after_white p.left) p same))
 
 item_grew : (s p : Progress) → Same s p → Grew s (take_item p)
 item_grew s p same =
-    given_grew s (take_identifier p) _ (identifier_kept s p same)
-    (λ found kept. cond_grew (same_name found.0 (codes "comment")) s (Ok found.1) _ (λ holds. none_added s found.1 kept)
-    (λ fails. given_grew s (take_opening found.1) (λ opened. take_opened found.0 opened.0 opened.1)
+    then_holds (SameAfter s) (Grown s) (take_identifier p) _ (identifier_kept s p same)
+    (λ found kept. cond_both (same_name found.0 (codes "comment")) (Ok found.1) _ (Grew s) (λ holds. none_added s found.1 kept)
+    (λ fails. then_holds (SameAfter s) (Grown s) (take_opening found.1) (λ opened. take_opened found.0 opened.0 opened.1)
     (opening_kept s found.1 kept) (λ opened more. opened_grew s found.0 opened.0 opened.1 more)))
 
 -- nothing has changed
@@ -177,16 +163,11 @@ grew_on : (s p : Progress) (r : Result Progress Stop) → Grown s p → Grew p r
 grew_on s p (Ok q) x y = grown_on s p q x y
 grew_on s p (Err stop) x y = tt
 
-then_grew_on : (s : Progress) (r : Result Progress Stop) (next : Progress → Result Progress Stop) → Grew s r
-    → ((q : Progress) → Grown s q → Grew s (next q)) → Grew s (then_do r next)
-then_grew_on s (Ok q) next first rest = rest q first
-then_grew_on s (Err stop) next first rest = tt
-
 next_grew : (s p : Progress) (next : Progress → Result Progress Stop) (o : Option (List ℕ)) → Grown s p
     → ((q : Progress) → Grown s q → Grew s (next q)) → Grew s (next_item o p next)
 next_grew s p next None grown each = grown
 next_grew s p next (Some left) grown each =
-    then_grew_on s (take_item (record p { left = left })) next
+    then_holds (Grown s) (Grown s) (take_item (record p { left = left })) next
     (grew_on s p (take_item (record p { left = left })) grown (item_grew p (record p { left = left }) (unchanged p))) each
 
 items_grew : (n : ℕ) (s p : Progress) → Grown s p → Grew s (take_items n p)

@@ -1,7 +1,6 @@
 -- Values and fields keep the macros, the entries and the preamble that are there, and add warnings alone.
 use Rattle.std.proofs.Common.{◌≡◌, ℕ, zero, suc, Bool, true, false, cond, nat_eq, List, [], ◌∷◌, ◌++◌, length, drop, take, Option, None, Some, Result, Ok, Err, ap, ◌∙◌, append_assoc}
 use Rattle.bv_base.specs.Runs.{after_white, is_digit, length_before}
-use Rattle.bv_base.specs.Answers.{then_do}
 use Rattle.name_table.specs.Names.{lowered}
 use Rattle.bib_read.specs.declared.stop.Stop.{Stop}
 use Rattle.bib_read.specs.Additions.{IsLonger}
@@ -14,28 +13,21 @@ use Rattle.bib_read.specs.Squeeze.{trimmed}
 use Rattle.bib_read.specs.Stops.{unexpected}
 use Rattle.bib_read.specs.Values.{closed, joined, macro_joined, piece_at, take_closed, take_digits, take_equals, take_macro, take_piece, take_pieces, take_value, with_macro}
 use Rattle.bib_read.specs.Warnings.{second_field, undefined_macro}
+use Rattle.bv_base.proofs.ThenLemmas.{then_holds}
+use Rattle.std.specs.Prelude.{IfOk}
 
 -- the same macros, entries and preamble, and maybe more warnings
 abbrev pub Same : Progress → Progress → Type 0
 Same s q = (q.macros ≡ s.macros) × (q.entries ≡ s.entries) × (q.preamble ≡ s.preamble) × IsLonger s.warnings q.warnings
 
 abbrev pub Kept : Progress → Result Progress Stop → Type 0
-Kept s (Ok q) = Same s q
-Kept s (Err stop) = Unit {0}
+Kept s r = IfOk r (Same s)
+
+abbrev pub SameAfter : {T : Type 0} → Progress → T × Progress → Type 0
+SameAfter s found = Same s found.1
 
 abbrev pub GivesKept : {T : Type 0} → Progress → Result (T × Progress) Stop → Type 0
-GivesKept s (Ok found) = Same s found.1
-GivesKept s (Err stop) = Unit {0}
-
-pub then_kept : (s : Progress) (r : Result Progress Stop) (next : Progress → Result Progress Stop) → Kept s r
-    → ((q : Progress) → Same s q → Kept s (next q)) → Kept s (then_do r next)
-then_kept s (Ok q) next first rest = rest q first
-then_kept s (Err stop) next first rest = tt
-
-pub given_kept : {T : Type 0} (s : Progress) (r : Result (T × Progress) Stop) (next : T × Progress → Result Progress Stop)
-    → GivesKept s r → ((found : T × Progress) → Same s found.1 → Kept s (next found)) → Kept s (then_do r next)
-given_kept s (Ok found) next first rest = rest found first
-given_kept s (Err stop) next first rest = tt
+GivesKept s r = IfOk r (SameAfter s)
 
 cond_kept : (b : Bool) (s : Progress) (x y : Result Progress Stop) → Kept s x → Kept s y → Kept s (cond b x y)
 cond_kept true s x y a b = a
@@ -93,7 +85,7 @@ macro_same s name None p same = warned s p (undefined_macro name) same
 
 macro_kept : (s p : Progress) → Same s p → Kept s (take_macro p)
 macro_kept s p same =
-    given_kept s (take_identifier p) (λ found. Ok (with_macro found.0 found.1)) (identifier_kept s p same)
+    then_holds (SameAfter s) (Same s) (take_identifier p) (λ found. Ok (with_macro found.0 found.1)) (identifier_kept s p same)
     (λ found kept. macro_same s found.0 (value_of found.0 found.1.macros) found.1 kept)
 
 piece_at_kept : (s : Progress) (bytes : List ℕ) (p : Progress) → Same s p → Kept s (piece_at bytes p)
@@ -108,7 +100,7 @@ piece_at_kept s (b ∷ bytes) p same =
 pieces_kept : (n : ℕ) (s p : Progress) → Same s p → Kept s (take_pieces n p)
 pieces_kept zero s p same = tt
 pieces_kept (suc n) s p same =
-    then_kept s (take_piece p) _ (piece_at_kept s (after_white p.left) p same)
+    then_holds (Same s) (Same s) (take_piece p) _ (piece_at_kept s (after_white p.left) p same)
     (λ q kept. cond_kept (stands 35 q) s (take_pieces n (passed 35 q)) (Ok (passed 35 q)) (pieces_kept n s (passed 35 q) kept) kept)
 
 pub value_kept : (s p : Progress) → Same s p → Kept s (take_value p)
@@ -116,11 +108,11 @@ value_kept s p same = pieces_kept (length p.left) s (record p { text = [] }) sam
 
 pub equals_kept : (s p : Progress) → Same s p → Kept s (take_equals p)
 equals_kept s p same =
-    then_kept s (take_mark 61 p) take_value (mark_kept s 61 p same) (λ q kept. value_kept s q kept)
+    then_holds (Same s) (Same s) (take_mark 61 p) take_value (mark_kept s 61 p same) (λ q kept. value_kept s q kept)
 
 named_kept : (s : Progress) (key name : List ℕ) (p : Progress) → Same s p → Kept s (take_named key name p)
 named_kept s key name p same =
-    then_kept s (take_equals (noted key name p)) (λ q. Ok (with_field name q))
+    then_holds (Same s) (Same s) (take_equals (noted key name p)) (λ q. Ok (with_field name q))
     (equals_kept s (noted key name p)
     (cond_same (has_field name p.fields) s (record p { warnings = p.warnings ++ second_field name key ∷ [] }) p
     (warned s p (second_field name key) same) same))
@@ -129,14 +121,14 @@ named_kept s key name p same =
 
 field_kept : (s : Progress) (key : List ℕ) (p : Progress) → Same s p → Kept s (take_field key p)
 field_kept s key p same =
-    given_kept s (take_identifier p) (λ found. take_named key found.0 found.1) (identifier_kept s p same)
+    then_holds (SameAfter s) (Same s) (take_identifier p) (λ found. take_named key found.0 found.1) (identifier_kept s p same)
     (λ found kept. named_kept s key found.0 found.1 kept)
 
 pub fields_kept : (n : ℕ) (s : Progress) (close : ℕ) (key : List ℕ) (p : Progress) → Same s p → Kept s (take_fields n close key p)
 fields_kept zero s close key p same = tt
 fields_kept (suc n) s close key p same =
     cond_kept (stands close p) s (Ok (passed close p)) _ same
-    (then_kept s (take_mark 44 (passed close p)) _ (mark_kept s 44 (passed close p) same)
+    (then_holds (Same s) (Same s) (take_mark 44 (passed close p)) _ (mark_kept s 44 (passed close p) same)
     (λ q kept. cond_kept (stands close q) s (Ok (passed close q)) _ kept
-    (then_kept s (take_field key (passed close q)) (take_fields n close key) (field_kept s key (passed close q) kept)
+    (then_holds (Same s) (Same s) (take_field key (passed close q)) (take_fields n close key) (field_kept s key (passed close q) kept)
     (λ r more. fields_kept n s close key r more))))

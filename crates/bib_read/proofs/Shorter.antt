@@ -13,40 +13,30 @@ use Rattle.bib_read.specs.Values.{closed, joined, macro_joined, piece_at, take_c
 use Rattle.bib_read.specs.Squeeze.{trimmed}
 use Rattle.bib_read.specs.Warnings.{second_field}
 use Rattle.bv_base.specs.Bytes.{is_name_byte}
-use Rattle.std.specs.Prelude.{codes}
+use Rattle.std.specs.Prelude.{codes, IfOk}
 use Rattle.bv_base.specs.Runs.{after_white, ends_digits, is_black, is_digit, length_before}
-use Rattle.bv_base.specs.Answers.{then_do}
 use Rattle.name_table.specs.Names.{lowered, same_name}
+use Rattle.bv_base.proofs.ThenLemmas.{then_holds}
+use Rattle.std.proofs.lemmas.Bool.{cond_both}
 
--- fewer bytes than these are left, where there is a value
-abbrev pub Below : ℕ → Result Progress Stop → Type 0
-Below n (Ok q) = length q.left < n
-Below n (Err stop) = Unit {0}
+-- fewer bytes than these are left
+abbrev pub Under : ℕ → Progress → Type 0
+Under n q = length q.left < n
 
 -- the same where a part of the value is given too
+abbrev pub UnderAfter : {T : Type 0} → ℕ → T × Progress → Type 0
+UnderAfter n found = Under n found.1
+
+-- fewer are left, where there is a value
+abbrev pub Below : ℕ → Result Progress Stop → Type 0
+Below n r = IfOk r (Under n)
+
 abbrev pub GivesBelow : {T : Type 0} → ℕ → Result (T × Progress) Stop → Type 0
-GivesBelow n (Ok found) = length found.1.left < n
-GivesBelow n (Err stop) = Unit {0}
+GivesBelow n r = IfOk r (UnderAfter n)
 
 pub weaker : (n m : ℕ) (r : Result Progress Stop) → n ≤ m → Below n r → Below m r
 weaker n m (Ok q) le below = omega arith
 weaker n m (Err stop) le below = tt
-
-pub then_below : (n m : ℕ) (r : Result Progress Stop) (next : Progress → Result Progress Stop) → Below n r
-    → ((q : Progress) → length q.left < n → Below m (next q)) → Below m (then_do r next)
-then_below n m (Ok q) next first rest = rest q first
-then_below n m (Err stop) next first rest = tt
-
-pub given_below : {T : Type 0} (n m : ℕ) (r : Result (T × Progress) Stop) (next : T × Progress → Result Progress Stop)
-    → GivesBelow n r → ((found : T × Progress) → length found.1.left < n → Below m (next found))
-    → Below m (then_do r next)
-given_below n m (Ok found) next first rest = rest found first
-given_below n m (Err stop) next first rest = tt
-
-pub cond_below : (b : Bool) (n : ℕ) (x y : Result Progress Stop) → (b ≡ true → Below n x) → (b ≡ false → Below n y)
-    → Below n (cond b x y)
-cond_below true n x y holds fails = holds refl
-cond_below false n x y holds fails = fails refl
 
 -- what is dropped is no more
 pub dropped : (n : ℕ) (bytes : List ℕ) → length (drop n bytes) ≤ length bytes
@@ -94,7 +84,7 @@ passed_less mark p first =
 
 pub mark_below : (mark : ℕ) (p : Progress) → Below (length p.left) (take_mark mark p)
 mark_below mark p =
-    cond_below (stands mark p) (length p.left) (Ok (passed mark p)) (Err (unexpected (passed mark p).left))
+    cond_both (stands mark p) (Ok (passed mark p)) (Err (unexpected (passed mark p).left)) (Below (length p.left))
     (λ first. passed_less mark p first) (λ fails. tt)
 
 both_true : (a b : Bool) → (a && b) ≡ true → a ≡ true
@@ -140,7 +130,7 @@ opening_below p =
 closed_below : (mark : ℕ) (text left : List ℕ) (p : Progress) (n : ℕ) → length left ≤ n → Below n (closed mark text left p)
 closed_below mark text [] p n le = tt
 closed_below mark text (b ∷ left) p n le =
-    cond_below (nat_eq b mark) n (Ok (joined text left p)) _ (λ holds. omega arith) (λ fails. tt)
+    cond_both (nat_eq b mark) (Ok (joined text left p)) _ (Below n) (λ holds. omega arith) (λ fails. tt)
 
 macro_left : (name : List ℕ) (value : Option (List ℕ)) (p : Progress) → (macro_joined name value p).left ≡ p.left
 macro_left name (Some value) p = refl
@@ -148,7 +138,7 @@ macro_left name None p = refl
 
 macro_below : (p : Progress) → Below (length p.left) (take_macro p)
 macro_below p =
-    given_below (length p.left) (length p.left) (take_identifier p) (λ found. Ok (with_macro found.0 found.1))
+    then_holds (UnderAfter (length p.left)) (Under (length p.left)) (take_identifier p) (λ found. Ok (with_macro found.0 found.1))
     (identifier_below p)
     (λ found less. subst (λ left. length left < length p.left)
     (sym (macro_left found.0 (value_of found.0 found.1.macros) found.1)) less)
@@ -160,13 +150,13 @@ piece_at_below : (bytes : List ℕ) (p : Progress) → length bytes ≤ length p
 piece_at_below [] p le = tt
 piece_at_below (b ∷ bytes) p le =
     let shorter : length bytes < length p.left = omega arith in
-    cond_below (nat_eq b 123) (length p.left) (take_closed 125 bytes p) _
+    cond_both (nat_eq b 123) (take_closed 125 bytes p) _ (Below (length p.left))
     (λ holds. closed_below 125 (take (inside_length 125 0 bytes) bytes) (drop (inside_length 125 0 bytes) bytes) p (length p.left)
     (let less : length (drop (inside_length 125 0 bytes) bytes) ≤ length bytes = dropped (inside_length 125 0 bytes) bytes in omega arith))
-    (λ fails. cond_below (nat_eq b 34) (length p.left) (take_closed 34 bytes p) _
+    (λ fails. cond_both (nat_eq b 34) (take_closed 34 bytes p) _ (Below (length p.left))
     (λ holds. closed_below 34 (take (inside_length 34 0 bytes) bytes) (drop (inside_length 34 0 bytes) bytes) p (length p.left)
     (let less : length (drop (inside_length 34 0 bytes) bytes) ≤ length bytes = dropped (inside_length 34 0 bytes) bytes in omega arith))
-    (λ fails2. cond_below (is_digit b) (length p.left) (Ok (take_digits (b ∷ bytes) p)) (take_macro p)
+    (λ fails2. cond_both (is_digit b) (Ok (take_digits (b ∷ bytes) p)) (take_macro p) (Below (length p.left))
     (λ holds. let taken : length (drop (length_before ends_digits (b ∷ bytes)) (b ∷ bytes)) < length (b ∷ bytes) =
     run_taken ends_digits b bytes (digits_false b holds) in omega arith)
     (λ fails3. macro_below p)))
@@ -177,8 +167,8 @@ piece_below p = piece_at_below (after_white p.left) p (dropped (length_before is
 pub pieces_below : (n : ℕ) (p : Progress) → Below (length p.left) (take_pieces n p)
 pieces_below zero p = tt
 pieces_below (suc n) p =
-    then_below (length p.left) (length p.left) (take_piece p) _ (piece_below p)
-    (λ q less. cond_below (stands 35 q) (length p.left) (take_pieces n (passed 35 q)) (Ok (passed 35 q))
+    then_holds (Under (length p.left)) (Under (length p.left)) (take_piece p) _ (piece_below p)
+    (λ q less. cond_both (stands 35 q) (take_pieces n (passed 35 q)) (Ok (passed 35 q)) (Below (length p.left))
     (λ holds. weaker (length (passed 35 q).left) (length p.left) (take_pieces n (passed 35 q))
     (let le : length (passed 35 q).left ≤ length q.left = passed_le 35 q in omega arith) (pieces_below n (passed 35 q)))
     (λ fails. let le : length (passed 35 q).left ≤ length q.left = passed_le 35 q in omega arith))
@@ -188,7 +178,7 @@ value_below p = pieces_below (length p.left) (record p { text = [] })
 
 equals_below : (p : Progress) → Below (length p.left) (take_equals p)
 equals_below p =
-    then_below (length p.left) (length p.left) (take_mark 61 p) take_value (mark_below 61 p)
+    then_holds (Under (length p.left)) (Under (length p.left)) (take_mark 61 p) take_value (mark_below 61 p)
     (λ q less. weaker (length q.left) (length p.left) (take_value q) (omega arith) (value_below q))
 
 cond_left : (t : Bool) (x y : Progress) (left : List ℕ) → x.left ≡ left → y.left ≡ left → (cond t x y).left ≡ left
@@ -207,14 +197,14 @@ with_field_left name p =
 
 named_below : (key name : List ℕ) (p : Progress) → Below (length p.left) (take_named key name p)
 named_below key name p =
-    then_below (length p.left) (length p.left) (take_equals (noted key name p)) (λ q. Ok (with_field name q))
+    then_holds (Under (length p.left)) (Under (length p.left)) (take_equals (noted key name p)) (λ q. Ok (with_field name q))
     (subst (λ left. Below (length left) (take_equals (noted key name p))) (noted_left key name p)
     (equals_below (noted key name p)))
     (λ q less. subst (λ left. length left < length p.left) (sym (with_field_left name q)) less)
 
 pub field_below : (key : List ℕ) (p : Progress) → Below (length p.left) (take_field key p)
 field_below key p =
-    given_below (length p.left) (length p.left) (take_identifier p) (λ found. take_named key found.0 found.1)
+    then_holds (UnderAfter (length p.left)) (Under (length p.left)) (take_identifier p) (λ found. take_named key found.0 found.1)
     (identifier_below p)
     (λ found less. weaker (length found.1.left) (length p.left) (take_named key found.0 found.1) (omega arith)
     (named_below key found.0 found.1))
@@ -223,13 +213,13 @@ pub fields_below : (n close : ℕ) (key : List ℕ) (p : Progress) → Below (le
 fields_below zero close key p = tt
 fields_below (suc n) close key p =
     let le : length (passed close p).left ≤ length p.left = passed_le close p in
-    cond_below (stands close p) (length p.left) (Ok (passed close p)) _ (λ holds. passed_less close p holds)
-    (λ fails. then_below (length (passed close p).left) (length p.left) (take_mark 44 (passed close p)) _
+    cond_both (stands close p) (Ok (passed close p)) _ (Below (length p.left)) (λ holds. passed_less close p holds)
+    (λ fails. then_holds (Under (length (passed close p).left)) (Under (length p.left)) (take_mark 44 (passed close p)) _
     (mark_below 44 (passed close p))
     (λ q less.
     let le2 : length (passed close q).left ≤ length q.left = passed_le close q in
-    cond_below (stands close q) (length p.left) (Ok (passed close q)) _ (λ holds. omega arith)
-    (λ fails2. then_below (length (passed close q).left) (length p.left) (take_field key (passed close q))
+    cond_both (stands close q) (Ok (passed close q)) _ (Below (length p.left)) (λ holds. omega arith)
+    (λ fails2. then_holds (Under (length (passed close q).left)) (Under (length p.left)) (take_field key (passed close q))
     (take_fields n close key) (field_below key (passed close q))
     (λ r less2. weaker (length r.left) (length p.left) (take_fields n close key r) (omega arith)
     (fields_below n close key r)))))
@@ -241,9 +231,9 @@ entry_at_below close entry_type bytes p n le =
     let less : length left ≤ length bytes = dropped (length_before (ends_key close) bytes) bytes in
     let key : List ℕ = take (length_before (ends_key close) bytes) bytes in
     let begun : Progress = record p { left = left; fields = [] } in
-    cond_below (nat_eq (length_before (ends_key close) bytes) 0) n (Err (unexpected bytes)) _ (λ holds. tt)
-    (λ fails. cond_below (has_entry (lowered key) p.entries) n (Err (RepeatedKey (length bytes))) _ (λ holds. tt)
-    (λ fails2. then_below (length left) n (take_fields (length left) close key begun)
+    cond_both (nat_eq (length_before (ends_key close) bytes) 0) (Err (unexpected bytes)) _ (Below n) (λ holds. tt)
+    (λ fails. cond_both (has_entry (lowered key) p.entries) (Err (RepeatedKey (length bytes))) _ (Below n) (λ holds. tt)
+    (λ fails2. then_holds (Under (length left)) (Under n) (take_fields (length left) close key begun)
     (λ q. Ok (with_entry key entry_type q)) (fields_below (length left) close key begun)
     (λ q shorter. omega arith)))
 
@@ -253,34 +243,34 @@ entry_below close entry_type p =
 
 definition_below : (close : ℕ) (name : List ℕ) (p : Progress) → Below (length p.left) (take_definition close name p)
 definition_below close name p =
-    then_below (length p.left) (length p.left) (take_equals p) _ (equals_below p)
-    (λ q less. then_below (length q.left) (length p.left) (take_mark close q) (λ r. Ok (with_definition name r))
+    then_holds (Under (length p.left)) (Under (length p.left)) (take_equals p) _ (equals_below p)
+    (λ q less. then_holds (Under (length q.left)) (Under (length p.left)) (take_mark close q) (λ r. Ok (with_definition name r))
     (mark_below close q) (λ r less2. omega arith))
 
 string_below : (close : ℕ) (p : Progress) → Below (length p.left) (take_string close p)
 string_below close p =
-    given_below (length p.left) (length p.left) (take_identifier p) (λ found. take_definition close found.0 found.1)
+    then_holds (UnderAfter (length p.left)) (Under (length p.left)) (take_identifier p) (λ found. take_definition close found.0 found.1)
     (identifier_below p)
     (λ found less. weaker (length found.1.left) (length p.left) (take_definition close found.0 found.1) (omega arith)
     (definition_below close found.0 found.1))
 
 preamble_below : (close : ℕ) (p : Progress) → Below (length p.left) (take_preamble close p)
 preamble_below close p =
-    then_below (length p.left) (length p.left) (take_value p) _ (value_below p)
-    (λ q less. then_below (length q.left) (length p.left) (take_mark close q) (λ r. Ok (with_preamble r))
+    then_holds (Under (length p.left)) (Under (length p.left)) (take_value p) _ (value_below p)
+    (λ q less. then_holds (Under (length q.left)) (Under (length p.left)) (take_mark close q) (λ r. Ok (with_preamble r))
     (mark_below close q) (λ r less2. omega arith))
 
 opened_below : (word : List ℕ) (close : ℕ) (p : Progress) → Below (length p.left) (take_opened word close p)
 opened_below word close p =
-    cond_below (same_name word (codes "string")) (length p.left) (take_string close p) _ (λ holds. string_below close p)
-    (λ fails. cond_below (same_name word (codes "preamble")) (length p.left) (take_preamble close p) (take_entry close word p)
+    cond_both (same_name word (codes "string")) (take_string close p) _ (Below (length p.left)) (λ holds. string_below close p)
+    (λ fails. cond_both (same_name word (codes "preamble")) (take_preamble close p) (take_entry close word p) (Below (length p.left))
     (λ holds. preamble_below close p) (λ fails2. entry_below close word p))
 
 pub item_below : (p : Progress) → Below (length p.left) (take_item p)
 item_below p =
-    given_below (length p.left) (length p.left) (take_identifier p) _ (identifier_below p)
-    (λ found less. cond_below (same_name found.0 (codes "comment")) (length p.left) (Ok found.1) _ (λ holds. less)
-    (λ fails. given_below (length found.1.left) (length p.left) (take_opening found.1)
+    then_holds (UnderAfter (length p.left)) (Under (length p.left)) (take_identifier p) _ (identifier_below p)
+    (λ found less. cond_both (same_name found.0 (codes "comment")) (Ok found.1) _ (Below (length p.left)) (λ holds. less)
+    (λ fails. then_holds (UnderAfter (length found.1.left)) (Under (length p.left)) (take_opening found.1)
     (λ opened. take_opened found.0 opened.0 opened.1) (opening_below found.1)
     (λ opened less2. weaker (length opened.1.left) (length p.left) (take_opened found.0 opened.0 opened.1) (omega arith)
     (opened_below found.0 opened.0 opened.1))))
