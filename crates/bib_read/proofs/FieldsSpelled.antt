@@ -2,6 +2,7 @@
 use Rattle.std.proofs.Common.{◌≡◌, ℕ, zero, suc, ◌<◌, ◌≤◌, inl, inr, Bool, true, false, not, cond, nat_eq, List, [], ◌∷◌, ◌++◌, append_assoc, length, Result, Ok, refl, sym, ap, subst, ◌∙◌, arith}
 use Rattle.std.proofs.lemmas.Bool.Decides.{nat_tests}
 use Rattle.std.proofs.lemmas.List.{append-nil}
+use Rattle.std.proofs.lemmas.Bool.{and_parts}
 use Rattle.bv_base.specs.Bytes.{is_name_byte}
 use Rattle.bv_base.specs.Runs.{after_white, is_black, is_digit, EndsBy}
 use Rattle.bv_base.specs.Answers.{then_do}
@@ -19,7 +20,7 @@ use Rattle.bib_read.specs.Values.{take_equals}
 use Rattle.bib_read.specs.Warnings.{second_field}
 use Rattle.bib_read.proofs.Enough.{same_fields}
 use Rattle.bib_read.proofs.Gaps.{after_gap, at, gap_before, gap_joined, gap_passed, IsBlack, mark_first, mark_missed, mark_read, mark_stands, mark_taken, mark_there, other_stands}
-use Rattle.bib_read.proofs.Pieces.{and_left, equals_read, equals_taken, identifier_read, identifier_taken, NoHash, begins_black, valued}
+use Rattle.bib_read.proofs.Pieces.{equals_read, equals_taken, identifier_read, identifier_taken, NoHash, begins_black, valued}
 use Rattle.bib_read.proofs.Shorter.{Below, field_below, mark_below, noted_left, passed_le}
 use Rattle.bv_base.proofs.ThenLemmas.{ok, ok_is, then_ok}
 
@@ -243,7 +244,7 @@ fields_passed close (field ∷ fields) bytes rest c f = (f.0, f.1, mark_passed 4
 
 name_first : (close : ℕ) (name rest : List ℕ) → IsCloser close → begins_name name ≡ true → is_first close (name ++ rest) ≡ false
 name_first close [] rest c e = absurd (cc)
-name_first close (b ∷ name) rest c e = c.no_name b (and_left (is_name_byte b) (not (is_digit b)) e)
+name_first close (b ∷ name) rest c e = c.no_name b (and_parts (is_name_byte b) (not (is_digit b)) e).0
 
 name_black : (name bytes rest : List ℕ) → (i : Identifier name bytes rest) → EndsBy is_black i.0
 name_black name bytes rest i = subst (λ (l : List ℕ). EndsBy is_black l) (sym (i.2).spelled) (begins_black name rest i.3)

@@ -2,6 +2,7 @@
 use Rattle.std.proofs.Common.{◌≡◌, ℕ, zero, suc, ◌<◌, ◌≤◌, inl, inr, Bool, true, false, ◌&&◌, ◌||◌, not, cond, nat_eq, List, [], ◌∷◌, ◌++◌, length, take, drop, Option, None, Some, Result, Ok, Err, refl, sym, ap, subst, ◌∙◌, arith, eqb-true, codes}
 use Rattle.std.proofs.lemmas.Bool.Decides.{nat_tests}
 use Rattle.std.proofs.lemmas.List.{append-nil}
+use Rattle.std.proofs.lemmas.Bool.{and_parts}
 use Rattle.bv_base.specs.Bytes.{is_white}
 use Rattle.bv_base.specs.Runs.{after_white, is_black, length_before, EndsBy, NoneOf}
 use Rattle.bv_base.specs.Answers.{then_do}
@@ -32,14 +33,6 @@ pub record ItemRead (p q : Progress) : Type 0 where
   pub item : Item
   pub spelled : IsItem item p.left q.left
   pub meant : and_item item (database p) ≡ Some (database q)
-
-and_left : (a b : Bool) → (a && b) ≡ true → a ≡ true
-and_left true b e = refl
-and_left false b e = absurd (cc)
-
-and_right : (a b : Bool) → (a && b) ≡ true → b ≡ true
-and_right true b e = e
-and_right false b e = absurd (cc)
 
 -- a byte of a key is no white space
 white_ends : (t : Bool) (close b : ℕ) → is_white b ≡ t → ends_key close b ≡ false → is_black b ≡ true
@@ -366,8 +359,8 @@ same_name_is [] [] e = refl
 same_name_is [] (y ∷ b) e = absurd (cc)
 same_name_is (x ∷ a) [] e = absurd (cc)
 same_name_is (x ∷ a) (y ∷ b) e =
-    ap (λ (k : ℕ). k ∷ a) (eqb-true x y (and_left (nat_eq x y) (same_name a b) e))
-    ∙ ap (λ (l : List ℕ). y ∷ l) (same_name_is a b (and_right (nat_eq x y) (same_name a b) e))
+    ap (λ (k : ℕ). k ∷ a) (eqb-true x y (and_parts (nat_eq x y) (same_name a b) e).0)
+    ∙ ap (λ (l : List ℕ). y ∷ l) (same_name_is a b (and_parts (nat_eq x y) (same_name a b) e).1)
 
 other_word : (word text other : List ℕ) → same_name text other ≡ false → is_word text word ≡ true → is_word other word ≡ false
 other_word word text other differs e = ap (λ (w : List ℕ). same_name w other) (same_name_is (lowered word) text e) ∙ differs

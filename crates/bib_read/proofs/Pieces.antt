@@ -22,18 +22,7 @@ use Rattle.bib_read.proofs.Gaps.{after_gap, at, gap_before, mark_first, mark_mis
 use Rattle.bib_read.proofs.Shorter.{Below, passed_less, piece_below}
 use Rattle.bv_base.proofs.ThenLemmas.{ok, ok_is, then_ok, where_ok}
 use Rattle.std.proofs.Math.Seq.{take-append_seam, drop-append_seam}
-
-pub and_left : (a b : Bool) → (a && b) ≡ true → a ≡ true
-and_left true b e = refl
-and_left false b e = absurd (cc)
-
-pub and_right : (a b : Bool) → (a && b) ≡ true → b ≡ true
-and_right true b e = e
-and_right false b e = absurd (cc)
-
-not_true : (a : Bool) → not a ≡ true → a ≡ false
-not_true false e = refl
-not_true true e = absurd (cc)
+use Rattle.std.proofs.lemmas.Bool.{and_parts, not-false, not-true}
 
 -- identifiers
 name_byte_black : (b : ℕ) → is_name_byte b ≡ true → is_black b ≡ true
@@ -41,7 +30,7 @@ name_byte_black b e = grind (arith, nat_tests)
 
 pub begins_black : (name rest : List ℕ) → begins_name name ≡ true → EndsBy is_black (name ++ rest)
 begins_black [] rest e = absurd (cc)
-begins_black (b ∷ name) rest e = name_byte_black b (and_left (is_name_byte b) (not (is_digit b)) e)
+begins_black (b ∷ name) rest e = name_byte_black b (and_parts (is_name_byte b) (not (is_digit b)) e).0
 
 begins_front : (name rest : List ℕ) → begins_name name ≡ true → begins_name (name ++ rest) ≡ true
 begins_front [] rest e = absurd (cc)
@@ -51,7 +40,7 @@ begins_case : (b : ℕ) (bytes : List ℕ) (n : ℕ) (t : Bool) → ends_name b 
     → begins_name (take (cond t 0 (suc n)) (b ∷ bytes)) ≡ true
 begins_case b bytes n false f e = e
 begins_case b bytes n true f e =
-    let inside : is_name_byte b ≡ true = and_left (is_name_byte b) (not (is_digit b)) e in
+    let inside : is_name_byte b ≡ true = (and_parts (is_name_byte b) (not (is_digit b)) e).0 in
     let outside : not (is_name_byte b) ≡ false = ap not inside in absurd (cc)
 
 begins_run : (bytes : List ℕ) → begins_name bytes ≡ true → begins_name (take (length_before ends_name bytes) bytes) ≡ true
@@ -99,7 +88,7 @@ identifier_taken name rest p i =
 inside_case : (mark level b : ℕ) (bytes rest : List ℕ) (n : ℕ) (t : Bool) → (nat_eq level 0 && (nat_eq b mark || nat_eq b 125)) ≡ t
     → (drop n bytes ≡ mark ∷ rest → is_inside mark (level_after level b) (take n bytes) ≡ true)
     → drop (cond t 0 (suc n)) (b ∷ bytes) ≡ mark ∷ rest → is_inside mark level (take (cond t 0 (suc n)) (b ∷ bytes)) ≡ true
-inside_case mark level b bytes rest n true f more e = and_left (nat_eq level 0) (nat_eq b mark || nat_eq b 125) f
+inside_case mark level b bytes rest n true f more e = (and_parts (nat_eq level 0) (nat_eq b mark || nat_eq b 125) f).0
 inside_case mark level b bytes rest n false f more e =
     ap (λ (t : Bool). not t && is_inside mark (level_after level b) (take n bytes)) f ∙ more e
 
@@ -121,8 +110,8 @@ inside_taken mark level [] rest same e =
 inside_taken mark level (b ∷ text) rest same e =
     let ends = nat_eq level 0 && (nat_eq b mark || nat_eq b 125) in
     ap (λ (t : Bool). cond t 0 (suc (inside_length mark (level_after level b) (text ++ mark ∷ rest))))
-    (not_true ends (and_left (not ends) (is_inside mark (level_after level b) text) e))
-    ∙ ap suc (inside_taken mark (level_after level b) text rest same (and_right (not ends) (is_inside mark (level_after level b) text) e))
+    (not-true ends (and_parts (not ends) (is_inside mark (level_after level b) text) e).0)
+    ∙ ap suc (inside_taken mark (level_after level b) text rest same (and_parts (not ends) (is_inside mark (level_after level b) text) e).1)
 
 closed_read : (mark : ℕ) (text left : List ℕ) (p q : Progress) → closed mark text left p ≡ Ok q
     → (left ≡ mark ∷ q.left) × (q ≡ joined text q.left p)
@@ -280,16 +269,12 @@ digit_first b e = (grind (arith, nat_tests), grind (arith, nat_tests))
 name_first : (b : ℕ) → is_name_byte b ≡ true → (nat_eq b 123 ≡ false) × (nat_eq b 34 ≡ false)
 name_first b e = (grind (arith, nat_tests), grind (arith, nat_tests))
 
-not_false : (a : Bool) → not a ≡ false → a ≡ true
-not_false true e = refl
-not_false false e = absurd (cc)
-
 digits_at : (text bytes rest : List ℕ) (p : Progress) → Run ends_digits text bytes rest → 0 < length text
     → piece_at bytes p ≡ Ok (joined text rest p)
 digits_at [] bytes rest p run some = absurd (omega arith)
 digits_at (b ∷ text) bytes rest p run some =
     let taken = run_taken ends_digits (b ∷ text) bytes rest run in
-    let digit : is_digit b ≡ true = not_false (is_digit b) (run.inside).0 in
+    let digit : is_digit b ≡ true = not-false (is_digit b) (run.inside).0 in
     let first = digit_first b digit in
     let all = b ∷ (text ++ rest) in
     let d : Result Progress Stop = Ok (take_digits all p) in
@@ -303,8 +288,8 @@ digits_at (b ∷ text) bytes rest p run some =
 
 name_at : (b : ℕ) (bytes : List ℕ) (p : Progress) → begins_name (b ∷ bytes) ≡ true → piece_at (b ∷ bytes) p ≡ take_macro p
 name_at b bytes p e =
-    let inside : is_name_byte b ≡ true = and_left (is_name_byte b) (not (is_digit b)) e in
-    let plain : is_digit b ≡ false = not_true (is_digit b) (and_right (is_name_byte b) (not (is_digit b)) e) in
+    let inside : is_name_byte b ≡ true = (and_parts (is_name_byte b) (not (is_digit b)) e).0 in
+    let plain : is_digit b ≡ false = not-true (is_digit b) (and_parts (is_name_byte b) (not (is_digit b)) e).1 in
     let first = name_first b inside in
     let d : Result Progress Stop = Ok (take_digits (b ∷ bytes) p) in
     ap (λ (t : Bool). cond t (take_closed 125 bytes p) (cond (nat_eq b 34) (take_closed 34 bytes p) (cond (is_digit b) d (take_macro p)))) first.0
@@ -323,7 +308,7 @@ macro_taken name rest p i =
 
 digits_black : (text rest : List ℕ) → NoneOf ends_digits text → 0 < length text → EndsBy is_black (text ++ rest)
 digits_black [] rest none some = absurd (omega arith)
-digits_black (b ∷ text) rest none some = digit_black b (not_false (is_digit b) none.0)
+digits_black (b ∷ text) rest none some = digit_black b (not-false (is_digit b) none.0)
 
 pub piece_taken : (piece : Piece) (rest : List ℕ) (p : Progress) → IsPiece piece p.left rest
     → take_piece p ≡ Ok (with_piece piece rest p)

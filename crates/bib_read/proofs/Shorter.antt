@@ -17,7 +17,7 @@ use Rattle.std.specs.Prelude.{codes, IfOk}
 use Rattle.bv_base.specs.Runs.{after_white, ends_digits, is_black, is_digit, length_before}
 use Rattle.name_table.specs.Names.{lowered, same_name}
 use Rattle.bv_base.proofs.ThenLemmas.{then_holds}
-use Rattle.std.proofs.lemmas.Bool.{cond_both}
+use Rattle.std.proofs.lemmas.Bool.{cond_both, and_parts, not_from_true}
 
 -- fewer bytes than these are left
 abbrev pub Under : ℕ → Progress → Type 0
@@ -87,14 +87,6 @@ mark_below mark p =
     cond_both (stands mark p) (Ok (passed mark p)) (Err (unexpected (passed mark p).left)) (Below (length p.left))
     (λ first. passed_less mark p first) (λ fails. tt)
 
-both_true : (a b : Bool) → (a && b) ≡ true → a ≡ true
-both_true true b e = refl
-both_true false b e = absurd (cc)
-
-not_true : (a : Bool) → a ≡ true → not a ≡ false
-not_true true e = refl
-not_true false e = absurd (cc)
-
 identifier_at_below : (bytes : List ℕ) (p : Progress) (n : ℕ) → length bytes ≤ n → GivesBelow n (identifier_at bytes p)
 identifier_at_below [] p n le = tt
 identifier_at_below (b ∷ bytes) p n le = by (begins_name (b ∷ bytes)) refl
@@ -105,7 +97,7 @@ identifier_at_below (b ∷ bytes) p n le = by (begins_name (b ∷ bytes)) refl
         (Err (unexpected (b ∷ bytes))))
     by true e =
         let taken : length (drop (length_before ends_name (b ∷ bytes)) (b ∷ bytes)) < length (b ∷ bytes) =
-        run_taken ends_name b bytes (not_true (is_name_byte b) (both_true (is_name_byte b) (not (is_digit b)) e)) in
+        run_taken ends_name b bytes (not_from_true (is_name_byte b) (and_parts (is_name_byte b) (not (is_digit b)) e).0) in
         omega arith
     by false e = tt
 
@@ -144,7 +136,7 @@ macro_below p =
     (sym (macro_left found.0 (value_of found.0 found.1.macros) found.1)) less)
 
 digits_false : (b : ℕ) → is_digit b ≡ true → ends_digits b ≡ false
-digits_false b e = not_true (is_digit b) e
+digits_false b e = not_from_true (is_digit b) e
 
 piece_at_below : (bytes : List ℕ) (p : Progress) → length bytes ≤ length p.left → Below (length p.left) (piece_at bytes p)
 piece_at_below [] p le = tt

@@ -1,6 +1,6 @@
 -- What the grammar spells is what the definition reads.
 use Rattle.std.proofs.Common.{◌≡◌, ℕ, suc, ◌+◌, ◌<◌, ◌≤◌, ◌||◌, ◌&&◌, Bool, true, false, cond, nat_eq, nat_le, not, List, [], ◌∷◌, ◌++◌, length, take, drop, Result, Ok, Err, Option, Some, None, refl, sym, ap, ◌∙◌, subst, inl, inr, arith, eqb-true}
-use Rattle.std.proofs.lemmas.Bool.{le-leb, and_parts, cond-true, cond-false}
+use Rattle.std.proofs.lemmas.Bool.{le-leb, and_parts, cond-true, cond-false, not-true}
 use Rattle.std.proofs.lemmas.Bool.Decides.{nat_tests}
 use Rattle.std.proofs.lemmas.List.{length-append, append_assoc, append-nil}
 use Rattle.std.proofs.Math.Seq.{take-append_seam, drop-append_seam}
@@ -69,10 +69,6 @@ or_right false y e = e
 or_first : (x y : Bool) → x ≡ true → (x || y) ≡ true
 or_first true y e = refl
 or_first false y e = cc
-
-not_true : (x : Bool) → not x ≡ true → x ≡ false
-not_true true e = cc
-not_true false e = refl
 
 eq_swap : (a b : ℕ) → nat_eq a b ≡ false → nat_eq b a ≡ false
 eq_swap a b e = grind (arith, nat_tests)
@@ -207,8 +203,8 @@ run_begins place b bytes run begins =
       piece_is =
           cond-false (nat_eq 123 b) _ _ (eq_swap b 123 opens.0)
           ∙ cond-false (nat_eq 125 b) _ _ (eq_swap b 125 closes.0)
-          ∙ cond-false (nat_eq 35 b) _ _ (not_true (nat_eq 35 b) marks.0)
-          ∙ cond-false (nat_eq 34 b) _ _ (not_true (nat_eq 34 b) marks.1);
+          ∙ cond-false (nat_eq 35 b) _ _ (not-true (nat_eq 35 b) marks.0)
+          ∙ cond-false (nat_eq 34 b) _ _ (not-true (nat_eq 34 b) marks.1);
       gap_is = cond-false (is_white b) _ _ white.0 ∙ cond-false (nat_eq b 37) _ _ percent.0;
       some = omega arith;
     }

@@ -1,6 +1,6 @@
 -- A style that is read is sound.
 use Rattle.std.proofs.Common.{◌≡◌, ℕ, suc, ◌+◌, ◌≤◌, Bool, true, false, ◌&&◌, not, nat_eq, nat_lt, List, [], ◌∷◌, Option, None, Some, Result, Ok, Err, length, refl, sym, subst, arith}
-use Rattle.std.proofs.lemmas.Bool.{eqb-true, ltb-true, and_parts}
+use Rattle.std.proofs.lemmas.Bool.{eqb-true, ltb-true, and_parts, not-true}
 use Rattle.std.specs.Result.{IfOk}
 use Rattle.name_table.specs.declared.names.Kind.{Kind}
 use Rattle.name_table.specs.declared.names.Kind.TheVariants.{Builtin, Wizard, Field, IntEntry, StrEntry, IntGlobal, StrGlobal}
@@ -30,10 +30,6 @@ abbrev all_pass : {X : Type 0} → (X → Bool) → List X → Bool
 all_pass test [] = true
 all_pass test (x ∷ xs) = test x && all_pass test xs
 
-not_false : (b : Bool) → not b ≡ true → b ≡ false
-not_false true e = absurd (cc)
-not_false false e = refl
-
 each_passing : {X : Type 0} (test : X → Bool) (P : X → Type 0) → ((x : X) → test x ≡ true → P x) → (xs : List X)
     → all_pass test xs ≡ true → Each P xs
 each_passing test P f [] h = tt
@@ -52,7 +48,7 @@ apart_test (first ∷ rest) = all_pass (λ other. not (same_name other.0 first.0
 apart_passing : (names : List (List ℕ × Kind)) → apart_test names ≡ true → AreApart names
 apart_passing [] h = tt
 apart_passing (first ∷ rest) h = (
-  each_passing (λ (other : List ℕ × Kind). not (same_name other.0 first.0)) _ (λ (other : List ℕ × Kind) e. not_false (same_name other.0 first.0) e) rest (and_parts _ (apart_test rest) h).0,
+  each_passing (λ (other : List ℕ × Kind). not (same_name other.0 first.0)) _ (λ (other : List ℕ × Kind) e. not-true (same_name other.0 first.0) e) rest (and_parts _ (apart_test rest) h).0,
   apart_passing rest (and_parts (all_pass (λ (other : List ℕ × Kind). not (same_name other.0 first.0)) rest) (apart_test rest) h).1,
 )
 

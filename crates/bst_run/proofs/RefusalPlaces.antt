@@ -16,6 +16,7 @@ use Rattle.name_table.specs.declared.style.Command.{Command}
 use Rattle.name_table.specs.declared.style.Command.TheVariants.{Execute}
 use Rattle.name_table.specs.declared.style.CommandAt.{CommandAt}
 use Rattle.name_table.specs.declared.style.Style.{Style}
+use Rattle.name_table.proofs.Within.{got}
 use Rattle.bst_parse.specs.PlacesStand.{BodyStands, IsOfByte, PlacesStand}
 use Rattle.bst_meaning.specs.StyleParts.{kind_of, tokens_of}
 use Rattle.bst_run.specs.declared.refusal.Refusal.{Refusal}
@@ -56,12 +57,6 @@ module _ (P : Place → Type 0) where
   end_fails : (place : Place) (n : ℕ) → P place → Fails P (end_call place n)
   end_fails place zero stands = tt
   end_fails place (suc n) stands = stands
-
--- an item of a list has what each has
-pub got : {X : Type 0} (P : X → Type 0) (xs : List X) (k : ℕ) → Each P xs → IfSome (slice_get xs k) P
-got P [] k each = tt
-got P (x ∷ xs) zero each = each.0
-got P (x ∷ xs) (suc k) each = got P xs k each.1
 
 module _ (source : List ℕ) where
   -- the tokens of a body that was got

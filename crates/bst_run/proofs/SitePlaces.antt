@@ -28,16 +28,8 @@ use Rattle.bst_meaning.specs.Effect.{Effect, Entered}
 use Rattle.bst_meaning.specs.Operands.{is_positive}
 use Rattle.bst_meaning.specs.Builtins.{built_in}
 use Rattle.bst_meaning.specs.Machine.{assigned_by, call_end_step, call_ended, call_step, command_step, context_of, frame_step, going_step, outer_step, return_step, run, step, steps, stopped_by, test_ended, token_step, unless_stopped, visit_of, visit_step, with_assigned, with_call, with_effect, with_entered, with_found, with_frame, with_value}
-use Rattle.bst_run.proofs.RefusalPlaces.{got, body_tokens}
-
--- what holds of those that are kept
-each_kept : {X : Type 0} (P : X → Type 0) (test : X → Bool) (xs : List X) → Each P xs → Each P (filter test xs)
-each_kept P test [] each = tt
-each_kept P test (x ∷ xs) each = by (test x) (each_kept P test xs each.1)
-  where
-    by : (t : Bool) → Each P (filter test xs) → Each P (cond t (x ∷ filter test xs) (filter test xs))
-    by true rest = (each.0, rest)
-    by false rest = rest
+use Rattle.name_table.proofs.Within.{each_kept, got}
+use Rattle.bst_run.proofs.RefusalPlaces.{body_tokens}
 
 module _ (source : List ℕ) where
   -- a frame and each token that it has left stand at a byte

@@ -3,6 +3,7 @@ use Rattle.std.proofs.Common.{◌≡◌, ℕ, Bool, true, false, cond, not, ◌|
 use Rattle.std.specs.Prelude.{filter, flat_map}
 use Rattle.std.specs.List.{AllByRecursion}
 use Rattle.std.specs.Option.{option_map, option_to_list}
+use Rattle.std.proofs.lemmas.Bool.{not-true, or_parts}
 use Rattle.name_table.specs.Names.{same_name, lowered}
 use Rattle.aux_read.specs.declared.aux.AuxItem.{AuxItem}
 use Rattle.aux_read.specs.declared.aux.AuxItem.TheVariants.{All, Cite, Input}
@@ -16,17 +17,9 @@ use Rattle.entry_list.specs.Parents.{appended, is_wanted, parents_of, same_liste
 use Rattle.entry_list.proofs.Keyed.{all_filter, all_firsts}
 use Rattle.entry_list.proofs.Found.{key_apart, key_equal, key_refl}
 
-both_false : (a b : Bool) → (a || b) ≡ false → (a ≡ false) × (b ≡ false)
-both_false true b e = absurd cc
-both_false false b e = (refl, e)
-
 none_of : (a b : Bool) → a ≡ false → b ≡ false → (a || b) ≡ false
 none_of true b e f = absurd cc
 none_of false b e f = f
-
-not_false : (b : Bool) → not b ≡ true → b ≡ false
-not_false true e = absurd cc
-not_false false e = refl
 
 -- the keys of a list are none of another's
 abbrev AreOthers : List Listed → List Listed → Type 0
@@ -36,7 +29,7 @@ listed_append : (key : List ℕ) (xs ys : List Listed) → is_listed key xs ≡ 
     → is_listed key (xs ++ ys) ≡ false
 listed_append key [] ys e f = f
 listed_append key (x ∷ xs) ys e f =
-    let apart = both_false (same_key key x.key) (is_listed key xs) e in
+    let apart = or_parts (same_key key x.key) (is_listed key xs) e in
     none_of (same_key key x.key) (is_listed key (xs ++ ys)) apart.0 (listed_append key xs ys apart.1 f)
 
 apart_append : (xs ys : List Listed) → AreApart xs → AreApart ys → AreOthers ys xs → AreApart (xs ++ ys)
@@ -53,11 +46,11 @@ swapped (x ∷ xs) ys others = (head ys others, swapped xs ys (tail ys others))
     head [] others = refl
     head (y ∷ ys) others =
         none_of (same_key x.key y.key) (is_listed x.key ys)
-        (key_apart y.key x.key (both_false (same_key y.key x.key) (is_listed y.key xs) others.0).0) (head ys others.1)
+        (key_apart y.key x.key (or_parts (same_key y.key x.key) (is_listed y.key xs) others.0).0) (head ys others.1)
 
     tail : (ys : List Listed) → AreOthers (x ∷ xs) ys → AreOthers xs ys
     tail [] others = tt
-    tail (y ∷ ys) others = ((both_false (same_key y.key x.key) (is_listed y.key xs) others.0).1, tail ys others.1)
+    tail (y ∷ ys) others = ((or_parts (same_key y.key x.key) (is_listed y.key xs) others.0).1, tail ys others.1)
 
 -- no later one is the same as one before it
 abbrev pub AreDistinct : {X : Type 0} → (X → X → Bool) → List X → Type 0
@@ -88,7 +81,7 @@ distinct_filter {X} same p (x ∷ xs) d = by (p x) (distinct_filter same p xs d.
 firsts_distinct : {X : Type 0} (same : X → X → Bool) (xs : List X) → AreDistinct same (firsts same xs)
 firsts_distinct same [] = tt
 firsts_distinct same (x ∷ xs) = (
-  all_weaker (λ y. not (same y x) ≡ true) (λ y. same y x ≡ false) (λ y e. not_false (same y x) e)
+  all_weaker (λ y. not (same y x) ≡ true) (λ y. same y x ≡ false) (λ y e. not-true (same y x) e)
       (filter (λ y. not (same y x)) (firsts same xs)) (passing (λ y. not (same y x)) (firsts same xs)),
   distinct_filter same (λ y. not (same y x)) (firsts same xs) (firsts_distinct same xs),
 )
@@ -109,15 +102,15 @@ new_distinct before (e ∷ es) new =
     (later (before ++ e ∷ []) es (has_last before) new.2, new_distinct (before ++ e ∷ []) es new.2)
   where
     has_last : (before : List RawEntry) → (key : List ℕ) → has_entry (lowered key) (before ++ e ∷ []) ≡ false → same_key key e.key ≡ false
-    has_last [] key none = (both_false (same_key key e.key) false none).0
+    has_last [] key none = (or_parts (same_key key e.key) false none).0
     has_last (b ∷ before) key none =
-        has_last before key (both_false (same_key key b.key) (has_entry (lowered key) (before ++ e ∷ [])) none).1
+        has_last before key (or_parts (same_key key b.key) (has_entry (lowered key) (before ++ e ∷ [])) none).1
 
     longer : (key : List ℕ) (before more : List RawEntry) → has_entry (lowered key) (before ++ more) ≡ false
         → has_entry (lowered key) before ≡ false
     longer key [] more none = refl
     longer key (b ∷ before) more none =
-        let apart = both_false (same_key key b.key) (has_entry (lowered key) (before ++ more)) none in
+        let apart = or_parts (same_key key b.key) (has_entry (lowered key) (before ++ more)) none in
         none_of (same_key key b.key) (has_entry (lowered key) before) apart.0 (longer key before more apart.1)
 
     later : (before es : List RawEntry) → ((key : List ℕ) → has_entry (lowered key) before ≡ false → same_key key e.key ≡ false)
@@ -181,7 +174,7 @@ uncited_others items entries key is =
     all [] a = refl
     all (e ∷ es) a =
         none_of (same_key key e.key) (is_listed key (map own es))
-        (cited_other key e.key items is (not_false (is_cited e.key items) a.0)) (all es a.1)
+        (cited_other key e.key items is (not-true (is_cited e.key items) a.0)) (all es a.1)
 
 -- what two requests that aren't the same put into the list has no key in common
 asked_others : (items : List AuxItem) (entries : List RawEntry) (x y : AuxItem) → IsCited items x → IsCited items y
@@ -251,7 +244,7 @@ unlisted parents list [] a = tt
 unlisted parents list (w ∷ ws) a = (by _ (is_listed w.key list) a.0, unlisted parents list ws a.1)
   where
     by : (t l : Bool) → (t && not l) ≡ true → l ≡ false
-    by true l e = not_false l e
+    by true l e = not-true l e
     by false l e = absurd cc
 
 pub whole_apart : (items : List AuxItem) (entries : List RawEntry) → AreNew [] entries → AreApart (whole_list items entries)

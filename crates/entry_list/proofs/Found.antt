@@ -4,6 +4,7 @@ use Rattle.std.specs.Prelude.{filter}
 use Rattle.std.specs.Cmp.Lexicographic.{same_text}
 use Rattle.std.specs.List.{AllByRecursion}
 use Rattle.std.specs.Option.{option_and_then, option_map, option_to_list}
+use Rattle.std.proofs.lemmas.Bool.{or_parts}
 use Rattle.name_table.specs.Names.{same_name, lowered}
 use Rattle.aux_read.specs.declared.aux.AuxItem.{AuxItem}
 use Rattle.aux_read.specs.declared.aux.AuxItem.TheVariants.{All, Cite, Input}
@@ -35,15 +36,11 @@ key_apart a b apart = by (same_key b a) refl
     by true e =
         sym (key_refl a) ∙ ap (λ t. same_name (lowered a) t) (sym (key_equal b a e)) ∙ apart
 
-both_false : (a b : Bool) → (a || b) ≡ false → (a ≡ false) × (b ≡ false)
-both_false true b e = absurd cc
-both_false false b e = (refl, e)
-
 entry_past : (key : List ℕ) (before rest : List RawEntry) → has_entry (lowered key) before ≡ false
     → entry_of key (before ++ rest) ≡ entry_of key rest
 entry_past key [] rest none = refl
 entry_past key (e ∷ before) rest none =
-    let apart = both_false (same_key key e.key) (has_entry (lowered key) before) none in
+    let apart = or_parts (same_key key e.key) (has_entry (lowered key) before) none in
     ap (λ v. cond v (Some e) (entry_of key (before ++ rest))) apart.0 ∙ entry_past key before rest apart.1
 
 all_found : (before rest : List RawEntry) → AreNew before rest → AllByRecursion (λ e. entry_of e.key (before ++ rest) ≡ Some e) rest

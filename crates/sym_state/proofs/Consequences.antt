@@ -6,7 +6,7 @@ use Rattle.bv_base.specs.Bytes.{is_white}
 use Rattle.std.specs.Option.{option_map_or}
 use Rattle.std.specs.Ordering.{int_eq}
 use Rattle.std.specs.Cmp.Lexicographic.{pointwise}
-use Rattle.std.proofs.lemmas.Bool.{and_parts}
+use Rattle.std.proofs.lemmas.Bool.{and_parts, not-true}
 use Rattle.std.proofs.lemmas.Bool.Decides.{Decides-int_eq}
 use Rattle.name_table.specs.declared.names.NameId.{NameId}
 use Rattle.name_table.specs.declared.style.Style.{Style}
@@ -123,10 +123,6 @@ same_bytes (x ∷ xs) (y ∷ ys) e =
     let both = and_parts (nat_eq x y) (pointwise nat_eq xs ys) e in
     ap (λ (n : ℕ). n ∷ xs) (same_number x y both.0) ∙ ap (λ (rest : List ℕ). y ∷ rest) (same_bytes xs ys both.1)
 
-not_true : (b : Bool) → not b ≡ true → b ≡ false
-not_true true e = absurd (cc)
-not_true false e = refl
-
 same_name : (a b : NameId) → a.0 ≡ b.0 → a ≡ b
 same_name a b e = ap (λ (n : ℕ). let id : NameId = record { 0 = n } in id) e
 
@@ -149,7 +145,7 @@ consequence style value fact (Blank s) e h =
     emptiness_fact style value fact p.value p.is h ∙ ap (λ (b : Bool). Some b) p.passes
 consequence style value fact (Nonblank s) e h =
     let p = passing not (emptiness_said fact) e in
-    emptiness_fact style value fact p.value p.is h ∙ ap (λ (b : Bool). Some b) (not_true p.value p.passes)
+    emptiness_fact style value fact p.value p.is h ∙ ap (λ (b : Bool). Some b) (not-true p.value p.passes)
 consequence style value fact (Wellformed s) e h = wellformed_holds style value fact e h
 
 nothing_said : (style : Style) (value : Value) (wanted : Fact) → says_nothing wanted ≡ true → Says style wanted value

@@ -19,7 +19,6 @@ pub mod Spots
 pub mod Started
 pub mod Sums
 pub mod Frames
-pub mod Fronts
 pub mod KnownKinds
 pub mod Pushing
 pub mod Resulting

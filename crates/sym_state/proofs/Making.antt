@@ -7,6 +7,7 @@ use Rattle.std.proofs.lemmas.List.Elements.{All-nil, All-cons, All-head, All-tai
 use Rattle.std.proofs.lemmas.List.Sums.{sum_by-cons}
 use Rattle.std.proofs.lemmas.List.{length-map}
 use Rattle.std.specs.Global.{Global}
+use Rattle.std.proofs.lemmas.Bool.{or_parts}
 use Rattle.lin_facts.specs.declared.row.Part.{Part}
 use Rattle.lin_facts.specs.declared.row.Row.{Row}
 use Rattle.lin_facts.specs.declared.row.Term.{Term}
@@ -197,10 +198,6 @@ ids_filter takes test stricter all i (name ∷ names) same =
           rest ∙ ap (λ (b : Bool). cond b (id ∷ ids_from test (suc i) names) (ids_from test (suc i) names)) (sym (stricter name.1 is))
     ] refl
 
-either_false : (a b : Bool) → (a || b) ≡ false → (a ≡ false) × (b ≡ false)
-either_false true b e = absurd (cc)
-either_false false b e = (refl, e)
-
 -- the names of the seats that pass are the names that pass
 pub seated_names : (style : Style) (at_entry : Bool) (test : Kind → Bool) (binds : List Bind) (first : ℕ)
     → ((k : Kind) → takes_part at_entry k ≡ false → test k ≡ false)
@@ -330,8 +327,8 @@ started_made alloc style admits pieces whole at_entry numbered fit bounded =
       rows = All-append (RowBelow n) _ _
           (each_part (RowBelow n) (λ piece. piece.rows) IsNumbered n 0 pieces (λ k piece few h. raised_rows n k piece few h) (omega arith) numbered)
           (each_given (RowBelow n) (λ b. own_rows admits (kind_of style b.name) b) (λ b. b.sym.0 < n) seated (λ b h. own_rows_below n admits (kind_of style b.name) b h) below);
-      binds_vars = seated_names style at_entry (is_variable at_entry) (bound_by on) first (λ k e. (either_false (is_variable at_entry k) (is_field at_entry k) e).0);
-      binds_fields = seated_names style at_entry (is_field at_entry) (bound_by on) first (λ k e. (either_false (is_variable at_entry k) (is_field at_entry k) e).1);
+      binds_vars = seated_names style at_entry (is_variable at_entry) (bound_by on) first (λ k e. (or_parts (is_variable at_entry k) (is_field at_entry k) e).0);
+      binds_fields = seated_names style at_entry (is_field at_entry) (bound_by on) first (λ k e. (or_parts (is_variable at_entry k) (is_field at_entry k) e).1);
       of_style = all_facts (IsOfStyle style) alloc style admits pieces whole at_entry (style_renamed style) (λ b k. tt) (λ b. tt) (λ b. tt)
           (All-weaker (IsFit style) (λ piece. All (IsOfStyle style) piece.facts) (λ piece h. h.of_style) pieces fit);
       integers = all_facts HasSmallInteger alloc style admits pieces whole at_entry small_renamed (λ b k. tt) (λ b. tt) (λ b. tt)

@@ -57,7 +57,7 @@ pub static CERTIFICATES: [Example; 7] = [
 ];
 
 /// The style that joins two texts, and the certificate.
-const BOTH: &[File] = &[
+pub const BOTH: &[File] = &[
     File {
         name: "a.bst",
         bytes: JOINS,
