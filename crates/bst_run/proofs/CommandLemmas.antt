@@ -1,5 +1,5 @@
 -- From what a command's words come to and what was delivered to what is promised of a call.
-use Rattle.std.proofs.Common.{◌≡◌, ◌≢◌, ℕ, ◌⊎◌, List, [], true, false, Option, None, Some, Result, Ok, Err, refl, sym, ◌∙◌, ap, subst, inl, inr}
+use Rattle.std.proofs.Common.{◌≡◌, ◌≢◌, ℕ, ◌⊎◌, List, [], Bool, true, false, Option, None, Some, Result, Ok, Err, refl, sym, ◌∙◌, ap, subst, inl, inr}
 use Rattle.std.specs.Prelude.{IfSome, IsSomeAnd, IfOk, IfErr}
 use Rattle.std.specs.String.{string_bytes}
 use Rattle.bv_base.specs.Outside.{Listing, Rose, appended, last_begun}
@@ -144,41 +144,32 @@ module _ {F : Type 0} (see : Ghosts F) (old new : F) (form : Form) where
       as_answered None = tt
       as_answered (Some t) = inl (wanting (outcome_in t form) given out err delivered.0 delivered.1 delivered.2)
 
+-- what an outcome names of the file that was begun last stands on standard error
+named_shown : (missed : Bool) (naming : List ℕ → Outcome) (o : Outcome) (err : Sunk) → err.after ≡ appended err.before o.err → (begun : Option Begun)
+    → IsSomeAnd begun (λ b. (b.absent ≡ missed) × (o ≡ naming b.name)) → IsSomeAnd begun (λ b. (b.absent ≡ missed) × (err.after ≡ appended err.before (naming b.name).err))
+named_shown missed naming o err taken None cause = absurd cause
+named_shown missed naming o err taken (Some b) cause = (cause.0, taken ∙ ap (λ (x : Outcome). appended err.before x.err) cause.1)
+
 -- an answer NoFile names the file that isn't there
 pub no_file_shown : {F : Type 0} (see : Ghosts F) (old new : F) (form : Form) (found : Result Outcome NoMemory) (given : Status) (out err : Sunk)
     → IfOk found (λ o. IsAnswer {F = F} see old new form o) → Delivers found given out err → given ≡ status.NoFile
     → IsSomeAnd (last_begun (see.begun new)) (λ b. (b.absent ≡ true) × (err.after ≡ appended err.before (absent b.name).err))
 no_file_shown see old new form (Err refused) given out err answer delivered is = let e = delivered.0 in absurd (cc)
-no_file_shown see old new form (Ok o) given out err answer (OutFailed e cut last) is = absurd (cc)
-no_file_shown see old new form (Ok o) given out err answer (ErrFailed e put cut) is = absurd (cc)
-no_file_shown see old new form (Ok o) given out err answer (OutWanting e front last) is = absurd (cc)
-no_file_shown see old new form (Ok o) given out err answer (ErrWanting e put front) is = absurd (cc)
 no_file_shown see old new form (Ok o) given out err answer (Whole e put last) is =
-    shown (last_begun (see.begun new)) (subst (λ (s : Status). CausedBy s o (last_begun (see.begun new)) (see.faults old) (see.faults new)) (sym e ∙ is) answer.cause)
-  where
-    shown : (begun : Option Begun) → IsSomeAnd begun (λ b. (b.absent ≡ true) × (o ≡ absent b.name))
-        → IsSomeAnd begun (λ b. (b.absent ≡ true) × (err.after ≡ appended err.before (absent b.name).err))
-    shown None cause = absurd cause
-    shown (Some b) cause = (cause.0, last.taken ∙ ap (λ (x : Outcome). appended err.before x.err) cause.1)
+    named_shown true absent o err last.taken (last_begun (see.begun new))
+    (subst (λ (s : Status). CausedBy s o (last_begun (see.begun new)) (see.faults old) (see.faults new)) (sym e ∙ is) answer.cause)
+no_file_shown see old new form (Ok o) given out err answer _ is = absurd (cc)
 
 -- an answer ReadFailed names the file that couldn't be read
 pub read_failed_shown : {F : Type 0} (see : Ghosts F) (old new : F) (form : Form) (found : Result Outcome NoMemory) (given : Status) (out err : Sunk)
     → IfOk found (λ o. IsAnswer {F = F} see old new form o) → Delivers found given out err → given ≡ status.ReadFailed
     → Rose (see.faults old) (see.faults new) × IsSomeAnd (last_begun (see.begun new)) (λ b. (b.absent ≡ false) × (err.after ≡ appended err.before (unread b.name).err))
 read_failed_shown see old new form (Err refused) given out err answer delivered is = let e = delivered.0 in absurd (cc)
-read_failed_shown see old new form (Ok o) given out err answer (OutFailed e cut last) is = absurd (cc)
-read_failed_shown see old new form (Ok o) given out err answer (ErrFailed e put cut) is = absurd (cc)
-read_failed_shown see old new form (Ok o) given out err answer (OutWanting e front last) is = absurd (cc)
-read_failed_shown see old new form (Ok o) given out err answer (ErrWanting e put front) is = absurd (cc)
 read_failed_shown see old new form (Ok o) given out err answer (Whole e put last) is =
     let cause : CausedBy status.ReadFailed o (last_begun (see.begun new)) (see.faults old) (see.faults new) =
     subst (λ (s : Status). CausedBy s o (last_begun (see.begun new)) (see.faults old) (see.faults new)) (sym e ∙ is) answer.cause in
-    (cause.0, shown (last_begun (see.begun new)) cause.1)
-  where
-    shown : (begun : Option Begun) → IsSomeAnd begun (λ b. (b.absent ≡ false) × (o ≡ unread b.name))
-        → IsSomeAnd begun (λ b. (b.absent ≡ false) × (err.after ≡ appended err.before (unread b.name).err))
-    shown None cause = absurd cause
-    shown (Some b) cause = (cause.0, last.taken ∙ ap (λ (x : Outcome). appended err.before x.err) cause.1)
+    (cause.0, named_shown false unread o err last.taken (last_begun (see.begun new)) cause.1)
+read_failed_shown see old new form (Ok o) given out err answer _ is = absurd (cc)
 
 -- an answer WriteFailed comes from a sink
 pub write_failed_shown : {F : Type 0} (see : Ghosts F) (old new : F) (form : Form) (found : Result Outcome NoMemory) (given : Status) (out err : Sunk)
@@ -196,12 +187,9 @@ write_failed_shown see old new form (Ok o) given out err answer (Whole e put las
 pub form_not_usage : {F : Type 0} (see : Ghosts F) (old new : F) (form : Form) (found : Result Outcome NoMemory) (given : Status) (out err : Sunk)
     → IfOk found (λ o. IsAnswer {F = F} see old new form o) → Delivers found given out err → given ≡ status.Usage → ⊥
 form_not_usage see old new form (Err refused) given out err answer delivered is = let e = delivered.0 in cc
-form_not_usage see old new form (Ok o) given out err answer (OutFailed e cut last) is = cc
-form_not_usage see old new form (Ok o) given out err answer (ErrFailed e put cut) is = cc
-form_not_usage see old new form (Ok o) given out err answer (OutWanting e front last) is = cc
-form_not_usage see old new form (Ok o) given out err answer (ErrWanting e put front) is = cc
 form_not_usage see old new form (Ok o) given out err answer (Whole e put last) is =
     subst (λ (s : Status). CausedBy s o (last_begun (see.begun new)) (see.faults old) (see.faults new)) (sym e ∙ is) answer.cause
+form_not_usage see old new form (Ok o) given out err answer _ is = cc
 
 -- what an outcome promises, a front of its text on standard output promises
 promised : (told : Listing) (form : Form) (o : Outcome) (out : Sunk) → IsFront o.out out → Promises told form o → IsPromised told form out
@@ -237,15 +225,12 @@ pub form_done : {F : Type 0} (see : Ghosts F) (old new : F) (form : Form) (found
     → IfOk found (λ o. IsAnswer {F = F} see old new form o) → Delivers found given out err → given ≡ status.Done
     → IfSome (see.told old) (λ told. IsDoneWell told form)
 form_done see old new form (Err refused) given out err answer delivered is = let e = delivered.0 in absurd (cc)
-form_done see old new form (Ok o) given out err answer (OutFailed e cut last) is = absurd (cc)
-form_done see old new form (Ok o) given out err answer (ErrFailed e put cut) is = absurd (cc)
-form_done see old new form (Ok o) given out err answer (OutWanting e front last) is = absurd (cc)
-form_done see old new form (Ok o) given out err answer (ErrWanting e put front) is = absurd (cc)
 form_done see old new form (Ok o) given out err answer (Whole e put last) is = shown (see.told old) answer.safe
   where
     shown : (t : Option Listing) → IfSome t (λ told. SaysDone o → Promises told form o) → IfSome t (λ told. IsDoneWell told form)
     shown None safe = tt
     shown (Some t) safe = done_well t form o (safe (inl (sym e ∙ is)))
+form_done see old new form (Ok o) given out err answer _ is = absurd (cc)
 
 -- the words `run AUX N` promise nothing of a text
 pub run_promises : (t : Option Listing) (aux : List ℕ) (steps : ℕ) (result : Result Outcome Stop) → IfOk result (λ o. IfSome t (λ told. Promises told (Run aux steps) o))

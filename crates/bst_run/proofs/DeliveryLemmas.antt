@@ -1,8 +1,6 @@
 -- What comes of an outcome that is delivered.
-use Rattle.std.proofs.Common.{◌≡◌, ◌≢◌, ◌⊎◌, inl, inr, true, false, ℕ, zero, suc, List, [], length, take, Option, None, Some, Result, Ok, Err, refl, sym, ◌∙◌, ap, arith, append-nil}
-use Rattle.std.proofs.Math.Dec.{eqb}
+use Rattle.std.proofs.Common.{◌≡◌, ◌≢◌, ◌⊎◌, ℕ, zero, suc, List, [], length, take, Option, None, Some, Result, Ok, Err, refl, sym, ◌∙◌, ap, arith, append-nil}
 use Rattle.std.proofs.Math.Seq.{take_all}
-use Rattle.std.proofs.lemmas.Bool.Decides.{eqb_tells}
 use Rattle.bv_base.specs.Outside.{Rose, appended}
 use Rattle.bv_base.specs.declared.memory.NoMemory.{NoMemory}
 use Rattle.bv_base.specs.declared.status.Status.{Status}
@@ -14,11 +12,6 @@ use Rattle.bst_run.specs.Delivery.{Sunk, IsPut, IsFront, IsDelivered, Whole, Out
 pub appended_nothing : (written : Option (List ℕ)) → written ≡ appended written []
 appended_nothing None = refl
 appended_nothing (Some bytes) = ap Some (sym (append-nil bytes))
-
--- a sink that was left alone has taken nothing
-pub put_nothing : (text : List ℕ) (sink : Sunk) → text ≡ [] → sink.after ≡ sink.before → sink.faults' ≡ sink.faults → IsPut text sink
-put_nothing text sink none same steady =
-    record { taken = same ∙ appended_nothing sink.before ∙ ap (appended sink.before) (sym none); steady = steady }
 
 -- where nothing was put, a front was
 front_nothing : (text : List ℕ) (sink : Sunk) → IsPut [] sink → IsFront text sink
@@ -52,14 +45,6 @@ silent outcome given out err none delivered =
 -- memory was wanting before anything was put
 pub wanting : (outcome : Outcome) (given : Status) (out err : Sunk) → given ≡ status.NoMemory → IsPut [] out → IsPut [] err → IsDelivered outcome given out err
 wanting outcome given out err e none last = OutWanting e (record { front = front_nothing outcome.out out none; steady = none.steady }) last
-
--- where a count didn't change otherwise, it stayed
-pub stayed : (old new : ℕ) → (new ≢ old → ⊥) → new ≡ old
-stayed old new same = by (eqb_tells new old)
-  where
-    by : ((eqb new old ≡ true) × (new ≡ old)) ⊎ ((eqb new old ≡ false) × (new ≢ old)) → new ≡ old
-    by (inl stays) = stays.1
-    by (inr moved) = absurd (same moved.1)
 
 -- where the faults of standard output changed the answer is WriteFailed, and nothing was put on standard error
 pub out_failed : (outcome : Outcome) (given : Status) (out err : Sunk) → IsDelivered outcome given out err → out.faults' ≢ out.faults

@@ -8,7 +8,7 @@ use Rattle.bv_base.specs.Outside.{Listing}
 use Rattle.bv_base.specs.declared.limits.TheConstants.{DATA_BYTES}
 use Rattle.bv_base.specs.Places.{after_bytes, first_place}
 use Rattle.name_table.specs.Sound.{Each}
-use Rattle.aux_read.proofs.FaultsStand.{fault_stands}
+use Rattle.aux_read.proofs.FaultsStand.{fault_stands, stands_before}
 use Rattle.aux_read.specs.Reading.{aux_of}
 use Rattle.aux_read.specs.declared.aux.Aux.{Aux}
 use Rattle.aux_read.specs.declared.aux.AuxItem.{AuxItem}
@@ -25,7 +25,9 @@ use Rattle.bst_run.specs.declared.data_fault.DataFault.TheVariants.{Aux as AuxFi
 use Rattle.bst_run.specs.declared.files.requests.Needs.{Needs}
 use Rattle.bst_run.specs.declared.files.requests.Requests.{Requests}
 use Rattle.bst_run.specs.declared.outcome.Outcome.{Outcome}
-use Rattle.bst_run.proofs.AuxPlaces.{AuxStands, ItemStands, aux_stands, stands_before}
+use Rattle.bst_run.proofs.TreeLemmas.{text_read}
+use Rattle.bst_run.proofs.AuxPlaces.{AuxStands, ItemStands, aux_stands}
+use Rattle.bv_base.proofs.ThenLemmas.{then_faulty}
 
 -- the first or the second of two faults
 first_stands : (text : List ℕ) (a b : Option DataFault) → IfSome a (IsFaultOf text) → IfSome b (IsFaultOf text) → IfSome (first_fault a b) (IsFaultOf text)
@@ -66,12 +68,6 @@ after_stands text levels before aux s =
     (databases_stand text before.databases aux.databases aux s))
     (deep_stands text levels aux.items s.items)
 
--- what holds of what stops one part or the next
-then_faulty : {A B : Type 0} (P : Outcome → Type 0) (r : Result A Outcome) (next : A → Result B Outcome) → IfErr r P → ((a : A) → r ≡ Ok a → IfErr (next a) P)
-    → IfErr (then_do r next) P
-then_faulty P (Ok a) next first rest = rest a refl
-then_faulty P (Err outcome) next first rest = first
-
 module _ (told : Listing) where
   -- a file that can't be read
   file_faulty : (name : List ℕ) → IfErr (file_in told DATA_BYTES name) (IsFileFault told)
@@ -106,14 +102,6 @@ module _ (told : Listing) where
       by (Ok aux) is = tt
       by (Err fault) is = Faulty name text (AuxFile fault) there (fault_stands text fault is) refl
 
-  -- a text that is read
-  text_stands : (name text : List ℕ) (aux : Aux) → aux_in name text ≡ Ok aux → AuxStands text aux
-  text_stands name text aux e = by (aux_of text) refl e
-    where
-      by : (r : Result Aux AuxFault) → aux_of text ≡ r → read_aux name r ≡ Ok aux → AuxStands text aux
-      by (Ok found) is e = let same : found ≡ aux = cc in aux_stands text aux (is ∙ ap (λ (a : Aux). Ok a) same)
-      by (Err fault) is e = absurd (cc)
-
   -- items, where no input is read but with such an outcome
   items_faulty : (input : List ℕ → Requests → Result Requests Outcome) (items : List AuxItem) (requests : Requests)
       → ((name : List ℕ) (before : Requests) → IfErr (input name before) (IsFileFault told)) → IfErr (take_items input items requests) (IsFileFault told)
@@ -143,7 +131,7 @@ module _ (told : Listing) where
       by : (r : Result (List ℕ) Outcome) → file_in told DATA_BYTES name ≡ r → then_do r (aux_in name) ≡ Ok aux
           → IfErr (take_aux levels (take_input levels told) name before aux) (IsFileFault told)
       by (Ok text) is read =
-          aux_faulty levels (take_input levels told) name text before aux (file_there name text is) (text_stands name text aux read) each
+          aux_faulty levels (take_input levels told) name text before aux (file_there name text is) (aux_stands text aux (text_read name text aux read)) each
       by (Err outcome) is read = absurd (cc)
 
   input_faulty : (levels : ℕ) (name : List ℕ) (before : Requests) → IfErr (take_input levels told name before) (IsFileFault told)
@@ -166,7 +154,7 @@ module _ (told : Listing) where
       then_faulty (IsFileFault told) (aux_in name text) (λ aux. then_do (take_aux 16 (take_input 16 told) name nothing aux) (complete name text))
       (text_faulty name text there)
       (λ aux read. then_faulty (IsFileFault told) (take_aux 16 (take_input 16 told) name nothing aux) (complete name text)
-      (aux_faulty 16 (take_input 16 told) name text nothing aux there (text_stands name text aux read) (input_faulty 16))
+      (aux_faulty 16 (take_input 16 told) name text nothing aux there (aux_stands text aux (text_read name text aux read)) (input_faulty 16))
       (λ requests _. complete_faulty name text requests.items requests.style requests.databases there))
 
   pub needs_faulty : (name : List ℕ) (outcome : Outcome) → needs_of told name ≡ Err outcome → IsFileFault told outcome

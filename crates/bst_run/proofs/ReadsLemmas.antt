@@ -57,18 +57,14 @@ rose_later f0 f1 f2 le (inr end) = inr end
 -- what an inner call shows of its stop, the outer call shows too
 pub later_cause : (stop : Stop) (begun : Option Begun) (f0 f1 f2 : ℕ) → f0 ≤ f1 → HasCause stop begun f1 f2 → HasCause stop begun f0 f2
 later_cause (Failed name) begun f0 f1 f2 le h = (h.0, rose_later f0 f1 f2 le h.1)
-later_cause (Told outcome) begun f0 f1 f2 le h = h
-later_cause (Absent name) begun f0 f1 f2 le h = h
-later_cause (TooLong name) begun f0 f1 f2 le h = h
 later_cause NoMemory begun f0 f1 f2 le h = tt
+later_cause _ begun f0 f1 f2 le h = h
 
 -- what needs no files has its cause
 pub inside_cause : (stop : Stop) (begun : Option Begun) (f f' : ℕ) → IsInside stop → HasCause stop begun f f'
 inside_cause (Told outcome) begun f f' h = h
-inside_cause (Failed name) begun f f' h = absurd h
-inside_cause (Absent name) begun f f' h = absurd h
-inside_cause (TooLong name) begun f f' h = absurd h
 inside_cause NoMemory begun f f' h = tt
+inside_cause _ begun f f' h = absurd h
 
 -- the same of a result
 later : {B : Type 0} (result : Result B Stop) (begun : Option Begun) (f0 f1 f2 : ℕ) → f0 ≤ f1

@@ -20,17 +20,17 @@ use Rattle.name_table.proofs.Within.{got}
 use Rattle.bst_parse.specs.PlacesStand.{BodyStands, IsOfByte, PlacesStand}
 use Rattle.bst_meaning.specs.StyleParts.{kind_of, tokens_of}
 use Rattle.bst_run.specs.declared.refusal.Refusal.{Refusal}
-use Rattle.bst_run.specs.Walk.{walk_built_in, walk_call, walk_token, then_walk, walk_tokens, end_call, walk_function, walk_command, walk_commands, refusal_of, first_refusal}
+use Rattle.bst_run.specs.Walk.{walk_built_in, walk_call, walk_token, walk_tokens, end_call, walk_function, walk_command, walk_commands, refusal_of, first_refusal}
+use Rattle.bv_base.proofs.ThenLemmas.{then_faulty}
 
 -- a rule that fails does so at such a place
+abbrev At : (Place → Type 0) → Refusal → Type 0
+At P refusal = P refusal.place
+
 abbrev Fails : (Place → Type 0) → Result ℕ Refusal → Type 0
-Fails P result = IfErr result (λ refusal. P refusal.place)
+Fails P result = IfErr result (At P)
 
 module _ (P : Place → Type 0) where
-  then_fails : (result : Result ℕ Refusal) (more : ℕ → Result ℕ Refusal) → Fails P result → ((n : ℕ) → Fails P (more n)) → Fails P (then_walk result more)
-  then_fails (Ok n) more first rest = rest n
-  then_fails (Err refusal) more first rest = first
-
   built_in_fails : (op : Builtin) (place : Place) (n : ℕ) → P place → Fails P (walk_built_in op place n)
   built_in_fails Join place zero stands = stands
   built_in_fails Join place (suc zero) stands = stands
@@ -51,8 +51,8 @@ module _ (P : Place → Type 0) where
   tokens_fail : (style : Style) (tokens : List TokenAt) (n : ℕ) → Each (λ t. P t.place) tokens → Fails P (walk_tokens style tokens n)
   tokens_fail style [] n each = tt
   tokens_fail style (t ∷ tokens) n each =
-      then_fails (walk_token style t.token t.place n) (walk_tokens style tokens) (token_fails style t.token t.place n each.0)
-      (λ m. tokens_fail style tokens m each.1)
+      then_faulty (At P) (walk_token style t.token t.place n) (walk_tokens style tokens) (token_fails style t.token t.place n each.0)
+      (λ m _. tokens_fail style tokens m each.1)
 
   end_fails : (place : Place) (n : ℕ) → P place → Fails P (end_call place n)
   end_fails place zero stands = tt
@@ -67,10 +67,10 @@ module _ (source : List ℕ) where
   function_fails : (style : Style) (kind : Option Kind) (place : Place) → PlacesStand source style → IsOfByte source place
       → Fails (IsOfByte source) (walk_function style kind place)
   function_fails style (Some (Wizard body)) place stands at =
-      then_fails (IsOfByte source) (walk_tokens style (tokens_of style body) zero) (end_call place)
+      then_faulty (At (IsOfByte source)) (walk_tokens style (tokens_of style body) zero) (end_call place)
       (tokens_fail (IsOfByte source) style (tokens_of style body) zero
       (body_tokens (slice_get style.bodies body.0) (got (BodyStands source) style.bodies body.0 stands.bodies)))
-      (λ n. end_fails (IsOfByte source) place n at)
+      (λ n _. end_fails (IsOfByte source) place n at)
   function_fails style _ place stands at = tt
 
   command_fails : (style : Style) (command : Command) (place : Place) → PlacesStand source style → IsOfByte source place
@@ -82,8 +82,8 @@ module _ (source : List ℕ) where
       → Fails (IsOfByte source) (walk_commands style commands)
   commands_fail style [] stands each = tt
   commands_fail style (c ∷ commands) stands each =
-      then_fails (IsOfByte source) (walk_command style c.command c.place) (λ _. walk_commands style commands)
-      (command_fails style c.command c.place stands each.0) (λ _. commands_fail style commands stands each.1)
+      then_faulty (At (IsOfByte source)) (walk_command style c.command c.place) (λ _. walk_commands style commands)
+      (command_fails style c.command c.place stands each.0) (λ _ _. commands_fail style commands stands each.1)
 
 -- the refusal of a walk
 refused_at : (P : Place → Type 0) (result : Result ℕ Refusal) (refusal : Refusal) → refusal_of result ≡ Some refusal → Fails P result → P refusal.place

@@ -7,8 +7,6 @@ use Rattle.bst_meaning.specs.declared.entry.EntryList.{EntryList}
 use Rattle.bst_meaning.specs.Config.{Config, opening}
 use Rattle.bst_meaning.specs.Machine.{steps, run}
 use Rattle.bst_step.specs.declared.machine.Turn.{Turn}
-use Rattle.bst_step.specs.declared.machine.Turn.TheVariants.{Went, Ended, Faulted}
-use Rattle.bst_run.specs.Stops.{IsDecided}
 use Rattle.bst_step.specs.Machine.{turn_of}
 use Rattle.entry_list.specs.declared.joined.Joined.{Joined}
 use Rattle.entry_list.specs.Joining.{joined}
@@ -43,13 +41,3 @@ pub joined_outcome : (count : ℕ) (sources : Sources) (reading reading' : List 
 joined_outcome count sources reading reading' found result is same warned h =
     subst (λ (j : Joined). IfOk result (λ o. o ≡ (run_joined count sources.style sources.database.warnings j))) is
     (subst (λ (r : List (List ℕ)). IfOk result (λ o. o ≡ (run_joined count sources.style r found))) (same ∙ warned) h)
-
--- a run ends with a status that the files decide
-answered_decided : (count : ℕ) (log : List ℕ) (turn : Turn) (c : Config) → IsDecided (answered count log turn c).status
-answered_decided count log Ended c = tt
-answered_decided count log Went c = tt
-answered_decided count log (Faulted fault site) c = tt
-
--- what is read is run to such a status
-pub run_decided : (count : ℕ) (sources : Sources) (outcome : Outcome) → outcome ≡ run_over count sources → IsDecided outcome.status
-run_decided count sources outcome is = rw is (answered_decided _ _ _ _)

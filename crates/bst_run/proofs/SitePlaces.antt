@@ -89,19 +89,12 @@ module _ (source : List ℕ) where
     call_stands : (kind : Option Kind) (name : NameId) (place : Place) (c : Config) → IsOfByte source place → Stands c → Stands (call_step style kind name place c)
     call_stands (Some (BuiltinKind op)) name place c at s = effect_stands (built_in op (context_of style c) c.stack) place c at s
     call_stands (Some (Wizard body)) name place c at s = frame_stands (tokens_of style body) place Whole c (tokens_stand body) at s
-    call_stands (Some Field) name place c at s = found_stands _ place c at s
-    call_stands (Some IntEntry) name place c at s = found_stands _ place c at s
-    call_stands (Some StrEntry) name place c at s = found_stands _ place c at s
-    call_stands (Some IntGlobal) name place c at s = found_stands _ place c at s
-    call_stands (Some StrGlobal) name place c at s = found_stands _ place c at s
     call_stands None name place c at s = s
+    call_stands _ name place c at s = found_stands _ place c at s
 
     token_stands : (token : Token) (place : Place) (c : Config) → IsOfByte source place → Stands c → Stands (token_step style token place c)
-    token_stands (IntToken n) place c at s = value_stands _ c s
-    token_stands (StrToken text) place c at s = value_stands _ c s
-    token_stands (Quote name) place c at s = value_stands _ c s
-    token_stands (BlockToken body) place c at s = value_stands _ c s
     token_stands (Call name) place c at s = call_stands (kind_of style name) name place c at s
+    token_stands _ place c at s = value_stands _ c s
 
     test_stands : (test body : Target) (place : Place) (stack : List Value) (c : Config) → IsOfByte source place → Stands c
         → Stands (test_ended style test body place stack c)

@@ -28,7 +28,8 @@ use Rattle.bst_meaning.specs.Machine.{step, steps, token_step, call_step}
 use Rattle.bst_meaning.specs.Safe.{IsFine, Safe}
 use Rattle.bst_run.specs.declared.refusal.Refusal.{Refusal}
 use Rattle.bst_run.specs.Straight.{is_straight, is_straight_token, is_straight_call, is_straight_body, is_straight_command, is_wizard}
-use Rattle.bst_run.specs.Walk.{Checks, walk_built_in, walk_call, walk_token, walk_tokens, walk_function, walk_command, walk_commands, then_walk, end_call, refusal_of}
+use Rattle.bst_run.specs.Walk.{Checks, walk_built_in, walk_call, walk_token, walk_tokens, walk_function, walk_command, walk_commands, end_call, refusal_of}
+use Rattle.bv_base.proofs.ThenLemmas.{then_ok}
 
 -- the configuration is fine, and so are those of the next n steps
 abbrev pub SafeFor : Style → ℕ → Config → Type 0
@@ -102,10 +103,6 @@ AreStrings _ _ = ⊥
 abbrev Goes : Config → Config → List CommandAt → List Frame → ℕ → Type 0
 Goes result c commands frames strings =
     (stack : List Value) × (events : Written) × AreStrings strings stack × (result ≡ going c commands frames stack events)
-
-then_ok : (r : Result ℕ Refusal) (f : ℕ → Result ℕ Refusal) (out : ℕ) → then_walk r f ≡ Ok out → (mid : ℕ) × (r ≡ Ok mid) × (f mid ≡ Ok out)
-then_ok (Ok mid) f out e = (mid, refl, e)
-then_ok (Err refusal) f out e = absurd (cc)
 
 -- where the walk takes a built-in, the machine gives no fault there
 built_in_goes : (op : Builtin) (style : Style) (c : Config) (commands : List CommandAt) (frames : List Frame) (name : NameId) (place : Place) (strings out : ℕ)

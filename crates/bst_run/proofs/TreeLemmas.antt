@@ -23,32 +23,23 @@ use Rattle.bst_run.specs.declared.data_fault.DataFault.{DataFault}
 use Rattle.bst_run.specs.declared.files.requests.Needs.{Needs}
 use Rattle.bst_run.specs.declared.files.requests.Requests.{Requests}
 use Rattle.bst_run.specs.declared.outcome.Outcome.{Outcome}
-
--- what was there where a part of the reading gave something
-record Has {A B : Type 0} (r : Result A Outcome) (next : A → Result B Outcome) (b : B) : Type 0 where
-  value : A
-  is : r ≡ Ok value
-  gives : next value ≡ Ok b
-
-then_has : {A B : Type 0} (r : Result A Outcome) (next : A → Result B Outcome) (b : B) → then_do r next ≡ Ok b → Has r next b
-then_has (Err fault) next b e = absurd (cc)
-then_has (Ok value) next b e = record { value = value; is = refl; gives = e }
+use Rattle.bv_base.proofs.ThenLemmas.{then_ok}
 
 -- a file that is read
-text_reads : (name text : List ℕ) (aux : Aux) → aux_in name text ≡ Ok aux → AuxReads text aux
-text_reads name text aux e = by (aux_of text) refl e
+pub text_read : (name text : List ℕ) (aux : Aux) → aux_in name text ≡ Ok aux → aux_of text ≡ Ok aux
+text_read name text aux e = by (aux_of text) e
   where
-    by : (r : Result Aux AuxFault) → aux_of text ≡ r → read_aux name r ≡ Ok aux → AuxReads text aux
-    by (Ok found) is e = let same : found ≡ aux = cc in reads_of text aux (is ∙ ap (λ (a : Aux). Ok a) same)
-    by (Err fault) is e = absurd (cc)
+    by : (r : Result Aux AuxFault) → read_aux name r ≡ Ok aux → r ≡ Ok aux
+    by (Ok found) e = cc
+    by (Err fault) e = absurd (cc)
 
 text_in : (name text : List ℕ) (aux : Aux) → AuxReads text aux → aux_in name text ≡ Ok aux
 text_in name text aux reads = ap (read_aux name) (of_reads text aux reads)
 
 asks_of : (told : Listing) (name : List ℕ) (aux : Aux) → aux_file told name ≡ Ok aux → Asks told name aux
 asks_of told name aux e =
-    let has = then_has (file_in told DATA_BYTES name) (aux_in name) aux e in
-    by has.value (text_reads name has.value aux has.gives) (get told name) refl has.is
+    let has = then_ok (file_in told DATA_BYTES name) (aux_in name) aux e in
+    by has.0 (reads_of has.0 aux (text_read name has.0 aux has.2)) (get told name) refl has.1
   where
     short : (text bytes : List ℕ) → AuxReads text aux → get told name ≡ Some bytes → (t : Bool) → nat_lt DATA_BYTES (length bytes) ≡ t
         → cond t (Err (too_long name)) (Ok bytes) ≡ Ok text → Asks told name aux
@@ -211,9 +202,9 @@ deep_read told levels file (Cite cited ∷ items) before after e =
 deep_read told levels file (All ∷ items) before after e =
     takes_all told (suc levels) items before after (deep_read told levels file items (with_item All before) after e)
 deep_read told levels file (Input name place ∷ items) before after e =
-    let has = then_has (take_input (suc levels) told name before) (take_items (take_input (suc levels) told) items) after e in
-    takes_input told levels name place items before has.value after (file name before has.value has.is)
-    (deep_read told levels file items has.value after has.gives)
+    let has = then_ok (take_input (suc levels) told name before) (take_items (take_input (suc levels) told) items) after e in
+    takes_input told levels name place items before has.0 after (file name before has.0 has.1)
+    (deep_read told levels file items has.0 after has.2)
 
 -- a file, by what is read of its items
 file_adds : (told : Listing) (levels : ℕ) (name : List ℕ) (before after : Requests) (aux : Aux)
@@ -247,13 +238,13 @@ items_read told zero items before after flat e = flat_read told items before aft
 items_read told (suc levels) items before after flat e =
     deep_read told levels
     (λ name old new given.
-    let has = then_has (aux_file told name) (take_aux levels (take_input levels told) name old) new given in
+    let has = then_ok (aux_file told name) (take_aux levels (take_input levels told) name old) new given in
     record {
-      aux = has.value;
-      asks = asks_of told name has.value has.is;
+      aux = has.0;
+      asks = asks_of told name has.0 has.1;
       adds =
-          file_adds told levels name old new has.value (λ middle deep got. items_read told levels has.value.items middle new deep got)
-          has.gives;
+          file_adds told levels name old new has.0 (λ middle deep got. items_read told levels (has.0).items middle new deep got)
+          has.2;
     })
     items before after e
 
@@ -278,10 +269,10 @@ whole name text items (Some style) (first ∷ rest) needs e =
 pub needs_read : (told : Listing) (name text : List ℕ) (needs : Needs) → needs_after told name text ≡ Ok needs → NeedsRead told text needs
 unfolding needs_after
 needs_read told name text needs e =
-    let first = then_has (aux_in name text) (λ aux. then_do (take_aux 16 (take_input 16 told) name nothing aux) (complete name text)) needs e in
-    let all = then_has (take_aux 16 (take_input 16 told) name nothing first.value) (complete name text) needs first.gives in
-    by first.value (text_reads name text first.value first.is) all.value all.is
-    (whole name text all.value.items all.value.style all.value.databases needs all.gives)
+    let first = then_ok (aux_in name text) (λ aux. then_do (take_aux 16 (take_input 16 told) name nothing aux) (complete name text)) needs e in
+    let all = then_ok (take_aux 16 (take_input 16 told) name nothing first.0) (complete name text) needs first.2 in
+    by first.0 (reads_of text first.0 (text_read name text first.0 first.1)) all.0 all.1
+    (whole name text (all.0).items (all.0).style (all.0).databases needs all.2)
   where
     by : (aux : Aux) → AuxReads text aux → (requests : Requests) → take_aux 16 (take_input 16 told) name nothing aux ≡ Ok requests
         → Whole text requests needs → NeedsRead told text needs

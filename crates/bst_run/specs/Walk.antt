@@ -17,6 +17,7 @@ use Rattle.bst_meaning.specs.StyleParts.{kind_of, tokens_of}
 use Rattle.bst_run.specs.declared.refusal.Reason.{Reason}
 use Rattle.bst_run.specs.declared.refusal.Reason.TheVariants.{EmptyPop, StackLeft}
 use Rattle.bst_run.specs.declared.refusal.Refusal.{Refusal}
+use Rattle.bv_base.specs.Answers.{then_do}
 
 -- a rule fails at a place
 abbrev pub refused : Place → Reason → Result ℕ Refusal
@@ -42,15 +43,10 @@ walk_token style (Str text) place strings = Ok (suc strings)
 walk_token style (Call name) place strings = walk_call (kind_of style name) place strings
 walk_token style _ place strings = Ok strings
 
--- goes on from a state, or keeps the first rule that failed
-abbrev pub then_walk : Result ℕ Refusal → (ℕ → Result ℕ Refusal) → Result ℕ Refusal
-then_walk (Ok strings) more = more strings
-then_walk (Err refusal) more = Err refusal
-
 -- the tokens of a body in order
 abbrev pub walk_tokens : Style → List TokenAt → ℕ → Result ℕ Refusal
 walk_tokens style [] strings = Ok strings
-walk_tokens style (t ∷ tokens) strings = then_walk (walk_token style t.token t.place strings) (walk_tokens style tokens)
+walk_tokens style (t ∷ tokens) strings = then_do (walk_token style t.token t.place strings) (walk_tokens style tokens)
 
 -- at the end of a call the stack is empty
 abbrev pub end_call : Place → ℕ → Result ℕ Refusal
@@ -59,7 +55,7 @@ end_call place (suc strings) = refused place StackLeft
 
 -- the call of a style-defined function, from the empty stack to its end
 abbrev pub walk_function : Style → Option Kind → Place → Result ℕ Refusal
-walk_function style (Some (Wizard body)) place = then_walk (walk_tokens style (tokens_of style body) zero) (end_call place)
+walk_function style (Some (Wizard body)) place = then_do (walk_tokens style (tokens_of style body) zero) (end_call place)
 walk_function style _ place = Ok zero
 
 -- EXECUTE calls its function; no other command does
@@ -71,7 +67,7 @@ walk_command style _ place = Ok zero
 abbrev pub walk_commands : Style → List CommandAt → Result ℕ Refusal
 walk_commands style [] = Ok zero
 walk_commands style (first ∷ commands) =
-    then_walk (walk_command style first.command first.place) (λ _. walk_commands style commands)
+    then_do (walk_command style first.command first.place) (λ _. walk_commands style commands)
 
 -- the first rule that fails, if one does
 abbrev pub refusal_of : Result ℕ Refusal → Option Refusal

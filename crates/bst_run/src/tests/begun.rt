@@ -1,7 +1,7 @@
 //! Which files are begun.
 
 use crate::command::command;
-use crate::tests::check::{BOTH, JOINS, NO_ENTRIES};
+use crate::tests::check::{BOTH, JOINS, NO_STYLE};
 use crate::tests::{File, add_files, owned};
 use bv_base::files::Begun;
 use bv_base::mem_files::MemFiles;
@@ -27,17 +27,6 @@ macro_rules! begins {
         }
     };
 }
-
-const BAD_STYLE: &[File] = &[
-    File {
-        name: "a.bst",
-        bytes: b"FOO",
-    },
-    File {
-        name: "b.cert",
-        bytes: NO_ENTRIES,
-    },
-];
 
 /// Inputs below inputs, and a database that isn't there before one that is.
 const TREE: &[File] = &[
@@ -89,7 +78,7 @@ static BEGINNINGS: [Beginning; 8] = [
     begins!(["check", "a.bst"], BOTH => ""),
     begins!(["check", "a.bst", "b.cert"], BOTH => "a.bst\nb.cert\n"),
     begins!(["check", "a.bst", "c.cert"], BOTH => "a.bst\n-c.cert\n"),
-    begins!(["check", "a.bst", "b.cert"], BAD_STYLE => "a.bst\n"),
+    begins!(["check", "a.bst", "b.cert"], NO_STYLE => "a.bst\n"),
     begins!(["check", "c.bst", "b.cert"], BOTH => "-c.bst\n"),
     begins!(["run", "p.aux", "9"], TREE => "p.aux\ni.aux\nk.aux\nj.aux\na.bst\n-d.bib\n"),
     // The first file has depth 0, and sixteen may lie below it.

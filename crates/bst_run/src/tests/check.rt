@@ -69,7 +69,7 @@ pub const BOTH: &[File] = &[
 ];
 
 /// No style, and the certificate.
-const NO_STYLE: &[File] = &[
+pub const NO_STYLE: &[File] = &[
     File {
         name: "a.bst",
         bytes: b"FOO",
