@@ -163,19 +163,16 @@ global_set style new c old is by =
 pub assigned : (style : Style) (new : Variable) (kind : Kind) (at_entry : Bool) (c : Config) (old : Value) → kind_of style new.name ≡ Some kind
     → is_variable at_entry kind ≡ true → value_by (Some kind) new.name c ≡ Some old
     → Assigned style new.name new.value c (assigned_by (kind_of style new.name) new c)
-assigned style new IntGlobal at_entry c old is variable found =
-    subst (λ (k : Option Kind). Assigned style new.name new.value c (assigned_by k new c)) (sym is)
-    (global_set style new c old found (λ d. ap (λ (k : Option Kind). value_by k new.name d) is))
-assigned style new StrGlobal at_entry c old is variable found =
-    subst (λ (k : Option Kind). Assigned style new.name new.value c (assigned_by k new c)) (sym is)
-    (global_set style new c old found (λ d. ap (λ (k : Option Kind). value_by k new.name d) is))
-assigned style new IntEntry at_entry c old is variable found =
-    subst (λ (k : Option Kind). Assigned style new.name new.value c (assigned_by k new c)) (sym is)
-    (entry_set style new c old found (λ d. ap (λ (k : Option Kind). value_by k new.name d) is))
-assigned style new StrEntry at_entry c old is variable found =
-    subst (λ (k : Option Kind). Assigned style new.name new.value c (assigned_by k new c)) (sym is)
-    (entry_set style new c old found (λ d. ap (λ (k : Option Kind). value_by k new.name d) is))
-assigned style new _ at_entry c old is variable found = absurd (cc)
+assigned style new kind at_entry c old is variable found =
+    subst (λ (k : Option Kind). Assigned style new.name new.value c (assigned_by k new c)) (sym is) (by kind is variable found)
+  where
+    by : (k : Kind) → kind_of style new.name ≡ Some k → is_variable at_entry k ≡ true → value_by (Some k) new.name c ≡ Some old
+        → Assigned style new.name new.value c (assigned_by (Some k) new c)
+    by IntGlobal is variable found = global_set style new c old found (λ d. ap (λ (o : Option Kind). value_by o new.name d) is)
+    by StrGlobal is variable found = global_set style new c old found (λ d. ap (λ (o : Option Kind). value_by o new.name d) is)
+    by IntEntry is variable found = entry_set style new c old found (λ d. ap (λ (o : Option Kind). value_by o new.name d) is)
+    by StrEntry is variable found = entry_set style new c old found (λ d. ap (λ (o : Option Kind). value_by o new.name d) is)
+    by _ is variable found = absurd (cc)
 
 -- a variable has a value
 pub record HasValue (s : Spot) (name : NameId) (kind : Kind) : Type 0 where

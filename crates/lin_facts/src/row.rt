@@ -1,6 +1,9 @@
 //! Linear rows and steps.
 
+use bv_base::copied::Copied;
+use bv_base::memory::NoMemory;
 use bv_base::seq::Seq;
+use std::alloc::Global;
 
 /// An unknown of a row: what is known of a symbol of a state, or of the list of entries.
 #[derive(Clone, Copy, Debug, PartialEq, Eq)]
@@ -29,6 +32,15 @@ pub struct Part {
 pub struct Row {
     pub constant: i64,
     pub parts: Seq<Part>,
+}
+
+impl Copied for Row {
+    fn copied(&self, alloc: Global) -> Result<Row, NoMemory> {
+        Ok(Row {
+            constant: self.constant,
+            parts: Seq::from_vec(self.parts.as_slice().to_vec(alloc)?),
+        })
+    }
 }
 
 /// A row, by its number from 0, and how often it is taken.

@@ -20,7 +20,7 @@ use Rattle.sym_state.specs.declared.symbol.Fact.TheVariants.{Text as TextFact}
 use Rattle.sym_state.specs.declared.symbol.Kinds.{Kinds}
 use Rattle.sym_state.specs.declared.symbol.Kinds.TheVariants.{Int, Str, Missing, Optional, Func, Any}
 use Rattle.sym_state.specs.declared.symbol.Sym.{Sym}
-use Rattle.sym_state.specs.Cases.{Cases, answer, answer_of, at_least_rows, equal, equal_by, equal_rows, greater, integer_cases, integers_decided, is_equal, is_greater, is_less, less, less_rows, passed, passed_both, text_cases, texts_decided}
+use Rattle.sym_state.specs.Cases.{Cases, answer, answer_of, at_least_rows, equal, equal_by, equal_rows, greater, integer_cases, integers_decided, is_equal, is_less, less, less_cases, less_rows, passed, passed_both, text_cases, texts_decided}
 use Rattle.sym_state.specs.Decided.{exact_integer, exact_text, known_kind}
 use Rattle.sym_state.specs.Demands.{fails, is_of_kind}
 use Rattle.sym_state.specs.Facts.{FactHolds, has_kind}
@@ -167,41 +167,34 @@ values_of_two p a b lower upper =
     let two = integer_is (p.v.value b.0) (of_kind_holds p.style p.v b.0 p.state.facts Int p.stands.satisfied.facts upper) in
     record { x = one.0; y = two.0; known = record { lower = one.1; upper = two.1 } }
 
+-- the first of two integers is less: the machine's test is of these two, in either order
+less_cases_found : (p : Spot) (op : Builtin) (a b : Sym) (rest : List Sym) (x y : ℤ) (hints : List Hint) (cases : Cases) → Known p a b x y
+    → AtSpot p rest op (is_less x y) → a.0 < p.state.next → b.0 < p.state.next → less_cases p.admits p.state.facts a b (without rest p.state) hints ≡ Ok cases
+    → Found p op cases
+less_cases_found p op a b rest x y hints cases known at lower upper e =
+    integers_found p op rest is_less false a b x y (less_rows a b) (at_least_rows a b) hints cases known never_less at
+    (exceeding p.style p.state.next b a (pos 1) upper lower (omega arith)) (exceeding p.style p.state.next a b (pos 0) lower upper (omega arith))
+    (less_hold p a b x y known) (at_least_hold p a b x y known) e
+
 -- `<`
 pub less_found : (p : Spot) (hints : List Hint) (cases : Cases) → less p.admits p.state hints ≡ Ok cases → Found p op.Less cases
 less_found p hints cases e =
-    let f = two_taken Int Int p.state (λ two. integer_cases p.admits (integers_decided is_less false p.state.facts two.lower two.upper)
-    (less_rows two.lower two.upper) (at_least_rows two.lower two.upper) two.rest hints) cases e in
-    let a = f.a in
-    let b = f.b in
-    let below = two_below p.style p.state a b f.rest p.made f.tops in
-    let lower = below.lower in
-    let upper = below.upper in
-    let values = values_of_two p a b f.lower_met f.upper_met in
-    integers_found p op.Less f.rest is_less false a b values.x values.y (less_rows a b) (at_least_rows a b) hints cases values.known never_less
-    (at_two p op.Less a b f.rest (IntValue values.x) (IntValue values.y) (is_less values.x values.y) f.tops values.known.lower values.known.upper refl)
-    (exceeding p.style p.state.next b a (pos 1) upper lower (omega arith)) (exceeding p.style p.state.next a b (pos 0) lower upper (omega arith))
-    (less_hold p a b values.x values.y values.known) (at_least_hold p a b values.x values.y values.known) f.given
-
-turned : (p : Spot) (a b : Sym) (x y : ℤ) → Known p a b x y → Known p b a y x
-turned p a b x y known = record { lower = known.upper; upper = known.lower }
+    let f = two_taken Int Int p.state (λ two. less_cases p.admits p.state.facts two.lower two.upper two.rest hints) cases e in
+    let below = two_below p.style p.state f.a f.b f.rest p.made f.tops in
+    let values = values_of_two p f.a f.b f.lower_met f.upper_met in
+    less_cases_found p op.Less f.a f.b f.rest values.x values.y hints cases values.known
+    (at_two p op.Less f.a f.b f.rest (IntValue values.x) (IntValue values.y) (is_less values.x values.y) f.tops values.known.lower values.known.upper refl)
+    below.lower below.upper f.given
 
 -- `>`
 pub greater_found : (p : Spot) (hints : List Hint) (cases : Cases) → greater p.admits p.state hints ≡ Ok cases → Found p op.Greater cases
 greater_found p hints cases e =
-    let f = two_taken Int Int p.state (λ two. integer_cases p.admits (integers_decided is_greater false p.state.facts two.lower two.upper)
-    (less_rows two.upper two.lower) (at_least_rows two.upper two.lower) two.rest hints) cases e in
-    let a = f.a in
-    let b = f.b in
-    let below = two_below p.style p.state a b f.rest p.made f.tops in
-    let lower = below.lower in
-    let upper = below.upper in
-    let values = values_of_two p a b f.lower_met f.upper_met in
-    integers_found p op.Greater f.rest is_greater false a b values.x values.y (less_rows b a) (at_least_rows b a) hints cases values.known never_less
-    (at_two p op.Greater a b f.rest (IntValue values.x) (IntValue values.y) (is_greater values.x values.y) f.tops values.known.lower values.known.upper refl)
-    (exceeding p.style p.state.next a b (pos 1) lower upper (omega arith)) (exceeding p.style p.state.next b a (pos 0) upper lower (omega arith))
-    (less_hold p b a values.y values.x (turned p a b values.x values.y values.known))
-    (at_least_hold p b a values.y values.x (turned p a b values.x values.y values.known)) f.given
+    let f = two_taken Int Int p.state (λ two. less_cases p.admits p.state.facts two.upper two.lower two.rest hints) cases e in
+    let below = two_below p.style p.state f.a f.b f.rest p.made f.tops in
+    let values = values_of_two p f.a f.b f.lower_met f.upper_met in
+    less_cases_found p op.Greater f.b f.a f.rest values.y values.x hints cases (record { lower = values.known.upper; upper = values.known.lower })
+    (at_two p op.Greater f.a f.b f.rest (IntValue values.x) (IntValue values.y) (is_less values.y values.x) f.tops values.known.lower values.known.upper refl)
+    below.upper below.lower f.given
 
 -- `=` of two integers
 equal_integers_found : (p : Spot) (a b : Sym) (rest : List Sym) (hints : List Hint) (cases : Cases) → reverse p.state.stack ≡ b ∷ (a ∷ rest)

@@ -13,7 +13,7 @@ use Rattle.sym_state.specs.declared.symbol.Kinds.TheVariants.{Any, Func, Int, Mi
 use Rattle.sym_state.specs.declared.symbol.Sym.{Sym}
 use Rattle.sym_state.specs.declared.test.Test.{Test}
 use Rattle.sym_state.specs.declared.test.Test.TheVariants.{Above, Empty, Equal, Greater, Less, Missing as IsMissing}
-use Rattle.sym_state.specs.Cases.{Cases, Split, above_cases, at_least_rows, empty_cases, equal_by, equal_decided, equal_rows, given, greater_decided, hints_of, hints_on, integer_cases, less_decided, less_rows, missing_cases, needs_of, passed_both, split_of, text_cases, texts_decided, weighed_both}
+use Rattle.sym_state.specs.Cases.{Cases, Split, above_cases, at_least_rows, empty_cases, equal_by, equal_decided, equal_rows, given, hints_of, hints_on, integer_cases, less_cases, less_decided, less_rows, missing_cases, needs_of, passed_both, split_of, text_cases, texts_decided, weighed_both}
 use Rattle.sym_state.specs.Decided.{emptiness_said, exact_integer, first_said, includes, known_kind}
 use Rattle.sym_state.specs.declared.demand.EffectFault.{EffectFault}
 use Rattle.sym_state.specs.Demands.{One, Two, demand, fails, is_of_kind, two_by, two_of}
@@ -98,15 +98,17 @@ empty_took None one hints cases e = none_took _ hints cases e
 missing_took : (kind : Kinds) (one : One) (hints : List Hint) (cases : Cases) → missing_cases kind one hints ≡ Ok cases → Took 0 hints cases
 missing_took Missing one hints cases e = none_took _ hints cases e
 missing_took Str one hints cases e = none_took _ hints cases e
-missing_took Int one hints cases e = none_took _ hints cases e
-missing_took Optional one hints cases e = none_took _ hints cases e
-missing_took Func one hints cases e = none_took _ hints cases e
-missing_took Any one hints cases e = none_took _ hints cases e
+missing_took _ one hints cases e = none_took _ hints cases e
 
 above_took : (admits : Cond) (state : State) (s : Sym) (found : Option ℤ) (hints : List Hint) (cases : Cases)
     → above_cases admits state s found hints ≡ Ok cases → Took (hints_of found) hints cases
 above_took admits state s (Some n) hints cases e = none_took _ hints cases e
 above_took admits state s None hints cases e = both_took admits _ _ hints cases e
+
+less_took : (admits : Cond) (state : State) (a b : Sym) (rest : State) (hints : List Hint) (cases : Cases) {n : ℕ} → n ≡ hints_of (less_decided state.facts a b)
+    → less_cases admits state.facts a b rest hints ≡ Ok cases → Took n hints cases
+less_took admits state a b rest hints cases is e =
+    subst (λ (n : ℕ). Took n hints cases) (sym is) (integer_took admits (less_decided state.facts a b) (less_rows a b) (at_least_rows a b) rest hints cases e)
 
 -- a test that has cases takes the hints that it needs, and leaves the others
 pub test_took : (admits : Cond) (state : State) (test : Test) (hints : List Hint) (cases : Cases)
@@ -121,15 +123,11 @@ test_took admits state Equal hints cases e =
     let f = two_taken Any Any state (λ two. equal_by admits state (known_kind state.facts two.upper.0) two hints) cases e in
     equal_took admits state (known_kind state.facts f.b.0) f.a f.b f.rest hints cases f.tops refl f.given
 test_took admits state Less hints cases e =
-    let f = two_taken Int Int state (λ two. integer_cases admits (less_decided state.facts two.lower two.upper) (less_rows two.lower two.upper) (at_least_rows two.lower two.upper) two.rest hints) cases e in
-    let a = f.a in
-    let b = f.b in
-    subst (λ (n : ℕ). Took n hints cases) (sym (needed state (less_decided state.facts) a b f.rest f.tops f.upper_met f.lower_met))
-    (integer_took admits (less_decided state.facts a b) (less_rows a b) (at_least_rows a b) (taken_two a b f.rest state).rest hints cases f.given)
+    let f = two_taken Int Int state (λ two. less_cases admits state.facts two.lower two.upper two.rest hints) cases e in
+    less_took admits state f.a f.b (taken_two f.a f.b f.rest state).rest hints cases
+    (needed state (less_decided state.facts) f.a f.b f.rest f.tops f.upper_met f.lower_met) f.given
 test_took admits state Greater hints cases e =
-    let f = two_taken Int Int state (λ two. integer_cases admits (greater_decided state.facts two.lower two.upper) (less_rows two.upper two.lower) (at_least_rows two.upper two.lower) two.rest hints) cases e in
-    let a = f.a in
-    let b = f.b in
-    subst (λ (n : ℕ). Took n hints cases) (sym (needed state (greater_decided state.facts) a b f.rest f.tops f.upper_met f.lower_met))
-    (integer_took admits (greater_decided state.facts a b) (less_rows b a) (at_least_rows b a) (taken_two a b f.rest state).rest hints cases f.given)
+    let f = two_taken Int Int state (λ two. less_cases admits state.facts two.upper two.lower two.rest hints) cases e in
+    less_took admits state f.b f.a (taken_two f.a f.b f.rest state).rest hints cases
+    (needed state (λ a b. less_decided state.facts b a) f.a f.b f.rest f.tops f.upper_met f.lower_met) f.given
 test_took admits state (Above s) hints cases e = above_took admits state s (exact_integer state.facts s.0) hints cases e

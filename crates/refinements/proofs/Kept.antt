@@ -19,7 +19,7 @@ use Rattle.sym_state.specs.declared.symbol.Kinds.TheVariants.{Int, Str, Missing,
 use Rattle.sym_state.specs.declared.symbol.Sym.{Sym}
 use Rattle.sym_state.specs.declared.test.Test.{Test}
 use Rattle.sym_state.specs.declared.test.Test.TheVariants.{Empty, Missing as IsMissing, Equal, Less, Greater, Above}
-use Rattle.sym_state.specs.Cases.{Cases, IsTestOf, above_cases, absurdity, at_least_rows, both, decided, empty_cases, equal_by, equal_decided, equal_rows, greater_decided, integer_cases, less, less_decided, less_rows, missing_cases, not_positive_rows, passed, passed_both, positive_rows, split_of, text_cases, texts_decided, weighed, weighed_both, with_case, with_truth}
+use Rattle.sym_state.specs.Cases.{Cases, IsTestOf, above_cases, absurdity, at_least_rows, both, decided, empty_cases, equal_by, equal_decided, equal_rows, integer_cases, less, less_cases, less_decided, less_rows, missing_cases, not_positive_rows, passed, passed_both, positive_rows, split_of, text_cases, texts_decided, weighed, weighed_both, with_case, with_truth}
 use Rattle.sym_state.specs.Decided.{emptiness_said, exact_integer, exact_text, first_said, known_kind}
 use Rattle.sym_state.specs.Demands.{fails, is_of_kind}
 use Rattle.sym_state.specs.References.{at_least, at_most, shows}
@@ -103,10 +103,7 @@ missing_kept : (style : Style) (state : State) (a : Sym) (rest : List Sym) (kind
     → reverse state.stack ≡ a ∷ rest → missing_cases kind (taken_one a rest state) hints ≡ Ok cases → AreMade style cases
 missing_kept style state a rest Missing hints cases made tops e = decided_made style state rest true hints cases made (one_below style state a rest made tops).others e
 missing_kept style state a rest Str hints cases made tops e = decided_made style state rest false hints cases made (one_below style state a rest made tops).others e
-missing_kept style state a rest Int hints cases made tops e = missing_both style state a rest hints cases made tops e
-missing_kept style state a rest Optional hints cases made tops e = missing_both style state a rest hints cases made tops e
-missing_kept style state a rest Func hints cases made tops e = missing_both style state a rest hints cases made tops e
-missing_kept style state a rest Any hints cases made tops e = missing_both style state a rest hints cases made tops e
+missing_kept style state a rest _ hints cases made tops e = missing_both style state a rest hints cases made tops e
 
 texts_kept : (style : Style) (state : State) (a b : Sym) (rest : List Sym) (o : Option Bool) (hints : List Hint) (cases : Cases) → WellMade style state
     → reverse state.stack ≡ b ∷ (a ∷ rest) → text_cases o (passed_both state.facts a b) (without rest state) hints ≡ Ok cases → AreMade style cases
@@ -153,6 +150,13 @@ above_kept style admits state s None hints cases made less e =
     (case_made style state [] (positive_rows s) made (positive_fits style state s less))
     (case_made style state [] (not_positive_rows s) made (not_positive_fits style state s less)) e
 
+-- the cases of whether an integer is less
+less_made : (style : Style) (admits : Cond) (state : State) (a b : Sym) (rest : List Sym) (hints : List Hint) (cases : Cases) → WellMade style state → AreBelow state rest
+    → a.0 < state.next → b.0 < state.next → less_cases admits state.facts a b (without rest state) hints ≡ Ok cases → AreMade style cases
+less_made style admits state a b rest hints cases made others lower upper e =
+    integers_made style admits state rest (less_decided state.facts a b) (less_rows a b) (at_least_rows a b) hints cases made others
+    (exceeding style state.next b a (pos 1) upper lower (omega arith)) (exceeding style state.next a b (pos 0) lower upper (omega arith)) e
+
 -- each case of each test
 pub split_made : (style : Style) (admits : Cond) (state : State) (test : Test) (hints : List Hint) (cases : Cases) → WellMade style state → IsTestOf state test
     → split_of admits state test hints ≡ Ok cases → All (WellMade style) cases.states
@@ -166,25 +170,11 @@ split_made style admits state Equal hints cases made is e =
     let f = two_taken Any Any state (λ two. equal_by admits state (known_kind state.facts two.upper.0) two hints) cases e in
     equal_kept style admits state f.a f.b f.rest (known_kind state.facts f.b.0) hints cases made f.tops f.given
 split_made style admits state Less hints cases made is e =
-    let f = two_taken Int Int state (λ two. integer_cases admits (less_decided state.facts two.lower two.upper)
-    (less_rows two.lower two.upper) (at_least_rows two.lower two.upper) two.rest hints) cases e in
-    let a = f.a in
-    let b = f.b in
-    let below = two_below style state a b f.rest made f.tops in
-    let lower = below.lower in
-    let upper = below.upper in
-    integers_made style admits state f.rest (less_decided state.facts a b) (less_rows a b) (at_least_rows a b) hints cases made
-    (two_below style state a b f.rest made f.tops).others (exceeding style state.next b a (pos 1) upper lower (omega arith))
-    (exceeding style state.next a b (pos 0) lower upper (omega arith)) f.given
+    let f = two_taken Int Int state (λ two. less_cases admits state.facts two.lower two.upper two.rest hints) cases e in
+    let below = two_below style state f.a f.b f.rest made f.tops in
+    less_made style admits state f.a f.b f.rest hints cases made below.others below.lower below.upper f.given
 split_made style admits state Greater hints cases made is e =
-    let f = two_taken Int Int state (λ two. integer_cases admits (greater_decided state.facts two.lower two.upper)
-    (less_rows two.upper two.lower) (at_least_rows two.upper two.lower) two.rest hints) cases e in
-    let a = f.a in
-    let b = f.b in
-    let below = two_below style state a b f.rest made f.tops in
-    let lower = below.lower in
-    let upper = below.upper in
-    integers_made style admits state f.rest (greater_decided state.facts a b) (less_rows b a) (at_least_rows b a) hints cases made
-    (two_below style state a b f.rest made f.tops).others (exceeding style state.next a b (pos 1) lower upper (omega arith))
-    (exceeding style state.next b a (pos 0) upper lower (omega arith)) f.given
+    let f = two_taken Int Int state (λ two. less_cases admits state.facts two.upper two.lower two.rest hints) cases e in
+    let below = two_below style state f.a f.b f.rest made f.tops in
+    less_made style admits state f.b f.a f.rest hints cases made below.others below.upper below.lower f.given
 split_made style admits state (Above s) hints cases made is e = above_kept style admits state s (exact_integer state.facts s.0) hints cases made is e

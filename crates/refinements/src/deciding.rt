@@ -19,7 +19,7 @@ pub fn equal_decided(facts: &[Fact], a: Sym, b: Sym) -> Option<bool>
     }
 }
 
-/// `<`
+/// Whether the first of two integers is less.
 pub fn less_decided(facts: &[Fact], a: Sym, b: Sym) -> Option<bool>
     ensures { result ≡ rule.less_decided facts.now a b }
 {
@@ -28,19 +28,6 @@ pub fn less_decided(facts: &[Fact], a: Sym, b: Sym) -> Option<bool>
     }
     match (exact_integer(facts, a), exact_integer(facts, b)) {
         (Some(x), Some(y)) => Some(x < y),
-        _ => None,
-    }
-}
-
-/// `>`
-pub fn greater_decided(facts: &[Fact], a: Sym, b: Sym) -> Option<bool>
-    ensures { result ≡ rule.greater_decided facts.now a b }
-{
-    if a.0 == b.0 {
-        return Some(false);
-    }
-    match (exact_integer(facts, a), exact_integer(facts, b)) {
-        (Some(x), Some(y)) => Some(x > y),
         _ => None,
     }
 }

@@ -5,11 +5,11 @@ ghost use Rattle.std.specs.List.{All};
 ghost use Rattle.sym_state.specs.Cases as rule;
 ghost use Rattle.sym_state.specs.Decided as decided;
 ghost use Rattle.sym_state.specs.WellMade.{HasBounds, IsBounded};
-ghost use Rattle.sym_state.specs.Demands.{IsReady};
+ghost use Rattle.sym_state.specs.Demands.{IsReady, without};
 ghost use Rattle.refinements.specs.Given.{Gives};
 
 use crate::cases::{decided, with_case, with_truth};
-use crate::deciding::{equal_decided, greater_decided, less_decided};
+use crate::deciding::{equal_decided, less_decided};
 use crate::strings::equal_texts;
 use crate::weighing::{one, weighed_both};
 use bst_meaning::condition::Cond;
@@ -30,11 +30,7 @@ pub fn less(state: &State, cond: &Cond, hints: &mut Hints<'_>) -> Result<Vec<Sta
     ensures { Gives result hints.new (rule.less cond.now state.now hints.old) }
 {
     let (a, b) = two(state, Kinds::Int, Kinds::Int)?;
-    let rest = state.without(2)?;
-    match less_decided(state.facts.as_slice(), a, b) {
-        Some(answer) => Ok(decided(answer, rest)?),
-        None => ordered(cond, a, b, rest, hints),
-    }
+    ordered(state, cond, a, b, hints)
 }
 
 /// The cases of `>`.
@@ -43,15 +39,29 @@ pub fn greater(state: &State, cond: &Cond, hints: &mut Hints<'_>) -> Result<Vec<
     ensures { Gives result hints.new (rule.greater cond.now state.now hints.old) }
 {
     let (a, b) = two(state, Kinds::Int, Kinds::Int)?;
+    ordered(state, cond, b, a, hints)
+}
+
+/// The cases of whether the first of the two integers on top of the stack, in either order, is less than the second.
+fn ordered(
+    state: &State,
+    cond: &Cond,
+    a: Sym,
+    b: Sym,
+    hints: &mut Hints<'_>,
+) -> Result<Vec<State>, EffectFault>
+    requires { IsReady state.now hints.old }
+    ensures { Gives result hints.new (rule.less_cases cond.now state.now.facts a b (without 2 state.now) hints.old) }
+{
     let rest = state.without(2)?;
-    match greater_decided(state.facts.as_slice(), a, b) {
+    match less_decided(state.facts.as_slice(), a, b) {
         Some(answer) => Ok(decided(answer, rest)?),
-        None => ordered(cond, b, a, rest, hints),
+        None => less_or_not(cond, a, b, rest, hints),
     }
 }
 
 /// The cases of an undecided test on integers: the first is less than the second, or it is at least that.
-fn ordered(
+fn less_or_not(
     cond: &Cond,
     a: Sym,
     b: Sym,

@@ -6,7 +6,7 @@ ghost use Rattle.sym_state.specs.Decided as decided;
 ghost use Rattle.sym_state.specs.Demands.{two_of};
 ghost use Rattle.sym_state.specs.declared.symbol.Kinds.TheVariants.{Int};
 
-use crate::deciding::{equal_decided, greater_decided, less_decided};
+use crate::deciding::{equal_decided, less_decided};
 use sym_state::facts::exact_integer;
 use sym_state::operands::two;
 use sym_state::state::State;
@@ -34,10 +34,10 @@ pub fn less_needs(state: &State) -> u32
 
 /// `>`
 pub fn greater_needs(state: &State) -> u32
-    ensures { result ≡ rule.hints_on (rule.greater_decided state.now.facts) (two_of Int Int state.now) }
+    ensures { result ≡ rule.hints_on (λ a b. rule.less_decided state.now.facts b a) (two_of Int Int state.now) }
 {
     match two(state, Kinds::Int, Kinds::Int) {
-        Ok((a, b)) => hints_of(greater_decided(state.facts.as_slice(), a, b)),
+        Ok((a, b)) => hints_of(less_decided(state.facts.as_slice(), b, a)),
         Err(_) => 0,
     }
 }

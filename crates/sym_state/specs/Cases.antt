@@ -124,10 +124,6 @@ is_equal x y = is_zero (x -ℤ y)
 abbrev pub is_less : ℤ → ℤ → Bool
 is_less x y = is_positive (y -ℤ x)
 
--- the first of two integers is greater
-abbrev pub is_greater : ℤ → ℤ → Bool
-is_greater x y = is_positive (x -ℤ y)
-
 -- whether `=` of two integers is decided: a symbol is equal to itself
 abbrev pub equal_decided : List Fact → Sym → Sym → Option Bool
 equal_decided facts a b = integers_decided is_equal true facts a b
@@ -135,10 +131,6 @@ equal_decided facts a b = integers_decided is_equal true facts a b
 -- whether `<` is: no symbol is less than itself
 abbrev pub less_decided : List Fact → Sym → Sym → Option Bool
 less_decided facts a b = integers_decided is_less false facts a b
-
--- whether `>` is: no symbol is greater than itself
-abbrev pub greater_decided : List Fact → Sym → Sym → Option Bool
-greater_decided facts a b = integers_decided is_greater false facts a b
 
 -- the cases of a test on integers, with the rows of each
 abbrev pub integer_cases : Cond → Option Bool → List Row → List Row → State → List Hint → Split
@@ -158,15 +150,17 @@ at_least_rows a b = exceeds (Value a.0) (Value b.0) (pos 0) ∷ []
 abbrev pub equal_rows : Sym → Sym → List Row
 equal_rows a b = exceeds (Value a.0) (Value b.0) (pos 0) ∷ exceeds (Value b.0) (Value a.0) (pos 0) ∷ []
 
+-- the cases of whether the first of two integers is less
+abbrev pub less_cases : Cond → List Fact → Sym → Sym → State → List Hint → Split
+less_cases cond facts a b rest hints = integer_cases cond (less_decided facts a b) (less_rows a b) (at_least_rows a b) rest hints
+
 -- `<`
 abbrev pub less : Cond → State → List Hint → Split
-less cond state hints = then_do (two_of Int Int state) (λ two.
-    integer_cases cond (less_decided state.facts two.lower two.upper) (less_rows two.lower two.upper) (at_least_rows two.lower two.upper) two.rest hints)
+less cond state hints = then_do (two_of Int Int state) (λ two. less_cases cond state.facts two.lower two.upper two.rest hints)
 
--- `>`
+-- `>`: the second is less
 abbrev pub greater : Cond → State → List Hint → Split
-greater cond state hints = then_do (two_of Int Int state) (λ two.
-    integer_cases cond (greater_decided state.facts two.lower two.upper) (less_rows two.upper two.lower) (at_least_rows two.upper two.lower) two.rest hints)
+greater cond state hints = then_do (two_of Int Int state) (λ two. less_cases cond state.facts two.upper two.lower two.rest hints)
 
 -- `=` of two strings: in the case of 1 a text that one has exactly passes to the other
 abbrev pub texts_decided : List Fact → Sym → Sym → Option Bool
@@ -239,7 +233,7 @@ hints_on rule (Err fault) = 0
 abbrev pub needs_of : State → Test → ℕ
 needs_of state Equal = hints_on (equal_decided state.facts) (two_of Int Int state)
 needs_of state Less = hints_on (less_decided state.facts) (two_of Int Int state)
-needs_of state Greater = hints_on (greater_decided state.facts) (two_of Int Int state)
+needs_of state Greater = hints_on (λ a b. less_decided state.facts b a) (two_of Int Int state)
 needs_of state (Above s) = hints_of (exact_integer state.facts s.0)
 needs_of state _ = 0
 

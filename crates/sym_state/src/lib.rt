@@ -3,7 +3,6 @@
 #![tactic(auto)]
 
 pub mod binds;
-pub mod copies;
 pub mod demand;
 pub mod entails;
 pub mod facts;

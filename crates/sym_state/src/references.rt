@@ -7,12 +7,12 @@ ghost use Rattle.sym_state.specs.Decided as decided;
 ghost use Rattle.sym_state.specs.References as rule;
 ghost use Rattle.sym_state.specs.WellMade.{HasBounds, IsBounded, HasShortText};
 
-use crate::copies::row_of;
 use crate::facts::{exact_integer, exact_text, is_known_nonblank};
 use crate::proof::Reference;
 use crate::state::State;
 use crate::symbol::Sym;
 use bst_meaning::condition::Cond;
+use bv_base::copied::Copied;
 use bv_base::memory::NoMemory;
 use bv_base::seq::Seq;
 use lin_facts::row::{Part, Row, Term};
@@ -68,7 +68,7 @@ fn row_at(alloc: Global, rows: &[Row], k: u32) -> Result<Option<Row>, NoMemory>
     ensures small { IfOk result (λ row. IfSome row IsSmall) }
 {
     match rows.get(k as usize) {
-        Some(row) => Ok(Some(row_of(alloc, row)?)),
+        Some(row) => Ok(Some(row.copied(alloc)?)),
         None => Ok(None),
     }
 }

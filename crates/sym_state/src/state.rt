@@ -7,8 +7,8 @@ ghost use Rattle.sym_state.specs.Demands.{without};
 ghost use Rattle.sym_state.specs.WellMade.{HasBounds, WellMade};
 
 use crate::binds::rebound;
-use crate::copies::{facts_of, rows_of};
 use crate::symbol::{Bind, Fact, Kinds, Sym};
+use bv_base::copied::Copied;
 use bv_base::memory::NoMemory;
 use bv_base::seq::Seq;
 use lin_facts::row::Row;
@@ -112,8 +112,8 @@ impl State {
             at_entry: self.at_entry,
             vars: Seq::from_vec(self.vars.as_slice().to_vec(self.alloc)?),
             fields: Seq::from_vec(self.fields.as_slice().to_vec(self.alloc)?),
-            facts: Seq::from_vec(facts_of(self.alloc, self.facts.as_slice())?),
-            rows: Seq::from_vec(rows_of(self.alloc, self.rows.as_slice())?),
+            facts: self.facts.copied(self.alloc)?,
+            rows: self.rows.copied(self.alloc)?,
             next: self.next,
         })
     }

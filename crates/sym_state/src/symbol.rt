@@ -1,7 +1,10 @@
 //! Symbols, and what is known of the values that they stand for.
 
+use bv_base::copied::Copied;
+use bv_base::memory::NoMemory;
 use bv_base::text::Text;
 use name_table::names::NameId;
+use std::alloc::Global;
 
 /// A symbol, which stands for a value: symbols are numbered from 0 in each piece and in each state.
 #[derive(Clone, Copy, Debug, PartialEq, Eq)]
@@ -43,6 +46,21 @@ pub enum Fact {
     Nonblank(Sym),
     /// Each name in it is well formed; so of every value that is no string.
     Wellformed(Sym),
+}
+
+impl Copied for Fact {
+    fn copied(&self, alloc: Global) -> Result<Fact, NoMemory> {
+        Ok(match self {
+            Fact::Is(sym, kind) => Fact::Is(*sym, *kind),
+            Fact::Int(sym, n) => Fact::Int(*sym, *n),
+            Fact::Text(sym, text) => Fact::Text(*sym, text.copied(alloc)?),
+            Fact::Call(sym, name) => Fact::Call(*sym, *name),
+            Fact::Block(sym, number) => Fact::Block(*sym, *number),
+            Fact::Blank(sym) => Fact::Blank(*sym),
+            Fact::Nonblank(sym) => Fact::Nonblank(*sym),
+            Fact::Wellformed(sym) => Fact::Wellformed(*sym),
+        })
+    }
 }
 
 /// A variable or a field, and the symbol of its value.
