@@ -6,7 +6,7 @@ ghost use Rattle.bib_read.specs.Faults.{name_of, place_of};
 use bv_base::place::Place;
 use thiserror::Error;
 
-/// The fault with the least place.
+/// The first fault that the reading of a text meets.
 #[derive(Clone, Copy, Debug, PartialEq, Eq, Error)]
 pub enum BibFault {
     /// The grammar has another byte here.

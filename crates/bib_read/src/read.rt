@@ -26,8 +26,8 @@ pub fn opening(alloc: Global, style: &Style) -> Result<Database, NoMemory>
     crate::opening::opening(alloc, style)
 }
 
-/// Reads a text of at most 16777216 bytes: gives what was read before with what the text adds, or the fault of the
-/// text with the least place.
+/// Reads a text of at most 16777216 bytes: gives what was read before with what the text adds, or the first fault that the
+/// reading meets.
 ///
 /// Where each key before is a key, one byte or more without white space, each key of what is read is one.
 ///
