@@ -19,6 +19,7 @@ pub mod Spots
 pub mod Started
 pub mod Sums
 pub mod Frames
+pub mod Fronts
 pub mod KnownKinds
 pub mod Pushing
 pub mod Resulting
