@@ -158,7 +158,10 @@ no_file_shown see old new form (Err refused) given out err answer delivered is =
 no_file_shown see old new form (Ok o) given out err answer (Whole e put last) is =
     named_shown true absent o err last.taken (last_begun (see.begun new))
     (subst (λ (s : Status). CausedBy s o (last_begun (see.begun new)) (see.faults old) (see.faults new)) (sym e ∙ is) answer.cause)
-no_file_shown see old new form (Ok o) given out err answer _ is = absurd (cc)
+no_file_shown see old new form (Ok o) given out err answer (OutFailed e cut last) is = absurd (cc)
+no_file_shown see old new form (Ok o) given out err answer (ErrFailed e put cut) is = absurd (cc)
+no_file_shown see old new form (Ok o) given out err answer (OutWanting e front last) is = absurd (cc)
+no_file_shown see old new form (Ok o) given out err answer (ErrWanting e put front) is = absurd (cc)
 
 -- an answer ReadFailed names the file that couldn't be read
 pub read_failed_shown : {F : Type 0} (see : Ghosts F) (old new : F) (form : Form) (found : Result Outcome NoMemory) (given : Status) (out err : Sunk)
@@ -169,7 +172,10 @@ read_failed_shown see old new form (Ok o) given out err answer (Whole e put last
     let cause : CausedBy status.ReadFailed o (last_begun (see.begun new)) (see.faults old) (see.faults new) =
     subst (λ (s : Status). CausedBy s o (last_begun (see.begun new)) (see.faults old) (see.faults new)) (sym e ∙ is) answer.cause in
     (cause.0, named_shown false unread o err last.taken (last_begun (see.begun new)) cause.1)
-read_failed_shown see old new form (Ok o) given out err answer _ is = absurd (cc)
+read_failed_shown see old new form (Ok o) given out err answer (OutFailed e cut last) is = absurd (cc)
+read_failed_shown see old new form (Ok o) given out err answer (ErrFailed e put cut) is = absurd (cc)
+read_failed_shown see old new form (Ok o) given out err answer (OutWanting e front last) is = absurd (cc)
+read_failed_shown see old new form (Ok o) given out err answer (ErrWanting e put front) is = absurd (cc)
 
 -- an answer WriteFailed comes from a sink
 pub write_failed_shown : {F : Type 0} (see : Ghosts F) (old new : F) (form : Form) (found : Result Outcome NoMemory) (given : Status) (out err : Sunk)
@@ -189,7 +195,10 @@ pub form_not_usage : {F : Type 0} (see : Ghosts F) (old new : F) (form : Form) (
 form_not_usage see old new form (Err refused) given out err answer delivered is = let e = delivered.0 in cc
 form_not_usage see old new form (Ok o) given out err answer (Whole e put last) is =
     subst (λ (s : Status). CausedBy s o (last_begun (see.begun new)) (see.faults old) (see.faults new)) (sym e ∙ is) answer.cause
-form_not_usage see old new form (Ok o) given out err answer _ is = cc
+form_not_usage see old new form (Ok o) given out err answer (OutFailed e cut last) is = cc
+form_not_usage see old new form (Ok o) given out err answer (ErrFailed e put cut) is = cc
+form_not_usage see old new form (Ok o) given out err answer (OutWanting e front last) is = cc
+form_not_usage see old new form (Ok o) given out err answer (ErrWanting e put front) is = cc
 
 -- what an outcome promises, a front of its text on standard output promises
 promised : (told : Listing) (form : Form) (o : Outcome) (out : Sunk) → IsFront o.out out → Promises told form o → IsPromised told form out
@@ -230,7 +239,10 @@ form_done see old new form (Ok o) given out err answer (Whole e put last) is = s
     shown : (t : Option Listing) → IfSome t (λ told. SaysDone o → Promises told form o) → IfSome t (λ told. IsDoneWell told form)
     shown None safe = tt
     shown (Some t) safe = done_well t form o (safe (inl (sym e ∙ is)))
-form_done see old new form (Ok o) given out err answer _ is = absurd (cc)
+form_done see old new form (Ok o) given out err answer (OutFailed e cut last) is = absurd (cc)
+form_done see old new form (Ok o) given out err answer (ErrFailed e put cut) is = absurd (cc)
+form_done see old new form (Ok o) given out err answer (OutWanting e front last) is = absurd (cc)
+form_done see old new form (Ok o) given out err answer (ErrWanting e put front) is = absurd (cc)
 
 -- the words `run AUX N` promise nothing of a text
 pub run_promises : (t : Option Listing) (aux : List ℕ) (steps : ℕ) (result : Result Outcome Stop) → IfOk result (λ o. IfSome t (λ told. Promises told (Run aux steps) o))
