@@ -89,10 +89,15 @@ static BEGINNINGS: [Beginning; 8] = [
 #[test]
 fn files_are_begun_that_are_named(rt: HostRuntime) -> Result<(), Fail> {
     for row in &BEGINNINGS {
-        let files = files_after(rt.alloc(), row)?;
-        compare_begun(&rt, rt.alloc(), files.begun(), row.begun)?;
+        compare(&rt, rt.alloc(), row)?;
     }
     Ok(())
+}
+
+/// Asserts what is begun by the words of a row.
+fn compare(rt: &impl Abort, alloc: Global, row: &Beginning) -> Result<(), Fail> {
+    let files = files_after(alloc, row)?;
+    compare_begun(rt, alloc, files.begun(), row.begun)
 }
 
 /// The files after the words were carried out.
