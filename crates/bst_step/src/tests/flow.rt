@@ -1,10 +1,16 @@
 //! Where faults stand, inside what is entered.
 
-use crate::tests::rows::{Telling, expect};
+use crate::tests::rows::{Table, Telling, expect};
 use std::test::Fail;
 
-/// Styles of one line, the fault that their runs come to, its place, and the number and the key of its entry.
-const FAULTS: &str = r#"
+/// Styles of one line, the fault that their runs come to, its place, the number and the key of its entry, and the lines that
+/// are written then.
+static FAULTS: Table = Table {
+    functions: "",
+    front: "",
+    back: "",
+    telling: Telling::State,
+    rows: r#"
 f{ #1 { "a" #1 + } { } if$ } READ EXECUTE f -> WrongKind 1:16
 g{ "a" chr.to.int$ "" chr.to.int$ } f{ #0 { } 'g if$ } READ ITERATE f -> NotOneByte 1:23 0 A1
 f{ #1 'pop$ 'skip$ if$ } READ ITERATE f -> EmptyPop 1:20 0 A1
@@ -14,7 +20,7 @@ f{ #1 'i 'skip$ if$ pop$ pop$ } READ EXECUTE f -> EmptyPop 1:26
 f{ #1 { #0 { } { #1 { } := } if$ } { } if$ } READ ITERATE f -> NotVariable 1:25 0 A1
 f{ { "a" } { } while$ } READ EXECUTE f -> WrongKind 1:16
 f{ { } { } while$ } READ ITERATE f -> EmptyPop 1:12 0 A1
-f{ 'newline$ { } while$ } READ EXECUTE f -> EmptyPop 1:18
+f{ 'newline$ { } while$ } READ EXECUTE f -> EmptyPop 1:18 |
 f{ 'title { } while$ } READ ITERATE f -> WrongKind 1:15 0 A1
 f{ 'crossref { } while$ } READ REVERSE f -> WrongKind 1:18 4 E5
 f{ { #1 } 'pop$ while$ } READ EXECUTE f -> EmptyPop 1:17
@@ -34,9 +40,10 @@ f{ #1 } READ EXECUTE f -> StackLeft 1:14
 key{ title missing$ { "" } { title } if$ 'sort.key$ := } f{ #1 "a" + } READ ITERATE key SORT ITERATE f -> WrongKind 1:68 1 B2
 key{ title missing$ { "" } { title } if$ 'sort.key$ := } f{ #1 "a" + } READ ITERATE key SORT REVERSE f -> WrongKind 1:68 3 D4
 key{ cite$ 'sort.key$ := } f{ cite$ "D4" = { #128 int.to.chr$ } 'skip$ if$ } READ ITERATE key SORT REVERSE f -> NotAscii 1:51 3 D4
-"#;
+"#,
+};
 
 #[test]
 fn faults_stand_inside_what_is_entered(rt: HostRuntime) -> Result<(), Fail> {
-    Ok(expect(&rt, rt.alloc(), Telling::Site, FAULTS)?)
+    expect(&rt, rt.alloc(), &FAULTS)
 }

@@ -1,15 +1,20 @@
 //! The operands of the built-in functions, their faults, and what they give.
 
-use crate::tests::program::ENOUGH;
-use crate::tests::rows::{Telling, add_after, expect};
+use crate::tests::rows::{ENOUGH, FIRST, FIRST_END, Table, Telling, add, add_after, expect};
 use bv_base::memory::NoMemory;
+use std::alloc::Global;
 use std::test::Fail;
 
 /// What stands before a body: a function that doubles a string, one that does so seven times, and the type `book`.
-pub const BEFORE: &str = r#"d{ duplicate$ * } e{ d d d d d d d } book{ "called" top$ } f{"#;
+const BEFORE: &str = r#"d{ duplicate$ * } e{ d d d d d d d } book{ "called" top$ } f{"#;
 
 /// Built-in functions with fewer operands than they take, which are of a kind that few take.
-const SHORT: &str = r#"
+static SHORT: Table = Table {
+    functions: BEFORE,
+    front: "",
+    back: "} READ ITERATE f",
+    telling: Telling::Fault,
+    rows: r#"
 = -> EmptyPop
 crossref = -> EmptyPop
 > -> EmptyPop
@@ -56,16 +61,22 @@ while$ -> EmptyPop
 crossref while$ -> EmptyPop
 width$ -> EmptyPop
 write$ -> EmptyPop
-"#;
+"#,
+};
 
 #[test]
 fn too_few_operands_come_before_their_kinds(rt: HostRuntime) -> Result<(), Fail> {
-    Ok(expect(&rt, rt.alloc(), Telling::Fault, SHORT)?)
+    expect(&rt, rt.alloc(), &SHORT)
 }
 
 /// The built-in functions with `?` for one of their operands, and which it may be: `#` an integer, `"` a string, `m` a
 /// missing field, `'` a function.
-const KINDS: &str = r#"
+static KINDS: Table = Table {
+    functions: BEFORE,
+    front: "",
+    back: "} READ ITERATE f",
+    telling: Telling::Kinds,
+    rows: r#"
 ? #1 = -> #
 #1 ? = -> #
 ? "t" = -> "
@@ -122,45 +133,75 @@ crossref ? := -> '
 { #0 } ? while$ -> '
 ? width$ -> "
 ? write$ -> "
-"#;
+"#,
+};
 
 #[test]
 fn operands_are_of_their_kinds(rt: HostRuntime) -> Result<(), Fail> {
-    Ok(expect(&rt, rt.alloc(), Telling::Kinds, KINDS)?)
+    expect(&rt, rt.alloc(), &KINDS)
 }
 
+/// The kinds of operands, each with one of them.
+static OPERANDS: [(&str, &str); 4] = [
+    ("#", "#1"),
+    ("\"", "\"t\""),
+    ("m", "crossref"),
+    ("'", "{ #0 }"),
+];
+
 /// Adds the kinds that an operand may be, which stands at the `?`: those for which the fault isn't WrongKind.
-pub fn add_kinds(told: &mut String, words: &str) -> Result<(), NoMemory> {
-    for (kind, operand) in [
-        ("#", "#1"),
-        ("\"", "\"t\""),
-        ("m", "crossref"),
-        ("'", "{ #0 }"),
-    ] {
-        add_kind(told, kind, operand, words)?;
+pub fn add_kinds(told: &mut String, table: &Table, words: &str) -> Result<(), NoMemory> {
+    for (kind, operand) in &OPERANDS {
+        add_kind(told, table, kind, operand, words)?;
     }
     Ok(())
 }
 
 /// Adds a kind, unless the fault with such an operand is WrongKind.
-fn add_kind(told: &mut String, kind: &str, operand: &str, words: &str) -> Result<(), NoMemory> {
-    let mut fault = String::new(*told.allocator());
-    add_fault_with(&mut fault, operand, words)?;
-    if fault.as_str() != "WrongKind" {
-        told.push_str(kind)?;
+fn add_kind(
+    told: &mut String,
+    table: &Table,
+    kind: &str,
+    operand: &str,
+    words: &str,
+) -> Result<(), NoMemory> {
+    if is_wrong_kind(*told.allocator(), table, operand, words)? {
+        return Ok(());
     }
-    Ok(())
+    add(told, kind)
+}
+
+/// Whether the fault with such an operand is WrongKind.
+fn is_wrong_kind(
+    alloc: Global,
+    table: &Table,
+    operand: &str,
+    words: &str,
+) -> Result<bool, NoMemory> {
+    let mut fault = String::new(alloc);
+    add_fault_with(&mut fault, table, operand, words)?;
+    Ok(fault.as_str() == "WrongKind")
 }
 
 /// Adds the fault with an operand.
-fn add_fault_with(fault: &mut String, operand: &str, words: &str) -> Result<(), NoMemory> {
+fn add_fault_with(
+    fault: &mut String,
+    table: &Table,
+    operand: &str,
+    words: &str,
+) -> Result<(), NoMemory> {
     let (before, behind) = words.split_once("?").unwrap_or((words, ""));
     let body = format!(in *fault.allocator(); "{before}{operand}{behind}")?;
-    add_after(fault, Telling::Fault, ENOUGH, body.as_bytes())
+    add_after(fault, table, ENOUGH, body.as_bytes())
 }
 
 /// The further faults, each of the last token.
-const FURTHER: &str = r#"
+static FURTHER: Table = Table {
+    functions: BEFORE,
+    front: "",
+    back: "} READ ITERATE f",
+    telling: Telling::Fault,
+    rows: r#"
 % The order of the faults of an assignment.
 #1 'skip$ := -> NotVariable
 #1 'title := -> NotVariable
@@ -212,15 +253,21 @@ crossref crossref := -> WrongKind
 #0 #-2147483648 - -> IntRange
 "W" e e e width$ -> IntRange
 crossref #1 + -> WrongKind
-"#;
+"#,
+};
 
 #[test]
 fn built_ins_have_their_further_faults(rt: HostRuntime) -> Result<(), Fail> {
-    Ok(expect(&rt, rt.alloc(), Telling::Fault, FURTHER)?)
+    expect(&rt, rt.alloc(), &FURTHER)
 }
 
 /// The faults of last tokens where no entry is visited.
-const WITHOUT_ENTRY: &str = r#"
+static WITHOUT_ENTRY: Table = Table {
+    functions: BEFORE,
+    front: "",
+    back: "} READ EXECUTE f",
+    telling: Telling::FaultWithoutEntry,
+    rows: r#"
 % The order of the faults of an assignment.
 #1 'n := -> NoEntry
 "t" 's := -> NoEntry
@@ -236,15 +283,21 @@ sort.key$ -> NoEntry
 call.type$ -> NoEntry
 cite$ -> NoEntry
 type$ -> NoEntry
-"#;
+"#,
+};
 
 #[test]
 fn some_names_want_an_entry(rt: HostRuntime) -> Result<(), Fail> {
-    Ok(expect(&rt, rt.alloc(), Telling::FaultWithoutEntry, WITHOUT_ENTRY)?)
+    expect(&rt, rt.alloc(), &WITHOUT_ENTRY)
 }
 
 /// What bodies log for the first entry.
-const LOGGED: &str = r#"
+static LOGGED: Table = Table {
+    functions: BEFORE,
+    front: FIRST,
+    back: FIRST_END,
+    telling: Telling::Log,
+    rows: r#"
 #2 #2 = top$ -> 1|
 #2 #-2 = top$ -> 0|
 "a" "a" = top$ -> 1|
@@ -276,6 +329,7 @@ title top$ crossref top$ -> b|missing crossref|
 "{\OE}uvre" "l" change.case$ top$ -> {\oe}uvre|
 "{\ss}x" "u" change.case$ top$ -> {SS}X|
 "a" chr.to.int$ top$ -> 97|
+"^" chr.to.int$ top$ -> 255|
 #127 int.to.chr$ chr.to.int$ top$ -> 127|
 #0 int.to.chr$ text.length$ top$ -> 1|
 #-7 int.to.str$ "!" * top$ -> -7!|
@@ -336,22 +390,10 @@ skip$ stack$ #3 top$ -> 3|
 #3 'i := { i } { i top$ i #1 - 'i := } while$ -> 3|2|1|
 #0 'i := { i } { i top$ } while$ "end" top$ -> end|
 #1 'i := 'i { i top$ #0 'i := } while$ i top$ -> 1|0|
-"#;
+"#,
+};
 
 #[test]
 fn built_ins_give_their_values(rt: HostRuntime) -> Result<(), Fail> {
-    Ok(expect(&rt, rt.alloc(), Telling::Log, LOGGED)?)
-}
-
-#[test]
-fn a_byte_may_be_any(rt: HostRuntime) -> Result<(), Fail> {
-    let mut told = String::new(rt.alloc());
-    add_after(
-        &mut told,
-        Telling::Log,
-        ENOUGH,
-        b"\"\xff\" chr.to.int$ top$",
-    )?;
-    assert_eq!(rt; told.as_str(), "255|");
-    Ok(())
+    expect(&rt, rt.alloc(), &LOGGED)
 }

@@ -1,275 +1,216 @@
-//! Small styles that are written as words, and runs of them over five entries.
+//! Small styles that are written as words.
+//!
+//! A style declares the field `title`, the variables `n` and `s` of each entry and `i` and `t` of the whole style. What is
+//! written are words between single spaces: `f{` begins the function `f`, and all else is as in a style, with the names of
+//! commands without braces. In a text `_` stands for a space, and `^` for byte 255.
 
-use crate::machine::Machine;
-use bst_meaning::entry::{Entry, EntryList, FieldValue};
+use crate::tests::rows::Table;
+use crate::tests::words::{Word, words_of};
 use bv_base::memory::NoMemory;
-use bv_base::place::Place;
 use bv_base::seq::Seq;
 use bv_base::text::Text;
 use name_table::names::{Kind, NameId, Names};
 use name_table::style::{Body, BodyId, Command, CommandAt, Style, TextId, Token, TokenAt};
 use std::alloc::Global;
 
-/// The key, the type and the title of each entry. `-` is a title that is missing.
-static ENTRIES: [(&[u8], &[u8], &[u8]); 5] = [
-    (b"A1", b"book", b"b"),
-    (b"B2", b"misc", b"-"),
-    (b"C3", b"none", b"Z"),
-    (b"D4", b"book", b"b"),
-    (b"E5", b"misc", b""),
-];
-
-/// Steps enough for every run that ends.
-pub const ENOUGH: u64 = 1000000;
-
-/// A style that is being written down. It declares the field `title`, the variables `n` and `s` of each entry and `i`
-/// and `t` of the whole style. What is written are words between single spaces: `f{` begins the function `f`, and all
-/// else is as in a style, with the names of commands without braces. In a text `_` stands for a space.
-#[derive(Drop)]
-pub struct Program {
-    alloc: Global,
-    names: Names,
-    commands: Seq<CommandAt>,
-    bodies: Vec<Body>,
-    texts: Vec<Text>,
-    /// The numbers of the bodies that aren't closed.
-    open: Vec<usize>,
-    blocks: u32,
-    /// The last command that wants a name.
-    asked: CommandAt,
-    /// The place of the last token.
-    last: Place,
+/// A style with the names of every style alone.
+pub fn empty_style(alloc: Global) -> Result<Style, NoMemory> {
+    Ok(Style {
+        names: Names::opening(alloc)?,
+        commands: Seq::new(alloc),
+        bodies: Seq::new(alloc),
+        texts: Seq::new(alloc),
+        macros: Seq::new(alloc),
+    })
 }
 
-impl Program {
-    /// A style that only declares names.
-    fn new(alloc: Global) -> Result<Program, NoMemory> {
-        let mut names = Names::opening(alloc)?;
-        let declared: [(&[u8], Kind); 5] = [
-            (b"title", Kind::Field),
-            (b"n", Kind::IntEntry),
-            (b"s", Kind::StrEntry),
-            (b"i", Kind::IntGlobal),
-            (b"t", Kind::StrGlobal),
-        ];
-        for (name, kind) in declared {
-            define(&mut names, name, kind)?;
-        }
-        Ok(Program {
-            alloc,
-            names,
-            commands: Seq::new(alloc),
-            bodies: Vec::new(alloc),
-            texts: Vec::new(alloc),
-            open: Vec::new(alloc),
-            blocks: 0,
-            asked: CommandAt {
-                command: Command::Read,
-                place: Place::START,
-            },
-            last: Place::START,
-        })
-    }
+/// Puts the words of a row and those around them into a style.
+pub fn add_words(
+    alloc: Global,
+    style: &mut Style,
+    table: &Table,
+    row: &[u8],
+) -> Result<(), NoMemory> {
+    let words = words_of(alloc, table, row)?;
+    add_to_style(alloc, style, words.as_slice())
+}
 
-    /// Adds the words of lines, which are numbered from 1.
-    fn lines(&mut self, lines: &[&[u8]]) -> Result<(), NoMemory> {
-        let mut line = 0u32;
-        for words in lines {
-            line = line.saturating_add(1);
-            self.line(line, words)?;
-        }
-        Ok(())
-    }
+/// Puts words into a style.
+fn add_to_style(alloc: Global, style: &mut Style, words: &[Word<'_>]) -> Result<(), NoMemory> {
+    add_names(&mut style.names, words)?;
+    add_commands(&mut style.commands, &style.names, words)?;
+    add_bodies(alloc, &mut style.bodies, &style.names, words)?;
+    add_texts(alloc, &mut style.texts, words)
+}
 
-    /// Adds the words of a line.
-    fn line(&mut self, line: u32, words: &[u8]) -> Result<(), NoMemory> {
-        let mut word = Vec::new(self.alloc);
-        let mut column = 1u32;
-        let mut start = 1u32;
-        for b in words {
-            column = column.saturating_add(1);
-            if *b == b' ' {
-                self.word(
-                    word.as_slice(),
-                    Place {
-                        line,
-                        column: start,
-                    },
-                )?;
-                word.clear();
-                start = column;
-            } else {
-                word.push(*b)?;
-            }
-        }
-        self.word(
-            word.as_slice(),
-            Place {
-                line,
-                column: start,
-            },
-        )
+/// Defines the names that each style declares, and then those of the functions.
+fn add_names(names: &mut Names, words: &[Word<'_>]) -> Result<(), NoMemory> {
+    let declared: [(&[u8], Kind); 5] = [
+        (b"title", Kind::Field),
+        (b"n", Kind::IntEntry),
+        (b"s", Kind::StrEntry),
+        (b"i", Kind::IntGlobal),
+        (b"t", Kind::StrGlobal),
+    ];
+    for (name, kind) in declared {
+        define(names, name, kind)?;
     }
+    add_functions(names, words)
+}
 
-    /// Adds a word.
-    fn word(&mut self, word: &[u8], place: Place) -> Result<(), NoMemory> {
-        let Some((first, rest)) = word.split_first() else {
-            return Ok(());
-        };
-        match *first {
-            b'}' => {
-                self.open.pop();
-                Ok(())
-            }
-            b'#' => self.token(Token::Int(integer(rest)), place),
-            b'"' => self.text(rest, place),
-            b'\'' => {
-                let id = self.id(rest)?;
-                self.token(Token::Quote(id), place)
-            }
-            _ => self.named(word, place),
+/// Defines the names of the functions.
+fn add_functions(names: &mut Names, words: &[Word<'_>]) -> Result<(), NoMemory> {
+    for word in words {
+        if let Some(name) = word.function() {
+            define(names, name, Kind::Wizard(BodyId(word.bodies)))?;
         }
     }
-
-    /// Adds a word with a name, or the brace of a block.
-    fn named(&mut self, word: &[u8], place: Place) -> Result<(), NoMemory> {
-        match word {
-            [b'{'] => self.block(place),
-            [name @ .., b'{'] => self.function(name, place),
-            _ if self.open.as_slice().is_empty() => self.command(word, place),
-            _ => {
-                let id = self.id(word)?;
-                self.token(Token::Call(id), place)
-            }
-        }
-    }
-
-    /// Begins a function.
-    fn function(&mut self, name: &[u8], place: Place) -> Result<(), NoMemory> {
-        let id = define(
-            &mut self.names,
-            name,
-            Kind::Wizard(BodyId(number(self.bodies.as_slice().len()))),
-        )?;
-        let command = Command::Function(id);
-        self.commands.push(CommandAt { command, place })?;
-        self.body(None, place)
-    }
-
-    /// Begins a block.
-    fn block(&mut self, place: Place) -> Result<(), NoMemory> {
-        let id = BodyId(number(self.bodies.as_slice().len()));
-        self.token(Token::Block(id), place)?;
-        let block = self.blocks;
-        self.blocks = block.saturating_add(1);
-        self.body(Some(block), place)
-    }
-
-    /// Begins a body.
-    fn body(&mut self, block: Option<u32>, place: Place) -> Result<(), NoMemory> {
-        self.open.push(self.bodies.as_slice().len())?;
-        self.bodies.push(Body {
-            tokens: Seq::new(self.alloc),
-            block,
-            place,
-        })?;
-        Ok(())
-    }
-
-    /// Adds a text without the quote behind it, and with a space for each `_`.
-    fn text(&mut self, text: &[u8], place: Place) -> Result<(), NoMemory> {
-        let mut bytes = Vec::new(self.alloc);
-        for b in text {
-            match *b {
-                b'"' => {}
-                b'_' => bytes.push(b' ')?,
-                _ => bytes.push(*b)?,
-            }
-        }
-        let id = TextId(number(self.texts.as_slice().len()));
-        self.texts.push(Text::from_vec(bytes))?;
-        self.token(Token::Str(id), place)
-    }
-
-    /// Adds a token to the body that was opened last.
-    fn token(&mut self, token: Token, place: Place) -> Result<(), NoMemory> {
-        let Some(at) = self.open.as_slice().last() else {
-            return Err(NoMemory);
-        };
-        let at = *at;
-        if at < self.bodies.as_slice().len() {
-            self.last = place;
-            self.bodies[at].tokens.push(TokenAt { token, place })?;
-        }
-        Ok(())
-    }
-
-    /// Adds a command's word or the name that the last one wants.
-    fn command(&mut self, word: &[u8], place: Place) -> Result<(), NoMemory> {
-        let id = NameId(0);
-        let command = match word {
-            b"READ" => Command::Read,
-            b"SORT" => Command::Sort,
-            b"EXECUTE" => Command::Execute(id),
-            b"ITERATE" => Command::Iterate(id),
-            b"REVERSE" => Command::Reverse(id),
-            _ => return self.named_command(word),
-        };
-        self.asked = CommandAt { command, place };
-        match command {
-            Command::Read | Command::Sort => self.commands.push(self.asked),
-            _ => Ok(()),
-        }
-    }
-
-    /// Adds the last command that wants a name, with this one.
-    fn named_command(&mut self, name: &[u8]) -> Result<(), NoMemory> {
-        let id = self.id(name)?;
-        let command = match self.asked.command {
-            Command::Execute(_) => Command::Execute(id),
-            Command::Iterate(_) => Command::Iterate(id),
-            _ => Command::Reverse(id),
-        };
-        let place = self.asked.place;
-        self.commands.push(CommandAt { command, place })
-    }
-
-    /// The id of a name, which is there.
-    fn id(&self, name: &[u8]) -> Result<NameId, NoMemory> {
-        self.names.find(name).ok_or(NoMemory)
-    }
-
-    /// The style that was written.
-    fn style(self) -> Style {
-        let Program {
-            alloc,
-            names,
-            commands,
-            bodies,
-            texts,
-            ..
-        } = self;
-        Style {
-            names,
-            commands,
-            bodies: Seq::from_vec(bodies),
-            texts: Seq::from_vec(texts),
-            macros: Seq::new(alloc),
-        }
-    }
+    Ok(())
 }
 
 /// Defines a name that isn't there.
-fn define(names: &mut Names, name: &[u8], kind: Kind) -> Result<NameId, NoMemory> {
+fn define(names: &mut Names, name: &[u8], kind: Kind) -> Result<(), NoMemory> {
     match names.define(name, kind) {
-        Ok(id) => Ok(id),
+        Ok(_) => Ok(()),
         Err(_) => Err(NoMemory),
     }
 }
 
-/// A small number of items.
-fn number(count: usize) -> u32 {
-    (count % 65536) as u32
+/// The id of a name, which is there.
+fn id(names: &Names, name: &[u8]) -> Result<NameId, NoMemory> {
+    names.find(name).ok_or(NoMemory)
+}
+
+/// Adds the commands, which stand outside of all bodies.
+fn add_commands(
+    commands: &mut Seq<CommandAt>,
+    names: &Names,
+    words: &[Word<'_>],
+) -> Result<(), NoMemory> {
+    let mut before = Word::NONE;
+    for word in words {
+        if word.depth == 0 {
+            add_command(commands, names, before, *word)?;
+            before = *word;
+        }
+    }
+    Ok(())
+}
+
+/// Adds the command that a word ends, behind the word before it.
+fn add_command(
+    commands: &mut Seq<CommandAt>,
+    names: &Names,
+    before: Word<'_>,
+    word: Word<'_>,
+) -> Result<(), NoMemory> {
+    let named = named_command(before.bytes, names.find(word.bytes));
+    if let Some(command) = named {
+        return commands.push(CommandAt {
+            command,
+            place: before.place,
+        });
+    }
+    match command_of(names, word) {
+        Some(command) => commands.push(CommandAt {
+            command,
+            place: word.place,
+        }),
+        None if word.is_part() => Ok(()),
+        None => Err(NoMemory),
+    }
+}
+
+/// The command of this word on a function.
+fn named_command(word: &[u8], name: Option<NameId>) -> Option<Command> {
+    let name = name?;
+    if word == b"EXECUTE".as_slice() {
+        return Some(Command::Execute(name));
+    }
+    if word == b"ITERATE".as_slice() {
+        return Some(Command::Iterate(name));
+    }
+    if word == b"REVERSE".as_slice() {
+        return Some(Command::Reverse(name));
+    }
+    None
+}
+
+/// The command that is one word, or that begins a function.
+fn command_of(names: &Names, word: Word<'_>) -> Option<Command> {
+    if word.bytes == b"READ".as_slice() {
+        return Some(Command::Read);
+    }
+    if word.bytes == b"SORT".as_slice() {
+        return Some(Command::Sort);
+    }
+    Some(Command::Function(names.find(word.function()?)?))
+}
+
+/// Adds the bodies, in the order in which they begin.
+fn add_bodies(
+    alloc: Global,
+    bodies: &mut Seq<Body>,
+    names: &Names,
+    words: &[Word<'_>],
+) -> Result<(), NoMemory> {
+    for (i, word) in words.iter().enumerate() {
+        if word.begins_body() {
+            let behind = words.get(i.saturating_add(1)..).unwrap_or(&[]);
+            add_body(alloc, bodies, names, *word, behind)?;
+        }
+    }
+    Ok(())
+}
+
+/// Adds the body that a word begins, before the words behind it.
+fn add_body(
+    alloc: Global,
+    bodies: &mut Seq<Body>,
+    names: &Names,
+    word: Word<'_>,
+    behind: &[Word<'_>],
+) -> Result<(), NoMemory> {
+    let mut tokens = Seq::new(alloc);
+    add_tokens(&mut tokens, names, word.depth.saturating_add(1), behind)?;
+    bodies.push(Body {
+        tokens,
+        block: word.block(),
+        place: word.place,
+    })
+}
+
+/// Adds the tokens of this depth, up to the first word of a lower one.
+fn add_tokens(
+    tokens: &mut Seq<TokenAt>,
+    names: &Names,
+    depth: u32,
+    words: &[Word<'_>],
+) -> Result<(), NoMemory> {
+    for word in words {
+        if word.depth < depth {
+            return Ok(());
+        }
+        if word.depth == depth && !word.ends_body() {
+            let token = token_of(names, *word)?;
+            tokens.push(TokenAt {
+                token,
+                place: word.place,
+            })?;
+        }
+    }
+    Ok(())
+}
+
+/// The token of a word.
+fn token_of(names: &Names, word: Word<'_>) -> Result<Token, NoMemory> {
+    match word.bytes {
+        [b'{'] => Ok(Token::Block(BodyId(word.bodies))),
+        [b'"', ..] => Ok(Token::Str(TextId(word.texts))),
+        [b'#', digits @ ..] => Ok(Token::Int(integer(digits))),
+        [b'\'', name @ ..] => Ok(Token::Quote(id(names, name)?)),
+        name => Ok(Token::Call(id(names, name)?)),
+    }
 }
 
 /// The integer with these digits.
@@ -286,64 +227,38 @@ fn integer(digits: &[u8]) -> i32 {
     }
 }
 
-/// The style of these lines, and the place of its last token.
-pub fn style_of(alloc: Global, lines: &[&[u8]]) -> Result<(Style, Place), NoMemory> {
-    let mut program = Program::new(alloc)?;
-    program.lines(lines)?;
-    let last = program.last;
-    Ok((program.style(), last))
-}
-
-/// The entries.
-fn list(alloc: Global) -> Result<EntryList, NoMemory> {
-    let mut entries = Seq::new(alloc);
-    push_entries(alloc, &mut entries)?;
-    Ok(EntryList {
-        entries,
-        preamble: Text::from_slice(alloc, b"Preamble")?,
-    })
-}
-
-/// Adds the entries.
-fn push_entries(alloc: Global, entries: &mut Seq<Entry>) -> Result<(), NoMemory> {
-    for (key, entry_type, title) in &ENTRIES {
-        entries.push(entry(alloc, key, entry_type, title)?)?;
+/// Adds the texts.
+fn add_texts(alloc: Global, texts: &mut Seq<Text>, words: &[Word<'_>]) -> Result<(), NoMemory> {
+    for word in words {
+        if word.is_text() {
+            add_text(alloc, texts, word.bytes)?;
+        }
     }
     Ok(())
 }
 
-/// An entry.
-fn entry(alloc: Global, key: &[u8], entry_type: &[u8], title: &[u8]) -> Result<Entry, NoMemory> {
-    Ok(Entry {
-        key: Text::from_slice(alloc, key)?,
-        entry_type: Text::from_slice(alloc, entry_type)?,
-        fields: fields(alloc, title)?,
-    })
+/// Adds a text.
+fn add_text(alloc: Global, texts: &mut Seq<Text>, word: &[u8]) -> Result<(), NoMemory> {
+    let mut text = Vec::new(alloc);
+    add_bytes(&mut text, word)?;
+    texts.push(Text::from_vec(text))
 }
 
-/// The fields of an entry with this title.
-fn fields(alloc: Global, title: &[u8]) -> Result<Seq<FieldValue>, NoMemory> {
-    let mut fields = Seq::new(alloc);
-    fields.push(FieldValue {
-        name: NameId(37),
-        value: None,
-    })?;
-    fields.push(FieldValue {
-        name: NameId(41),
-        value: value_of(alloc, title)?,
-    })?;
-    Ok(fields)
-}
-
-/// The value of a title.
-fn value_of(alloc: Global, title: &[u8]) -> Result<Option<Text>, NoMemory> {
-    match title {
-        [b'-'] => Ok(None),
-        _ => Ok(Some(Text::from_slice(alloc, title)?)),
+/// Adds the bytes of a text without its quotes, and what stands for others.
+fn add_bytes(text: &mut Vec<u8>, word: &[u8]) -> Result<(), NoMemory> {
+    for b in word {
+        if *b != b'"' {
+            text.push(byte_of(*b))?;
+        }
     }
+    Ok(())
 }
 
-/// The machine before its first step.
-pub fn machine_of<'a>(alloc: Global, style: &'a Style) -> Result<Machine<'a>, NoMemory> {
-    Machine::new(alloc, style, list(alloc)?)
+/// The byte that one in a text stands for.
+fn byte_of(b: u8) -> u8 {
+    match b {
+        b'_' => b' ',
+        b'^' => 255,
+        _ => b,
+    }
 }

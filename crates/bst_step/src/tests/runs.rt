@@ -1,7 +1,7 @@
 //! How many steps runs take, and in which order they visit entries.
 
-use crate::machine::{Machine, Turn};
-use crate::tests::rows::{Telling, add_bytes, expect};
+use crate::machine::{Machine, Site, Turn};
+use crate::tests::rows::{Table, Telling, add, add_bytes, expect};
 use bv_base::memory::NoMemory;
 use std::test::Fail;
 
@@ -45,10 +45,32 @@ const STEPS: &str = r#"
 1000 f{ "a" "b" * write$ newline$ } READ EXECUTE f -> ends ab|
 "#;
 
+/// Numbers of steps, and what runs come to by them.
+static RUNS: Table = Table {
+    functions: "",
+    front: "",
+    back: "",
+    telling: Telling::Steps,
+    rows: STEPS,
+};
+
 #[test]
 fn runs_take_so_many_steps(rt: HostRuntime) -> Result<(), Fail> {
-    expect(&rt, rt.alloc(), Telling::Steps, STEPS)?;
-    Ok(expect(&rt, rt.alloc(), Telling::StepByStep, STEPS)?)
+    expect(&rt, rt.alloc(), &RUNS)
+}
+
+/// The same with one step at a time.
+static SINGLE_STEPS: Table = Table {
+    functions: "",
+    front: "",
+    back: "",
+    telling: Telling::StepByStep,
+    rows: STEPS,
+};
+
+#[test]
+fn single_steps_come_to_the_same(rt: HostRuntime) -> Result<(), Fail> {
+    expect(&rt, rt.alloc(), &SINGLE_STEPS)
 }
 
 /// So many steps, one by one.
@@ -60,21 +82,60 @@ pub fn step_by_step(machine: &mut Machine<'_>, n: u64) -> Result<Turn, NoMemory>
     Ok(turn)
 }
 
-/// Adds a space and the lines that a machine has written, where there are any.
-pub fn add_lines_so_far(told: &mut String, machine: &Machine<'_>) -> Result<(), NoMemory> {
-    let lines = machine.lines()?;
-    if !lines.as_slice().is_empty() {
-        told.push(' ')?;
+/// Adds what a machine has come to, and the lines that it has written.
+pub fn add_state(told: &mut String, machine: &Machine<'_>, turn: Turn) -> Result<(), NoMemory> {
+    add_turn(told, machine, turn)?;
+    add_lines(told, machine)
+}
+
+/// Adds that a machine goes on, that it ends, or its fault.
+fn add_turn(told: &mut String, machine: &Machine<'_>, turn: Turn) -> Result<(), NoMemory> {
+    match turn {
+        Turn::Went => add(told, "goes on "),
+        Turn::Ended => add(told, "ends "),
+        Turn::Faulted(fault, site) => add_fault(told, machine, fault.name(), site),
     }
+}
+
+/// Adds a fault, its place, and its entry's number and key.
+fn add_fault(
+    told: &mut String,
+    machine: &Machine<'_>,
+    fault: &str,
+    site: Site,
+) -> Result<(), NoMemory> {
+    let (line, column) = (site.place.line, site.place.column);
+    write!(told, "{fault} {line}:{column} ")?;
+    match site.entry {
+        Some(entry) => add_entry(told, entry, machine.key(entry)),
+        None => Ok(()),
+    }
+}
+
+/// Adds an entry's number and key.
+fn add_entry(told: &mut String, entry: u64, key: &[u8]) -> Result<(), NoMemory> {
+    write!(told, "{entry} ")?;
+    add_bytes(told, key)?;
+    add(told, " ")
+}
+
+/// Adds the lines that a machine has written.
+fn add_lines(told: &mut String, machine: &Machine<'_>) -> Result<(), NoMemory> {
+    let lines = machine.lines()?;
     add_bytes(told, lines.as_slice())
 }
 
 /// Functions that give the entries sort keys, and one that writes the key of an entry.
-pub const KEYS: &str =
+const KEYS: &str =
     r#"title.key{ title missing$ { "" } { title } if$ 'sort.key$ := } no.key{ "" 'sort.key$ := } cite.key{ cite$ 'sort.key$ := } w{ cite$ write$ }"#;
 
 /// Commands, and the line of keys that they write.
-const ORDERS: &str = r#"
+static ORDERS: Table = Table {
+    functions: KEYS,
+    front: "",
+    back: "EXECUTE newline$",
+    telling: Telling::Lines,
+    rows: r#"
 READ ITERATE w -> A1B2C3D4E5|
 READ REVERSE w -> E5D4C3B2A1|
 READ ITERATE w REVERSE w -> A1B2C3D4E5E5D4C3B2A1|
@@ -87,9 +148,10 @@ READ ITERATE title.key SORT SORT ITERATE w -> B2E5C3A1D4|
 % A second SORT sorts what the first has left.
 READ ITERATE title.key SORT ITERATE no.key SORT ITERATE w -> B2E5C3A1D4|
 READ ITERATE title.key SORT ITERATE cite.key SORT ITERATE w -> A1B2C3D4E5|
-"#;
+"#,
+};
 
 #[test]
 fn entries_are_visited_in_the_order_of_the_list(rt: HostRuntime) -> Result<(), Fail> {
-    Ok(expect(&rt, rt.alloc(), Telling::Order, ORDERS)?)
+    expect(&rt, rt.alloc(), &ORDERS)
 }
