@@ -1,6 +1,7 @@
 -- The entries that others name by `crossref`, and which of them are appended (docs/DATA.md, "The list of entries").
 use Rattle.std.specs.Prelude.{ℕ, Bool, false, ◌&&◌, not, if◌then◌else◌, List, [], ◌∷◌, ◌++◌, Option, None, Some, codes, filter, flat_map}
 use Rattle.std.specs.Option.{option_and_then, option_map, option_to_list}
+use Rattle.bv_base.specs.KeySets.{has_lowered}
 use Rattle.name_table.specs.Names.{same_name}
 use Rattle.aux_read.specs.declared.aux.AuxItem.{AuxItem}
 use Rattle.bib_read.specs.declared.database.RawEntry.{RawEntry}
@@ -43,6 +44,14 @@ is_wanted parents list parent = is_named_twice parent.key parents && not (is_lis
 -- the wanted ones of these parents, in the order in which they are first named
 abbrev pub wanted : List Listed → List Listed → List Listed
 wanted parents list = filter (is_wanted parents list) (firsts same_listed parents)
+
+-- one of two sets of keys has a parent's, and the other hasn't
+abbrev pub is_chosen : List (List ℕ) → List (List ℕ) → Listed → Bool
+is_chosen twice listed parent = has_lowered parent.key twice && not (has_lowered parent.key listed)
+
+-- those of these parents, in the order in which they are first named
+abbrev pub chosen_of : List (List ℕ) → List (List ℕ) → List Listed → List Listed
+chosen_of twice listed parents = filter (is_chosen twice listed) (firsts same_listed parents)
 
 -- the parents that are appended to a list
 abbrev pub appended : List RawEntry → List Listed → List Listed

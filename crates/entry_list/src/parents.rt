@@ -1,6 +1,6 @@
 //! The entries that others name by `crossref`, and those of them that are appended.
 
-ghost use Rattle.std.specs.Prelude.{◌≡◌, ℕ, ◌&&◌, ◌||◌, ◌++◌, if◌then◌else◌, not, List, [], ◌∷◌, IfOk, OnOk};
+ghost use Rattle.std.specs.Prelude.{◌≡◌, ℕ, ◌&&◌, ◌||◌, ◌++◌, if◌then◌else◌, List, [], ◌∷◌, IfOk, OnOk};
 ghost use Rattle.std.specs.Option.{option_map, option_to_list};
 ghost use Rattle.bv_base.specs.KeySets.{has_lowered};
 ghost use Rattle.entry_list.specs.Keys as keys;
@@ -50,10 +50,18 @@ fn push_parent<'a>(
     ensures { OnOk result (found.new.items
         ≡ found.old.items ++ option_to_list (option_map keys.own (naming.parent_of table.now entry.now))) }
 {
-    let Some(parent) = parent_of(table, entry)? else {
-        return Ok(());
-    };
-    found.push(Chosen::own(parent))?;
+    let parent = parent_of(table, entry)?;
+    push_own(found, parent)
+}
+
+/// Adds an entry under its own key, where there is one.
+fn push_own<'a>(found: &mut Vec<Chosen<'a>>, entry: Option<&'a RawEntry>) -> Result<(), NoMemory>
+    ensures { OnOk result (found.new.items
+        ≡ found.old.items ++ option_to_list (option_map keys.own (option_map (λ e. e.now) entry.entry))) }
+{
+    if let Some(entry) = entry {
+        found.push(Chosen::own(entry))?;
+    }
     Ok(())
 }
 
@@ -99,12 +107,38 @@ fn wanted<'a>(
 {
     let twice = named_twice(alloc, parents)?;
     let listed = listed_keys(alloc, list)?;
-    let mut done = KeySet::new(alloc);
+    wanted_of(alloc, parents, &twice, &listed)
+}
+
+/// Those of these parents that are named twice and not listed, in the order in which they are first named.
+fn wanted_of<'a>(
+    alloc: Global,
+    parents: &[Chosen<'a>],
+    twice: &KeySet,
+    listed: &KeySet,
+) -> Result<Vec<Chosen<'a>>, NoMemory>
+    ensures { IfOk result (λ found. found.items ≡ naming.chosen_of twice.now listed.now parents.now) }
+{
     let mut found = Vec::new(alloc);
-    for parent in parents {
-        take_parent(&mut found, &mut done, &twice, &listed, parent)?;
-    }
+    take_parents(alloc, &mut found, parents, twice, listed)?;
     Ok(found)
+}
+
+/// Takes these parents, those with one key once.
+fn take_parents<'a>(
+    alloc: Global,
+    found: &mut Vec<Chosen<'a>>,
+    parents: &[Chosen<'a>],
+    twice: &KeySet,
+    listed: &KeySet,
+) -> Result<(), NoMemory>
+    ensures { OnOk result (found.new.items ≡ found.old.items ++ naming.chosen_of twice.now listed.now parents.now) }
+{
+    let mut done = KeySet::new(alloc);
+    for parent in parents {
+        take_parent(found, &mut done, twice, listed, parent)?;
+    }
+    Ok(())
 }
 
 /// Takes a parent, where none with its key was taken before.
@@ -117,8 +151,7 @@ fn take_parent<'a>(
 ) -> Result<(), NoMemory>
     ensures found { OnOk result (found.new.items ≡ found.old.items
         ++ (if has_lowered parent.now.key done.old then []
-        else if has_lowered parent.now.key twice.now && not (has_lowered parent.now.key listed.now)
-        then parent.now ∷ [] else [])) }
+        else if naming.is_chosen twice.now listed.now parent.now then parent.now ∷ [] else [])) }
     ensures done { OnOk result ((key : List ℕ)
         → has_lowered key done.new ≡ (keys.same_key key parent.now.key || has_lowered key done.old)) }
 {
@@ -136,8 +169,7 @@ fn push_wanted<'a>(
     parent: &Chosen<'a>,
 ) -> Result<(), NoMemory>
     ensures { OnOk result (found.new.items ≡ found.old.items
-        ++ (if has_lowered parent.now.key twice.now && not (has_lowered parent.now.key listed.now)
-        then parent.now ∷ [] else [])) }
+        ++ (if naming.is_chosen twice.now listed.now parent.now then parent.now ∷ [] else [])) }
 {
     if !twice.has_lowered(parent.key)? {
         return Ok(());
@@ -153,12 +185,25 @@ fn push_wanted<'a>(
 fn named_twice(alloc: Global, parents: &[Chosen<'_>]) -> Result<KeySet, NoMemory>
     ensures { IfOk result (λ twice. (key : List ℕ) → has_lowered key twice ≡ naming.is_named_twice key parents.now) }
 {
-    let mut once = KeySet::new(alloc);
     let mut twice = KeySet::new(alloc);
-    for parent in parents {
-        name(&mut once, &mut twice, parent.key)?;
-    }
+    add_named_twice(alloc, &mut twice, parents)?;
     Ok(twice)
+}
+
+/// Adds the keys that at least two of these parents have.
+fn add_named_twice(
+    alloc: Global,
+    twice: &mut KeySet,
+    parents: &[Chosen<'_>],
+) -> Result<(), NoMemory>
+    ensures { OnOk result ((key : List ℕ)
+        → has_lowered key twice.new ≡ (has_lowered key twice.old || naming.is_named_twice key parents.now)) }
+{
+    let mut once = KeySet::new(alloc);
+    for parent in parents {
+        name(&mut once, twice, parent.key)?;
+    }
+    Ok(())
 }
 
 /// Adds a key to those that are named, or to those that are named twice too.
@@ -171,7 +216,15 @@ fn name(once: &mut KeySet, twice: &mut KeySet, key: &[u8]) -> Result<(), NoMemor
     if once.add_lowered(key)? {
         return Ok(());
     }
-    twice.add_lowered(key)?;
+    add(twice, key)
+}
+
+/// Adds a key to a set.
+fn add(set: &mut KeySet, key: &[u8]) -> Result<(), NoMemory>
+    ensures { OnOk result ((other : List ℕ)
+        → has_lowered other set.new ≡ (keys.same_key other key.now || has_lowered other set.old)) }
+{
+    set.add_lowered(key)?;
     Ok(())
 }
 

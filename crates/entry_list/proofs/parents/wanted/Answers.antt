@@ -1,29 +1,21 @@
-use Rattle.std.proofs.Common.{◌∙◌, ap, ◌++◌, ◌&&◌, not}
-use Rattle.std.specs.Prelude.{filter}
+use Rattle.std.proofs.Common.{◌≡◌, ◌∙◌, ap, ◌&&◌, not, List, subst}
+use Rattle.std.specs.Prelude.{IfOk}
 use Rattle.bv_base.specs.KeySets.{has_lowered}
-use Rattle.entry_list.specs.Parents.{is_named_twice, is_wanted, same_listed}
-use Rattle.entry_list.proofs.Lists.{drop_item, fresh_all, stepped_filter}
-use Rattle.entry_list.proofs.Naming.{is_done, undone}
+use Rattle.entry_list.specs.Keys.{Listed, firsts}
+use Rattle.entry_list.specs.Parents.{is_chosen, is_named_twice, is_wanted, same_listed}
+use Rattle.entry_list.proofs.Lists.{filter_same}
 use Rattle.entry_list.proofs.parents.wanted.Goals as goal
 
-pub loop-parent-init : goal.loop-parent-init
-loop-parent-init c =
-    let parents = c.args.parents.now in
-    let done = c.new-done.result in
-    ap (λ l. l ++ filter (is_wanted parents c.args.list.now) (undone done parents)) c.new-found.ensures.items
-    ∙ ap (filter (is_wanted parents c.args.list.now))
-    (fresh_all same_listed is_done done (λ p. ap (has_lowered p.key) c.new-done.ensures) parents)
-
-pub loop-parent-preserved : goal.loop-parent-preserved
-loop-parent-preserved c =
+-- the sets of keys say what is wanted
+pub returns : goal.returns
+returns c =
     let parents = c.args.parents.now in
     let list = c.args.list.now in
-    let parent = c.parent-item.result in
-    let i = c.loop-parent.parent-index in
-    stepped_filter same_listed is_done (is_wanted parents list) _ c.loop-parent.done c.take_parent.new.done parent parents i _ _
-    (drop_item parents i parent c.loop-parent-test.true c.parent-item.is)
-    (λ later. c.in_ok-take_parent.ensures.done later.key)
-    (ap (λ b. b && not (has_lowered parent.key c.in_ok-listed.listed)) (c.in_ok-twice.ensures parent.key)
-    ∙ ap (λ b. is_named_twice parent.key parents && not b) (c.in_ok-listed.ensures parent.key))
-    c.in_ok-take_parent.ensures.found
-    ∙ c.loop-parent.invariant
+    let twice = c.in_ok-twice.twice in
+    let listed = c.in_ok-listed.listed in
+    subst (λ (l : List Listed). IfOk c.wanted_of.result (λ found. found.items ≡ l))
+    (filter_same (is_chosen twice listed) (is_wanted parents list)
+    (λ p. ap (λ b. b && not (has_lowered p.key listed)) (c.in_ok-twice.ensures p.key)
+    ∙ ap (λ b. is_named_twice p.key parents && not b) (c.in_ok-listed.ensures p.key))
+    (firsts same_listed parents))
+    c.wanted_of.ensures
