@@ -11,6 +11,7 @@ use bst_meaning::condition::Cond;
 use bv_base::memory::NoMemory;
 use bv_base::seq::Seq;
 use std::alloc::Global;
+use std::marker::Model;
 
 /// The most entries that a condition may ask for.
 const MOST_ENTRIES: u32 = 1_000_000;
@@ -18,9 +19,38 @@ const MOST_ENTRIES: u32 = 1_000_000;
 /// The greatest other number of a condition.
 const MOST: u32 = 1_073_741_824;
 
-/// The condition of a short certificate. `None` comes exactly where the bytes are no short certificate.
+/// A short certificate that was read: its condition, with the lines that print it. Contracts see the condition.
+#[derive(Drop)]
+pub struct Short {
+    cond: Cond,
+    lines: String,
+}
+
+impl Model for Short {
+    ghost use Rattle.std.specs.Prelude.{◌≡◌};
+    ghost use Rattle.std.specs.String.{string_bytes};
+    ghost use Rattle.bst_meaning.specs.declared.condition.Cond.{Cond as Condition};
+    ghost use Rattle.bst_run.specs.Certificate.{condition_text};
+
+    ghost Value = { Condition };
+
+    ghost view = { λ s. s.cond };
+
+    ghost invariant = { λ s. string_bytes s.lines ≡ condition_text s.cond };
+}
+
+impl Short {
+    /// The lines of its condition, up to and including `end`.
+    pub fn lines(&self) -> &str
+        ensures { result.now ≡ certificate.condition_text self.now }
+    {
+        self.lines.as_str()
+    }
+}
+
+/// The short certificate that the bytes are. `None` comes exactly where they are none.
 #[tactic(auto, unfolding(crate::specs::Reading::certificate_of))]
-pub fn read_short(alloc: Global, source: &[u8]) -> Result<Option<Cond>, NoMemory>
+pub fn read_short(alloc: Global, source: &[u8]) -> Result<Option<Short>, NoMemory>
     ensures exact { IfOk result (λ found. found ≡ reading.certificate_of source.now) }
     ensures found { IfOk result (λ found. IfSome found (certificate.IsCertificate source.now)) }
     ensures none { IfOk result (λ found. IfNone found ((cond : Condition) → certificate.IsCertificate source.now cond → ⊥)) }
@@ -28,26 +58,28 @@ pub fn read_short(alloc: Global, source: &[u8]) -> Result<Option<Cond>, NoMemory
     let Some(cond) = loosely_read(alloc, source) else {
         return Ok(None);
     };
-    let text = certificate_text(alloc, &cond)?;
+    let (lines, text) = spellings(alloc, &cond)?;
     if cond.entries > MOST_ENTRIES {
         return Ok(None);
     }
     if source == text.as_bytes() {
-        return Ok(Some(cond));
+        return Ok(Some(Short { cond, lines }));
     }
     Ok(None)
 }
 
-/// The one spelling of a short certificate.
-fn certificate_text(alloc: Global, cond: &Cond) -> Result<String, NoMemory>
-    ensures { IfOk result (λ text. string_bytes text ≡ certificate.certificate_text cond.now) }
+/// The lines of a condition, and the one spelling of the short certificate with it.
+fn spellings(alloc: Global, cond: &Cond) -> Result<(String, String), NoMemory>
+    ensures lines { IfOk result (λ both. string_bytes both.0 ≡ certificate.condition_text cond.now) }
+    ensures text { IfOk result (λ both. string_bytes both.1 ≡ certificate.certificate_text cond.now) }
 {
-    let condition = condition_text(alloc, cond)?;
-    Ok(format!(in alloc; "bstcert 1\n{condition}done\n")?)
+    let lines = condition_text(alloc, cond)?;
+    let text = format!(in alloc; "bstcert 1\n{lines}done\n")?;
+    Ok((lines, text))
 }
 
 /// The lines of a condition without lines on names, fields or types, up to and including `end`.
-pub fn condition_text(alloc: Global, cond: &Cond) -> Result<String, NoMemory>
+fn condition_text(alloc: Global, cond: &Cond) -> Result<String, NoMemory>
     ensures { IfOk result (λ text. string_bytes text ≡ certificate.condition_text cond.now) }
 {
     let entries = cond.entries;

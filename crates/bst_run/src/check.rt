@@ -7,7 +7,7 @@ ghost use Rattle.bst_run.specs.Stops as stops;
 ghost use Rattle.bst_run.specs.Top as top;
 ghost use Rattle.bst_run.specs.Reading.{certificate_of};
 
-use crate::certificate::read_short;
+use crate::certificate::{Short, read_short};
 use crate::files::style::style_from;
 use crate::files::whole::style_file;
 use crate::outcome::Outcome;
@@ -15,7 +15,6 @@ use crate::report::{accepted, not_built, refused};
 use crate::stop::Stop;
 use crate::straight::is_straight;
 use crate::walk::first_refusal;
-use bst_meaning::condition::Cond;
 use bv_base::files::Files;
 use name_table::style::Style;
 use std::alloc::Global;
@@ -36,17 +35,17 @@ pub fn check<F: Files>(
     ensures safe { IfOk result (λ outcome. IfSome (F.told files.old) (λ told.
         top.IsAcceptance told style_name.now cert_name.now outcome)) }
 {
-    let cond = judge(alloc, files, style_name, cert_name)?;
-    Ok(accepted(alloc, &cond)?)
+    let short = judge(alloc, files, style_name, cert_name)?;
+    Ok(accepted(alloc, &short)?)
 }
 
-/// Reads the style and then the certificate, and decides. Where it accepts it gives the certificate's condition.
+/// Reads the style and then the certificate, and decides. Where it accepts it gives the certificate.
 fn judge<F: Files>(
     alloc: Global,
     files: &mut F,
     style_name: &str,
     cert_name: &str,
-) -> Result<Cond, Stop>
+) -> Result<Short, Stop>
     ensures accepted { IfOk result (λ cond. IfSome (F.told files.old) (λ told.
         top.IsAccepted told style_name.now cert_name.now cond)) }
     ensures reads { Reads ⟦<F as Files>⟧ files.old files.new (λ told. top.condition_in told style_name.now cert_name.now) result }
@@ -59,13 +58,13 @@ fn judge<F: Files>(
 }
 
 /// Decides a style and a certificate's text.
-fn decide(alloc: Global, source: &[u8], style: &Style, text: &[u8]) -> Result<Cond, Stop>
+fn decide(alloc: Global, source: &[u8], style: &Style, text: &[u8]) -> Result<Short, Stop>
     ensures accepted { IfOk result (λ cond. top.IsDecidedWell source.now style.now text.now cond) }
     ensures decides { stops.Decides (top.judged source.now style.now (certificate_of text.now)) result }
     ensures inside { IfErr result stops.IsInside }
 {
     let found = read_short(alloc, text)?;
-    let Some(cond) = found else {
+    let Some(short) = found else {
         return Err(Stop::Told(not_built(alloc)?));
     };
     if source.len() > MOST_STRAIGHT_BYTES || !is_straight(style) {
@@ -73,6 +72,6 @@ fn decide(alloc: Global, source: &[u8], style: &Style, text: &[u8]) -> Result<Co
     }
     match first_refusal(style) {
         Some(refusal) => Err(Stop::Told(refused(alloc, refusal)?)),
-        None => Ok(cond),
+        None => Ok(short),
     }
 }

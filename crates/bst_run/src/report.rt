@@ -4,11 +4,10 @@ ghost use Rattle.std.specs.Prelude.{◌≡◌, IfOk};
 ghost use Rattle.std.specs.String.{string_bytes};
 ghost use Rattle.bst_run.specs.Report as report;
 
-use crate::certificate::condition_text;
+use crate::certificate::Short;
 use crate::data_fault::DataFault;
 use crate::outcome::Outcome;
 use crate::refusal::{Reason, Refusal};
-use bst_meaning::condition::Cond;
 use bst_meaning::fault::Fault;
 use bst_parse::fault::StyleFault;
 use bv_base::memory::NoMemory;
@@ -114,10 +113,10 @@ fn refused_line(alloc: Global, refusal: Refusal) -> Result<String, NoMemory>
 }
 
 /// The rules hold: the style is safe under the condition that is printed.
-pub fn accepted(alloc: Global, cond: &Cond) -> Result<Outcome, NoMemory>
-    ensures { IfOk result (λ outcome. outcome ≡ report.accepted cond.now) }
+pub fn accepted(alloc: Global, short: &Short) -> Result<Outcome, NoMemory>
+    ensures { IfOk result (λ outcome. outcome ≡ report.accepted short.now) }
 {
-    let condition = condition_text(alloc, cond)?;
+    let condition = short.lines();
     let text = format!(in alloc; "accepted\nlist 1\n{condition}")?;
     Ok(Outcome {
         status: Status::Done,

@@ -24,5 +24,5 @@ returns-clause-none c = λ cond is.
     let read = read_back c.args.source.now cond is in
     let same : c.in-Some.cond ≡ cond = cc in
     let spelled : c.args.source.now ≡ c.as_bytes.result.now =
-    is.1 ∙ sym (ap certificate.certificate_text same) ∙ sym c.in_ok-text.ensures ∙ sym c.as_bytes.ensures.value in
+    is.1 ∙ sym (ap certificate.certificate_text same) ∙ sym c.in_ok-lines.ensures.text ∙ sym c.as_bytes.ensures.value in
     not_from_Decides c.eq.result (slice_eq-Decides Decides-eqb c.args.source.now c.as_bytes.result.now c.eq.result c.eq.ensures) c.if-eq.false spelled

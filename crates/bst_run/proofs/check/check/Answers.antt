@@ -8,4 +8,4 @@ use Rattle.bst_run.proofs.check.check.Goals as goal
 pub returns-in_err-accepted-clause-begun : goal.returns-in_err-accepted-clause-begun
 returns-in_err-accepted-clause-begun g c =
     begins_last {A = Cond} {B = Outcome} (g.F.Files.told c.args.files.now) (λ t. check_begun t c.args.style_name.now c.args.cert_name.now) (g.F.Files.begun c.args.files.now) _
-    c.in_ok-cond.cond _ c.in_ok-cond.ensures.begun
+    c.in_ok-short.short _ c.in_ok-short.ensures.begun
