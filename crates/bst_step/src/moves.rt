@@ -12,6 +12,7 @@ use crate::outcome::Outcome;
 use crate::stack::Stack;
 use crate::stop::Stop;
 use bst_meaning::value::Value;
+use name_table::builtin::Builtin;
 use std::alloc::Global;
 
 /// `duplicate$`
@@ -20,6 +21,17 @@ pub fn duplicate(alloc: Global, stack: &Stack<Value>) -> Result<Outcome, Stop>
 {
     let copy = copied(alloc, one(stack)?)?;
     Ok(Outcome::Push(0, copy))
+}
+
+/// `newline$` and `skip$`, which leave the stack the same
+pub fn same(op: Builtin) -> Outcome
+    ensures newline { op ≡ Builtin.Newline → result ≡ Outcome.EndLine }
+    ensures skip { op ≡ Builtin.Skip → result ≡ Outcome.Leave 0 }
+{
+    match op {
+        Builtin::Newline => Outcome::EndLine,
+        _ => Outcome::Leave(0),
+    }
 }
 
 /// `pop$`
