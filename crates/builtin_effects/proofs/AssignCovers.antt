@@ -21,7 +21,7 @@ use Rattle.bst_meaning.specs.Machine.{assigned_by}
 use Rattle.bst_meaning.specs.StyleParts.{kind_of}
 use Rattle.sym_state.specs.declared.demand.DemandKind.TheVariants.{NoEntry, WrongKind}
 use Rattle.sym_state.specs.declared.hint.Hint.{Hint}
-use Rattle.sym_state.specs.declared.state.State.{State}
+use Rattle.sym_state.specs.State.{State}
 use Rattle.sym_state.specs.declared.symbol.Kinds.TheVariants.{Func, Int, Str}
 use Rattle.sym_state.specs.declared.symbol.Sym.{Sym}
 use Rattle.sym_state.specs.Changes.{with_bind}

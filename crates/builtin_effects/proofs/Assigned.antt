@@ -13,7 +13,7 @@ use Rattle.bst_meaning.specs.Config.{Config, EntryState, Variable, Visit}
 use Rattle.bst_meaning.specs.Machine.{assigned_by, field_in, next_index, value_at, visited_entry, visited_index, with_entry_variable, with_variable}
 use Rattle.bst_meaning.specs.StyleParts.{kind_of}
 use Rattle.bst_meaning.proofs.Replacing.{set_element, set_length, set_seen, variable_kept, variable_new}
-use Rattle.sym_state.specs.declared.state.State.{State}
+use Rattle.sym_state.specs.State.{State}
 use Rattle.sym_state.specs.declared.symbol.Sym.{Sym}
 use Rattle.sym_state.specs.Changes.{with_bind}
 use Rattle.sym_state.specs.Stands.{IsVisiting, Stands, value_by}

@@ -14,7 +14,7 @@ use Rattle.bst_meaning.specs.Operands.{has_32_bits}
 use Rattle.text_ops.specs.IntToStr.{numeral}
 use Rattle.sym_state.specs.declared.demand.DemandKind.TheVariants.{NotAscii, NotOneByte}
 use Rattle.sym_state.specs.declared.hint.Hint.{Hint}
-use Rattle.sym_state.specs.declared.state.State.{State}
+use Rattle.sym_state.specs.State.{State}
 use Rattle.sym_state.specs.declared.symbol.Fact.TheVariants.{Int as IntFact, Nonblank}
 use Rattle.sym_state.specs.declared.symbol.Kinds.TheVariants.{Int, Str}
 use Rattle.sym_state.specs.declared.symbol.Sym.{Sym}

@@ -14,7 +14,7 @@ use Rattle.bst_meaning.specs.declared.value.Value.TheVariants.{Int as IntValue, 
 use Rattle.bst_meaning.specs.Effect.{pushed}
 use Rattle.sym_state.specs.declared.demand.DemandKind.TheVariants.{IntRange}
 use Rattle.sym_state.specs.declared.hint.Hint.{Hint}
-use Rattle.sym_state.specs.declared.state.State.{State}
+use Rattle.sym_state.specs.State.{State}
 use Rattle.sym_state.specs.declared.symbol.Kinds.TheVariants.{Int}
 use Rattle.sym_state.specs.declared.symbol.Sym.{Sym}
 use Rattle.sym_state.specs.Demands.{After, Outcome, fails, gives, step}

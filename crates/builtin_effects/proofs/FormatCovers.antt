@@ -15,7 +15,7 @@ use Rattle.bst_meaning.specs.Builtins.{pushed_name}
 use Rattle.bst_meaning.specs.Effect.{pushed}
 use Rattle.sym_state.specs.declared.demand.DemandKind.TheVariants.{BadName, BadNameIndex, BadPattern, WrongKind}
 use Rattle.sym_state.specs.declared.hint.Hint.{Hint}
-use Rattle.sym_state.specs.declared.state.State.{State}
+use Rattle.sym_state.specs.State.{State}
 use Rattle.sym_state.specs.declared.symbol.Fact.TheVariants.{Wellformed}
 use Rattle.sym_state.specs.declared.symbol.Kinds.TheVariants.{Int, Str}
 use Rattle.sym_state.specs.declared.symbol.Sym.{Sym}

@@ -25,7 +25,7 @@ use Rattle.sym_state.specs.declared.demand.EffectFault.{EffectFault}
 use Rattle.sym_state.specs.declared.demand.EffectFault.TheVariants.{NotEntailed, WrongHint}
 use Rattle.sym_state.specs.declared.hint.Hint.{Hint}
 use Rattle.sym_state.specs.declared.hint.Hint.TheVariants.{Apply, Walk, Loop, Case, Plain, Keep, Drop, Step}
-use Rattle.sym_state.specs.declared.state.State.{State}
+use Rattle.sym_state.specs.State.{State}
 use Rattle.sym_state.specs.declared.symbol.Fact.{Fact}
 use Rattle.sym_state.specs.declared.symbol.Fact.TheVariants.{Int as IntFact, Text as TextFact, Nonblank, Wellformed}
 use Rattle.sym_state.specs.declared.symbol.Kinds.{Kinds}

@@ -20,7 +20,7 @@ use Rattle.bst_meaning.specs.Effect.{pushed}
 use Rattle.bst_meaning.specs.Entries.{IsByteList}
 use Rattle.sym_state.specs.declared.demand.DemandKind.TheVariants.{BadCase, WrongKind}
 use Rattle.sym_state.specs.declared.hint.Hint.{Hint}
-use Rattle.sym_state.specs.declared.state.State.{State}
+use Rattle.sym_state.specs.State.{State}
 use Rattle.sym_state.specs.declared.symbol.Kinds.TheVariants.{Int, Str}
 use Rattle.sym_state.specs.declared.symbol.Sym.{Sym}
 use Rattle.sym_state.specs.Decided.{exact_text, is_known_nonblank}

@@ -6,7 +6,7 @@ use Rattle.lin_facts.specs.declared.row.Row.{Row}
 use Rattle.sym_state.specs.declared.demand.EffectFault.{EffectFault}
 use Rattle.sym_state.specs.declared.demand.EffectFault.TheVariants.{NoMemory}
 use Rattle.sym_state.specs.declared.hint.Hint.{Hint}
-use Rattle.sym_state.specs.declared.state.State.{State}
+use Rattle.sym_state.specs.State.{State}
 use Rattle.sym_state.specs.declared.symbol.Fact.{Fact}
 use Rattle.sym_state.specs.Demands.{Outcome, Rule, gives, outcome}
 use Rattle.builtin_effects.specs.declared.at.At.{At}

@@ -16,7 +16,6 @@ use lin_facts::row::Term;
 use name_table::names::{Kind, NameId};
 use name_table::style::Style;
 use sym_state::demand::{DemandKind, EffectFault};
-use sym_state::facts::{exact_name, exact_text};
 use sym_state::hint::Hints;
 use sym_state::operands::{demand, of_kind, two};
 use sym_state::references::at_most;
@@ -29,7 +28,7 @@ pub fn assign(style: &Style, at: &At<'_>, hints: &mut Hints<'_>) -> Result<State
     ensures { Gives result hints.new (outcome_at at.now (rule.assign style.now at.now.state.now) hints.old) }
 {
     let (a, f) = two(at.state, Kinds::Any, Kinds::Func)?;
-    match exact_name(at.state.facts.as_slice(), f) {
+    match at.state.exact_name(f) {
         Some(name) => assigned(at, kind_of(style, name), name, a, hints),
         None => Err(EffectFault::unmet(DemandKind::NotVariable, 1)),
     }
@@ -50,11 +49,11 @@ fn assigned(
         Some(Kind::IntGlobal) => integer_assigned(at, name, a),
         Some(Kind::StrGlobal) => string_assigned(at, name, 20000, a, hints),
         Some(Kind::IntEntry) => {
-            demand(at.state.at_entry, DemandKind::NoEntry, 0)?;
+            demand(at.state.is_at_entry(), DemandKind::NoEntry, 0)?;
             integer_assigned(at, name, a)
         }
         Some(Kind::StrEntry) => {
-            demand(at.state.at_entry, DemandKind::NoEntry, 0)?;
+            demand(at.state.is_at_entry(), DemandKind::NoEntry, 0)?;
             string_assigned(at, name, 250, a, hints)
         }
         _ => Err(EffectFault::unmet(DemandKind::NotVariable, 1)),
@@ -82,10 +81,10 @@ fn string_assigned(
         (rule.of_kind at.now.state.now Str 2 a (rule.string_assigned at.now.state.now name size a (without 2 at.now.state.now))) hints.old) }
 {
     of_kind(at.state, Kinds::Str, 2, a)?;
-    if fits_exactly(exact_text(at.state.facts.as_slice(), a), size) {
+    if fits_exactly(at.state.exact_text(a), size) {
         return bound(at, name, a);
     }
-    let row = at_most(at.state.alloc, Term::Length(a.0), size as i64)?;
+    let row = at_most(at.state.alloc(), Term::Length(a.0), size as i64)?;
     if choice(at, true, &row, hints)? {
         bound(at, name, a)
     } else {
@@ -117,8 +116,8 @@ fn cut_bound(at: &At<'_>, name: NameId, size: u32) -> Result<State, EffectFault>
     requires { at.now.state.now.next < 4294967295 }
     ensures { (hints : List Hint) → Gives result hints (outcome_at at.now (rule.cut_bound name size (without 2 at.now.state.now)) hints) }
 {
-    let r = Sym(at.state.next);
-    let row = at_most(at.state.alloc, Term::Length(r.0), size as i64)?;
+    let r = Sym(at.state.next());
+    let row = at_most(at.state.alloc(), Term::Length(r.0), size as i64)?;
     let mut after = with_symbol(at.state, 2, Kinds::Str, Said::row(Some(row)))?;
     after.bind(name, r)?;
     Ok(after)

@@ -9,7 +9,7 @@ ghost use Rattle.bst_meaning.specs.declared.entry.EntryList.{EntryList};
 ghost use Rattle.bst_meaning.specs.declared.value.Value.{Value};
 ghost use Rattle.bst_meaning.specs.Config.{Config};
 ghost use Rattle.sym_state.specs.declared.hint.Hint.{Hint};
-ghost use Rattle.sym_state.specs.declared.state.State.{State};
+ghost use Rattle.sym_state.specs.State.{State};
 ghost use Rattle.sym_state.specs.Covers.{Covers};
 ghost use Rattle.sym_state.specs.Demands.{After};
 ghost use Rattle.sym_state.specs.Effects.{effect_of};

@@ -10,7 +10,6 @@ ghost use Rattle.sym_state.specs.Results.{with_top};
 ghost use Rattle.builtin_effects.specs.Given.{Gives, outcome_at};
 
 use crate::at::At;
-use bv_base::seq::Seq;
 use sym_state::demand::{DemandKind, EffectFault};
 use sym_state::operands::{demand, one, two};
 use sym_state::state::State;
@@ -64,8 +63,6 @@ pub fn same(at: &At<'_>) -> Result<State, EffectFault>
 pub fn log_stack(at: &At<'_>) -> Result<State, EffectFault>
     ensures { (hints : List Hint) → Gives result hints (outcome_at at.now (Demands at.now.state.now.whole WholeStack 0 (Given (record at.now.state.now { stack = [] }))) hints) }
 {
-    demand(at.state.whole, DemandKind::WholeStack, 0)?;
-    let mut after = at.state.branch()?;
-    after.stack = Seq::new(at.state.alloc);
-    Ok(after)
+    demand(at.state.is_whole(), DemandKind::WholeStack, 0)?;
+    Ok(at.state.emptied()?)
 }

@@ -20,7 +20,6 @@ use crate::steps::{both_steps, step};
 use bv_base::memory::NoMemory;
 use lin_facts::row::{Part, Row, Term};
 use sym_state::demand::{DemandKind, EffectFault};
-use sym_state::facts::{exact_integer, exact_text};
 use sym_state::hint::Hints;
 use sym_state::operands::{one, two};
 use sym_state::references::{at_least, at_most, exceeds};
@@ -34,9 +33,8 @@ pub fn plus(at: &At<'_>, hints: &mut Hints<'_>) -> Result<State, EffectFault>
     ensures { Gives result hints.new (outcome_at at.now (rule.sum at.now.state.now (pos 1) (λ a b. a +ℤ b)) hints.old) }
 {
     let (a, b) = two(at.state, Kinds::Int, Kinds::Int)?;
-    let facts = at.state.facts.as_slice();
     let upper = Term::Value(b.0);
-    match (exact_integer(facts, a), exact_integer(facts, b)) {
+    match (at.state.exact_integer(a), at.state.exact_integer(b)) {
         (Some(m), Some(n)) => match m.checked_add(n) {
             Some(sum) => Ok(known(at, 2, sum)?),
             None => Err(EffectFault::unmet(DemandKind::IntRange, 0)),
@@ -51,9 +49,8 @@ pub fn minus(at: &At<'_>, hints: &mut Hints<'_>) -> Result<State, EffectFault>
     ensures { Gives result hints.new (outcome_at at.now (rule.sum at.now.state.now (negsuc 0) (λ a b. a -ℤ b)) hints.old) }
 {
     let (a, b) = two(at.state, Kinds::Int, Kinds::Int)?;
-    let facts = at.state.facts.as_slice();
     let upper = Term::Value(b.0);
-    match (exact_integer(facts, a), exact_integer(facts, b)) {
+    match (at.state.exact_integer(a), at.state.exact_integer(b)) {
         (Some(m), Some(n)) => match m.checked_sub(n) {
             Some(difference) => Ok(known(at, 2, difference)?),
             None => Err(EffectFault::unmet(DemandKind::IntRange, 0)),
@@ -68,7 +65,7 @@ fn known(at: &At<'_>, taken: usize, n: i32) -> Result<State, NoMemory>
     ensures { IfOk result (λ after. after
         ≡ results.with_result IntKind (IntFact (next_of at.now.state.now) n ∷ []) [] (without taken at.now.state.now)) }
 {
-    let said = Said::fact(Fact::Int(Sym(at.state.next), n));
+    let said = Said::fact(Fact::Int(Sym(at.state.next()), n));
     with_result(at.state, taken, Kinds::Int, said)
 }
 
@@ -89,7 +86,7 @@ fn unknown_sum(
     ensures { (b : Sym) → second.term ≡ Value b.0
         → Gives result hints.new (outcome_at at.now (rule.summed second.coefficient a b (without 2 at.now.state.now) None) hints.old) }
 {
-    let alloc = at.state.alloc;
+    let alloc = at.state.alloc();
     let x = Term::Value(a.0);
     let low = sum_of_two(alloc, 2147483648, part(1, x), second)?;
     let high = sum_of_two(alloc, 2147483647, part(-1, x), opposite)?;
@@ -108,8 +105,8 @@ fn new_sum(at: &At<'_>, a: Sym, second: Part, opposite: Part) -> Result<State, N
         ∷ (results.sum_of_three (pos 0) (negsuc 0) (Value at.now.state.now.next) (pos 1) (Value a.0) second.coefficient second.term ∷ [])
         ) (without 2 at.now.state.now)) }
 {
-    let alloc = at.state.alloc;
-    let (x, r) = (Term::Value(a.0), Term::Value(at.state.next));
+    let alloc = at.state.alloc();
+    let (x, r) = (Term::Value(a.0), Term::Value(at.state.next()));
     let said = Said::rows(
         sum_of_three(alloc, 0, part(1, r), part(-1, x), opposite)?,
         sum_of_three(alloc, 0, part(-1, r), part(1, x), second)?,
@@ -123,7 +120,7 @@ pub fn chr_to_int(at: &At<'_>, hints: &mut Hints<'_>) -> Result<State, EffectFau
     ensures { Gives result hints.new (outcome_at at.now (rule.chr_to_int at.now.state.now) hints.old) }
 {
     let a = one(at.state, Kinds::Str)?;
-    match one_byte(exact_text(at.state.facts.as_slice(), a)) {
+    match one_byte(at.state.exact_text(a)) {
         Some(b) => Ok(known(at, 1, b as i32)?),
         None => unknown_byte(at, a, hints),
     }
@@ -144,13 +141,13 @@ fn unknown_byte(at: &At<'_>, a: Sym, hints: &mut Hints<'_>) -> Result<State, Eff
     requires { IsReady at.now.state.now hints.old }
     ensures { Gives result hints.new (outcome_at at.now (rule.byte_number a (without 1 at.now.state.now) None) hints.old) }
 {
-    let alloc = at.state.alloc;
+    let alloc = at.state.alloc();
     let length = Term::Length(a.0);
     let low = at_least(alloc, length, 1)?;
     let high = at_most(alloc, length, 1)?;
     let fault = EffectFault::unmet(DemandKind::NotOneByte, 1);
     both_steps(at, &low, &high, fault, hints)?;
-    let r = Term::Value(at.state.next);
+    let r = Term::Value(at.state.next());
     let said = Said::rows(at_least(alloc, r, 0)?, at_most(alloc, r, 255)?);
     Ok(with_result(at.state, 1, Kinds::Int, said)?)
 }
@@ -161,13 +158,13 @@ pub fn int_to_chr(at: &At<'_>, hints: &mut Hints<'_>) -> Result<State, EffectFau
     ensures { Gives result hints.new (outcome_at at.now rule.int_to_chr hints.old) }
 {
     let a = one(at.state, Kinds::Int)?;
-    let alloc = at.state.alloc;
+    let alloc = at.state.alloc();
     let value = Term::Value(a.0);
     let low = at_least(alloc, value, 0)?;
     let high = at_most(alloc, value, 127)?;
     let fault = EffectFault::unmet(DemandKind::NotAscii, 1);
     both_steps(at, &low, &high, fault, hints)?;
-    let r = Term::Length(at.state.next);
+    let r = Term::Length(at.state.next());
     let said = Said::rows(at_least(alloc, r, 1)?, at_most(alloc, r, 1)?);
     Ok(with_result(at.state, 1, Kinds::Str, said)?)
 }
@@ -178,10 +175,10 @@ pub fn int_to_str(at: &At<'_>) -> Result<State, EffectFault>
     ensures { (hints : List Hint) → Gives result hints (outcome_at at.now rule.int_to_str hints) }
 {
     one(at.state, Kinds::Int)?;
-    let alloc = at.state.alloc;
-    let r = Term::Length(at.state.next);
+    let alloc = at.state.alloc();
+    let r = Term::Length(at.state.next());
     let said = Said {
-        fact: Some(Fact::Nonblank(Sym(at.state.next))),
+        fact: Some(Fact::Nonblank(Sym(at.state.next()))),
         first: Some(at_least(alloc, r, 1)?),
         second: Some(at_most(alloc, r, 11)?),
     };
@@ -195,8 +192,8 @@ pub fn num_names(at: &At<'_>, hints: &mut Hints<'_>) -> Result<State, EffectFaul
 {
     let a = one(at.state, Kinds::Str)?;
     let names = Term::Names(a.0);
-    let alloc = at.state.alloc;
-    let r = Term::Value(at.state.next);
+    let alloc = at.state.alloc();
+    let r = Term::Value(at.state.next());
     let high = at_most(alloc, names, 2147483647)?;
     let said = Said::rows(exceeds(alloc, r, names, 0)?, exceeds(alloc, names, r, 0)?);
     counted(at, &high, said, hints)
@@ -209,8 +206,8 @@ pub fn text_length(at: &At<'_>, hints: &mut Hints<'_>) -> Result<State, EffectFa
 {
     let a = one(at.state, Kinds::Str)?;
     let length = Term::Length(a.0);
-    let alloc = at.state.alloc;
-    let r = Term::Value(at.state.next);
+    let alloc = at.state.alloc();
+    let r = Term::Value(at.state.next());
     let high = at_most(alloc, length, 2147483647)?;
     let said = Said::rows(at_least(alloc, r, 0)?, exceeds(alloc, length, r, 0)?);
     counted(at, &high, said, hints)
@@ -223,8 +220,8 @@ pub fn width(at: &At<'_>, hints: &mut Hints<'_>) -> Result<State, EffectFault>
 {
     let a = one(at.state, Kinds::Str)?;
     let length = Term::Length(a.0);
-    let alloc = at.state.alloc;
-    let r = Term::Value(at.state.next);
+    let alloc = at.state.alloc();
+    let r = Term::Value(at.state.next());
     let high = sum_of_two(alloc, 2147483647, part(-1028, length), part(0, length))?;
     let most = sum_of_two(alloc, 0, part(1028, length), part(-1, r))?;
     counted(at, &high, Said::rows(at_least(alloc, r, 0)?, most), hints)

@@ -60,7 +60,7 @@ pub fn with_result(state: &State, taken: usize, kind: Kinds, said: Said) -> Resu
     ensures { IfOk result (λ after. after ≡ rule.with_result kind (facts_of said) (rows_of said) (without taken state.now)) }
 {
     let mut after = with_symbol(state, taken, kind, said)?;
-    after.push(Sym(state.next))?;
+    after.push(Sym(state.next()))?;
     Ok(after)
 }
 
@@ -82,7 +82,7 @@ fn add_fact(state: &mut State, fact: Option<Fact>) -> Result<(), NoMemory>
     ensures { OnOk result (state.new ≡ record state.old { facts = state.old.facts ++ option_to_list fact }) }
 {
     if let Some(fact) = fact {
-        state.facts.push(fact)?;
+        state.add_fact(fact)?;
     }
     Ok(())
 }
@@ -92,7 +92,7 @@ fn add_row(state: &mut State, row: Option<Row>) -> Result<(), NoMemory>
     ensures { OnOk result (state.new ≡ record state.old { rows = state.old.rows ++ option_to_list row }) }
 {
     if let Some(row) = row {
-        state.rows.push(row)?;
+        state.add_row(row)?;
     }
     Ok(())
 }

@@ -67,7 +67,7 @@ fn step_by(at: &At<'_>, row: &Row, fault: EffectFault, hint: &Hint) -> Result<()
 {
     match hint {
         Hint::Step(proof) => {
-            if shows(at.state.alloc, at.state, at.cond, proof, row)? {
+            if shows(at.state.alloc(), at.state, at.cond, proof, row)? {
                 Ok(())
             } else {
                 Err(fault)
@@ -128,7 +128,7 @@ fn choice_by(at: &At<'_>, wanted: bool, row: &Row, hint: &Hint) -> Result<bool, 
             if !wanted {
                 return Err(EffectFault::WrongHint);
             }
-            if shows(at.state.alloc, at.state, at.cond, proof, row)? {
+            if shows(at.state.alloc(), at.state, at.cond, proof, row)? {
                 Ok(true)
             } else {
                 Err(EffectFault::NotEntailed(0))

@@ -17,7 +17,6 @@ use bv_base::memory::NoMemory;
 use lin_facts::row::{Row, Term};
 use std::alloc::Global;
 use sym_state::demand::EffectFault;
-use sym_state::facts::exact_integer;
 use sym_state::hint::Hints;
 use sym_state::operands::three;
 use sym_state::references::{at_least, at_most, exceeds};
@@ -30,8 +29,7 @@ pub fn substring(at: &At<'_>, hints: &mut Hints<'_>) -> Result<State, EffectFaul
     ensures { Gives result hints.new (outcome_at at.now (rule.substring at.now.state.now) hints.old) }
 {
     let (a, b, c) = three(at.state, Kinds::Str, Kinds::Int, Kinds::Int)?;
-    let facts = at.state.facts.as_slice();
-    let (start, len) = (exact_integer(facts, b), exact_integer(facts, c));
+    let (start, len) = (at.state.exact_integer(b), at.state.exact_integer(c));
     substring_of(at, a, start, len, hints)
 }
 
@@ -46,7 +44,7 @@ fn substring_of(
     requires { IsReady at.now.state.now hints.old }
     ensures { Gives result hints.new (outcome_at at.now (rule.substring_of a start len (without 3 at.now.state.now)) hints.old) }
 {
-    let row = enough(at.state.alloc, a, start, len)?;
+    let row = enough(at.state.alloc(), a, start, len)?;
     let wanted = is_wanted(start, len);
     if choice(at, wanted, &row, hints)? {
         long_enough(at, len)
@@ -76,9 +74,9 @@ fn long_enough(at: &At<'_>, len: Option<i32>) -> Result<State, EffectFault>
     requires { at.now.state.now.next < 4294967295 }
     ensures { (hints : List Hint) → Gives result hints (outcome_at at.now (rule.of_length (rule.known_size len) (without 3 at.now.state.now)) hints) }
 {
-    let r = Term::Length(at.state.next);
+    let r = Term::Length(at.state.next());
     let size = known_size(len);
-    let alloc = at.state.alloc;
+    let alloc = at.state.alloc();
     let said = Said::rows(
         at_least(alloc, r, size as i64)?,
         at_most(alloc, r, size as i64)?,
@@ -91,8 +89,8 @@ fn no_longer(at: &At<'_>, a: Sym, len: Option<i32>) -> Result<State, EffectFault
     requires { at.now.state.now.next < 4294967295 }
     ensures { (hints : List Hint) → Gives result hints (outcome_at at.now (rule.shorter a len (without 3 at.now.state.now)) hints) }
 {
-    let alloc = at.state.alloc;
-    let r = Sym(at.state.next);
+    let alloc = at.state.alloc();
+    let r = Sym(at.state.next());
     let said = Said {
         fact: None,
         first: Some(exceeds(alloc, Term::Length(a.0), Term::Length(r.0), 0)?),

@@ -24,7 +24,7 @@ pub fn cite(at: &At<'_>) -> Result<State, EffectFault>
     requires { at.now.state.now.next < 4294967295 }
     ensures { (hints : List Hint) → Gives result hints (outcome_at at.now (rule.at_entry at.now.state.now (rule.limited at.now.cond.now.key at.now.state.now)) hints) }
 {
-    demand(at.state.at_entry, DemandKind::NoEntry, 0)?;
+    demand(at.state.is_at_entry(), DemandKind::NoEntry, 0)?;
     limited(at, at.cond.key)
 }
 
@@ -41,7 +41,7 @@ fn limited(at: &At<'_>, limit: u32) -> Result<State, EffectFault>
     requires { at.now.state.now.next < 4294967295 }
     ensures { (hints : List Hint) → Gives result hints (outcome_at at.now (rule.limited limit at.now.state.now) hints) }
 {
-    let row = at_most(at.state.alloc, Term::Length(at.state.next), limit as i64)?;
+    let row = at_most(at.state.alloc(), Term::Length(at.state.next()), limit as i64)?;
     Ok(with_result(at.state, 0, Kinds::Str, Said::row(Some(row)))?)
 }
 
@@ -50,7 +50,7 @@ pub fn type_name(at: &At<'_>) -> Result<State, EffectFault>
     requires { at.now.state.now.next < 4294967295 }
     ensures { (hints : List Hint) → Gives result hints (outcome_at at.now (rule.at_entry at.now.state.now (Given (with_result Str [] [] at.now.state.now))) hints) }
 {
-    demand(at.state.at_entry, DemandKind::NoEntry, 0)?;
+    demand(at.state.is_at_entry(), DemandKind::NoEntry, 0)?;
     Ok(with_result(at.state, 0, Kinds::Str, Said::row(None))?)
 }
 
@@ -59,7 +59,7 @@ pub fn quote(at: &At<'_>) -> Result<State, EffectFault>
     requires { at.now.state.now.next < 4294967295 }
     ensures { (hints : List Hint) → Gives result hints (outcome_at at.now (Given (with_result Str (TextFact (next_of at.now.state.now) (codes "\"") ∷ []) [] at.now.state.now)) hints) }
 {
-    let text = Text::from_slice(at.state.alloc, b"\"")?;
-    let said = Said::fact(Fact::Text(Sym(at.state.next), text));
+    let text = Text::from_slice(at.state.alloc(), b"\"")?;
+    let said = Said::fact(Fact::Text(Sym(at.state.next()), text));
     Ok(with_result(at.state, 0, Kinds::Str, said)?)
 }

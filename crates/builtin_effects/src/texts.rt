@@ -18,7 +18,6 @@ use crate::steps::both_steps;
 use lin_facts::row::Term;
 use name_split::pattern::pattern_ok;
 use sym_state::demand::{DemandKind, EffectFault};
-use sym_state::facts::{exact_text, is_known, is_known_nonblank};
 use sym_state::hint::Hints;
 use sym_state::operands::{demand, one, three, two};
 use sym_state::references::{at_least, exceeds};
@@ -32,13 +31,12 @@ pub fn join(at: &At<'_>) -> Result<State, EffectFault>
     ensures { (hints : List Hint) → Gives result hints (outcome_at at.now (rule.join at.now.state.now) hints) }
 {
     let (a, b) = two(at.state, Kinds::Str, Kinds::Str)?;
-    let alloc = at.state.alloc;
-    let facts = at.state.facts.as_slice();
-    let nonblank = is_known_nonblank(facts, a) || is_known_nonblank(facts, b);
+    let alloc = at.state.alloc();
+    let nonblank = at.state.is_known_nonblank(a) || at.state.is_known_nonblank(b);
     let (x, y) = (Term::Length(a.0), Term::Length(b.0));
-    let r = Term::Length(at.state.next);
+    let r = Term::Length(at.state.next());
     let said = Said {
-        fact: nonblank_where(nonblank, Sym(at.state.next)),
+        fact: nonblank_where(nonblank, Sym(at.state.next())),
         first: Some(sum_of_three(alloc, 0, part(1, r), part(-1, x), part(-1, y))?),
         second: Some(sum_of_three(alloc, 0, part(-1, r), part(1, x), part(1, y))?),
     };
@@ -51,12 +49,12 @@ pub fn add_period(at: &At<'_>) -> Result<State, EffectFault>
     ensures { (hints : List Hint) → Gives result hints (outcome_at at.now (rule.add_period at.now.state.now) hints) }
 {
     let a = one(at.state, Kinds::Str)?;
-    let alloc = at.state.alloc;
-    let nonblank = is_known_nonblank(at.state.facts.as_slice(), a);
+    let alloc = at.state.alloc();
+    let nonblank = at.state.is_known_nonblank(a);
     let length = Term::Length(a.0);
-    let r = Term::Length(at.state.next);
+    let r = Term::Length(at.state.next());
     let said = Said {
-        fact: nonblank_where(nonblank, Sym(at.state.next)),
+        fact: nonblank_where(nonblank, Sym(at.state.next())),
         first: Some(exceeds(alloc, r, length, 0)?),
         second: Some(exceeds(alloc, length, r, -1)?),
     };
@@ -85,7 +83,7 @@ pub fn change_case(at: &At<'_>) -> Result<State, EffectFault>
     ensures { (hints : List Hint) → Gives result hints (outcome_at at.now (rule.change_case at.now.state.now) hints) }
 {
     let (a, c) = two(at.state, Kinds::Str, Kinds::Str)?;
-    let known = is_mode(exact_text(at.state.facts.as_slice(), c));
+    let known = is_mode(at.state.exact_text(c));
     demand(known, DemandKind::BadCase, 1)?;
     no_longer(at, 2, a)
 }
@@ -106,9 +104,9 @@ fn no_longer(at: &At<'_>, taken: usize, a: Sym) -> Result<State, EffectFault>
     ensures { (hints : List Hint) → Gives result hints (outcome_at at.now (rule.no_longer a (without taken at.now.state.now)) hints) }
 {
     let row = exceeds(
-        at.state.alloc,
+        at.state.alloc(),
         Term::Length(a.0),
-        Term::Length(at.state.next),
+        Term::Length(at.state.next()),
         0,
     )?;
     Ok(with_result(at.state, taken, Kinds::Str, Said::row(Some(row)))?)
@@ -145,7 +143,7 @@ fn numbered(
         (BothSteps (references.at_least (Value i.0) (pos 1)) (references.exceeds (Names s.0) (Value i.0) (pos 0)) (fails BadNameIndex 2)
         (rule.named at.now.state.now s p (without 3 at.now.state.now))) hints.old) }
 {
-    let alloc = at.state.alloc;
+    let alloc = at.state.alloc();
     let number = Term::Value(i.0);
     let low = at_least(alloc, number, 1)?;
     let high = exceeds(alloc, Term::Names(s.0), number, 0)?;
@@ -159,10 +157,9 @@ fn written(at: &At<'_>, s: Sym, p: Sym) -> Result<State, EffectFault>
     requires { at.now.state.now.next < 4294967295 }
     ensures { (hints : List Hint) → Gives result hints (outcome_at at.now (rule.named at.now.state.now s p (without 3 at.now.state.now)) hints) }
 {
-    let facts = at.state.facts.as_slice();
-    let formed = is_known(facts, s, &Fact::Wellformed(s));
+    let formed = at.state.is_known(s, &Fact::Wellformed(s));
     demand(formed, DemandKind::BadName, 3)?;
-    demand(is_pattern(exact_text(facts, p)), DemandKind::BadPattern, 1)?;
+    demand(is_pattern(at.state.exact_text(p)), DemandKind::BadPattern, 1)?;
     Ok(with_result(at.state, 3, Kinds::Str, Said::row(None))?)
 }
 

@@ -19,7 +19,7 @@ use Rattle.bst_meaning.specs.Operands.{truth}
 use Rattle.sym_state.specs.declared.hint.Hint.{Hint}
 use Rattle.sym_state.specs.declared.hint.Hint.TheVariants.{Keep, Drop}
 use Rattle.sym_state.specs.declared.proof.Proof.{Proof}
-use Rattle.sym_state.specs.declared.state.State.{State}
+use Rattle.sym_state.specs.State.{State}
 use Rattle.sym_state.specs.declared.symbol.Fact.{Fact}
 use Rattle.sym_state.specs.declared.symbol.Fact.TheVariants.{Int as IntFact}
 use Rattle.sym_state.specs.declared.symbol.Kinds.TheVariants.{Int}

@@ -9,7 +9,7 @@ use Rattle.bst_meaning.specs.declared.entry.EntryList.{EntryList}
 use Rattle.bst_meaning.specs.declared.value.Value.{Value}
 use Rattle.bst_meaning.specs.Config.{Config}
 use Rattle.bst_meaning.specs.Operands.{has_32_bits}
-use Rattle.sym_state.specs.declared.state.State.{State}
+use Rattle.sym_state.specs.State.{State}
 use Rattle.sym_state.specs.declared.symbol.Fact.{Fact}
 use Rattle.sym_state.specs.declared.symbol.Fact.TheVariants.{Int as IntFact}
 use Rattle.sym_state.specs.declared.symbol.Kinds.TheVariants.{Int}

@@ -6,7 +6,7 @@ use Rattle.bst_meaning.specs.declared.condition.Cond.{Cond}
 use Rattle.sym_state.specs.declared.demand.DemandKind.TheVariants.{WrongKind}
 use Rattle.sym_state.specs.declared.hint.Hint.{Hint}
 use Rattle.sym_state.specs.declared.hint.Hint.TheVariants.{Apply, Case, Drop, Keep, Loop, Plain, Step, Walk}
-use Rattle.sym_state.specs.declared.state.State.{State}
+use Rattle.sym_state.specs.State.{State}
 use Rattle.sym_state.specs.declared.symbol.Fact.{Fact}
 use Rattle.sym_state.specs.declared.symbol.Kinds.{Kinds}
 use Rattle.sym_state.specs.declared.symbol.Kinds.TheVariants.{Any, Func, Int, Missing, Optional, Str}

@@ -12,7 +12,7 @@ use Rattle.bst_meaning.specs.declared.value.Value.TheVariants.{Int as IntValue}
 use Rattle.bst_meaning.specs.Config.{Config}
 use Rattle.bst_meaning.specs.Operands.{is_positive}
 use Rattle.sym_state.specs.declared.hint.Hint.{Hint}
-use Rattle.sym_state.specs.declared.state.State.{State}
+use Rattle.sym_state.specs.State.{State}
 use Rattle.sym_state.specs.declared.symbol.Sym.{Sym}
 use Rattle.sym_state.specs.Cases.{Cases, above_cases, not_positive_rows, positive_rows, weighed_both, with_case}
 use Rattle.sym_state.specs.Decided.{exact_integer}

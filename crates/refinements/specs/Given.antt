@@ -5,7 +5,7 @@ use Rattle.bv_base.specs.Answers.{Refuses}
 use Rattle.sym_state.specs.declared.demand.EffectFault.{EffectFault}
 use Rattle.sym_state.specs.declared.demand.EffectFault.TheVariants.{NoMemory}
 use Rattle.sym_state.specs.declared.hint.Hint.{Hint}
-use Rattle.sym_state.specs.declared.state.State.{State}
+use Rattle.sym_state.specs.State.{State}
 use Rattle.sym_state.specs.Cases.{Split, given}
 
 -- the states that are given, with the hints that are left, are what a definition says; want of memory is free

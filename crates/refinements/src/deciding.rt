@@ -3,43 +3,43 @@
 ghost use Rattle.std.specs.Prelude.{◌≡◌};
 ghost use Rattle.sym_state.specs.Cases as rule;
 
-use sym_state::facts::{exact_integer, exact_text};
-use sym_state::symbol::{Fact, Sym};
+use sym_state::state::State;
+use sym_state::symbol::Sym;
 
 /// `=` of two integers.
-pub fn equal_decided(facts: &[Fact], a: Sym, b: Sym) -> Option<bool>
-    ensures { result ≡ rule.equal_decided facts.now a b }
+pub fn equal_decided(state: &State, a: Sym, b: Sym) -> Option<bool>
+    ensures { result ≡ rule.equal_decided state.now.facts a b }
 {
     if a.0 == b.0 {
         return Some(true);
     }
-    match (exact_integer(facts, a), exact_integer(facts, b)) {
+    match (state.exact_integer(a), state.exact_integer(b)) {
         (Some(x), Some(y)) => Some(x == y),
         _ => None,
     }
 }
 
 /// Whether the first of two integers is less.
-pub fn less_decided(facts: &[Fact], a: Sym, b: Sym) -> Option<bool>
-    ensures { result ≡ rule.less_decided facts.now a b }
+pub fn less_decided(state: &State, a: Sym, b: Sym) -> Option<bool>
+    ensures { result ≡ rule.less_decided state.now.facts a b }
 {
     if a.0 == b.0 {
         return Some(false);
     }
-    match (exact_integer(facts, a), exact_integer(facts, b)) {
+    match (state.exact_integer(a), state.exact_integer(b)) {
         (Some(x), Some(y)) => Some(x < y),
         _ => None,
     }
 }
 
 /// `=` of two strings.
-pub fn texts_decided(facts: &[Fact], a: Sym, b: Sym) -> Option<bool>
-    ensures { result ≡ rule.texts_decided facts.now a b }
+pub fn texts_decided(state: &State, a: Sym, b: Sym) -> Option<bool>
+    ensures { result ≡ rule.texts_decided state.now.facts a b }
 {
     if a.0 == b.0 {
         return Some(true);
     }
-    match (exact_text(facts, a), exact_text(facts, b)) {
+    match (state.exact_text(a), state.exact_text(b)) {
         (Some(x), Some(y)) => Some(x == y),
         _ => None,
     }

@@ -8,7 +8,7 @@ ghost use Rattle.sym_state.specs.WellMade.{HasBounds, IsBounded};
 ghost use Rattle.sym_state.specs.Demands.{IsReady, without};
 ghost use Rattle.refinements.specs.Given.{Gives};
 
-use crate::cases::{decided, with_case, with_truth};
+use crate::cases::{decided, with_truth};
 use crate::deciding::{equal_decided, less_decided};
 use crate::strings::equal_texts;
 use crate::weighing::{one, weighed_both};
@@ -17,7 +17,6 @@ use bv_base::memory::NoMemory;
 use lin_facts::row::{Row, Term};
 use std::alloc::Global;
 use sym_state::demand::{DemandKind, EffectFault};
-use sym_state::facts::{exact_integer, is_of_kind, known_kind};
 use sym_state::hint::Hints;
 use sym_state::operands::two;
 use sym_state::references::{at_least, at_most, exceeds};
@@ -54,7 +53,7 @@ fn ordered(
     ensures { Gives result hints.new (rule.less_cases cond.now state.now.facts a b (without 2 state.now) hints.old) }
 {
     let rest = state.without(2)?;
-    match less_decided(state.facts.as_slice(), a, b) {
+    match less_decided(state, a, b) {
         Some(answer) => Ok(decided(answer, rest)?),
         None => less_or_not(cond, a, b, rest, hints),
     }
@@ -71,7 +70,7 @@ fn less_or_not(
     requires { IsReady rest hints.old }
     ensures { Gives result hints.new (rule.integer_cases cond.now None (rule.less_rows a b) (rule.at_least_rows a b) rest hints.old) }
 {
-    let alloc = rest.alloc;
+    let alloc = rest.alloc();
     let holds = one_row(
         exceeds(alloc, Term::Value(b.0), Term::Value(a.0), 1)?,
         alloc,
@@ -109,8 +108,8 @@ fn truth_case(answer: bool, rows: Vec<Row>, rest: State) -> Result<State, NoMemo
     ensures after { IfOk result (λ after. after ≡ rule.with_truth answer (rule.with_case [] rows.items rest)) }
     ensures bounds { IfOk result HasBounds }
 {
-    let alloc = rest.alloc;
-    let shown = with_case(rest, Vec::new(alloc), rows)?;
+    let alloc = rest.alloc();
+    let shown = rest.with_case(Vec::new(alloc), rows)?;
     with_truth(answer, shown)
 }
 
@@ -130,15 +129,15 @@ pub fn equal(state: &State, cond: &Cond, hints: &mut Hints<'_>) -> Result<Vec<St
 {
     let (a, b) = two(state, Kinds::Any, Kinds::Any)?;
     let rest = state.without(2)?;
-    match known_kind(state.facts.as_slice(), b) {
+    match state.known_kind(b) {
         Kinds::Int => {
-            if !is_of_kind(state.facts.as_slice(), Kinds::Int, a) {
+            if !state.is_of_kind(Kinds::Int, a) {
                 return Err(EffectFault::unmet(DemandKind::WrongKind, 2));
             }
             equal_integers(state, cond, a, b, rest, hints)
         }
         Kinds::Str => {
-            if !is_of_kind(state.facts.as_slice(), Kinds::Str, a) {
+            if !state.is_of_kind(Kinds::Str, a) {
                 return Err(EffectFault::unmet(DemandKind::WrongKind, 2));
             }
             Ok(equal_texts(state, a, b, rest)?)
@@ -159,10 +158,10 @@ fn equal_integers(
     requires { IsReady rest hints.old }
     ensures { Gives result hints.new (rule.integer_cases cond.now (rule.equal_decided state.now.facts a b) (rule.equal_rows a b) [] rest hints.old) }
 {
-    match equal_decided(state.facts.as_slice(), a, b) {
+    match equal_decided(state, a, b) {
         Some(answer) => Ok(decided(answer, rest)?),
         None => {
-            let alloc = rest.alloc;
+            let alloc = rest.alloc();
             truths(cond, equal_rows(alloc, a, b)?, Vec::new(alloc), rest, hints)
         }
     }
@@ -189,7 +188,7 @@ pub fn above(
     requires { IsReady state.now hints.old }
     ensures { Gives result hints.new (rule.above_cases cond.now state.now sym (decided.exact_integer state.now.facts sym.0) hints.old) }
 {
-    match exact_integer(state.facts.as_slice(), sym) {
+    match state.exact_integer(sym) {
         Some(_) => Ok(one(state.branch()?)?),
         None => signs(state, cond, sym, hints),
     }
@@ -205,7 +204,7 @@ fn signs(
     requires { IsReady state.now hints.old }
     ensures { Gives result hints.new (rule.above_cases cond.now state.now sym None hints.old) }
 {
-    let alloc = state.alloc;
+    let alloc = state.alloc();
     let first = sign_case(state, at_least(alloc, Term::Value(sym.0), 1)?)?;
     let second = sign_case(state, at_most(alloc, Term::Value(sym.0), 0)?)?;
     weighed_both(cond, first, second, hints)
@@ -218,7 +217,7 @@ fn sign_case(state: &State, row: Row) -> Result<State, NoMemory>
     ensures after { IfOk result (λ after. after ≡ rule.with_case [] (row ∷ []) state.now) }
     ensures bounds { IfOk result HasBounds }
 {
-    let alloc = state.alloc;
+    let alloc = state.alloc();
     let rows = one_row(row, alloc)?;
-    with_case(state.branch()?, Vec::new(alloc), rows)
+    state.branch()?.with_case(Vec::new(alloc), rows)
 }

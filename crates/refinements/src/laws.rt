@@ -11,7 +11,7 @@ ghost use Rattle.bst_meaning.specs.declared.value.Value.TheVariants.{Int};
 ghost use Rattle.bst_meaning.specs.Config.{Config};
 ghost use Rattle.bst_meaning.specs.Operands.{is_positive};
 ghost use Rattle.sym_state.specs.declared.hint.Hint.{Hint};
-ghost use Rattle.sym_state.specs.declared.state.State.{State};
+ghost use Rattle.sym_state.specs.State.{State};
 ghost use Rattle.sym_state.specs.declared.symbol.Sym.{Sym};
 ghost use Rattle.sym_state.specs.declared.test.Test.{Test};
 ghost use Rattle.sym_state.specs.declared.test.Test.TheVariants.{Above};

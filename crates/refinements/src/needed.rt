@@ -7,7 +7,6 @@ ghost use Rattle.sym_state.specs.Demands.{two_of};
 ghost use Rattle.sym_state.specs.declared.symbol.Kinds.TheVariants.{Int};
 
 use crate::deciding::{equal_decided, less_decided};
-use sym_state::facts::exact_integer;
 use sym_state::operands::two;
 use sym_state::state::State;
 use sym_state::symbol::{Kinds, Sym};
@@ -17,7 +16,7 @@ pub fn equal_needs(state: &State) -> u32
     ensures { result ≡ rule.hints_on (rule.equal_decided state.now.facts) (two_of Int Int state.now) }
 {
     match two(state, Kinds::Int, Kinds::Int) {
-        Ok((a, b)) => hints_of(equal_decided(state.facts.as_slice(), a, b)),
+        Ok((a, b)) => hints_of(equal_decided(state, a, b)),
         Err(_) => 0,
     }
 }
@@ -27,7 +26,7 @@ pub fn less_needs(state: &State) -> u32
     ensures { result ≡ rule.hints_on (rule.less_decided state.now.facts) (two_of Int Int state.now) }
 {
     match two(state, Kinds::Int, Kinds::Int) {
-        Ok((a, b)) => hints_of(less_decided(state.facts.as_slice(), a, b)),
+        Ok((a, b)) => hints_of(less_decided(state, a, b)),
         Err(_) => 0,
     }
 }
@@ -37,7 +36,7 @@ pub fn greater_needs(state: &State) -> u32
     ensures { result ≡ rule.hints_on (λ a b. rule.less_decided state.now.facts b a) (two_of Int Int state.now) }
 {
     match two(state, Kinds::Int, Kinds::Int) {
-        Ok((a, b)) => hints_of(less_decided(state.facts.as_slice(), b, a)),
+        Ok((a, b)) => hints_of(less_decided(state, b, a)),
         Err(_) => 0,
     }
 }
@@ -46,7 +45,7 @@ pub fn greater_needs(state: &State) -> u32
 pub fn above_needs(state: &State, sym: Sym) -> u32
     ensures { result ≡ rule.hints_of (decided.exact_integer state.now.facts sym.0) }
 {
-    match exact_integer(state.facts.as_slice(), sym) {
+    match state.exact_integer(sym) {
         Some(_) => 0,
         None => 2,
     }

@@ -11,9 +11,7 @@ use crate::cases::{both, decided};
 use crate::deciding::texts_decided;
 use bv_base::memory::NoMemory;
 use bv_base::text::Text;
-use std::alloc::Global;
 use sym_state::demand::EffectFault;
-use sym_state::facts::{exact_text, known_emptiness, known_kind};
 use sym_state::hint::Hints;
 use sym_state::operands::one;
 use sym_state::state::State;
@@ -26,7 +24,7 @@ pub fn empty(state: &State, hints: &Hints<'_>) -> Result<Vec<State>, EffectFault
 {
     let operand = field_of(state)?;
     let rest = state.without(1)?;
-    let known = known_emptiness(state.facts.as_slice(), operand);
+    let known = state.known_emptiness(operand);
     Ok(empty_cases(known, operand, rest)?)
 }
 
@@ -47,7 +45,7 @@ fn empty_cases(known: Option<bool>, operand: Sym, rest: State) -> Result<Vec<Sta
     match known {
         Some(answer) => decided(answer, rest),
         None => {
-            let alloc = rest.alloc;
+            let alloc = rest.alloc();
             let holds = vec![in alloc; Fact::Blank(operand)]?;
             let fails = vec![in alloc; Fact::Is(operand, Kinds::Str), Fact::Nonblank(operand)]?;
             both(holds, fails, rest)
@@ -62,7 +60,7 @@ pub fn missing(state: &State, hints: &Hints<'_>) -> Result<Vec<State>, EffectFau
 {
     let operand = field_of(state)?;
     let rest = state.without(1)?;
-    let known = known_kind(state.facts.as_slice(), operand);
+    let known = state.known_kind(operand);
     Ok(missing_cases(known, operand, rest)?)
 }
 
@@ -75,7 +73,7 @@ fn missing_cases(known: Kinds, operand: Sym, rest: State) -> Result<Vec<State>, 
         Kinds::Missing => decided(true, rest),
         Kinds::Str => decided(false, rest),
         _ => {
-            let alloc = rest.alloc;
+            let alloc = rest.alloc();
             let holds = vec![in alloc; Fact::Is(operand, Kinds::Missing)]?;
             let fails = vec![in alloc; Fact::Is(operand, Kinds::Str)]?;
             both(holds, fails, rest)
@@ -89,13 +87,12 @@ pub fn equal_texts(state: &State, a: Sym, b: Sym, rest: State) -> Result<Vec<Sta
     ensures { IfOk result (λ states. rule.text_cases (rule.texts_decided state.now.facts a b) (rule.passed_both state.now.facts a b) rest []
         ≡ Ok (record { states = states.items; hints = [] })) }
 {
-    let facts = state.facts.as_slice();
-    match texts_decided(facts, a, b) {
+    match texts_decided(state, a, b) {
         Some(answer) => decided(answer, rest),
         None => {
-            let alloc = rest.alloc;
-            let mut holds = passed(alloc, facts, a, b)?;
-            let mut others = passed(alloc, facts, b, a)?;
+            let alloc = rest.alloc();
+            let mut holds = passed(state, a, b)?;
+            let mut others = passed(state, b, a)?;
             holds.append(&mut others)?;
             both(holds, Vec::new(alloc), rest)
         }
@@ -103,11 +100,12 @@ pub fn equal_texts(state: &State, a: Sym, b: Sym, rest: State) -> Result<Vec<Sta
 }
 
 /// The exact text of a symbol as that of another, where it has one.
-fn passed(alloc: Global, facts: &[Fact], from: Sym, to: Sym) -> Result<Vec<Fact>, NoMemory>
-    ensures { IfOk result (λ more. more.items ≡ rule.passed (exact_text facts.now from.0) to) }
+fn passed(state: &State, from: Sym, to: Sym) -> Result<Vec<Fact>, NoMemory>
+    ensures { IfOk result (λ more. more.items ≡ rule.passed (exact_text state.now.facts from.0) to) }
 {
+    let alloc = state.alloc();
     let mut more = Vec::new(alloc);
-    if let Some(text) = exact_text(facts, from) {
+    if let Some(text) = state.exact_text(from) {
         more.push(Fact::Text(to, Text::from_slice(alloc, text)?))?;
     }
     Ok(more)

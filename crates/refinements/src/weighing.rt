@@ -52,7 +52,7 @@ fn weighed(cond: &Cond, state: State, hints: &mut Hints<'_>) -> Result<Vec<State
     ensures cases { Gives result hints.new (rule.weighed cond.now state hints.old) }
     ensures proofs { IfOk result (λ _. All rule.HasFewUses hints.new) }
 {
-    let alloc = state.alloc;
+    let alloc = state.alloc();
     match hints.next() {
         None => Err(EffectFault::HintsShort),
         Some(Hint::Keep) => Ok(one(state)?),
@@ -71,7 +71,7 @@ fn weighed(cond: &Cond, state: State, hints: &mut Hints<'_>) -> Result<Vec<State
 pub fn one(state: State) -> Result<Vec<State>, NoMemory>
     ensures { IfOk result (λ states. states.items ≡ state ∷ []) }
 {
-    let alloc = state.alloc;
+    let alloc = state.alloc();
     let mut states = Vec::new(alloc);
     states.push(state)?;
     Ok(states)
@@ -83,7 +83,7 @@ fn refutes(cond: &Cond, state: &State, proof: &Proof) -> Result<bool, NoMemory>
     requires proof { length proof.now.uses ≤ 64 }
     ensures { IfOk result (λ shown. shown ≡ shows cond.now state.now proof.now rule.absurdity) }
 {
-    let alloc = state.alloc;
+    let alloc = state.alloc();
     shows(alloc, state, cond, proof, &absurdity(alloc))
 }
 

@@ -1,9 +1,9 @@
 -- Rows within their bounds are small.
-use Rattle.std.proofs.Common.{◌≡◌, ℕ, suc, ◌≤◌, ◌^◌, ap, refl, List, [], ◌∷◌, length, arith}
+use Rattle.std.proofs.Common.{◌≡◌, ℕ, zero, suc, ◌≤◌, ◌^◌, ap, refl, subst, List, [], ◌∷◌, length, slice_get, Some, arith}
 use Rattle.std.specs.Prelude.{ℤ, pos, negsuc}
 use Rattle.std.specs.List.{All, sum_by}
 use Rattle.std.proofs.lemmas.Int.{ints}
-use Rattle.std.proofs.lemmas.List.Elements.{All-nil, All-cons}
+use Rattle.std.proofs.lemmas.List.Elements.{All-nil, All-cons, All-head, All-tail}
 use Rattle.std.proofs.lemmas.List.Sums.{sum_by-cons}
 use Rattle.lin_facts.specs.Rows.{IsWithin, IsSmall}
 use Rattle.lin_facts.specs.declared.row.Part.{Part}
@@ -28,3 +28,9 @@ small_row row h = record { parts = h.parts; constant = h.constant; coefficients 
 pub row_uses-length : (k : ℕ) (uses : List Use) → length (row_uses k uses) ≡ length uses
 row_uses-length k [] = refl
 row_uses-length k (first ∷ uses) = ap (λ (n : ℕ). suc n) (row_uses-length (suc k) uses)
+
+-- a row of a number is within the bounds that all have
+pub row_bounded : (rows : List Row) (k : ℕ) (row : Row) → All IsBounded rows → slice_get rows k ≡ Some row → IsBounded row
+row_bounded [] k row all e = absurd (cc)
+row_bounded (first ∷ rows) zero row all e = let same : first ≡ row = cc in subst IsBounded same (All-head IsBounded first rows all)
+row_bounded (first ∷ rows) (suc k) row all e = row_bounded rows k row (All-tail IsBounded first rows all) e

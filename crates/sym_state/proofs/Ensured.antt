@@ -10,7 +10,7 @@ use Rattle.sym_state.specs.declared.demand.EffectFault.TheVariants.{NotEntailed,
 use Rattle.sym_state.specs.declared.hint.Hint.{Hint}
 use Rattle.sym_state.specs.declared.hint.Hint.TheVariants.{Plain, Step}
 use Rattle.sym_state.specs.declared.proof.Proof.{Proof}
-use Rattle.sym_state.specs.declared.state.State.{State}
+use Rattle.sym_state.specs.State.{State}
 use Rattle.sym_state.specs.declared.symbol.Kinds.{Kinds}
 use Rattle.sym_state.specs.declared.symbol.Sym.{Sym}
 use Rattle.sym_state.specs.Demands.{After, BothSteps, Chooses, Demands, Gives, One, OneOperand, Outcome, Refuses, Rule, Steps, Three, ThreeOperands, Two, TwoOperands, choice, demand, fails, is_of_kind, one_by, one_of, outcome, step, three_by, three_of, two_by, two_of}

@@ -21,7 +21,7 @@ use Rattle.sym_state.specs.declared.symbol.Sym.{Sym}
 use Rattle.sym_state.specs.declared.symbol.Bind.{Bind}
 use Rattle.sym_state.specs.declared.piece.Piece.{Piece}
 use Rattle.sym_state.specs.declared.proof.Proof.{Proof}
-use Rattle.sym_state.specs.declared.state.State.{State}
+use Rattle.sym_state.specs.State.{State}
 use Rattle.sym_state.specs.Changes.{symbol_at}
 use Rattle.sym_state.specs.Facts.{FactHolds, subject}
 use Rattle.sym_state.specs.Entailing.{agrees, bind_agrees, fact_follows, first_failing, first_line_failing, first_unshown, row_shown, stack_places, under, after_stack}

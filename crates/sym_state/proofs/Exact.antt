@@ -1,6 +1,7 @@
 -- The exact integer and the exact text of a symbol are those of a fact, and within the bounds of facts.
-use Rattle.std.proofs.Common.{◌≡◌, ℕ, ◌≤◌, ◌^◌, true, false, cond, subst, List, [], ◌∷◌, length, nat_eq, Bool, Option, None, Some, refl, ◌∙◌}
+use Rattle.std.proofs.Common.{◌≡◌, sym, IfSome, option_map, ℕ, ◌≤◌, ◌^◌, true, false, cond, subst, List, [], ◌∷◌, length, nat_eq, Bool, Option, None, Some, refl, ◌∙◌}
 use Rattle.std.specs.Prelude.{ℤ}
+use Rattle.std.specs.Borrow.{Bor}
 use Rattle.std.specs.List.{All}
 use Rattle.std.specs.Option.{option_or}
 use Rattle.std.proofs.lemmas.List.Elements.{All-head, All-tail}
@@ -49,3 +50,9 @@ exact_short facts s text all e =
 pub exact_bytes : (facts : List Fact) (s : ℕ) (text : List ℕ) → All HasByteText facts → exact_text facts s ≡ Some text → IsByteList text
 exact_bytes facts s text all e =
     said_where text_said HasByteText IsByteList facts s text (λ fact. text_has HasByteText IsByteList text fact (λ k h. h)) all e
+
+-- the same of a text behind a reference
+pub text_short : (facts : List Fact) (s : ℕ) (found : Option (Bor (List ℕ))) → All HasShortText facts
+    → option_map (λ text. text.now) found ≡ exact_text facts s → IfSome found (λ text. length text.now ≤ 2 ^ 45)
+text_short facts s (Some text) all e = exact_short facts s text.now all (sym e)
+text_short facts s None all e = tt

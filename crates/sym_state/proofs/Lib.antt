@@ -1,5 +1,5 @@
 pub mod Below
-pub mod Bindings
+pub mod Rebound
 pub mod BlankNames
 pub mod Bounds
 pub mod Consequences
@@ -15,9 +15,11 @@ pub mod Reading
 pub mod RowSums
 pub mod Saying
 pub mod Shown
+pub mod SharedLists
 pub mod Spots
 pub mod Started
 pub mod Sums
+pub mod Finding
 pub mod Frames
 pub mod Fronts
 pub mod KnownKinds

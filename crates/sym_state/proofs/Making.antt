@@ -288,11 +288,11 @@ rows_below pieces numbered =
     (λ k piece few h. raised_rows (all_symbols pieces) k piece few h) (omega arith) numbered
 
 -- what holds of each fact of the pieces, whatever its symbol, and of the facts that are given of their own, holds of all
-all_facts : (P : Fact → Type 0) (alloc : Global) (style : Style) (admits : Cond) (pieces : List Piece) (whole at_entry : Bool)
+all_facts : (P : Fact → Type 0) (style : Style) (admits : Cond) (pieces : List Piece) (whole at_entry : Bool)
     → ((k : ℕ) (fact : Fact) → P fact → P (fact_renamed (raised k) fact)) → ((s : Sym) (kind : Kinds) → P (Is s kind))
     → ((s : Sym) → P (Nonblank s)) → ((s : Sym) → P (Wellformed s)) → All (λ piece. All P piece.facts) pieces
-    → All P (started alloc style admits pieces whole at_entry).facts
-all_facts P alloc style admits pieces whole at_entry renamed is nonblank wellformed all =
+    → All P (started style admits pieces whole at_entry).facts
+all_facts P style admits pieces whole at_entry renamed is nonblank wellformed all =
     let on = numbered_on 0 pieces in
     let seated : List Bind = seats (bound_by on) (all_symbols pieces) (names_in_play style at_entry) in
     All-append P (flat_map (λ piece. piece.facts) on) (flat_map (λ b. own_facts admits (kind_of style b.name) b) seated)
@@ -303,10 +303,10 @@ all_facts P alloc style admits pieces whole at_entry renamed is nonblank wellfor
     (λ b h. own_facts_are P admits (kind_of style b.name) b (is b.sym) (nonblank b.sym) (wellformed b.sym)) (λ k d less. tt))
 
 -- the texts and rows of the pieces are within their bounds, and those that are given of their own
-pub started_made : (alloc : Global) (style : Style) (admits : Cond) (pieces : List Piece) (whole at_entry : Bool)
-    → All IsNumbered pieces → All (IsFit style) pieces → All IsBounded (started alloc style admits pieces whole at_entry).rows
-    → WellMade style (started alloc style admits pieces whole at_entry)
-started_made alloc style admits pieces whole at_entry numbered fit bounded =
+pub started_made : (style : Style) (admits : Cond) (pieces : List Piece) (whole at_entry : Bool)
+    → All IsNumbered pieces → All (IsFit style) pieces → All IsBounded (started style admits pieces whole at_entry).rows
+    → WellMade style (started style admits pieces whole at_entry)
+started_made style admits pieces whole at_entry numbered fit bounded =
     let on = numbered_on 0 pieces in
     let names = names_in_play style at_entry in
     let first : ℕ = all_symbols pieces in
@@ -329,14 +329,14 @@ started_made alloc style admits pieces whole at_entry numbered fit bounded =
           (each_given (RowBelow n) (λ b. own_rows admits (kind_of style b.name) b) (λ b. b.sym.0 < n) seated (λ b h. own_rows_below n admits (kind_of style b.name) b h) below);
       binds_vars = seated_names style at_entry (is_variable at_entry) (bound_by on) first (λ k e. (or_parts (is_variable at_entry k) (is_field at_entry k) e).0);
       binds_fields = seated_names style at_entry (is_field at_entry) (bound_by on) first (λ k e. (or_parts (is_variable at_entry k) (is_field at_entry k) e).1);
-      of_style = all_facts (IsOfStyle style) alloc style admits pieces whole at_entry (style_renamed style) (λ b k. tt) (λ b. tt) (λ b. tt)
+      of_style = all_facts (IsOfStyle style) style admits pieces whole at_entry (style_renamed style) (λ b k. tt) (λ b. tt) (λ b. tt)
           (All-weaker (IsFit style) (λ piece. All (IsOfStyle style) piece.facts) (λ piece h. h.of_style) pieces fit);
-      integers = all_facts HasSmallInteger alloc style admits pieces whole at_entry small_renamed (λ b k. tt) (λ b. tt) (λ b. tt)
+      integers = all_facts HasSmallInteger style admits pieces whole at_entry small_renamed (λ b k. tt) (λ b. tt) (λ b. tt)
           (All-weaker (IsFit style) (λ piece. All HasSmallInteger piece.facts) (λ piece h. h.integers) pieces fit);
-      bytes = all_facts HasByteText alloc style admits pieces whole at_entry bytes_renamed (λ b k. tt) (λ b. tt) (λ b. tt)
+      bytes = all_facts HasByteText style admits pieces whole at_entry bytes_renamed (λ b k. tt) (λ b. tt) (λ b. tt)
           (All-weaker (IsFit style) (λ piece. All HasByteText piece.facts) (λ piece h. h.bytes) pieces fit);
       bounds = record {
-        facts = all_facts HasShortText alloc style admits pieces whole at_entry short_renamed (λ b k. tt) (λ b. tt) (λ b. tt)
+        facts = all_facts HasShortText style admits pieces whole at_entry short_renamed (λ b k. tt) (λ b. tt) (λ b. tt)
             (All-weaker (IsFit style) (λ piece. All HasShortText piece.facts) (λ piece h. h.texts) pieces fit);
         rows = bounded;
       };

@@ -131,10 +131,10 @@ own_rows_hold admits v (Some Field) b h =
     of_names None e = tt
 own_rows_hold admits v _ b h = tt
 
-pub opened : (alloc : Global) (style : Style) (admits : Cond) (list : EntryList) (v : Valuation) (pieces : List Piece) (whole at_entry : Bool) (c : Config) (below : List Value)
+pub opened : (style : Style) (admits : Cond) (list : EntryList) (v : Valuation) (pieces : List Piece) (whole at_entry : Bool) (c : Config) (below : List Value)
     → All IsNumbered pieces → CanStart style admits list v pieces whole at_entry c below
-    → StandsOpen style admits list v (all_symbols pieces) (started alloc style admits pieces whole at_entry) c below
-opened alloc style admits list v pieces whole at_entry c below numbered can =
+    → StandsOpen style admits list v (all_symbols pieces) (started style admits pieces whole at_entry) c below
+opened style admits list v pieces whole at_entry c below numbered can =
     let on = numbered_on 0 pieces in
     let names = names_in_play style at_entry in
     let n : ℕ = all_symbols pieces in

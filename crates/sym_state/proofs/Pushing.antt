@@ -19,7 +19,7 @@ use Rattle.sym_state.specs.declared.symbol.Bind.{Bind}
 use Rattle.sym_state.specs.declared.symbol.Fact.{Fact}
 use Rattle.sym_state.specs.declared.symbol.Kinds.{Kinds}
 use Rattle.sym_state.specs.declared.symbol.Kinds.TheVariants.{Int, Str, Missing, Optional, Func, Any}
-use Rattle.sym_state.specs.declared.state.State.{State}
+use Rattle.sym_state.specs.State.{State}
 use Rattle.sym_state.specs.Changes.{kind_facts}
 use Rattle.sym_state.specs.Facts.{FactHolds, has_kind}
 use Rattle.sym_state.specs.Results.{next_of, with_result, with_symbol}

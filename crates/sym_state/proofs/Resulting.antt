@@ -1,10 +1,11 @@
 -- A state with further facts and rows, or with a new symbol, is well made if what is added fits.
-use Rattle.std.proofs.Common.{ℕ, ◌<◌, ◌≤◌, ◌+◌, ◌^◌, Bool, true, false, cond, List, [], ◌∷◌, ◌++◌, refl, arith}
+use Rattle.std.proofs.Common.{◌≡◌, ℕ, ◌<◌, ◌≤◌, ◌+◌, ◌^◌, Bool, true, false, cond, List, [], ◌∷◌, ◌++◌, refl, sym, subst, Result, Ok, Err, OnOk, OnErr, arith}
 use Rattle.std.specs.Prelude.{ℤ, pos, negsuc, neg_ℤ, ◌+ℤ◌}
 use Rattle.std.specs.List.{All}
 use Rattle.std.specs.Ordering.{int_eq}
 use Rattle.std.proofs.lemmas.Int.{ints}
-use Rattle.std.proofs.lemmas.List.Elements.{All-append, All-cons, All-head, All-nil, All-push, All-tail, All-weaker}
+use Rattle.std.proofs.lemmas.List.{append-nil}
+use Rattle.std.proofs.lemmas.List.Elements.{All-append, All-cons, All-head, All-nil, All-push, All-same, All-tail, All-weaker}
 use Rattle.lin_facts.specs.Rows.{IsWithin, same_term}
 use Rattle.lin_facts.specs.declared.row.Part.{Part}
 use Rattle.lin_facts.specs.declared.row.Row.{Row}
@@ -12,19 +13,19 @@ use Rattle.lin_facts.specs.declared.row.Term.{Term}
 use Rattle.lin_facts.specs.declared.row.Term.TheVariants.{Value, Length, Names, Pos, Count}
 use Rattle.name_table.specs.declared.names.NameId.{NameId}
 use Rattle.name_table.specs.declared.style.Style.{Style}
-use Rattle.sym_state.specs.declared.state.State.{State}
+use Rattle.sym_state.specs.State.{State}
 use Rattle.sym_state.specs.declared.symbol.Bind.{Bind}
 use Rattle.sym_state.specs.declared.symbol.Fact.{Fact}
 use Rattle.sym_state.specs.declared.symbol.Fact.TheVariants.{Is}
 use Rattle.sym_state.specs.declared.symbol.Kinds.{Kinds}
 use Rattle.sym_state.specs.declared.symbol.Kinds.TheVariants.{Int, Str, Missing, Optional, Func, Any}
 use Rattle.sym_state.specs.declared.symbol.Sym.{Sym}
-use Rattle.sym_state.specs.Changes.{kind_facts, rebound, with_bind}
+use Rattle.sym_state.specs.Changes.{kind_facts, rebound, with_bind, with_fresh}
 use Rattle.sym_state.specs.Facts.{subject}
 use Rattle.sym_state.specs.References.{at_least, at_most, exceeds}
 use Rattle.sym_state.specs.Results.{and_part, kept_part, next_of, part, sum_of_three, sum_of_two, with_result, with_symbol, with_top}
-use Rattle.sym_state.specs.WellMade.{HasByteText, HasShortText, HasSmallInteger, IsBounded, IsOfStyle, IsTermBelow, WellMade, size}
-use Rattle.sym_state.proofs.Bindings.{bind_kept}
+use Rattle.sym_state.specs.WellMade.{HasBounds, HasByteText, HasShortText, HasSmallInteger, IsBounded, IsOfStyle, IsTermBelow, WellMade, size}
+use Rattle.sym_state.proofs.Rebound.{bind_kept}
 use Rattle.sym_state.proofs.Bounds.{within_size}
 use Rattle.sym_state.proofs.Making.{RowBelow}
 use Rattle.sym_state.proofs.Frames.{all_reversed}
@@ -122,12 +123,26 @@ kind_fits style next s Optional below = one_fits style next (Is s Optional) belo
 kind_fits style next s Func below = one_fits style next (Is s Func) below tt tt tt tt
 kind_fits style next s Any below = nothing_fits style next
 
+-- a new symbol with the fact of its kind alone
+pub fresh_made : (style : Style) (state : State) (kind : Kinds) → WellMade style state → WellMade style (with_fresh kind state)
+fresh_made style state kind made =
+    let n = state.next + 1 in
+    let facts = kind_facts (next_of state) kind in
+    subst (λ (rows : List Row). WellMade style (record state { facts = state.facts ++ facts; rows = rows; next = n })) (append-nil state.rows)
+    (more_made style state n facts [] made (omega arith) (kind_fits style n (next_of state) kind (omega arith)))
+
 pub symbol_made : (style : Style) (state : State) (kind : Kinds) (facts : List Fact) (rows : List Row) → WellMade style state
     → Fits style (state.next + 1) facts rows → WellMade style (with_symbol kind facts rows state)
 symbol_made style state kind facts rows made fits =
     let n = state.next + 1 in
     more_made style state n (kind_facts (next_of state) kind ++ facts) rows made (omega arith)
     (both_fit style n (kind_facts (next_of state) kind) facts [] rows (kind_fits style n (next_of state) kind (omega arith)) fits)
+
+-- the same where the facts are as they have to be
+pub fresh_facts : (style : Style) (state : State) (kind : Kinds) (facts : List Fact) → facts ≡ state.facts ++ kind_facts (next_of state) kind
+    → WellMade style state → WellMade style (record state { facts = facts; next = state.next + 1 })
+fresh_facts style state kind facts e made =
+    subst (λ (all : List Fact). WellMade style (record state { facts = all; next = state.next + 1 })) (sym e) (fresh_made style state kind made)
 
 -- another stack
 pub top_made : (style : Style) (state : State) (s : Sym) → WellMade style state → s.0 < state.next → WellMade style (with_top s state)
@@ -166,6 +181,29 @@ pub result_made : (style : Style) (state : State) (kind : Kinds) (facts : List F
     → Fits style (state.next + 1) facts rows → WellMade style (with_result kind facts rows state)
 result_made style state kind facts rows made fits =
     top_made style (with_symbol kind facts rows state) (next_of state) (symbol_made style state kind facts rows made fits) (omega arith)
+
+-- the stack of a state after a symbol was put on it, or none was
+pub push_made : {E : Type 0} (style : Style) (state : State) (s : Sym) (stack : List Sym) (given : Result (Unit {0}) E)
+    → OnOk given (stack ≡ state.stack ++ s ∷ []) → OnErr given (stack ≡ state.stack) → WellMade style state → s.0 < state.next
+    → WellMade style (record state { stack = stack })
+push_made style state s stack (Ok _) pushed same made below =
+    subst (λ (all : List Sym). WellMade style (record state { stack = all })) (sym pushed) (top_made style state s made below)
+push_made style state s stack (Err _) pushed same made below = subst (λ (all : List Sym). WellMade style (record state { stack = all })) (sym same) made
+
+-- the rows of a state after one was added, or none was
+pub row_bounds : {E : Type 0} (state : State) (row : Row) (rows : List Row) (given : Result (Unit {0}) E)
+    → OnOk given (rows ≡ state.rows ++ row ∷ []) → IsBounded row → HasBounds state → OnOk given (HasBounds (record state { rows = rows }))
+row_bounds state row rows (Ok _) added bounded bounds =
+    record { facts = bounds.facts; rows = All-same IsBounded rows _ added (All-push IsBounded state.rows row bounds.rows bounded) }
+row_bounds state row rows (Err _) added bounded bounds = tt
+
+-- a state with the facts and rows of a case has bounds where all have
+pub case_bounds : (state : State) (facts : List Fact) (rows : List Row) → HasBounds state → All HasShortText facts → All IsBounded rows
+    → HasBounds (record state { facts = state.facts ++ facts; rows = state.rows ++ rows })
+case_bounds state facts rows bounds short bounded = record {
+  facts = All-append HasShortText state.facts facts bounds.facts short;
+  rows = All-append IsBounded state.rows rows bounds.rows bounded;
+}
 
 -- another binding
 pub bind_made : (style : Style) (state : State) (name : NameId) (s : Sym) → WellMade style state → s.0 < state.next → WellMade style (with_bind name s state)

@@ -22,7 +22,7 @@ use Rattle.bst_meaning.specs.Operands.{has_32_bits}
 use Rattle.sym_state.specs.declared.proof.Reference.{Reference}
 use Rattle.sym_state.specs.declared.proof.Reference.TheVariants as ref
 use Rattle.sym_state.specs.declared.proof.Use.{Use}
-use Rattle.sym_state.specs.declared.state.State.{State}
+use Rattle.sym_state.specs.State.{State}
 use Rattle.sym_state.specs.Symbols.{Valuation, IsValue, integer_of, length_of, name_count_of, numbers}
 use Rattle.sym_state.specs.Facts.{emptiness}
 use Rattle.sym_state.specs.Decided.{exact_integer, exact_text, is_known_nonblank}

@@ -10,7 +10,7 @@ use Rattle.lin_facts.proofs.Sound.{sound}
 use Rattle.name_table.specs.declared.style.Style.{Style}
 use Rattle.bst_meaning.specs.declared.condition.Cond.{Cond}
 use Rattle.sym_state.specs.declared.proof.Proof.{Proof}
-use Rattle.sym_state.specs.declared.state.State.{State}
+use Rattle.sym_state.specs.State.{State}
 use Rattle.sym_state.specs.Symbols.{Valuation, numbers}
 use Rattle.sym_state.specs.References.{shows, rows_said, row_uses}
 use Rattle.sym_state.specs.Stands.{Satisfies}

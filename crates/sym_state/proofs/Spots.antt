@@ -6,7 +6,7 @@ use Rattle.bst_meaning.specs.declared.condition.Cond.{Cond}
 use Rattle.bst_meaning.specs.declared.entry.EntryList.{EntryList}
 use Rattle.bst_meaning.specs.declared.value.Value.{Value}
 use Rattle.bst_meaning.specs.Config.{Config}
-use Rattle.sym_state.specs.declared.state.State.{State}
+use Rattle.sym_state.specs.State.{State}
 use Rattle.sym_state.specs.Stands.{Stands}
 use Rattle.sym_state.specs.Symbols.{Valuation}
 use Rattle.sym_state.specs.WellMade.{WellMade}

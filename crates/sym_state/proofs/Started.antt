@@ -14,7 +14,7 @@ use Rattle.sym_state.specs.declared.symbol.Sym.{Sym}
 use Rattle.sym_state.specs.declared.symbol.Bind.{Bind}
 use Rattle.sym_state.specs.declared.symbol.Fact.{Fact}
 use Rattle.sym_state.specs.declared.piece.Piece.{Piece}
-use Rattle.sym_state.specs.declared.state.State.{State}
+use Rattle.sym_state.specs.State.{State}
 use Rattle.sym_state.specs.Starting.{all_symbols, bound_by, has_kind, names_in_play, numbered_on, own_facts, own_rows, seats, started, unbound}
 use Rattle.sym_state.specs.WellMade.{ids_from, is_field, is_variable}
 
@@ -77,7 +77,7 @@ pub seen_within : (n : ℕ) (binds seen : List Bind) (names known : List NameId)
 seen_within n binds seen names known same named is all =
     All-same (λ b. b.name.0 < n) seen binds same (names_within n binds names named (All-same (λ name. name.0 < n) names known is all))
 
-pub started_is : (alloc : Global) (style : Style) (admits : Cond) (pieces : List Piece) (whole at_entry : Bool)
+pub started_is : (style : Style) (admits : Cond) (pieces : List Piece) (whole at_entry : Bool)
     (stack : List Sym) (bound seated vars fields : List Bind) (names : List NameId) (facts : List Fact) (rows : List Row) (first next : ℕ)
     → stack ≡ flat_map (λ piece. piece.stack) (numbered_on 0 pieces)
     → bound ≡ bound_by (numbered_on 0 pieces)
@@ -89,9 +89,9 @@ pub started_is : (alloc : Global) (style : Style) (admits : Cond) (pieces : List
     → fields ≡ filter (has_kind style (is_field at_entry)) seated
     → facts ≡ flat_map (λ piece. piece.facts) (numbered_on 0 pieces) ++ flat_map (λ bind. own_facts admits (kind_of style bind.name) bind) seated
     → rows ≡ flat_map (λ piece. piece.rows) (numbered_on 0 pieces) ++ flat_map (λ bind. own_rows admits (kind_of style bind.name) bind) seated
-    → record { alloc = alloc; stack = stack; whole = whole; at_entry = at_entry; vars = vars; fields = fields; facts = facts; rows = rows; next = next }
-    ≡ started alloc style admits pieces whole at_entry
-started_is alloc style admits pieces whole at_entry stack bound seated vars fields names facts rows first next e_stack e_bound e_first e_names e_seated e_next e_vars e_fields e_facts e_rows =
+    → record { stack = stack; whole = whole; at_entry = at_entry; vars = vars; fields = fields; facts = facts; rows = rows; next = next }
+    ≡ started style admits pieces whole at_entry
+started_is style admits pieces whole at_entry stack bound seated vars fields names facts rows first next e_stack e_bound e_first e_names e_seated e_next e_vars e_fields e_facts e_rows =
     let on = numbered_on 0 pieces in
     let seats_are : seated ≡ seats (bound_by on) (all_symbols pieces) (names_in_play style at_entry) =
     e_seated ∙ ap (λ (bs : List Bind). seats bs first names) e_bound ∙ ap (λ (n : ℕ). seats (bound_by on) n names) e_first
@@ -103,10 +103,10 @@ started_is alloc style admits pieces whole at_entry stack bound seated vars fiel
     let rows_are = e_rows ∙ ap (λ (bs : List Bind). flat_map (λ piece. piece.rows) on ++ flat_map (λ bind. own_rows admits (kind_of style bind.name) bind) bs) seats_are in
     let vars_are = e_vars ∙ ap (λ (bs : List Bind). filter (has_kind style (is_variable at_entry)) bs) seats_are in
     let fields_are = e_fields ∙ ap (λ (bs : List Bind). filter (has_kind style (is_field at_entry)) bs) seats_are in
-    same_state alloc whole at_entry stack _ vars _ fields _ facts _ rows _ next _ e_stack vars_are fields_are facts_are rows_are next_is
+    same_state whole at_entry stack _ vars _ fields _ facts _ rows _ next _ e_stack vars_are fields_are facts_are rows_are next_is
   where
-    same_state : (alloc : Global) (whole at_entry : Bool) (s s' : List Sym) (v v' : List Bind) (f f' : List Bind) (a a' : List Fact) (r r' : List Row) (n n' : ℕ)
+    same_state : (whole at_entry : Bool) (s s' : List Sym) (v v' : List Bind) (f f' : List Bind) (a a' : List Fact) (r r' : List Row) (n n' : ℕ)
         → s ≡ s' → v ≡ v' → f ≡ f' → a ≡ a' → r ≡ r' → n ≡ n'
-        → (let x : State = record { alloc = alloc; stack = s; whole = whole; at_entry = at_entry; vars = v; fields = f; facts = a; rows = r; next = n } in x)
-        ≡ record { alloc = alloc; stack = s'; whole = whole; at_entry = at_entry; vars = v'; fields = f'; facts = a'; rows = r'; next = n' }
-    same_state alloc whole at_entry s s' v v' f f' a a' r r' n n' e1 e2 e3 e4 e5 e6 = cc
+        → (let x : State = record { stack = s; whole = whole; at_entry = at_entry; vars = v; fields = f; facts = a; rows = r; next = n } in x)
+        ≡ record { stack = s'; whole = whole; at_entry = at_entry; vars = v'; fields = f'; facts = a'; rows = r'; next = n' }
+    same_state whole at_entry s s' v v' f f' a a' r r' n n' e1 e2 e3 e4 e5 e6 = cc

@@ -12,7 +12,7 @@ use Rattle.sym_state.specs.declared.demand.EffectFault.{EffectFault}
 use Rattle.sym_state.specs.declared.demand.EffectFault.TheVariants.{NotEntailed, HintsShort, WrongHint}
 use Rattle.sym_state.specs.declared.hint.Hint.{Hint}
 use Rattle.sym_state.specs.declared.hint.Hint.TheVariants.{Keep, Drop}
-use Rattle.sym_state.specs.declared.state.State.{State}
+use Rattle.sym_state.specs.State.{State}
 use Rattle.sym_state.specs.declared.symbol.Sym.{Sym}
 use Rattle.sym_state.specs.declared.test.Test.{Test}
 use Rattle.sym_state.specs.declared.test.Test.TheVariants.{Empty, Missing as IsMissing, Equal, Less, Greater, Above}

@@ -1,5 +1,6 @@
 -- Changes of a state (docs/STATES.md, "Changes").
 use Rattle.std.specs.Prelude.{◌+◌, nat_eq, if◌then◌else◌, List, [], ◌∷◌, ◌++◌, Option, None, Some}
+use Rattle.std.specs.Option.{option_or}
 use Rattle.name_table.specs.declared.names.NameId.{NameId}
 use Rattle.sym_state.specs.declared.symbol.Sym.{Sym}
 use Rattle.sym_state.specs.declared.symbol.Bind.{Bind}
@@ -7,7 +8,7 @@ use Rattle.sym_state.specs.declared.symbol.Kinds.{Kinds}
 use Rattle.sym_state.specs.declared.symbol.Kinds.TheVariants.{Any}
 use Rattle.sym_state.specs.declared.symbol.Fact.{Fact}
 use Rattle.sym_state.specs.declared.symbol.Fact.TheVariants.{Is}
-use Rattle.sym_state.specs.declared.state.State.{State}
+use Rattle.sym_state.specs.State.{State}
 
 -- the symbol that is bound to a name
 abbrev pub symbol_at : NameId → List Bind → Option Sym
@@ -20,9 +21,18 @@ rebound name sym [] = []
 rebound name sym (bind ∷ binds) =
     if nat_eq bind.name.0 name.0 then record { name = name; sym = sym } ∷ binds else bind ∷ rebound name sym binds
 
+-- bindings after changes of some of them, of which the newest comes first
+abbrev pub changed : List Bind → List Bind → List Bind
+changed [] binds = binds
+changed (change ∷ older) binds = rebound change.name change.sym (changed older binds)
+
 -- a state with another binding of a name, which is a variable or a field
 abbrev pub with_bind : NameId → Sym → State → State
 with_bind name sym state = record state { vars = rebound name sym state.vars; fields = rebound name sym state.fields }
+
+-- the symbol that a state binds to a variable or a field
+abbrev pub bound : NameId → State → Option Sym
+bound name state = option_or (symbol_at name state.vars) (symbol_at name state.fields)
 
 -- the fact of a kind; the kind of every value makes none
 abbrev pub kind_facts : Sym → Kinds → List Fact

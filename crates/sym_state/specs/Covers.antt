@@ -10,7 +10,7 @@ use Rattle.bst_meaning.specs.Builtins.{built_in}
 use Rattle.bst_meaning.specs.Config.{Config}
 use Rattle.bst_meaning.specs.Effect.{Effect}
 use Rattle.bst_meaning.specs.Machine.{context_of, with_effect}
-use Rattle.sym_state.specs.declared.state.State.{State}
+use Rattle.sym_state.specs.State.{State}
 use Rattle.sym_state.specs.Stands.{Stands}
 use Rattle.sym_state.specs.Symbols.{Agrees, Valuation}
 

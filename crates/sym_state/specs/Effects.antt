@@ -18,7 +18,7 @@ use Rattle.bst_meaning.specs.StyleParts.{kind_of}
 use Rattle.bst_meaning.specs.declared.condition.Cond.{Cond}
 use Rattle.sym_state.specs.declared.demand.DemandKind.TheVariants.{NotVariable, NoEntry, BadCase, NotOneByte, NotAscii, BadNameIndex, BadName, BadPattern, IntRange, WholeStack, WrongKind}
 use Rattle.sym_state.specs.declared.hint.Hint.{Hint}
-use Rattle.sym_state.specs.declared.state.State.{State}
+use Rattle.sym_state.specs.State.{State}
 use Rattle.sym_state.specs.declared.symbol.Sym.{Sym}
 use Rattle.sym_state.specs.declared.symbol.Fact.{Fact}
 use Rattle.sym_state.specs.declared.symbol.Fact.TheVariants.{Int as IntFact, Text as TextFact, Nonblank, Wellformed}

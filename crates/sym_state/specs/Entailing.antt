@@ -9,7 +9,7 @@ use Rattle.sym_state.specs.declared.symbol.Bind.{Bind}
 use Rattle.sym_state.specs.declared.symbol.Fact.{Fact}
 use Rattle.sym_state.specs.declared.piece.Piece.{Piece}
 use Rattle.sym_state.specs.declared.proof.Proof.{Proof}
-use Rattle.sym_state.specs.declared.state.State.{State}
+use Rattle.sym_state.specs.State.{State}
 use Rattle.sym_state.specs.Changes.{symbol_at}
 use Rattle.sym_state.specs.Decided.{is_known}
 use Rattle.sym_state.specs.Facts.{subject}

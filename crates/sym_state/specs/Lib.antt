@@ -1,3 +1,4 @@
+pub mod State
 pub mod Symbols
 pub mod Facts
 pub mod Decided
@@ -6,6 +7,7 @@ pub mod References
 pub mod Changes
 pub mod WellMade
 pub mod Renaming
+pub mod SharedLists
 pub mod Starting
 pub mod Entailing
 pub mod Matches

@@ -13,7 +13,7 @@ use Rattle.bst_meaning.specs.declared.condition.Cond.{Cond}
 use Rattle.bst_meaning.specs.declared.entry.EntryList.{EntryList}
 use Rattle.bst_meaning.specs.declared.value.Value.{Value}
 use Rattle.sym_state.specs.declared.piece.Piece.{Piece}
-use Rattle.sym_state.specs.declared.state.State.{State}
+use Rattle.sym_state.specs.State.{State}
 use Rattle.sym_state.specs.declared.symbol.Kinds.TheVariants.{Int, Str, Optional}
 use Rattle.sym_state.specs.Facts.{FactHolds, emptiness, has_good_names, has_kind}
 use Rattle.sym_state.specs.Stands.{HasList, IsBound, IsVisiting, Stands, value_by, values_of}

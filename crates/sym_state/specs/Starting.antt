@@ -19,7 +19,7 @@ use Rattle.sym_state.specs.declared.symbol.Kinds.TheVariants.{Int, Str, Optional
 use Rattle.sym_state.specs.declared.symbol.Fact.{Fact}
 use Rattle.sym_state.specs.declared.symbol.Fact.TheVariants.{Is, Nonblank, Wellformed}
 use Rattle.sym_state.specs.declared.piece.Piece.{Piece}
-use Rattle.sym_state.specs.declared.state.State.{State}
+use Rattle.sym_state.specs.State.{State}
 use Rattle.sym_state.specs.Changes.{symbol_at}
 use Rattle.sym_state.specs.Facts.{subject}
 use Rattle.sym_state.specs.References.{at_most}
@@ -126,9 +126,8 @@ abbrev pub has_kind : Style → (Kind → Bool) → Bind → Bool
 has_kind style test bind = option_map_or test (kind_of style bind.name) false
 
 -- the state where the pieces' symbols are numbered on and each variable and field has its symbol
-abbrev pub started_from : Global → Style → Cond → List Piece → ℕ → List Bind → Bool → Bool → State
-started_from alloc style cond pieces next binds whole at_entry = record {
-  alloc = alloc;
+abbrev pub started_from : Style → Cond → List Piece → ℕ → List Bind → Bool → Bool → State
+started_from style cond pieces next binds whole at_entry = record {
   stack = flat_map (λ piece. piece.stack) pieces;
   whole = whole;
   at_entry = at_entry;
@@ -148,9 +147,9 @@ abbrev pub names_in_play : Style → Bool → List NameId
 names_in_play style at_entry = ids_from (takes_part at_entry) 0 style.names
 
 -- the state that pieces start: their symbols are numbered on, then come those of names that none binds
-abbrev pub started : Global → Style → Cond → List Piece → Bool → Bool → State
-started alloc style cond pieces whole at_entry =
+abbrev pub started : Style → Cond → List Piece → Bool → Bool → State
+started style cond pieces whole at_entry =
     let on = numbered_on 0 pieces in
     let names = names_in_play style at_entry in
     let first = all_symbols pieces in
-    started_from alloc style cond on (first + unbound (bound_by on) names) (seats (bound_by on) first names) whole at_entry
+    started_from style cond on (first + unbound (bound_by on) names) (seats (bound_by on) first names) whole at_entry

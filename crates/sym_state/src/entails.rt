@@ -13,8 +13,8 @@ ghost use Rattle.sym_state.specs.Stands.{Stands, PieceHolds, values_of};
 ghost use Rattle.sym_state.specs.Symbols.{Valuation};
 ghost use Rattle.sym_state.specs.WellMade.{HasBounds, IsBounded};
 
-use crate::binds::symbol_at;
-use crate::facts::{is_known, subject};
+use crate::bindings::Bindings;
+use crate::facts::subject;
 use crate::matching::Matching;
 use crate::piece::Piece;
 use crate::proof::Proof;
@@ -46,7 +46,7 @@ pub fn entails(
         → Stands style cond.now list v state.now c below
         → PieceHolds style (through (rule.match_of state.now piece.now kept) v) piece.now c (values_of v (rule.under state.now piece.now) ++ below)) }
 {
-    if state.stack.as_slice().len() < piece.stack.as_slice().len() {
+    if state.stack().len() < piece.stack.as_slice().len() {
         return Ok(Some(0));
     }
     let matching = Matching::new(alloc, state, piece, kept)?;
@@ -69,32 +69,22 @@ fn first_line_failing(
     requires lines { rule.line_count piece.now ≤ 2147483648 }
     ensures { IfOk result (λ line. line ≡ rule.first_line_failing (matched_by matching.now) cond.now state.now piece.now proofs.now) }
 {
-    if !stack_agrees(matching, state.stack.as_slice(), piece.stack.as_slice()) {
+    if !stack_agrees(matching, state.stack(), piece.stack.as_slice()) {
         return Ok(Some(1));
     }
     let vars = after_stack(piece.stack.as_slice());
     let fields = vars + piece.vars.as_slice().len() as u32;
     let facts = fields + piece.fields.as_slice().len() as u32;
     let rows = facts + piece.facts.as_slice().len() as u32;
-    let line = first_unbound(matching, state.vars.as_slice(), vars, piece.vars.as_slice());
+    let line = first_unbound(matching, state.vars(), vars, piece.vars.as_slice());
     if line.is_some() {
         return Ok(line);
     }
-    let line = first_unbound(
-        matching,
-        state.fields.as_slice(),
-        fields,
-        piece.fields.as_slice(),
-    );
+    let line = first_unbound(matching, state.fields(), fields, piece.fields.as_slice());
     if line.is_some() {
         return Ok(line);
     }
-    let line = first_unknown(
-        matching,
-        state.facts.as_slice(),
-        facts,
-        piece.facts.as_slice(),
-    );
+    let line = first_unknown(matching, state, facts, piece.facts.as_slice());
     if line.is_some() {
         return Ok(line);
     }
@@ -135,7 +125,7 @@ fn stack_agrees(matching: &Matching, known: &[Sym], stack: &[Sym]) -> bool
 }
 
 /// The first line of a variable or field whose name isn't bound to the matched symbol.
-fn first_unbound(matching: &Matching, known: &[Bind], first: u32, binds: &[Bind]) -> Option<u32>
+fn first_unbound(matching: &Matching, known: &Bindings, first: u32, binds: &[Bind]) -> Option<u32>
     requires { first + length binds.now < 2 ^ 32 }
     ensures { result ≡ rule.first_failing (rule.bind_agrees (matched_by matching.now) known.now) first binds.now }
 {
@@ -150,23 +140,23 @@ fn first_unbound(matching: &Matching, known: &[Bind], first: u32, binds: &[Bind]
 }
 
 /// Whether a name is bound to the matched symbol.
-fn bind_agrees(matching: &Matching, known: &[Bind], bind: Bind) -> bool
+fn bind_agrees(matching: &Matching, known: &Bindings, bind: Bind) -> bool
     ensures { result ≡ rule.bind_agrees (matched_by matching.now) known.now bind }
 {
-    match symbol_at(bind.name, known) {
+    match known.symbol(bind.name) {
         Some(there) => matching.symbol(bind.sym).0 == there.0,
         None => false,
     }
 }
 
 /// The first line of a fact that isn't known of the matched symbol.
-fn first_unknown(matching: &Matching, known: &[Fact], first: u32, facts: &[Fact]) -> Option<u32>
+fn first_unknown(matching: &Matching, state: &State, first: u32, facts: &[Fact]) -> Option<u32>
     requires { first + length facts.now < 2 ^ 32 }
-    ensures { result ≡ rule.first_failing (rule.fact_follows (matched_by matching.now) known.now) first facts.now }
+    ensures { result ≡ rule.first_failing (rule.fact_follows (matched_by matching.now) state.now.facts) first facts.now }
 {
     let mut line = first;
     for fact in facts {
-        if !is_known(known, matching.symbol(subject(fact)), fact) {
+        if !state.is_known(matching.symbol(subject(fact)), fact) {
             return Some(line);
         }
         line += 1;

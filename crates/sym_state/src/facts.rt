@@ -1,6 +1,6 @@
 //! What the facts of a state decide (docs/STATES.md, "What facts decide").
 
-ghost use Rattle.std.specs.Prelude.{◌≡◌, ◌≤◌, ◌^◌, ◌&&◌, false, nat_eq, length, option_map, IfSome};
+ghost use Rattle.std.specs.Prelude.{◌≡◌, ◌≤◌, ◌^◌, ◌&&◌, false, nat_eq, length, option_map, is_some, IfSome};
 ghost use Rattle.std.specs.List.{All, list_any};
 ghost use Rattle.std.specs.Option.{option_and_then, option_map_or};
 ghost use Rattle.std.specs.Ordering.{int_eq};
@@ -9,94 +9,72 @@ ghost use Rattle.sym_state.specs.Decided as decided;
 ghost use Rattle.sym_state.specs.Facts as rule;
 ghost use Rattle.sym_state.specs.WellMade.{HasShortText};
 
+use crate::shared_list::SharedList;
 use crate::symbol::{Fact, Kinds, Sym};
 use name_split::names::names_ok;
 use name_table::names::NameId;
 use text_ops::is_blank::is_blank;
 
 /// The exact integer of a symbol.
-pub fn exact_integer(facts: &[Fact], sym: Sym) -> Option<i32>
+pub fn exact_integer(facts: &SharedList<Fact>, sym: Sym) -> Option<i32>
     ensures { result ≡ decided.exact_integer facts.now sym.0 }
 {
-    for fact in facts {
-        if subject(fact).0 == sym.0 {
-            if let Some(n) = integer_said(fact) {
-                return Some(n);
-            }
-        }
+    let found =
+        facts.find(|fact| subject(fact).0 == sym.0 && integer_said(fact).is_some());
+    match found {
+        Some(fact) => integer_said(fact),
+        None => None,
     }
-    None
 }
 
 /// The exact text of a symbol.
-pub fn exact_text<'a>(facts: &'a [Fact], sym: Sym) -> Option<&'a [u8]>
+pub fn exact_text<'a>(facts: &'a SharedList<Fact>, sym: Sym) -> Option<&'a [u8]>
     ensures said { option_map (λ text. text.now) result ≡ decided.exact_text facts.now sym.0 }
     ensures short { All HasShortText facts.now → IfSome result (λ text. length text.now ≤ 2 ^ 45) }
 {
-    for fact in facts {
-        if subject(fact).0 == sym.0 {
-            if let Some(text) = text_said(fact) {
-                return Some(text);
-            }
-        }
+    let found = facts.find(|fact| subject(fact).0 == sym.0 && text_said(fact).is_some());
+    match found {
+        Some(fact) => text_said(fact),
+        None => None,
     }
-    None
 }
 
 /// What `empty$` gives for a symbol, true for 1, by the first fact on it that decides that.
-pub fn known_emptiness(facts: &[Fact], sym: Sym) -> Option<bool>
+pub fn known_emptiness(facts: &SharedList<Fact>, sym: Sym) -> Option<bool>
     ensures { result ≡ decided.first_said decided.emptiness_said sym.0 facts.now }
 {
-    for fact in facts {
-        if subject(fact).0 == sym.0 {
-            if let Some(empty) = emptiness_said(fact) {
-                return Some(empty);
-            }
-        }
+    let found =
+        facts.find(|fact| subject(fact).0 == sym.0 && emptiness_said(fact).is_some());
+    match found {
+        Some(fact) => emptiness_said(fact),
+        None => None,
     }
-    None
-}
-
-/// The name of a symbol that is exactly the function of that name.
-pub fn exact_name(facts: &[Fact], sym: Sym) -> Option<NameId>
-    ensures { result ≡ option_and_then decided.name_of (decided.exact_function facts.now sym.0) }
-{
-    for fact in facts {
-        if subject(fact).0 == sym.0 {
-            match fact {
-                Fact::Call(_, name) => return Some(*name),
-                Fact::Block(_, _) => return None,
-                _ => {}
-            }
-        }
-    }
-    None
-}
-
-/// Whether a kind includes that of a symbol.
-pub fn is_of_kind(facts: &[Fact], kind: Kinds, sym: Sym) -> bool
-    ensures { result ≡ decided.includes kind (decided.known_kind facts.now sym.0) }
-{
-    includes(kind, known_kind(facts, sym))
 }
 
 /// Whether the first fact on a symbol that decides `empty$` decides 0.
-pub fn is_known_nonblank(facts: &[Fact], sym: Sym) -> bool
+pub fn is_known_nonblank(facts: &SharedList<Fact>, sym: Sym) -> bool
     ensures { result ≡ decided.is_known_nonblank facts.now sym.0 }
 {
-    for fact in facts {
-        if subject(fact).0 == sym.0 {
-            if let Some(empty) = emptiness_said(fact) {
-                return !empty;
-            }
-        }
+    match known_emptiness(facts, sym) {
+        Some(empty) => !empty,
+        None => false,
     }
-    false
+}
+
+/// The name of a symbol that is exactly the function of that name.
+pub fn exact_name(facts: &SharedList<Fact>, sym: Sym) -> Option<NameId>
+    ensures { result ≡ option_and_then decided.name_of (decided.exact_function facts.now sym.0) }
+{
+    let found = facts.find(|fact| subject(fact).0 == sym.0 && is_function_said(fact));
+    match found {
+        Some(fact) => function_name(fact),
+        None => None,
+    }
 }
 
 /// The kind of a symbol: the first single kind that a fact says, and where none does that of strings and missing fields
 /// if one says it.
-pub fn known_kind(facts: &[Fact], sym: Sym) -> Kinds
+pub fn known_kind(facts: &SharedList<Fact>, sym: Sym) -> Kinds
     ensures { result ≡ decided.known_kind facts.now sym.0 }
 {
     match single_kind(facts, sym) {
@@ -112,17 +90,15 @@ pub fn known_kind(facts: &[Fact], sym: Sym) -> Kinds
 }
 
 /// The first single kind that a fact on a symbol says.
-fn single_kind(facts: &[Fact], sym: Sym) -> Option<Kinds>
+fn single_kind(facts: &SharedList<Fact>, sym: Sym) -> Option<Kinds>
     ensures { result ≡ decided.first_said (λ fact. decided.single (decided.kind_said fact)) sym.0 facts.now }
 {
-    for fact in facts {
-        if subject(fact).0 == sym.0 {
-            if let Some(kind) = single(kind_said(fact)) {
-                return Some(kind);
-            }
-        }
+    let found =
+        facts.find(|fact| subject(fact).0 == sym.0 && single(kind_said(fact)).is_some());
+    match found {
+        Some(fact) => single(kind_said(fact)),
+        None => None,
     }
-    None
 }
 
 /// A kind, where all its values are integers, or strings, or missing fields, or functions.
@@ -136,30 +112,24 @@ fn single(kind: Kinds) -> Option<Kinds>
 }
 
 /// Whether a fact on a symbol says that it is a string or a missing field.
-fn is_optional(facts: &[Fact], sym: Sym) -> bool
+fn is_optional(facts: &SharedList<Fact>, sym: Sym) -> bool
     ensures { result ≡ list_any (λ fact. nat_eq (rule.subject fact) sym.0 && decided.includes Kinds.Optional (decided.kind_said fact)) facts.now }
 {
-    for fact in facts {
-        if subject(fact).0 == sym.0 && includes(Kinds::Optional, kind_said(fact)) {
-            return true;
-        }
-    }
-    false
+    facts
+        .find(|fact| subject(fact).0 == sym.0 && includes(Kinds::Optional, kind_said(fact)))
+        .is_some()
 }
 
 /// Whether a fact follows for a symbol from one of the facts on it. That it is of some kind follows always.
-pub fn is_known(facts: &[Fact], sym: Sym, wanted: &Fact) -> bool
+pub fn is_known(facts: &SharedList<Fact>, sym: Sym, wanted: &Fact) -> bool
     ensures { result ≡ decided.is_known facts.now sym.0 wanted.now }
 {
     if says_nothing(wanted) {
         return true;
     }
-    for fact in facts {
-        if subject(fact).0 == sym.0 && gives(fact, wanted) {
-            return true;
-        }
-    }
-    false
+    facts
+        .find(|fact| subject(fact).0 == sym.0 && gives(fact, wanted))
+        .is_some()
 }
 
 /// The symbol that a fact is about.
@@ -283,6 +253,26 @@ fn text_said<'a>(fact: &'a Fact) -> Option<&'a [u8]>
 {
     match fact {
         Fact::Text(_, text) => Some(text.as_slice()),
+        _ => None,
+    }
+}
+
+/// Whether a fact says that its symbol is exactly a function.
+fn is_function_said(fact: &Fact) -> bool
+    ensures { result ≡ is_some (decided.function_said fact.now) }
+{
+    match fact {
+        Fact::Call(_, _) | Fact::Block(_, _) => true,
+        _ => false,
+    }
+}
+
+/// The name of the function that a fact says, where it has one.
+fn function_name(fact: &Fact) -> Option<NameId>
+    ensures { result ≡ option_and_then decided.name_of (decided.function_said fact.now) }
+{
+    match fact {
+        Fact::Call(_, name) => Some(*name),
         _ => None,
     }
 }

@@ -2,7 +2,7 @@
 //! calls that start, change and compare states.
 #![tactic(auto)]
 
-pub mod binds;
+mod bindings;
 pub mod demand;
 pub mod entails;
 pub mod facts;
@@ -15,6 +15,7 @@ pub mod proof;
 pub mod raising;
 pub mod references;
 pub mod results;
+mod shared_list;
 pub mod shows;
 pub mod start;
 pub mod state;

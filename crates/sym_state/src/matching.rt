@@ -6,7 +6,7 @@ ghost use Rattle.sym_state.specs.Matches.{matched_by};
 ghost use Rattle.sym_state.specs.Renaming as renaming;
 ghost use Rattle.sym_state.specs.WellMade.{IsBounded};
 
-use crate::binds::symbol_at;
+use crate::bindings::Bindings;
 use crate::piece::Piece;
 use crate::state::State;
 use crate::symbol::{Bind, Sym};
@@ -29,13 +29,9 @@ impl Matching {
         requires { length piece.now.stack ≤ length state.now.stack }
         ensures { IfOk result (λ matching. matched_by matching ≡ rule.match_of state.now piece.now kept) }
     {
-        let mut places = stack_places(alloc, state.stack.as_slice(), piece.stack.as_slice())?;
-        add_binds(&mut places, state.vars.as_slice(), piece.vars.as_slice())?;
-        add_binds(
-            &mut places,
-            state.fields.as_slice(),
-            piece.fields.as_slice(),
-        )?;
+        let mut places = stack_places(alloc, state.stack(), piece.stack.as_slice())?;
+        add_binds(&mut places, state.vars(), piece.vars.as_slice())?;
+        add_binds(&mut places, state.fields(), piece.fields.as_slice())?;
         Ok(Matching { kept, places })
     }
 
@@ -96,11 +92,11 @@ fn stack_places(alloc: Global, known: &[Sym], stack: &[Sym]) -> Result<Vec<(Sym,
 }
 
 /// Adds the places where names are bound.
-fn add_binds(places: &mut Vec<(Sym, Sym)>, known: &[Bind], binds: &[Bind]) -> Result<(), NoMemory>
+fn add_binds(places: &mut Vec<(Sym, Sym)>, known: &Bindings, binds: &[Bind]) -> Result<(), NoMemory>
     ensures { OnOk result (places.new.items ≡ places.old.items ++ rule.bind_places known.now binds.now) }
 {
     for bind in binds {
-        if let Some(there) = symbol_at(bind.name, known) {
+        if let Some(there) = known.symbol(bind.name) {
             places.push((bind.sym, there))?;
         }
     }

@@ -1,11 +1,10 @@
 //! The operands of built-in functions, and demands (docs/EFFECTS.md, "Demands").
 
-ghost use Rattle.std.specs.Prelude.{◌≡◌, true, false, slice_get, reverse, Ok, Err, MatchResult};
+ghost use Rattle.std.specs.Prelude.{◌≡◌, true, false, Ok, Err, MatchResult};
 ghost use Rattle.sym_state.specs.Demands as rule;
-ghost use Rattle.sym_state.specs.declared.state.State.{State};
+ghost use Rattle.sym_state.specs.State.{State};
 
 use crate::demand::{DemandKind, EffectFault};
-use crate::facts::is_of_kind;
 use crate::state::State;
 use crate::symbol::{Kinds, Sym};
 
@@ -15,7 +14,7 @@ pub fn one(state: &State, kind: Kinds) -> Result<Sym, EffectFault>
         (λ a. rule.one_of kind state.now ≡ Ok (record { operand = a; rest = rule.without 1 state.now }))
         (λ fault. rule.one_of kind state.now ≡ Err fault) }
 {
-    match below(state.stack.as_slice(), 0) {
+    match state.at(0) {
         Some(a) => {
             of_kind(state, kind, 1, a)?;
             Ok(a)
@@ -30,8 +29,7 @@ pub fn two(state: &State, lower: Kinds, upper: Kinds) -> Result<(Sym, Sym), Effe
         (λ p. rule.two_of lower upper state.now ≡ Ok (record { lower = p.0; upper = p.1; rest = rule.without 2 state.now }))
         (λ fault. rule.two_of lower upper state.now ≡ Err fault) }
 {
-    let stack = state.stack.as_slice();
-    match (below(stack, 1), below(stack, 0)) {
+    match (state.at(1), state.at(0)) {
         (Some(a), Some(b)) => {
             of_kind(state, upper, 1, b)?;
             of_kind(state, lower, 2, a)?;
@@ -54,8 +52,7 @@ pub fn three(
         ≡ Ok (record { lowest = p.0; middle = p.1; top = p.2; rest = rule.without 3 state.now }))
         (λ fault. rule.three_of lowest middle top state.now ≡ Err fault) }
 {
-    let stack = state.stack.as_slice();
-    match (below(stack, 2), below(stack, 1), below(stack, 0)) {
+    match (state.at(2), state.at(1), state.at(0)) {
         (Some(a), Some(b), Some(c)) => {
             three_of_kind(state, lowest, middle, top, (a, b, c))?;
             Ok((a, b, c))
@@ -90,11 +87,7 @@ pub fn of_kind(state: &State, kind: Kinds, operand: u8, s: Sym) -> Result<(), Ef
     ensures { MatchResult result (λ _. rule.is_of_kind state.now kind s ≡ true)
         (λ fault. (rule.is_of_kind state.now kind s ≡ false) × (fault ≡ rule.fails DemandKind.WrongKind operand)) }
 {
-    demand(
-        is_of_kind(state.facts.as_slice(), kind, s),
-        DemandKind::WrongKind,
-        operand,
-    )
+    demand(state.is_of_kind(kind, s), DemandKind::WrongKind, operand)
 }
 
 /// Makes a demand.
@@ -105,16 +98,5 @@ pub fn demand(met: bool, kind: DemandKind, operand: u8) -> Result<(), EffectFaul
         Ok(())
     } else {
         Err(EffectFault::unmet(kind, operand))
-    }
-}
-
-/// The symbol so far below the top.
-fn below(stack: &[Sym], depth: usize) -> Option<Sym>
-    ensures { result ≡ slice_get (reverse stack.now) depth }
-{
-    if depth < stack.len() {
-        Some(stack[stack.len() - 1 - depth])
-    } else {
-        None
     }
 }

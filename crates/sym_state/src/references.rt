@@ -7,7 +7,6 @@ ghost use Rattle.sym_state.specs.Decided as decided;
 ghost use Rattle.sym_state.specs.References as rule;
 ghost use Rattle.sym_state.specs.WellMade.{HasBounds, IsBounded, HasShortText};
 
-use crate::facts::{exact_integer, exact_text, is_known_nonblank};
 use crate::proof::Reference;
 use crate::state::State;
 use crate::symbol::Sym;
@@ -30,7 +29,7 @@ pub fn row_said(
     ensures small { IfOk result (λ row. IfSome row IsSmall) }
 {
     match reference {
-        Reference::Row(k) => row_at(alloc, state.rows.as_slice(), k),
+        Reference::Row(k) => row_at(alloc, state, k),
         Reference::ValueLow(s) => Ok(on_symbol(
             state,
             s,
@@ -54,20 +53,20 @@ pub fn row_said(
         Reference::NonblankNames(s) => nonblank(alloc, state, s, Term::Names(s.0)),
         Reference::TextLow(s) => text_low(alloc, state, s),
         Reference::TextHigh(s) => text_high(alloc, state, s),
-        Reference::PosLow => pos_low(alloc, state.at_entry),
-        Reference::PosHigh => pos_high(alloc, state.at_entry),
+        Reference::PosLow => pos_low(alloc, state.is_at_entry()),
+        Reference::PosHigh => pos_high(alloc, state.is_at_entry()),
         Reference::CountLow => Ok(Some(at_least(alloc, Term::Count, 0)?)),
         Reference::CountHigh => Ok(Some(at_most(alloc, Term::Count, cond.entries as i64)?)),
     }
 }
 
 /// A row of the state, by its number.
-fn row_at(alloc: Global, rows: &[Row], k: u32) -> Result<Option<Row>, NoMemory>
-    requires { All IsBounded rows.now }
-    ensures said { IfOk result (λ row. row ≡ slice_get rows.now k) }
+fn row_at(alloc: Global, state: &State, k: u32) -> Result<Option<Row>, NoMemory>
+    requires { All IsBounded state.now.rows }
+    ensures said { IfOk result (λ row. row ≡ slice_get state.now.rows k) }
     ensures small { IfOk result (λ row. IfSome row IsSmall) }
 {
-    match rows.get(k as usize) {
+    match state.row(k as u64) {
         Some(row) => Ok(Some(row.copied(alloc)?)),
         None => Ok(None),
     }
@@ -79,7 +78,7 @@ fn on_symbol(state: &State, s: Sym, row: Row) -> Option<Row>
     ensures said { result ≡ rule.on_symbol state.now s (Some row) }
     ensures small { IfSome result IsSmall }
 {
-    if s.0 < state.next { Some(row) } else { None }
+    if s.0 < state.next() { Some(row) } else { None }
 }
 
 /// An exact integer is at least itself.
@@ -88,7 +87,7 @@ fn exact_low(alloc: Global, state: &State, s: Sym) -> Result<Option<Row>, NoMemo
         (option_map (rule.at_least (Term.Value s.0)) (decided.exact_integer state.now.facts s.0))) }
     ensures small { IfOk result (λ row. IfSome row IsSmall) }
 {
-    match exact_integer(state.facts.as_slice(), s) {
+    match state.exact_integer(s) {
         Some(n) => Ok(on_symbol(state, s, at_least(alloc, Term::Value(s.0), n as i64)?)),
         None => Ok(None),
     }
@@ -100,7 +99,7 @@ fn exact_high(alloc: Global, state: &State, s: Sym) -> Result<Option<Row>, NoMem
         (option_map (rule.at_most (Term.Value s.0)) (decided.exact_integer state.now.facts s.0))) }
     ensures small { IfOk result (λ row. IfSome row IsSmall) }
 {
-    match exact_integer(state.facts.as_slice(), s) {
+    match state.exact_integer(s) {
         Some(n) => Ok(on_symbol(state, s, at_most(alloc, Term::Value(s.0), n as i64)?)),
         None => Ok(None),
     }
@@ -112,7 +111,7 @@ fn nonblank(alloc: Global, state: &State, s: Sym, term: Term) -> Result<Option<R
         (if decided.is_known_nonblank state.now.facts s.0 then Some (rule.at_least term (pos 1)) else None)) }
     ensures small { IfOk result (λ row. IfSome row IsSmall) }
 {
-    if is_known_nonblank(state.facts.as_slice(), s) {
+    if state.is_known_nonblank(s) {
         Ok(on_symbol(state, s, at_least(alloc, term, 1)?))
     } else {
         Ok(None)
@@ -126,7 +125,7 @@ fn text_low(alloc: Global, state: &State, s: Sym) -> Result<Option<Row>, NoMemor
         (option_map (λ text. rule.at_least (Term.Length s.0) (pos (length text))) (decided.exact_text state.now.facts s.0))) }
     ensures small { IfOk result (λ row. IfSome row IsSmall) }
 {
-    match exact_text(state.facts.as_slice(), s) {
+    match state.exact_text(s) {
         Some(text) => Ok(on_symbol(
             state,
             s,
@@ -143,7 +142,7 @@ fn text_high(alloc: Global, state: &State, s: Sym) -> Result<Option<Row>, NoMemo
         (option_map (λ text. rule.at_most (Term.Length s.0) (pos (length text))) (decided.exact_text state.now.facts s.0))) }
     ensures small { IfOk result (λ row. IfSome row IsSmall) }
 {
-    match exact_text(state.facts.as_slice(), s) {
+    match state.exact_text(s) {
         Some(text) => Ok(on_symbol(
             state,
             s,

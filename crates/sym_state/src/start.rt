@@ -11,11 +11,11 @@ ghost use Rattle.sym_state.specs.Starting as rule;
 ghost use Rattle.sym_state.specs.Symbols.{Valuation};
 ghost use Rattle.sym_state.specs.WellMade as made;
 
-use crate::binds::symbol_at;
+use crate::bindings::symbol_at;
 use crate::piece::Piece;
 use crate::raising::joined;
 use crate::references::at_most;
-use crate::state::State;
+use crate::state::{Parts, State};
 use crate::symbol::{Bind, Fact, Kinds, Sym};
 use bst_meaning::condition::{Cond, NamesLine};
 use bst_meaning::value::{ENTRY_SIZE, GLOBAL_SIZE};
@@ -39,7 +39,7 @@ pub fn start(
 ) -> Result<State, NoMemory>
     requires numbered { All rule.IsNumbered pieces.now }
     requires few { rule.all_symbols pieces.now + length style.now.names < 4294967296 }
-    ensures started { IfOk result (λ state. state ≡ rule.started alloc style.now cond.now pieces.now whole at_entry) }
+    ensures started { IfOk result (λ state. state ≡ rule.started style.now cond.now pieces.now whole at_entry) }
     ensures made { All (rule.IsFit style.now) pieces.now → IfOk result (made.WellMade style.now) }
     ensures stands { IfOk result (λ state. (list : EntryList) (v : Valuation) (c : Config) (below : List Value)
         → CanStart style.now cond.now list v pieces.now whole at_entry c below
@@ -52,8 +52,7 @@ pub fn start(
     add_own_facts(&mut facts, style, cond, binds.as_slice())?;
     let mut rows = from.rows;
     add_own_rows(alloc, &mut rows, style, cond, binds.as_slice())?;
-    Ok(State {
-        alloc,
+    let parts = Parts {
         stack: Seq::from_vec(from.stack),
         whole,
         at_entry,
@@ -62,7 +61,8 @@ pub fn start(
         facts: Seq::from_vec(facts),
         rows: Seq::from_vec(rows),
         next,
-    })
+    };
+    State::from_parts(alloc, parts)
 }
 
 /// The names that have a value, in the order of ids.

@@ -1,25 +1,53 @@
 //! Symbolic states.
 
-ghost use Rattle.std.specs.Prelude.{◌≡◌, ◌<◌, ◌++◌, [], ◌∷◌, drop, reverse, OnOk, OnErr, IfOk, MatchOption};
+ghost use Rattle.std.specs.Prelude.{◌≡◌, ◌<◌, ◌≤◌, ◌^◌, ◌++◌, [], ◌∷◌, length, slice_get, reverse, drop, option_map, OnOk, OnErr, IfOk, IfSome, MatchOption};
+ghost use Rattle.std.specs.List.{All};
+ghost use Rattle.std.specs.Option.{option_and_then};
 ghost use Rattle.name_table.specs.declared.style.Style.{Style};
+ghost use Rattle.sym_state.specs.Cases.{with_case};
 ghost use Rattle.sym_state.specs.Changes as change;
+ghost use Rattle.sym_state.specs.Decided as decided;
 ghost use Rattle.sym_state.specs.Demands.{without};
-ghost use Rattle.sym_state.specs.WellMade.{HasBounds, WellMade};
+ghost use Rattle.sym_state.specs.WellMade.{HasBounds, HasShortText, IsBounded, WellMade};
 
-use crate::binds::rebound;
+use crate::bindings::Bindings;
+use crate::facts;
+use crate::shared_list::SharedList;
 use crate::symbol::{Bind, Fact, Kinds, Sym};
-use bv_base::copied::Copied;
 use bv_base::memory::NoMemory;
 use bv_base::seq::Seq;
 use lin_facts::row::Row;
 use name_table::names::NameId;
 use std::alloc::Global;
+use std::marker::Model;
 
-/// What the checker knows of a configuration of the machine (docs/STATES.md).
+/// What the checker knows of a configuration of the machine (docs/STATES.md). Branches of a state share what they have in
+/// common, so that a branch costs what lies on its stack. Contracts see the record of `specs/State.antt`.
 #[derive(Drop)]
 pub struct State {
-    /// Where the lists take their memory.
-    pub alloc: Global,
+    alloc: Global,
+    stack: Seq<Sym>,
+    whole: bool,
+    at_entry: bool,
+    vars: Bindings,
+    fields: Bindings,
+    facts: SharedList<Fact>,
+    rows: SharedList<Row>,
+    next: u32,
+}
+
+impl Model for State {
+    ghost use Rattle.sym_state.specs.State as record_of;
+
+    ghost Value = { record_of.State };
+
+    ghost view = { λ s. record { stack = s.stack; whole = s.whole; at_entry = s.at_entry; vars = s.vars; fields = s.fields;
+        facts = s.facts; rows = s.rows; next = s.next } };
+}
+
+/// What a state is made of.
+#[derive(Drop)]
+pub struct Parts {
     /// The known top of the literal stack, its top last.
     pub stack: Seq<Sym>,
     /// Whether that is the whole literal stack.
@@ -37,6 +65,195 @@ pub struct State {
 }
 
 impl State {
+    /// The state of these parts.
+    pub fn from_parts(alloc: Global, parts: Parts) -> Result<State, NoMemory>
+        ensures { IfOk result (λ state. state ≡ record { stack = parts.stack; whole = parts.whole; at_entry = parts.at_entry;
+            vars = parts.vars; fields = parts.fields; facts = parts.facts; rows = parts.rows; next = parts.next }) }
+    {
+        let Parts {
+            stack,
+            whole,
+            at_entry,
+            vars,
+            fields,
+            facts,
+            rows,
+            next,
+        } = parts;
+        Ok(State {
+            alloc,
+            stack,
+            whole,
+            at_entry,
+            vars: Bindings::new(alloc, vars)?,
+            fields: Bindings::new(alloc, fields)?,
+            facts: SharedList::from_vec(alloc, facts.into_vec())?,
+            rows: SharedList::from_vec(alloc, rows.into_vec())?,
+            next,
+        })
+    }
+
+    /// Where the state takes its memory.
+    pub fn alloc(&self) -> Global {
+        self.alloc
+    }
+
+    /// How many symbols are known on the stack.
+    pub fn stack_len(&self) -> u64
+        ensures { result ≡ length self.now.stack }
+    {
+        self.stack.as_slice().len() as u64
+    }
+
+    /// The symbol so far below the top, which is at 0. `None` comes exactly where no symbol is known there.
+    pub fn at(&self, from_top: u64) -> Option<Sym>
+        ensures { result ≡ slice_get (reverse self.now.stack) from_top }
+    {
+        let stack = self.stack.as_slice();
+        if from_top < stack.len() as u64 {
+            Some(stack[stack.len() - 1 - from_top as usize])
+        } else {
+            None
+        }
+    }
+
+    /// The known symbols of the stack, the top last.
+    pub(crate) fn stack(&self) -> &[Sym]
+        ensures { result.now ≡ self.now.stack }
+    {
+        self.stack.as_slice()
+    }
+
+    /// The symbols that are bound to variables.
+    pub(crate) fn vars(&self) -> &Bindings
+        ensures { result.now ≡ self.now.vars }
+    {
+        &self.vars
+    }
+
+    /// The symbols that are bound to fields.
+    pub(crate) fn fields(&self) -> &Bindings
+        ensures { result.now ≡ self.now.fields }
+    {
+        &self.fields
+    }
+
+    /// The symbol that is bound to a variable or a field. `None` comes exactly where the state binds neither.
+    pub fn bound(&self, name: NameId) -> Option<Sym>
+        ensures { result ≡ change.bound name self.now }
+    {
+        match self.vars.symbol(name) {
+            Some(sym) => Some(sym),
+            None => self.fields.symbol(name),
+        }
+    }
+
+    /// How many facts there are.
+    pub fn facts(&self) -> u64
+        ensures { result ≡ length self.now.facts }
+    {
+        self.facts.len()
+    }
+
+    /// How many rows there are.
+    pub fn rows(&self) -> u64
+        ensures { result ≡ length self.now.rows }
+    {
+        self.rows.len()
+    }
+
+    /// The fact of a number, from 0. `None` comes exactly where there are no more.
+    pub fn fact(&self, index: u64) -> Option<&Fact>
+        ensures { option_map (λ fact. fact.now) result ≡ slice_get self.now.facts index }
+    {
+        self.facts.get(index)
+    }
+
+    /// The row of a number, from 0. `None` comes exactly where there are no more.
+    pub fn row(&self, index: u64) -> Option<&Row>
+        ensures { option_map (λ row. row.now) result ≡ slice_get self.now.rows index }
+    {
+        self.rows.get(index)
+    }
+
+    /// Whether the known stack is the whole literal stack.
+    pub fn is_whole(&self) -> bool
+        ensures { result ≡ self.now.whole }
+    {
+        self.whole
+    }
+
+    /// Whether an entry is visited.
+    pub fn is_at_entry(&self) -> bool
+        ensures { result ≡ self.now.at_entry }
+    {
+        self.at_entry
+    }
+
+    /// The number below which symbols are the state's.
+    pub fn next(&self) -> u32
+        ensures { result ≡ self.now.next }
+    {
+        self.next
+    }
+
+    /// The exact integer of a symbol.
+    pub fn exact_integer(&self, sym: Sym) -> Option<i32>
+        ensures { result ≡ decided.exact_integer self.now.facts sym.0 }
+    {
+        facts::exact_integer(&self.facts, sym)
+    }
+
+    /// The exact text of a symbol.
+    pub fn exact_text(&self, sym: Sym) -> Option<&[u8]>
+        ensures said { option_map (λ text. text.now) result ≡ decided.exact_text self.now.facts sym.0 }
+        ensures short { All HasShortText self.now.facts → IfSome result (λ text. length text.now ≤ 2 ^ 45) }
+    {
+        facts::exact_text(&self.facts, sym)
+    }
+
+    /// The name of a symbol that is exactly the function of that name.
+    pub fn exact_name(&self, sym: Sym) -> Option<NameId>
+        ensures { result ≡ option_and_then decided.name_of (decided.exact_function self.now.facts sym.0) }
+    {
+        facts::exact_name(&self.facts, sym)
+    }
+
+    /// What `empty$` gives for a symbol, true for 1, by the first fact on it that decides that.
+    pub fn known_emptiness(&self, sym: Sym) -> Option<bool>
+        ensures { result ≡ decided.first_said decided.emptiness_said sym.0 self.now.facts }
+    {
+        facts::known_emptiness(&self.facts, sym)
+    }
+
+    /// Whether the first fact on a symbol that decides `empty$` decides 0.
+    pub fn is_known_nonblank(&self, sym: Sym) -> bool
+        ensures { result ≡ decided.is_known_nonblank self.now.facts sym.0 }
+    {
+        facts::is_known_nonblank(&self.facts, sym)
+    }
+
+    /// The kind of a symbol.
+    pub fn known_kind(&self, sym: Sym) -> Kinds
+        ensures { result ≡ decided.known_kind self.now.facts sym.0 }
+    {
+        facts::known_kind(&self.facts, sym)
+    }
+
+    /// Whether a kind includes that of a symbol.
+    pub fn is_of_kind(&self, kind: Kinds, sym: Sym) -> bool
+        ensures { result ≡ decided.includes kind (decided.known_kind self.now.facts sym.0) }
+    {
+        facts::includes(kind, self.known_kind(sym))
+    }
+
+    /// Whether a fact follows for a symbol from one of the facts on it. That it is of some kind follows always.
+    pub fn is_known(&self, sym: Sym, wanted: &Fact) -> bool
+        ensures { result ≡ decided.is_known self.now.facts sym.0 wanted.now }
+    {
+        facts::is_known(&self.facts, sym, wanted)
+    }
+
     /// Puts a symbol on top of the stack. A refusal leaves the state as it was.
     pub fn push(&mut self, sym: Sym) -> Result<(), NoMemory>
         ensures ok { OnOk result (self.new ≡ record self.old { stack = self.old.stack ++ sym ∷ [] }) }
@@ -61,8 +278,8 @@ impl State {
         ensures err { OnErr result (self.new ≡ self.old) }
         ensures kept { (style : Style) → WellMade style self.old → sym.0 < self.old.next → WellMade style self.new }
     {
-        let vars = rebound(self.alloc, name, sym, self.vars.as_slice())?;
-        let fields = rebound(self.alloc, name, sym, self.fields.as_slice())?;
+        let vars = self.vars.rebound(name, sym)?;
+        let fields = self.fields.rebound(name, sym)?;
         self.vars = vars;
         self.fields = fields;
         Ok(())
@@ -77,12 +294,39 @@ impl State {
         ensures kept { (style : Style) → WellMade style self.old → WellMade style self.new }
     {
         let sym = Sym(self.next);
-        match kind {
-            Kinds::Any => {}
-            _ => self.facts.push(Fact::Is(sym, kind))?,
-        }
+        let facts = with_kind(&self.facts, sym, kind)?;
+        self.facts = facts;
         self.next += 1;
         Ok(sym)
+    }
+
+    /// Adds a fact. A refusal leaves the state as it was.
+    pub fn add_fact(&mut self, fact: Fact) -> Result<(), NoMemory>
+        ensures ok { OnOk result (self.new ≡ record self.old { facts = self.old.facts ++ fact ∷ [] }) }
+        ensures err { OnErr result (self.new ≡ self.old) }
+    {
+        self.facts.push(fact)
+    }
+
+    /// Adds a row. A refusal leaves the state as it was.
+    pub fn add_row(&mut self, row: Row) -> Result<(), NoMemory>
+        ensures ok { OnOk result (self.new ≡ record self.old { rows = self.old.rows ++ row ∷ [] }) }
+        ensures err { OnErr result (self.new ≡ self.old) }
+        ensures bounds { IsBounded row → HasBounds self.old → OnOk result (HasBounds self.new) }
+    {
+        self.rows.push(row)
+    }
+
+    /// The state with the facts and rows that a case adds.
+    pub fn with_case(self, facts: Vec<Fact>, rows: Vec<Row>) -> Result<State, NoMemory>
+        ensures after { IfOk result (λ after. after ≡ with_case facts.items rows.items self) }
+        ensures next { IfOk result (λ after. after.next ≡ self.next) }
+        ensures bounds { HasBounds self → All HasShortText facts.items → All IsBounded rows.items → IfOk result HasBounds }
+    {
+        let mut after = self;
+        after.facts.append(facts)?;
+        after.rows.append(rows)?;
+        Ok(after)
     }
 
     /// A state that is the same.
@@ -101,6 +345,13 @@ impl State {
         self.over(front(self.alloc, self.stack.as_slice(), taken)?)
     }
 
+    /// A state that is the same over an empty stack.
+    pub fn emptied(&self) -> Result<State, NoMemory>
+        ensures { IfOk result (λ state. state ≡ record self.now { stack = [] }) }
+    {
+        self.over(Vec::new(self.alloc))
+    }
+
     /// A state that is the same over another stack.
     fn over(&self, stack: Vec<Sym>) -> Result<State, NoMemory>
         ensures { IfOk result (λ state. state ≡ record self.now { stack = stack.items }) }
@@ -110,10 +361,10 @@ impl State {
             stack: Seq::from_vec(stack),
             whole: self.whole,
             at_entry: self.at_entry,
-            vars: Seq::from_vec(self.vars.as_slice().to_vec(self.alloc)?),
-            fields: Seq::from_vec(self.fields.as_slice().to_vec(self.alloc)?),
-            facts: self.facts.copied(self.alloc)?,
-            rows: self.rows.copied(self.alloc)?,
+            vars: self.vars.branch()?,
+            fields: self.fields.branch()?,
+            facts: self.facts.branch()?,
+            rows: self.rows.branch()?,
             next: self.next,
         })
     }
@@ -126,4 +377,16 @@ fn front(alloc: Global, stack: &[Sym], taken: usize) -> Result<Vec<Sym>, NoMemor
 {
     let left = stack.len().saturating_sub(taken);
     Ok(stack[..left].to_vec(alloc)?)
+}
+
+/// The facts with that of the kind of a symbol.
+fn with_kind(facts: &SharedList<Fact>, sym: Sym, kind: Kinds) -> Result<SharedList<Fact>, NoMemory>
+    ensures { IfOk result (λ more. more ≡ facts.now ++ change.kind_facts sym kind) }
+{
+    let mut more = facts.branch()?;
+    match kind {
+        Kinds::Any => {}
+        _ => more.push(Fact::Is(sym, kind))?,
+    }
+    Ok(more)
 }

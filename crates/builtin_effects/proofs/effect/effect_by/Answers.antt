@@ -5,7 +5,7 @@ use Rattle.name_table.specs.declared.builtin.Builtin.TheVariants as op
 use Rattle.name_table.specs.declared.style.Style.{Style}
 use Rattle.sym_state.specs.declared.demand.EffectFault.{EffectFault}
 use Rattle.sym_state.specs.declared.hint.Hint.{Hint}
-use Rattle.sym_state.specs.declared.state.State.{State}
+use Rattle.sym_state.specs.State.{State}
 use Rattle.sym_state.specs.Effects.{rule_of}
 use Rattle.builtin_effects.specs.declared.at.At.{At}
 use Rattle.builtin_effects.specs.Given.{Gives, outcome_at}

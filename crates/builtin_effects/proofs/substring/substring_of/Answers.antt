@@ -7,7 +7,7 @@ use Rattle.bst_meaning.specs.declared.condition.Cond.{Cond}
 use Rattle.bv_base.specs.Answers.{Refuses}
 use Rattle.sym_state.specs.declared.demand.EffectFault.TheVariants.{NoMemory}
 use Rattle.sym_state.specs.declared.hint.Hint.{Hint}
-use Rattle.sym_state.specs.declared.state.State.{State}
+use Rattle.sym_state.specs.State.{State}
 use Rattle.sym_state.specs.declared.symbol.Sym.{Sym}
 use Rattle.sym_state.specs.Demands.{Outcome, choice, outcome, without}
 use Rattle.sym_state.specs.Effects.{is_length, is_start, known_size, of_length, shorter, substring_of}

@@ -7,7 +7,7 @@ use Rattle.bst_meaning.specs.declared.condition.Cond.{Cond}
 use Rattle.sym_state.specs.declared.demand.EffectFault.{EffectFault}
 use Rattle.sym_state.specs.declared.demand.DemandKind.TheVariants.{BadNameIndex}
 use Rattle.sym_state.specs.declared.hint.Hint.{Hint}
-use Rattle.sym_state.specs.declared.state.State.{State}
+use Rattle.sym_state.specs.State.{State}
 use Rattle.sym_state.specs.Demands.{Outcome, fails, outcome, two_steps, without}
 use Rattle.sym_state.specs.Effects.{named}
 use Rattle.sym_state.specs.References.{at_least, exceeds}

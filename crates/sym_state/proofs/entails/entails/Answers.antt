@@ -7,7 +7,7 @@ use Rattle.sym_state.proofs.entails.entails.Goals as goal
 
 pub returns-clause-sound : goal.returns-clause-sound
 returns-clause-sound c =
-    let few : length c.args.piece.now.stack ≤ length c.args.state.now.stack = omega (arith, ap length c.as_slice.ensures, ap length c.as_slice-2.ensures, c.if-as_slice.false) in
+    let few : length c.args.piece.now.stack ≤ length c.args.state.now.stack = omega (arith, ap length c.stack.ensures, ap length c.as_slice.ensures, c.if-stack-as_slice.false) in
     let match : ℕ → ℕ = match_of c.args.state.now c.args.piece.now c.args.kept in
     IfOk-weaker c.first_line_failing.result _ _
     (λ line is none style list v config below stands.

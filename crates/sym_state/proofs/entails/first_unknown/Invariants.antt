@@ -7,6 +7,6 @@ use Rattle.sym_state.proofs.entails.first_unknown.Given as goal
 abbrev pub invariant-loop-fact : goal.invariant-loop-fact
 invariant-loop-fact l = record {
   line : l.line ≡ l.first + l.fact-index;
-  left : first_failing (fact_follows (matched_by l.matching) l.known) l.line (drop l.fact-index l.facts)
-      ≡ first_failing (fact_follows (matched_by l.matching) l.known) l.first l.facts;
+  left : first_failing (fact_follows (matched_by l.matching) l.state.facts) l.line (drop l.fact-index l.facts)
+      ≡ first_failing (fact_follows (matched_by l.matching) l.state.facts) l.first l.facts;
 }

@@ -1,6 +1,6 @@
 use Rattle.std.proofs.Common.{◌≡◌, drop}
 use Rattle.sym_state.specs.Changes.{symbol_at}
-use Rattle.sym_state.proofs.binds.symbol_at.Given as goal
+use Rattle.sym_state.proofs.bindings.symbol_at.Given as goal
 
 -- the bindings that are left bind the name as all of them do
 abbrev pub invariant-loop-bind : goal.invariant-loop-bind
