@@ -14,7 +14,7 @@ use name_table::names::{Kind, NameId, Names};
 use name_table::style::Style;
 use std::alloc::Global;
 use sym_state::piece::Piece;
-use sym_state::state::State;
+use sym_state::state::{Parts, State};
 use sym_state::symbol::{Bind, Fact, Kinds, Sym};
 
 /// Where a state is, the names that it binds, and its next symbol.
@@ -106,8 +106,7 @@ pub fn state_of(alloc: Global, shape: Shape, text: &'static str) -> Result<State
         facts,
         rows,
     } = piece(alloc, text, shape.vars, shape.fields)?;
-    Ok(State {
-        alloc,
+    let parts = Parts {
         stack,
         whole: shape.whole,
         at_entry: shape.at_entry,
@@ -116,7 +115,8 @@ pub fn state_of(alloc: Global, shape: Shape, text: &'static str) -> Result<State
         facts,
         rows,
         next: shape.next,
-    })
+    };
+    Ok(State::from_parts(alloc, parts)?)
 }
 
 /// A piece with a stack and what is known, and these variables and fields.

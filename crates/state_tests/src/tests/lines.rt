@@ -10,7 +10,7 @@ use std::process::Abort;
 use sym_state::demand::EffectFault;
 use sym_state::facts::subject;
 use sym_state::state::State;
-use sym_state::symbol::{Bind, Fact};
+use sym_state::symbol::Fact;
 
 /// What has an answer to what is given.
 pub trait Answers {
@@ -44,10 +44,9 @@ trait Said: Debug {
 pub fn add_state(line: &mut String, before: &State, after: &State) -> Result<(), NoMemory> {
     add_stack(line, after)?;
     add_setting(line, before, after)?;
-    add_new(line, before.facts.as_slice(), after.facts.as_slice())?;
-    add_new(line, before.rows.as_slice(), after.rows.as_slice())?;
-    add_new(line, before.vars.as_slice(), after.vars.as_slice())?;
-    add_new(line, before.fields.as_slice(), after.fields.as_slice())
+    add_facts(line, before, after)?;
+    add_rows(line, before, after)?;
+    add_binds(line, before, after)
 }
 
 /// Adds why a state has no effect.
@@ -71,54 +70,91 @@ pub fn add_left(line: &mut String, is_ok: bool, given: usize, left: usize) -> Re
 }
 
 fn add_stack(line: &mut String, state: &State) -> Result<(), NoMemory> {
-    if state.stack.as_slice().is_empty() {
+    let known = state.stack_len();
+    if known == 0 {
         line.push_str("empty")?;
     }
-    for (k, sym) in state.stack.as_slice().iter().enumerate() {
-        let (space, s) = (if k == 0 { "" } else { " " }, sym.0);
-        write!(line, "{space}{s}")?;
+    for k in 0..known {
+        if let Some(sym) = state.at(known - 1 - k) {
+            let (space, s) = (if k == 0 { "" } else { " " }, sym.0);
+            write!(line, "{space}{s}")?;
+        }
     }
     Ok(())
 }
 
 fn add_setting(line: &mut String, before: &State, after: &State) -> Result<(), NoMemory> {
-    let (whole, at_entry, next) = (after.whole, after.at_entry, after.next);
-    if whole != before.whole {
+    let (whole, at_entry, next) = (after.is_whole(), after.is_at_entry(), after.next());
+    if whole != before.is_whole() {
         write!(line, "; whole {whole}")?;
     }
-    if at_entry != before.at_entry {
+    if at_entry != before.is_at_entry() {
         write!(line, "; at an entry {at_entry}")?;
     }
-    if next != before.next {
+    if next != before.next() {
         write!(line, "; next {next}")?;
     }
     Ok(())
 }
 
-fn add_new<T: Said>(line: &mut String, before: &[T], after: &[T]) -> Result<(), NoMemory> {
-    for (k, item) in after.iter().enumerate() {
-        if k >= before.len() || !looks_like(line, item, &before[k])? {
-            line.push_str("; ")?;
-            item.say(line)?;
+fn add_facts(line: &mut String, before: &State, after: &State) -> Result<(), NoMemory> {
+    for k in 0..after.facts() {
+        add_new(line, before.fact(k), after.fact(k))?;
+    }
+    add_fewer(line, before.facts(), after.facts())
+}
+
+fn add_rows(line: &mut String, before: &State, after: &State) -> Result<(), NoMemory> {
+    for k in 0..after.rows() {
+        add_new(line, before.row(k), after.row(k))?;
+    }
+    add_fewer(line, before.rows(), after.rows())
+}
+
+/// Adds the names of the style of these tests that are bound to other symbols than before.
+fn add_binds(line: &mut String, before: &State, after: &State) -> Result<(), NoMemory> {
+    for id in 37..43 {
+        if let Some(sym) = after.bound(NameId(id)) {
+            if before.bound(NameId(id)) != Some(sym) {
+                let s = sym.0;
+                write!(line, "; {id}={s}")?;
+            }
         }
     }
-    if after.len() < before.len() {
+    Ok(())
+}
+
+/// Adds an item where another stood before, or none did.
+fn add_new<T: Said>(
+    line: &mut String,
+    before: Option<&T>,
+    after: Option<&T>,
+) -> Result<(), NoMemory> {
+    let Some(item) = after else {
+        return Ok(());
+    };
+    if !looks_like(line, item, before)? {
+        line.push_str("; ")?;
+        item.say(line)?;
+    }
+    Ok(())
+}
+
+/// Adds that there are fewer than before.
+fn add_fewer(line: &mut String, before: u64, after: u64) -> Result<(), NoMemory> {
+    if after < before {
         line.push_str("; fewer")?;
     }
     Ok(())
 }
 
 /// Whether two items are printed alike.
-fn looks_like<T: Debug>(line: &String, one: &T, other: &T) -> Result<bool, NoMemory> {
+fn looks_like<T: Debug>(line: &String, one: &T, other: Option<&T>) -> Result<bool, NoMemory> {
+    let Some(other) = other else {
+        return Ok(false);
+    };
     let alloc = *line.allocator();
     Ok(format!(in alloc; "{one:?}")?.as_str() == format!(in alloc; "{other:?}")?.as_str())
-}
-
-impl Said for Bind {
-    fn say(&self, line: &mut String) -> Result<(), NoMemory> {
-        let (name, s) = (self.name.0, self.sym.0);
-        Ok(write!(line, "{name}={s}")?)
-    }
 }
 
 impl Said for Fact {

@@ -107,8 +107,8 @@ fn failing(state: &State, piece: &Piece, kept: u32, proofs: &[Proof]) -> Result<
     if !is_short(piece) {
         return Err(Unread::At("a piece of many lines"));
     }
-    let cond = condition(state.alloc);
-    Ok(entails(state.alloc, state, &cond, piece, kept, proofs)?)
+    let cond = condition(state.alloc());
+    Ok(entails(state.alloc(), state, &cond, piece, kept, proofs)?)
 }
 
 /// Whether a piece has few lines.
@@ -125,7 +125,7 @@ fn is_short(piece: &Piece) -> bool
 fn add_known(line: &mut String, state: &State, given: &'static str) -> Result<(), Unread>
     requires { HasBounds state.now }
 {
-    let piece = piece(state.alloc, given, "", "")?;
+    let piece = piece(state.alloc(), given, "", "")?;
     let failing = failing(state, &piece, 7, &[])?;
     add_truth(line, failing.is_none())
 }
@@ -155,7 +155,7 @@ fn add_shown(
 ) -> Result<(), Unread>
     requires { HasBounds state.now }
 {
-    let proof = proof(state.alloc, uses)?;
+    let proof = proof(state.alloc(), uses)?;
     add_row_shown(line, state, &proof, goal)
 }
 
@@ -168,7 +168,7 @@ fn add_row_shown(
     requires state { HasBounds state.now }
     requires proof { length proof.now.uses ≤ 64 }
 {
-    let goal = row(state.alloc, goal)?;
+    let goal = row(state.alloc(), goal)?;
     add_goal_shown(line, state, proof, &goal)
 }
 
@@ -177,7 +177,7 @@ fn add_goal_shown(line: &mut String, state: &State, proof: &Proof, goal: &Row) -
     requires proof { length proof.now.uses ≤ 64 }
     requires goal { IsBounded goal.now }
 {
-    let cond = condition(state.alloc);
-    let shown = shows(state.alloc, state, &cond, proof, goal)?;
+    let cond = condition(state.alloc());
+    let shown = shows(state.alloc(), state, &cond, proof, goal)?;
     add_truth(line, shown)
 }

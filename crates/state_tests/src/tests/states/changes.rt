@@ -6,7 +6,7 @@ use crate::tests::known::{Shape, state_of};
 use crate::tests::lines::compare;
 use crate::tests::reading::Unread;
 use crate::tests::states::Asked;
-use crate::tests::states::example::started;
+use crate::tests::states::example::{binds, started};
 use bv_base::memory::NoMemory;
 use name_table::names::NameId;
 use sym_state::hint::{Hint, Hints};
@@ -51,7 +51,7 @@ fn is_branched_alike(state: &State) -> Result<bool, NoMemory> {
 
 /// Whether the stack and the variables are as they are after the changes.
 fn is_changed(state: &State) -> bool {
-    state.stack.as_slice() == [Sym(0)].as_slice() && state.vars.as_slice() == CHANGED.as_slice()
+    state.stack_len() == 1 && state.at(0) == Some(Sym(0)) && binds(state, &CHANGED)
 }
 
 static CHANGED: [Bind; 4] = [bind!(39, 1), bind!(40, 2), bind!(41, 0), bind!(42, 0)];
@@ -83,7 +83,7 @@ fn add_symbols(line: &mut String, state: &mut State) -> Result<(), Unread>
     requires { state.old.next ≡ 4294967293 }
 {
     let [any, string] = next_two(state)?;
-    let facts = state.facts.as_slice().len();
+    let facts = state.facts();
     Ok(write!(line, "{any:?} {string:?} {facts}")?)
 }
 

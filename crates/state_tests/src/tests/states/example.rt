@@ -50,9 +50,16 @@ pub fn add_started(line: &mut String, _given: &'static str) -> Result<(), Unread
 }
 
 fn add_beginning(line: &mut String, state: &State) -> Result<(), Unread> {
-    let is_bound = state.vars.as_slice() == BINDS.as_slice();
-    let (next, facts) = (state.next, state.facts.as_slice().len());
+    let is_bound = binds(state, &BINDS);
+    let (next, facts) = (state.next(), state.facts());
     Ok(write!(line, "{is_bound} {next} {facts}")?)
+}
+
+/// Whether a state binds these names to these symbols.
+pub fn binds(state: &State, binds: &[Bind]) -> bool {
+    binds
+        .iter()
+        .all(|bind| state.bound(bind.name) == Some(bind.sym))
 }
 
 static BINDS: [Bind; 4] = [bind!(39, 1), bind!(40, 2), bind!(41, 0), bind!(42, 3)];
@@ -88,7 +95,7 @@ fn add_by_proof(line: &mut String, state: &State, given: &'static str) -> Result
     requires { HasBounds state.now }
 {
     let (known, uses) = halves(given, " | ");
-    let proofs = [proof(state.alloc, uses)?];
+    let proofs = [proof(state.alloc(), uses)?];
     add_ending(line, state, known, &proofs)
 }
 
@@ -101,7 +108,7 @@ fn add_ending(
     requires state { HasBounds state.now }
     requires proofs { All (λ proof. length proof.uses ≤ 64) proofs.now }
 {
-    let piece = piece(state.alloc, known, "41=0; 42=1", "")?;
+    let piece = piece(state.alloc(), known, "41=0; 42=1", "")?;
     add_failing(line, state, &piece, 0, proofs)
 }
 

@@ -11,7 +11,7 @@ use bv_base::seq::Seq;
 use lin_facts::row::{Part, Row, Term};
 use std::alloc::Global;
 use sym_state::proof::{Proof, Reference, Use};
-use sym_state::state::State;
+use sym_state::state::{Parts, State};
 
 /// A state with the row 2^39 + value 0 >= 0.
 fn greatest_state(alloc: Global) -> Result<State, NoMemory>
@@ -27,8 +27,7 @@ fn greatest_state(alloc: Global) -> Result<State, NoMemory>
     };
     let mut rows = Seq::new(alloc);
     rows.push(used)?;
-    Ok(State {
-        alloc,
+    let parts = Parts {
         stack: Seq::new(alloc),
         whole: false,
         at_entry: false,
@@ -37,7 +36,8 @@ fn greatest_state(alloc: Global) -> Result<State, NoMemory>
         facts: Seq::new(alloc),
         rows,
         next: 1,
-    })
+    };
+    State::from_parts(alloc, parts)
 }
 
 /// A constant, how many uses of that row, each taken 4294967295 times, and whether they show 64 values and the constant.
@@ -80,7 +80,7 @@ fn add_by_uses(line: &mut String, state: &State, constant: i64, uses: usize) -> 
     };
     let proof = Proof {
         divisor: 4294967295,
-        uses: Seq::from_vec([take; 64][..uses.min(64)].to_vec(state.alloc)?),
+        uses: Seq::from_vec([take; 64][..uses.min(64)].to_vec(state.alloc())?),
     };
     add_goal(line, state, constant, &proof)
 }
@@ -98,7 +98,7 @@ fn add_goal(line: &mut String, state: &State, constant: i64, proof: &Proof) -> R
     };
     let goal = Row {
         constant,
-        parts: Seq::from_vec([twice; 32].to_vec(state.alloc)?),
+        parts: Seq::from_vec([twice; 32].to_vec(state.alloc())?),
     };
     add_goal_shown(line, state, proof, &goal)
 }

@@ -38,7 +38,7 @@ fn add_first(line: &mut String, state: &State, given: &'static str) -> Result<()
 {
     let (kept, stack, vars) = thirds(given);
     let kept = natural(kept)?;
-    let piece = piece(state.alloc, stack, vars, "37=9")?;
+    let piece = piece(state.alloc(), stack, vars, "37=9")?;
     add_failing(line, state, &piece, kept, &[])
 }
 
