@@ -12,6 +12,7 @@ use crate::at::At;
 use crate::results::{Said, with_symbol};
 use crate::steps::choice;
 use bst_meaning::style_parts::kind_of;
+use bst_meaning::value::{ENTRY_SIZE, GLOBAL_SIZE};
 use lin_facts::row::Term;
 use name_table::names::{Kind, NameId};
 use name_table::style::Style;
@@ -47,14 +48,14 @@ fn assigned(
 {
     match kind {
         Some(Kind::IntGlobal) => integer_assigned(at, name, a),
-        Some(Kind::StrGlobal) => string_assigned(at, name, 20000, a, hints),
+        Some(Kind::StrGlobal) => string_assigned(at, name, GLOBAL_SIZE, a, hints),
         Some(Kind::IntEntry) => {
             demand(at.state.is_at_entry(), DemandKind::NoEntry, 0)?;
             integer_assigned(at, name, a)
         }
         Some(Kind::StrEntry) => {
             demand(at.state.is_at_entry(), DemandKind::NoEntry, 0)?;
-            string_assigned(at, name, 250, a, hints)
+            string_assigned(at, name, ENTRY_SIZE, a, hints)
         }
         _ => Err(EffectFault::unmet(DemandKind::NotVariable, 1)),
     }
