@@ -70,7 +70,7 @@ weighed_is admits state (Drop proof ∷ hints) cases e = dropped admits state pr
 weighed_is admits state _ cases e = absurd (cc)
 
 -- a case that is satisfied is kept, if it has a hint that is taken
-kept : (style : Style) (admits : Cond) (v : Valuation) (state : State) (hints : List Hint) (cases : Cases) → Satisfies style admits v state
+pub kept : (style : Style) (admits : Cond) (v : Valuation) (state : State) (hints : List Hint) (cases : Cases) → Satisfies style admits v state
     → weighed admits state hints ≡ Ok cases → cases.states ≡ state ∷ []
 kept style admits v state hints cases h e =
     let w = weighed_is admits state hints cases e in
@@ -110,9 +110,9 @@ both_weighed admits first second hints cases e =
           ] refl found
     ] refl e
 
-among_later : (state : State) (before after : List State) → IsAmong state after → IsAmong state (before ++ after)
-among_later state [] after h = h
-among_later state (first ∷ before) after h = inr (among_later state before after h)
+pub among_later : {X : Type 0} (x : X) (before after : List X) → IsAmong x after → IsAmong x (before ++ after)
+among_later x [] after h = h
+among_later x (first ∷ before) after h = inr (among_later x before after h)
 
 -- the first of two cases, if it is satisfied
 pub first_kept : (style : Style) (admits : Cond) (v : Valuation) (first second : State) (hints : List Hint) (cases : Cases)

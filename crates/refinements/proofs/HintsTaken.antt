@@ -13,7 +13,7 @@ use Rattle.sym_state.specs.declared.symbol.Kinds.TheVariants.{Any, Func, Int, Mi
 use Rattle.sym_state.specs.declared.symbol.Sym.{Sym}
 use Rattle.sym_state.specs.declared.test.Test.{Test}
 use Rattle.sym_state.specs.declared.test.Test.TheVariants.{Above, Empty, Equal, Greater, Less, Missing as IsMissing}
-use Rattle.sym_state.specs.Cases.{Cases, Split, above_cases, at_least_rows, empty_cases, equal_by, equal_decided, equal_rows, given, hints_of, hints_on, integer_cases, less_cases, less_decided, less_rows, missing_cases, needs_of, passed_both, split_of, text_cases, texts_decided, weighed_both}
+use Rattle.sym_state.specs.Cases.{Cases, Split, at_least_rows, empty_cases, equal_by, equal_decided, equal_rows, given, hints_of, hints_on, integer_cases, less_cases, less_decided, less_rows, missing_cases, needs_of, passed_both, split_of, text_cases, texts_decided, weighed_both}
 use Rattle.sym_state.specs.Decided.{emptiness_said, exact_integer, first_said, includes, known_kind}
 use Rattle.sym_state.specs.declared.demand.EffectFault.{EffectFault}
 use Rattle.sym_state.specs.Demands.{One, Two, demand, fails, is_of_kind, two_by, two_of}
@@ -21,6 +21,7 @@ use Rattle.sym_state.proofs.Ensured.{one_taken, two_taken}
 use Rattle.refinements.proofs.Covering.{both_weighed, weighed_is}
 use Rattle.sym_state.specs.References.{shows}
 use Rattle.sym_state.specs.declared.demand.EffectFault.TheVariants.{NotEntailed}
+use Rattle.refinements.proofs.Labels.{labels_dropped, sign_cases}
 use Rattle.refinements.proofs.Taking.{taken_one, taken_two}
 
 -- so many hints are taken, and the others are left
@@ -101,7 +102,7 @@ missing_took Str one hints cases e = none_took _ hints cases e
 missing_took _ one hints cases e = none_took _ hints cases e
 
 above_took : (admits : Cond) (state : State) (s : Sym) (found : Option ℤ) (hints : List Hint) (cases : Cases)
-    → above_cases admits state s found hints ≡ Ok cases → Took (hints_of found) hints cases
+    → sign_cases admits state s found hints ≡ Ok cases → Took (hints_of found) hints cases
 above_took admits state s (Some n) hints cases e = none_took _ hints cases e
 above_took admits state s None hints cases e = both_took admits _ _ hints cases e
 
@@ -130,4 +131,5 @@ test_took admits state Greater hints cases e =
     let f = two_taken Int Int state (λ two. less_cases admits state.facts two.upper two.lower two.rest hints) cases e in
     less_took admits state f.b f.a (taken_two f.a f.b f.rest state).rest hints cases
     (needed state (λ a b. less_decided state.facts b a) f.a f.b f.rest f.tops f.upper_met f.lower_met) f.given
-test_took admits state (Above s) hints cases e = above_took admits state s (exact_integer state.facts s.0) hints cases e
+test_took admits state (Above s) hints cases e =
+    above_took admits state s (exact_integer state.facts s.0) hints cases (sym (labels_dropped admits state s (exact_integer state.facts s.0) hints) ∙ e)

@@ -1,5 +1,5 @@
 -- Each state that the cases of a test give is well made.
-use Rattle.std.proofs.Common.{◌≡◌, ◌<◌, Bool, true, false, cond, List, [], ◌∷◌, ◌++◌, reverse, Option, None, Some, Ok, Err, subst, arith, inl, inr}
+use Rattle.std.proofs.Common.{◌≡◌, ◌<◌, Bool, true, false, cond, List, [], ◌∷◌, ◌++◌, reverse, Option, None, Some, Ok, Err, subst, sym, ap, ◌∙◌, arith, inl, inr}
 use Rattle.std.specs.Prelude.{ℤ, pos}
 use Rattle.std.specs.List.{All}
 use Rattle.std.proofs.lemmas.List.Elements.{All-append, All-cons, All-nil, All-same, All-tail}
@@ -19,7 +19,7 @@ use Rattle.sym_state.specs.declared.symbol.Kinds.TheVariants.{Int, Str, Missing,
 use Rattle.sym_state.specs.declared.symbol.Sym.{Sym}
 use Rattle.sym_state.specs.declared.test.Test.{Test}
 use Rattle.sym_state.specs.declared.test.Test.TheVariants.{Empty, Missing as IsMissing, Equal, Less, Greater, Above}
-use Rattle.sym_state.specs.Cases.{Cases, IsTestOf, above_cases, absurdity, at_least_rows, both, decided, empty_cases, equal_by, equal_decided, equal_rows, integer_cases, less, less_cases, less_decided, less_rows, missing_cases, not_positive_rows, passed, passed_both, positive_rows, split_of, text_cases, texts_decided, weighed, weighed_both, with_case, with_truth}
+use Rattle.sym_state.specs.Cases.{Cases, IsTestOf, Labelled, above_of, absurdity, at_least_rows, both, decided, empty_cases, equal_by, equal_decided, equal_rows, integer_cases, less, less_cases, less_decided, less_rows, missing_cases, not_positive_rows, passed, passed_both, positive_rows, split_of, text_cases, texts_decided, weighed, weighed_both, with_case, with_truth, without_labels}
 use Rattle.sym_state.specs.Decided.{emptiness_said, exact_integer, exact_text, first_said, known_kind}
 use Rattle.sym_state.specs.Demands.{fails, is_of_kind}
 use Rattle.sym_state.specs.References.{at_least, at_most, shows}
@@ -31,6 +31,7 @@ use Rattle.sym_state.proofs.Resulting.{Fits, at_least_fits, at_most_fits, both_f
 use Rattle.refinements.proofs.Comparing.{equal_fit, exceeding, passed_fits}
 use Rattle.refinements.proofs.Covering.{both_weighed, weighed_is}
 use Rattle.refinements.proofs.Fitting.{case_made, truth_made}
+use Rattle.refinements.proofs.Labels.{labelled_all, labels_dropped, sign_cases}
 use Rattle.refinements.proofs.Taking.{taken_one, taken_two}
 
 abbrev AreMade : Style → Cases → Type 0
@@ -141,7 +142,7 @@ not_positive_fits style state s less =
     row_fits style state.next (at_most (ValueOf s.0) (pos 0)) (at_most_fits state.next (ValueOf s.0) (pos 0) less (omega arith))
 
 above_kept : (style : Style) (admits : Cond) (state : State) (s : Sym) (o : Option ℤ) (hints : List Hint) (cases : Cases) → WellMade style state → s.0 < state.next
-    → above_cases admits state s o hints ≡ Ok cases → AreMade style cases
+    → sign_cases admits state s o hints ≡ Ok cases → AreMade style cases
 above_kept style admits state s (Some n) hints cases made less e =
     let same : record { states = state ∷ []; hints = hints } ≡ cases = cc in
     subst (λ (c : Cases). AreMade style c) same (All-cons (WellMade style) state [] made (All-nil (WellMade style)))
@@ -177,4 +178,11 @@ split_made style admits state Greater hints cases made is e =
     let f = two_taken Int Int state (λ two. less_cases admits state.facts two.upper two.lower two.rest hints) cases e in
     let below = two_below style state f.a f.b f.rest made f.tops in
     less_made style admits state f.b f.a f.rest hints cases made below.others below.upper below.lower f.given
-split_made style admits state (Above s) hints cases made is e = above_kept style admits state s (exact_integer state.facts s.0) hints cases made is e
+split_made style admits state (Above s) hints cases made is e =
+    above_kept style admits state s (exact_integer state.facts s.0) hints cases made is (sym (labels_dropped admits state s (exact_integer state.facts s.0) hints) ∙ e)
+
+-- and so is each with its label
+pub above_made : (style : Style) (admits : Cond) (state : State) (s : Sym) (hints : List Hint) (all : Labelled) → WellMade style state → s.0 < state.next
+    → above_of admits state s hints ≡ Ok all → All (λ one. WellMade style one.1) all.cases
+above_made style admits state s hints all made less e =
+    labelled_all (WellMade style) all.cases (split_made style admits state (Above s) hints _ made less (ap without_labels e))

@@ -4,6 +4,7 @@ pub mod Fitting
 pub mod Found
 pub mod HintsTaken
 pub mod Kept
+pub mod Labels
 pub mod Signs
 pub mod Taking
 pub mod Testing

@@ -28,10 +28,10 @@ function_of Less = Some op.Less
 function_of Greater = Some op.Greater
 function_of (Above s) = None
 
--- a state is one of these
-abbrev pub IsAmong : State → List State → Type 0
-IsAmong state [] = ⊥
-IsAmong state (first ∷ states) = (state ≡ first) ⊎ IsAmong state states
+-- this is one of these
+abbrev pub IsAmong : {X : Type 0} → X → List X → Type 0
+IsAmong x [] = ⊥
+IsAmong x (first ∷ xs) = (x ≡ first) ⊎ IsAmong x xs
 
 -- one of these states covers what a built-in function does where a state stands for a configuration
 pub record OneCovers (style : Style) (cond : Cond) (list : EntryList) (v : Valuation) (state : State) (c : Config) (below : List Value)
@@ -50,4 +50,10 @@ above_case state s positive =
 pub record OneStands (style : Style) (cond : Cond) (list : EntryList) (v : Valuation) (state : State) (c : Config) (below : List Value)
     (s : Sym) (positive : Bool) (states : List State) : Type 0 where
   pub among : IsAmong (above_case state s positive) states
+  pub stands : Stands style cond list v (above_case state s positive) c below
+
+-- that case, with the label of the integer's sign, is one of these, and it stands for the configuration as the state does
+pub record OneLabelledStands (style : Style) (cond : Cond) (list : EntryList) (v : Valuation) (state : State) (c : Config) (below : List Value)
+    (s : Sym) (positive : Bool) (cases : List (Bool × State)) : Type 0 where
+  pub among : IsAmong (positive, above_case state s positive) cases
   pub stands : Stands style cond list v (above_case state s positive) c below

@@ -1,17 +1,17 @@
 //! The cases of tests on integers, each of which takes a hint where the test isn't decided.
 
-ghost use Rattle.std.specs.Prelude.{◌≡◌, ◌<◌, [], ◌∷◌, None, IfOk};
+ghost use Rattle.std.specs.Prelude.{◌≡◌, ◌<◌, ◌++◌, [], ◌∷◌, true, false, None, IfOk};
 ghost use Rattle.std.specs.List.{All};
+ghost use Rattle.std.specs.Option.{option_to_list};
 ghost use Rattle.sym_state.specs.Cases as rule;
-ghost use Rattle.sym_state.specs.Decided as decided;
 ghost use Rattle.sym_state.specs.WellMade.{HasBounds, IsBounded};
 ghost use Rattle.sym_state.specs.Demands.{IsReady, without};
-ghost use Rattle.refinements.specs.Given.{Gives};
+ghost use Rattle.refinements.specs.Given.{Gives, GivesLabelled, GivesTwo};
 
 use crate::cases::{decided, with_truth};
 use crate::deciding::{equal_decided, less_decided};
 use crate::strings::equal_texts;
-use crate::weighing::{one, weighed_both};
+use crate::weighing::{both_kept, weighed, weighed_both};
 use bst_meaning::condition::Cond;
 use bv_base::memory::NoMemory;
 use lin_facts::row::{Row, Term};
@@ -178,7 +178,7 @@ fn equal_rows(alloc: Global, a: Sym, b: Sym) -> Result<Vec<Row>, NoMemory>
     Ok(rows)
 }
 
-/// The cases of whether an integer is above 0.
+/// The cases of whether an integer is above 0, without their labels.
 pub fn above(
     state: &State,
     cond: &Cond,
@@ -186,28 +186,80 @@ pub fn above(
     hints: &mut Hints<'_>,
 ) -> Result<Vec<State>, EffectFault>
     requires { IsReady state.now hints.old }
-    ensures { Gives result hints.new (rule.above_cases cond.now state.now sym (decided.exact_integer state.now.facts sym.0) hints.old) }
+    ensures { Gives result hints.new (rule.without_labels (rule.above_of cond.now state.now sym hints.old)) }
 {
-    match state.exact_integer(sym) {
-        Some(_) => Ok(one(state.branch()?)?),
-        None => signs(state, cond, sym, hints),
-    }
+    let alloc = state.alloc();
+    let (positive, other) = signs(state, cond, sym, hints)?;
+    Ok(both_kept(alloc, positive, other)?)
 }
 
-/// The cases of whether an integer that isn't known is above 0.
+/// The cases of whether an integer is above 0, each with its label.
+pub fn labelled(
+    state: &State,
+    cond: &Cond,
+    sym: Sym,
+    hints: &mut Hints<'_>,
+) -> Result<Vec<(bool, State)>, EffectFault>
+    requires { IsReady state.now hints.old }
+    ensures { GivesLabelled result hints.new (rule.above_of cond.now state.now sym hints.old) }
+{
+    let alloc = state.alloc();
+    let (positive, other) = signs(state, cond, sym, hints)?;
+    Ok(with_labels(alloc, positive, other)?)
+}
+
+/// The states that are there, with their labels.
+fn with_labels(
+    alloc: Global,
+    positive: Option<State>,
+    other: Option<State>,
+) -> Result<Vec<(bool, State)>, NoMemory>
+    ensures { IfOk result (λ cases. cases.items
+        ≡ rule.with_label true (option_to_list positive) ++ rule.with_label false (option_to_list other)) }
+{
+    let mut cases = Vec::new(alloc);
+    if let Some(state) = positive {
+        cases.push((true, state))?;
+    }
+    if let Some(state) = other {
+        cases.push((false, state))?;
+    }
+    Ok(cases)
+}
+
+/// The case of an integer above 0, and that of another: one where the integer is known, and else those that are kept.
 fn signs(
     state: &State,
     cond: &Cond,
     sym: Sym,
     hints: &mut Hints<'_>,
-) -> Result<Vec<State>, EffectFault>
+) -> Result<(Option<State>, Option<State>), EffectFault>
     requires { IsReady state.now hints.old }
-    ensures { Gives result hints.new (rule.above_cases cond.now state.now sym None hints.old) }
+    ensures { GivesTwo result hints.new (rule.above_of cond.now state.now sym hints.old) }
+{
+    match state.exact_integer(sym) {
+        Some(n) if n > 0 => Ok((Some(state.branch()?), None)),
+        Some(_) => Ok((None, Some(state.branch()?))),
+        None => unknown_signs(state, cond, sym, hints),
+    }
+}
+
+/// The same of an integer that isn't known.
+fn unknown_signs(
+    state: &State,
+    cond: &Cond,
+    sym: Sym,
+    hints: &mut Hints<'_>,
+) -> Result<(Option<State>, Option<State>), EffectFault>
+    requires { IsReady state.now hints.old }
+    ensures { GivesTwo result hints.new (rule.above_cases cond.now state.now sym None hints.old) }
 {
     let alloc = state.alloc();
     let first = sign_case(state, at_least(alloc, Term::Value(sym.0), 1)?)?;
     let second = sign_case(state, at_most(alloc, Term::Value(sym.0), 0)?)?;
-    weighed_both(cond, first, second, hints)
+    let positive = weighed(cond, first, hints)?;
+    let other = weighed(cond, second, hints)?;
+    Ok((positive, other))
 }
 
 /// The state of a case of whether an integer is above 0.

@@ -15,11 +15,11 @@ ghost use Rattle.sym_state.specs.State.{State};
 ghost use Rattle.sym_state.specs.declared.symbol.Sym.{Sym};
 ghost use Rattle.sym_state.specs.declared.test.Test.{Test};
 ghost use Rattle.sym_state.specs.declared.test.Test.TheVariants.{Above};
-ghost use Rattle.sym_state.specs.Cases.{Cases, needs_of, split_of};
+ghost use Rattle.sym_state.specs.Cases.{Cases, Labelled, above_of, needs_of, split_of};
 ghost use Rattle.sym_state.specs.Stands.{Stands};
 ghost use Rattle.sym_state.specs.Symbols.{Valuation};
 ghost use Rattle.sym_state.specs.WellMade.{WellMade};
-ghost use Rattle.refinements.specs.Covered.{OneCovers, OneStands, function_of};
+ghost use Rattle.refinements.specs.Covered.{OneCovers, OneLabelledStands, OneStands, function_of};
 
 /// Where a well-made state stands for a configuration and the test of a built-in function has cases, the function gives
 /// no fault, and one of the cases stands for the configuration after it, whatever was dropped.
@@ -37,6 +37,14 @@ pub fn one_case_stands()
         (s : Sym) (n : ℤ) (hints : List Hint) (cases : Cases) → Stands style admits list v state c below
         → v.value s.0 ≡ Int n → split_of admits state (Above s) hints ≡ Ok cases
         → OneStands style admits list v state c below s (is_positive n) cases.states }
+{}
+
+/// The same of the cases with their labels: the case with the label of the integer's sign is among them and stands.
+pub fn one_labelled_case_stands()
+    ensures { (style : Style) (admits : Cond) (list : EntryList) (v : Valuation) (state : State) (c : Config) (below : List Value)
+        (s : Sym) (n : ℤ) (hints : List Hint) (all : Labelled) → Stands style admits list v state c below
+        → v.value s.0 ≡ Int n → above_of admits state s hints ≡ Ok all
+        → OneLabelledStands style admits list v state c below s (is_positive n) all.cases }
 {}
 
 /// A test that has cases takes as many hints as `needs` tells, and leaves the others.

@@ -10,14 +10,15 @@ ghost use Rattle.sym_state.specs.declared.demand.EffectFault.TheVariants.{NoMemo
 ghost use Rattle.sym_state.specs.Demands.{IsReady};
 ghost use Rattle.refinements.specs.Given.{Gives};
 
-use crate::integers::{above, equal, greater, less};
-pub use crate::laws::{one_case_covers, one_case_stands, tests_take_what_they_need};
+use crate::integers::{equal, greater, labelled, less};
+pub use crate::laws::{one_case_covers, one_case_stands, one_labelled_case_stands, tests_take_what_they_need};
 use crate::needed::{above_needs, equal_needs, greater_needs, less_needs};
 use crate::strings::{empty, missing};
 use bst_meaning::condition::Cond;
 use sym_state::demand::EffectFault;
 use sym_state::hint::Hints;
 use sym_state::state::State;
+use sym_state::symbol::Sym;
 pub use sym_state::test::Test;
 
 mod cases;
@@ -51,6 +52,28 @@ pub fn split(
     Ok(states)
 }
 
+/// The cases of whether an integer is above 0, each with its label, which is whether it is: that of an integer above 0
+/// first. Without their labels they are those of `split`. With one case left its label tells which function `if$` enters.
+pub fn above(
+    state: &State,
+    cond: &Cond,
+    sym: Sym,
+    hints: &mut Hints<'_>,
+) -> Result<Vec<(bool, State)>, EffectFault>
+    requires bounds { HasBounds state.now }
+    requires room { state.now.next < 4294967295 }
+    requires proofs { All rule.HasFewUses hints.old }
+    ensures ok { IfOk result (λ cases. rule.above_of cond.now state.now sym hints.old ≡ Ok (record { cases = cases.items; hints = hints.new })) }
+    ensures fault { IfErr result (λ fault. fault ≢ WantOfMemory → rule.above_of cond.now state.now sym hints.old ≡ Err fault) }
+    ensures cursor { OnErr result (hints.new ≡ hints.old) }
+    ensures kept { IfOk result (λ cases. (style : Style) → WellMade style state.now → sym.0 < state.now.next → All (λ one. WellMade style one.1) cases.items) }
+{
+    let mut cursor = Hints::new(hints.rest());
+    let cases = labelled(state, cond, sym, &mut cursor)?;
+    *hints = cursor;
+    Ok(cases)
+}
+
 /// The states of the cases of a test.
 fn cases_of(
     state: &State,
@@ -67,7 +90,7 @@ fn cases_of(
         Test::Equal => equal(state, cond, cursor),
         Test::Less => less(state, cond, cursor),
         Test::Greater => greater(state, cond, cursor),
-        Test::Above(s) => above(state, cond, s, cursor),
+        Test::Above(s) => integers::above(state, cond, s, cursor),
     }
 }
 

@@ -1,11 +1,12 @@
 //! Cases that a hint keeps or drops.
 
-ghost use Rattle.std.specs.Prelude.{◌≡◌, ◌≤◌, [], ◌∷◌, ◌++◌, length, IfOk};
+ghost use Rattle.std.specs.Prelude.{◌≡◌, ◌≤◌, ◌++◌, length, IfOk};
 ghost use Rattle.std.specs.List.{All};
+ghost use Rattle.std.specs.Option.{option_to_list};
 ghost use Rattle.sym_state.specs.Cases as rule;
 ghost use Rattle.sym_state.specs.References.{shows};
 ghost use Rattle.sym_state.specs.WellMade.{HasBounds, IsBounded};
-ghost use Rattle.refinements.specs.Given.{Gives};
+ghost use Rattle.refinements.specs.Given.{Gives, GivesOne};
 
 use bst_meaning::condition::Cond;
 use bv_base::memory::NoMemory;
@@ -30,51 +31,53 @@ pub fn weighed_both(
     requires proofs { All rule.HasFewUses hints.old }
     ensures { Gives result hints.new (rule.weighed_both cond.now first second hints.old) }
 {
+    let alloc = first.alloc();
     let kept = weighed(cond, first, hints)?;
-    let others = weighed(cond, second, hints)?;
-    Ok(joined(kept, others)?)
+    let other = weighed(cond, second, hints)?;
+    Ok(both_kept(alloc, kept, other)?)
 }
 
-/// The states of both lists.
-fn joined(first: Vec<State>, second: Vec<State>) -> Result<Vec<State>, NoMemory>
-    ensures { IfOk result (λ states. states.items ≡ first.items ++ second.items) }
+/// The states that are there.
+pub fn both_kept(
+    alloc: Global,
+    first: Option<State>,
+    second: Option<State>,
+) -> Result<Vec<State>, NoMemory>
+    ensures { IfOk result (λ states. states.items ≡ option_to_list first ++ option_to_list second) }
 {
-    let mut states = first;
-    let mut others = second;
-    states.append(&mut others)?;
+    let mut states = Vec::new(alloc);
+    if let Some(state) = first {
+        states.push(state)?;
+    }
+    if let Some(state) = second {
+        states.push(state)?;
+    }
     Ok(states)
 }
 
 /// A case, where the next hint keeps it.
-fn weighed(cond: &Cond, state: State, hints: &mut Hints<'_>) -> Result<Vec<State>, EffectFault>
+pub fn weighed(
+    cond: &Cond,
+    state: State,
+    hints: &mut Hints<'_>,
+) -> Result<Option<State>, EffectFault>
     requires state { HasBounds state }
     requires proofs { All rule.HasFewUses hints.old }
-    ensures cases { Gives result hints.new (rule.weighed cond.now state hints.old) }
+    ensures cases { GivesOne result hints.new (rule.weighed cond.now state hints.old) }
     ensures proofs { IfOk result (λ _. All rule.HasFewUses hints.new) }
 {
-    let alloc = state.alloc();
     match hints.next() {
         None => Err(EffectFault::HintsShort),
-        Some(Hint::Keep) => Ok(one(state)?),
+        Some(Hint::Keep) => Ok(Some(state)),
         Some(Hint::Drop(proof)) => {
             if refutes(cond, &state, proof)? {
-                Ok(Vec::new(alloc))
+                Ok(None)
             } else {
                 Err(EffectFault::NotEntailed(0))
             }
         }
         _ => Err(EffectFault::WrongHint),
     }
-}
-
-/// One state.
-pub fn one(state: State) -> Result<Vec<State>, NoMemory>
-    ensures { IfOk result (λ states. states.items ≡ state ∷ []) }
-{
-    let alloc = state.alloc();
-    let mut states = Vec::new(alloc);
-    states.push(state)?;
-    Ok(states)
 }
 
 /// Whether a proof shows that a case can't come about.

@@ -1,6 +1,7 @@
 -- The cases of a test on a state (docs/EFFECTS.md, "Cases"): that of 1 or of a number above 0 first, then that of 0. A test that is
 -- decided has one case. Each case of an undecided test on integers takes a hint: it is kept, or dropped where it can't come about.
-use Rattle.std.specs.Prelude.{ℕ, ◌<◌, ℤ, pos, negsuc, ◌-ℤ◌, Bool, true, false, nat_eq, if◌then◌else◌, List, [], ◌∷◌, ◌++◌, Option, None, Some, Result, Ok, Err}
+-- The cases of whether an integer is above 0 have labels, so that one that is left alone tells which it is.
+use Rattle.std.specs.Prelude.{ℕ, ◌<◌, ℤ, pos, negsuc, ◌-ℤ◌, Bool, true, false, nat_eq, if◌then◌else◌, List, [], ◌∷◌, ◌++◌, map, Option, None, Some, Result, Ok, Err}
 use Rattle.std.specs.Cmp.Lexicographic.{pointwise}
 use Rattle.bv_base.specs.Answers.{then_do}
 use Rattle.lin_facts.specs.declared.row.Row.{Row}
@@ -204,11 +205,31 @@ positive_rows s = at_least (Value s.0) (pos 1) ∷ []
 abbrev pub not_positive_rows : Sym → List Row
 not_positive_rows s = at_most (Value s.0) (pos 0) ∷ []
 
--- the cases of that test: an exact integer has one
-abbrev pub above_cases : Cond → State → Sym → Option ℤ → List Hint → Split
-above_cases cond state s (Some n) hints = given (state ∷ []) hints
+-- the cases of that test that are kept, each with its label, which is whether the integer is above 0, and the hints that are left
+pub record Labelled : Type 0 where
+  pub cases : List (Bool × State)
+  pub hints : List Hint
+
+-- states with one label
+abbrev pub with_label : Bool → List State → List (Bool × State)
+with_label label states = map (λ state. (label, state)) states
+
+-- the cases of that test: an exact integer has one, whose label is that of the integer
+abbrev pub above_cases : Cond → State → Sym → Option ℤ → List Hint → Result Labelled EffectFault
+above_cases cond state s (Some n) hints = Ok (record { cases = (is_positive n, state) ∷ []; hints = hints })
 above_cases cond state s None hints =
-    weighed_both cond (with_case [] (positive_rows s) state) (with_case [] (not_positive_rows s) state) hints
+    then_do (weighed cond (with_case [] (positive_rows s) state) hints) (λ one.
+    then_do (weighed cond (with_case [] (not_positive_rows s) state) one.hints) (λ other.
+    Ok (record { cases = with_label true one.states ++ with_label false other.states; hints = other.hints })))
+
+-- the same of a symbol, whose integer may be known
+abbrev pub above_of : Cond → State → Sym → List Hint → Result Labelled EffectFault
+above_of cond state s hints = above_cases cond state s (exact_integer state.facts s.0) hints
+
+-- cases without their labels
+abbrev pub without_labels : Result Labelled EffectFault → Split
+without_labels (Ok all) = given (map (λ one. one.1) all.cases) all.hints
+without_labels (Err fault) = Err fault
 
 -- the cases of each test
 abbrev pub split_of : Cond → State → Test → List Hint → Split
@@ -217,7 +238,7 @@ split_of cond state IsMissing hints = missing state hints
 split_of cond state Equal hints = equal cond state hints
 split_of cond state Less hints = less cond state hints
 split_of cond state Greater hints = greater cond state hints
-split_of cond state (Above s) hints = above_cases cond state s (exact_integer state.facts s.0) hints
+split_of cond state (Above s) hints = without_labels (above_of cond state s hints)
 
 -- two hints where a test isn't decided
 abbrev pub hints_of : {X : Type 0} → Option X → ℕ
