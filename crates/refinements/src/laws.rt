@@ -1,6 +1,7 @@
 //! What the cases of a test cover.
 
-ghost use Rattle.std.specs.Prelude.{◌≡◌, ◌≤◌, ℤ, List, Some, Ok, drop, length};
+ghost use Rattle.std.specs.Prelude.{◌≡◌, ◌<◌, ◌≤◌, ℤ, List, Some, Ok, drop, length};
+ghost use Rattle.std.specs.List.{All};
 ghost use Rattle.bv_base.specs.declared.place.Place.{Place};
 ghost use Rattle.name_table.specs.declared.builtin.Builtin.{Builtin};
 ghost use Rattle.name_table.specs.declared.style.Style.{Style};
@@ -15,7 +16,7 @@ ghost use Rattle.sym_state.specs.State.{State};
 ghost use Rattle.sym_state.specs.declared.symbol.Sym.{Sym};
 ghost use Rattle.sym_state.specs.declared.test.Test.{Test};
 ghost use Rattle.sym_state.specs.declared.test.Test.TheVariants.{Above};
-ghost use Rattle.sym_state.specs.Cases.{Cases, Labelled, above_of, needs_of, split_of};
+ghost use Rattle.sym_state.specs.Cases.{Cases, IsTestOf, Labelled, above_of, needs_of, split_of};
 ghost use Rattle.sym_state.specs.Stands.{Stands};
 ghost use Rattle.sym_state.specs.Symbols.{Valuation};
 ghost use Rattle.sym_state.specs.WellMade.{WellMade};
@@ -53,4 +54,12 @@ pub fn tests_take_what_they_need()
         → split_of admits state test hints ≡ Ok cases → needs_of state test ≤ length hints }
     ensures left { (admits : Cond) (state : State) (test : Test) (hints : List Hint) (cases : Cases)
         → split_of admits state test hints ≡ Ok cases → cases.hints ≡ drop (needs_of state test) hints }
+{}
+
+/// The cases of a test on a well-made state are well made, whatever hints they took, and so are those with labels.
+pub fn cases_are_well_made()
+    ensures split { (style : Style) (admits : Cond) (state : State) (test : Test) (hints : List Hint) (cases : Cases) → WellMade style state
+        → IsTestOf state test → split_of admits state test hints ≡ Ok cases → All (WellMade style) cases.states }
+    ensures labelled { (style : Style) (admits : Cond) (state : State) (s : Sym) (hints : List Hint) (all : Labelled) → WellMade style state
+        → s.0 < state.next → above_of admits state s hints ≡ Ok all → All (λ one. WellMade style one.1) all.cases }
 {}

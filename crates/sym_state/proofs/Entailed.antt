@@ -1,9 +1,10 @@
 -- Where a state entails a piece, the piece holds of what the state stands for.
-use Rattle.std.proofs.Common.{◌≡◌, ℕ, suc, ◌+◌, ◌-◌, ◌≤◌, Bool, true, false, cond, ap, sym, ◌∙◌, subst, refl, List, [], ◌∷◌, ◌++◌, length, map, reverse, take, drop, arith, nat_eq, slice_get, Option, None, Some, append_assoc}
+use Rattle.std.proofs.Common.{◌≡◌, ℕ, suc, ◌+◌, ◌-◌, ◌≤◌, Bool, true, false, cond, ap, sym, ◌∙◌, subst, refl, List, [], ◌∷◌, ◌++◌, length, map, reverse, take, drop, arith, nat_eq, nat_lt, slice_get, Option, None, Some, append_assoc}
 use Rattle.std.specs.Prelude.{ℤ, ◌+ℤ◌, ◌*ℤ◌, pos, ◌≤ℤ◌}
 use Rattle.std.specs.List.{AllByRecursion, list_all, zip}
 use Rattle.std.specs.Option.{option_or, option_map_or}
 use Rattle.std.proofs.lemmas.Bool.{and_parts}
+use Rattle.std.proofs.lemmas.Bool.Decides.{nat_tests}
 use Rattle.std.proofs.lemmas.List.{reverse-append, take-append-drop, length-drop, map-append}
 use Rattle.lin_facts.specs.Rows.{Holds, sum_of}
 use Rattle.lin_facts.specs.declared.row.Term.{Term}
@@ -24,7 +25,7 @@ use Rattle.sym_state.specs.declared.proof.Proof.{Proof}
 use Rattle.sym_state.specs.State.{State}
 use Rattle.sym_state.specs.Changes.{symbol_at}
 use Rattle.sym_state.specs.Facts.{FactHolds, subject}
-use Rattle.sym_state.specs.Entailing.{agrees, bind_agrees, fact_follows, first_failing, first_line_failing, first_unshown, row_shown, stack_places, under, after_stack}
+use Rattle.sym_state.specs.Entailing.{agrees, bind_agrees, fact_follows, first_failing, first_line_failing, first_unentailed, first_unshown, match_of, row_shown, stack_places, under, after_stack}
 use Rattle.sym_state.specs.Renaming.{row_renamed, term_renamed, through}
 use Rattle.sym_state.specs.Stands.{IsBound, PieceHolds, Satisfies, Stands, value_by, values_of}
 use Rattle.sym_state.specs.Symbols.{Valuation, numbers}
@@ -163,3 +164,19 @@ entailed style admits list v state c below piece match proofs few none stands =
           (λ fact is. known_holds style v (match (subject fact)) state.facts fact stands.satisfied.facts is) f.0;
       rows = rows_hold style admits v state match rows piece.rows proofs stands.satisfied f.1;
     }
+
+-- the same where no line of the piece fails under its match
+pub unentailed_none : (style : Style) (admits : Cond) (list : EntryList) (v : Valuation) (state : State) (c : Config) (below : List Value)
+    (piece : Piece) (kept : ℕ) (proofs : List Proof) → first_unentailed state admits piece kept proofs ≡ None
+    → Stands style admits list v state c below
+    → PieceHolds style (through (match_of state piece kept) v) piece c (values_of v (under state piece) ++ below)
+unentailed_none style admits list v state c below piece kept proofs none stands =
+    let match : ℕ → ℕ = match_of state piece kept in
+    elim (nat_lt (length state.stack) (length piece.stack)) as (λ (t : Bool). nat_lt (length state.stack) (length piece.stack) ≡ t
+    → cond t (Some 0) (first_line_failing match admits state piece proofs) ≡ None
+    → PieceHolds style (through match v) piece c (values_of v (under state piece) ++ below)) [
+      | true ↦ λ is found. absurd (cc)
+      | false ↦ λ is found.
+          let few : length piece.stack ≤ length state.stack = grind (arith, nat_tests) in
+          entailed style admits list v state c below piece match proofs few found stands
+    ] refl none

@@ -22,6 +22,7 @@ pub mod Sums
 pub mod Finding
 pub mod Frames
 pub mod Fronts
+pub mod Keeping
 pub mod KnownKinds
 pub mod Pushing
 pub mod Resulting

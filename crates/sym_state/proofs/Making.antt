@@ -249,7 +249,7 @@ own_rows_below n admits (Some (Wizard body)) b h = All-nil (RowBelow n)
 own_rows_below n admits None b h = All-nil (RowBelow n)
 
 -- what holds of what each binding gives holds of all that they give
-each_given : {X : Type 0} (P : X → Type 0) (given : Bind → List X) (Q : Bind → Type 0) (binds : List Bind)
+pub each_given : {X : Type 0} (P : X → Type 0) (given : Bind → List X) (Q : Bind → Type 0) (binds : List Bind)
     → ((b : Bind) → Q b → All P (given b)) → All Q binds → All P (flat_map given binds)
 each_given P given Q [] each all = All-nil P
 each_given P given Q (b ∷ binds) each all =

@@ -66,6 +66,11 @@ pub record HasSmallLimits (cond : Cond) : Type 0 where
   pub key : cond.key ≤ 2 ^ 45
   pub preamble : cond.preamble ≤ 2 ^ 45
 
+-- the limits on fields that states take as constants of rows where they start
+pub record HasSmallFields (cond : Cond) : Type 0 where
+  pub length : cond.length ≤ 2 ^ 45
+  pub names : All (λ line. line.most ≤ 2 ^ 45) cond.names
+
 -- a text of a fact has at most 2^45 bytes
 abbrev pub HasShortText : Fact → Type 0
 HasShortText (TextFact s text) = length text ≤ 2 ^ 45

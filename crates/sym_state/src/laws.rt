@@ -1,7 +1,7 @@
 //! What the definitions of states give, in the machine's words.
 
-ghost use Rattle.std.specs.Prelude.{◌≡◌, ℕ, ◌∷◌, true, List, Some, Err};
-ghost use Rattle.std.specs.List.{AllByRecursion};
+ghost use Rattle.std.specs.Prelude.{◌≡◌, ℕ, ◌∷◌, ◌++◌, Bool, true, List, None, Some, Err};
+ghost use Rattle.std.specs.List.{All, AllByRecursion};
 ghost use Rattle.std.specs.Option.{option_map_or};
 ghost use Rattle.bst_meaning.specs.Builtins.{Context, built_in};
 ghost use Rattle.bst_meaning.specs.Config.{Config};
@@ -10,16 +10,28 @@ ghost use Rattle.bst_meaning.specs.Machine.{call_step, with_found};
 ghost use Rattle.bst_meaning.specs.Operands.{truth};
 ghost use Rattle.bst_meaning.specs.declared.fault.Fault.TheVariants.{WrongKind};
 ghost use Rattle.bst_meaning.specs.declared.value.Value.{Value};
+ghost use Rattle.bst_meaning.specs.declared.condition.Cond.{Cond};
+ghost use Rattle.bst_meaning.specs.declared.entry.EntryList.{EntryList};
 ghost use Rattle.bv_base.specs.declared.place.Place.{Place};
+ghost use Rattle.lin_facts.specs.Rows.{Holds};
+ghost use Rattle.lin_facts.specs.declared.row.Row.{Row};
 ghost use Rattle.name_table.specs.declared.builtin.Builtin.TheVariants.{Empty};
 ghost use Rattle.name_table.specs.declared.names.Kind.{Kind};
 ghost use Rattle.name_table.specs.declared.names.NameId.{NameId};
 ghost use Rattle.name_table.specs.declared.style.Style.{Style};
 ghost use Rattle.sym_state.specs.Decided.{known_kind};
 ghost use Rattle.sym_state.specs.Facts.{FactHolds, emptiness, has_kind};
-ghost use Rattle.sym_state.specs.Stands.{value_by};
-ghost use Rattle.sym_state.specs.Symbols.{Valuation};
-ghost use Rattle.sym_state.specs.WellMade.{takes_part};
+ghost use Rattle.sym_state.specs.Entailing.{first_unentailed, match_of, under};
+ghost use Rattle.sym_state.specs.Opening.{CanStart, StandsOpen};
+ghost use Rattle.sym_state.specs.References.{shows};
+ghost use Rattle.sym_state.specs.Renaming.{through};
+ghost use Rattle.sym_state.specs.Stands.{PieceHolds, Satisfies, Stands, value_by, values_of};
+ghost use Rattle.sym_state.specs.Starting.{IsFit, IsNumbered, all_symbols, started};
+ghost use Rattle.sym_state.specs.State.{State};
+ghost use Rattle.sym_state.specs.Symbols.{Valuation, numbers};
+ghost use Rattle.sym_state.specs.WellMade.{HasSmallFields, WellMade, takes_part};
+ghost use Rattle.sym_state.specs.declared.piece.Piece.{Piece};
+ghost use Rattle.sym_state.specs.declared.proof.Proof.{Proof};
 ghost use Rattle.sym_state.specs.declared.symbol.Fact.{Fact};
 
 /// What a fact calls blank and nonblank is what `empty$` says, which faults at a value of another kind.
@@ -38,4 +50,32 @@ pub fn values_as_the_machine_reads_them()
 pub fn known_kinds_hold()
     ensures { (style : Style) (v : Valuation) (facts : List Fact) (s : ℕ) → AllByRecursion (FactHolds style v) facts →
         has_kind (known_kind facts s) (v.value s) ≡ true }
+{}
+
+/// A state that starts from pieces is well made, where what the facts of the pieces say can be said of values and the
+/// pieces and the condition's limits on fields are within the bounds of rows.
+pub fn started_states_are_well_made()
+    ensures { (style : Style) (admits : Cond) (pieces : List Piece) (whole at_entry : Bool) → HasSmallFields admits
+        → All IsNumbered pieces → All (IsFit style) pieces → WellMade style (started style admits pieces whole at_entry) }
+{}
+
+/// It stands for each configuration of which the pieces hold, where each variable and field has a value of its kind.
+pub fn started_states_stand()
+    ensures { (style : Style) (admits : Cond) (list : EntryList) (v : Valuation) (pieces : List Piece) (whole at_entry : Bool) (c : Config)
+        (below : List Value) → All IsNumbered pieces → CanStart style admits list v pieces whole at_entry c below
+        → StandsOpen style admits list v (all_symbols pieces) (started style admits pieces whole at_entry) c below }
+{}
+
+/// A row that is shown holds by every assignment that satisfies the state.
+pub fn shown_rows_hold()
+    ensures { (style : Style) (admits : Cond) (v : Valuation) (state : State) (proof : Proof) (row : Row)
+        → Satisfies style admits v state → shows admits state proof row ≡ true → Holds (numbers v) row }
+{}
+
+/// A piece that is entailed holds wherever the state stands, by the assignment through the match.
+pub fn entailed_pieces_hold()
+    ensures { (style : Style) (admits : Cond) (list : EntryList) (v : Valuation) (state : State) (c : Config) (below : List Value)
+        (piece : Piece) (kept : ℕ) (proofs : List Proof) → first_unentailed state admits piece kept proofs ≡ None
+        → Stands style admits list v state c below
+        → PieceHolds style (through (match_of state piece kept) v) piece c (values_of v (under state piece) ++ below) }
 {}
