@@ -6,6 +6,7 @@ pub mod Covering
 pub mod EffectsCover
 pub mod EntryCovers
 pub mod FormatCovers
+pub mod Framing
 pub mod Integers
 pub mod Keeping
 pub mod MovesCover

@@ -43,7 +43,7 @@ first_differs id low rest (b ∷ binds) less e later =
     let tail : names_of binds ≡ rest = cc in
     (greater b.name.0 id low (ap (λ (n : NameId). n.0) head) less, later binds tail)
 
-later_differ : (test : Kind → Bool) (id low : ℕ) (names : List (List ℕ × Kind)) (binds : List Bind) → low < id
+pub later_differ : (test : Kind → Bool) (id low : ℕ) (names : List (List ℕ × Kind)) (binds : List Bind) → low < id
     → names_of binds ≡ ids_from test id names → Differs low binds
 later_differ test id low [] [] less e = tt
 later_differ test id low [] (b ∷ binds) less e = absurd (cc)

@@ -13,6 +13,7 @@ ghost use Rattle.sym_state.specs.State.{State};
 ghost use Rattle.sym_state.specs.Covers.{Covers};
 ghost use Rattle.sym_state.specs.Demands.{After};
 ghost use Rattle.sym_state.specs.Effects.{effect_of};
+ghost use Rattle.sym_state.specs.Frames.{EffectFrame};
 ghost use Rattle.sym_state.specs.Stands.{Stands};
 ghost use Rattle.sym_state.specs.Symbols.{Valuation};
 ghost use Rattle.sym_state.specs.WellMade.{HasSmallLimits, WellMade};
@@ -30,4 +31,12 @@ pub fn effects_cover()
 pub fn effects_keep()
     ensures { (style : Style) (admits : Cond) (state : State) (op : Builtin) (hints : List Hint) (after : After) → HasSmallLimits admits
         → WellMade style state → effect_of style admits state op hints ≡ Ok after → WellMade style after.state }
+{}
+
+/// Where a built-in function has an effect on a well-made state, whether the whole stack is known, whether an entry is
+/// visited and the fields' symbols stay, no symbol is given back, and facts and rows are only added at the end. The
+/// variables keep their symbols, but for the one that `:=` binds: a global one where the state isn't at an entry.
+pub fn effects_leave_the_rest()
+    ensures { (style : Style) (admits : Cond) (state : State) (op : Builtin) (hints : List Hint) (after : After) → WellMade style state
+        → effect_of style admits state op hints ≡ Ok after → EffectFrame style op state after.state }
 {}

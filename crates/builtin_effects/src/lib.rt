@@ -13,4 +13,4 @@ mod substring;
 mod surroundings;
 mod texts;
 
-pub use crate::laws::{effects_cover, effects_keep};
+pub use crate::laws::{effects_cover, effects_keep, effects_leave_the_rest};

@@ -2,6 +2,7 @@ pub mod Comparing
 pub mod Covering
 pub mod Fitting
 pub mod Found
+pub mod Framing
 pub mod HintsTaken
 pub mod Kept
 pub mod Labels

@@ -17,6 +17,7 @@ ghost use Rattle.sym_state.specs.declared.symbol.Sym.{Sym};
 ghost use Rattle.sym_state.specs.declared.test.Test.{Test};
 ghost use Rattle.sym_state.specs.declared.test.Test.TheVariants.{Above};
 ghost use Rattle.sym_state.specs.Cases.{Cases, IsTestOf, Labelled, above_of, needs_of, split_of};
+ghost use Rattle.sym_state.specs.Frames.{LeavesVariables};
 ghost use Rattle.sym_state.specs.Stands.{Stands};
 ghost use Rattle.sym_state.specs.Symbols.{Valuation};
 ghost use Rattle.sym_state.specs.WellMade.{WellMade};
@@ -62,4 +63,13 @@ pub fn cases_are_well_made()
         → IsTestOf state test → split_of admits state test hints ≡ Ok cases → All (WellMade style) cases.states }
     ensures labelled { (style : Style) (admits : Cond) (state : State) (s : Sym) (hints : List Hint) (all : Labelled) → WellMade style state
         → s.0 < state.next → above_of admits state s hints ≡ Ok all → All (λ one. WellMade style one.1) all.cases }
+{}
+
+/// The cases of a test keep the symbols of variables and fields, whether the whole stack is known and whether an entry is
+/// visited; no symbol is given back, and facts and rows are only added at the end.
+pub fn cases_leave_the_rest()
+    ensures split { (admits : Cond) (state : State) (test : Test) (hints : List Hint) (cases : Cases)
+        → split_of admits state test hints ≡ Ok cases → All (LeavesVariables state) cases.states }
+    ensures labelled { (admits : Cond) (state : State) (s : Sym) (hints : List Hint) (all : Labelled)
+        → above_of admits state s hints ≡ Ok all → All (λ one. LeavesVariables state one.1) all.cases }
 {}

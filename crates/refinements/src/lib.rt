@@ -12,8 +12,8 @@ ghost use Rattle.refinements.specs.Given.{Gives};
 
 use crate::integers::{equal, greater, labelled, less};
 pub use crate::laws::{
-    cases_are_well_made, one_case_covers, one_case_stands, one_labelled_case_stands,
-    tests_take_what_they_need,
+    cases_are_well_made, cases_leave_the_rest, one_case_covers, one_case_stands,
+    one_labelled_case_stands, tests_take_what_they_need,
 };
 use crate::needed::{above_needs, equal_needs, greater_needs, less_needs};
 use crate::strings::{empty, missing};

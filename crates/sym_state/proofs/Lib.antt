@@ -24,5 +24,6 @@ pub mod Frames
 pub mod Fronts
 pub mod Keeping
 pub mod KnownKinds
+pub mod Leaving
 pub mod Pushing
 pub mod Resulting

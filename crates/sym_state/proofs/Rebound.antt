@@ -64,7 +64,7 @@ bind_kept style name new state vars fields v f made below = record {
 }
 
 -- a name that is rebound has the new symbol where it is bound, and each other name has its own
-symbol_rebound : (name other : NameId) (new : Sym) (binds : List Bind)
+pub symbol_rebound : (name other : NameId) (new : Sym) (binds : List Bind)
     → symbol_at name (rebound other new binds)
     ≡ cond (nat_eq other.0 name.0) (option_map (λ s. new) (symbol_at name binds)) (symbol_at name binds)
 symbol_rebound name other new [] = by_test (nat_eq other.0 name.0)

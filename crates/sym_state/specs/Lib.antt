@@ -17,3 +17,4 @@ pub mod Results
 pub mod Effects
 pub mod Cases
 pub mod Covers
+pub mod Frames
