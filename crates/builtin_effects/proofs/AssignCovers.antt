@@ -36,7 +36,7 @@ use Rattle.sym_state.specs.WellMade.{is_field, is_variable}
 use Rattle.sym_state.proofs.Deciding.{exact_text_is}
 use Rattle.sym_state.proofs.Frames.{agrees_self, next_agrees}
 use Rattle.sym_state.proofs.KnownKinds.{name_is}
-use Rattle.sym_state.proofs.Pushing.{moved, value_same, with_stack, without}
+use Rattle.sym_state.proofs.Pushing.{moved, with_stack, without}
 use Rattle.sym_state.proofs.RowSums.{at_most_says}
 use Rattle.sym_state.proofs.Saying.{at_most_holds}
 use Rattle.sym_state.proofs.Spots.{Spot}
@@ -73,7 +73,7 @@ assigned_there : (s : Spot) (name : NameId) (kind : Kind) (a f : Sym) (rest : Li
 assigned_there s name kind a f rest value logged g =
     let old = variable_bound s name kind g.kind_is g.variable in
     assigned s.style (record { name = name; value = value }) kind s.state.at_entry (before s rest logged) old.value g.kind_is g.variable
-    (value_same (Some kind) name (lower s rest) (s.c.events ++ []) (s.c.log ++ logged) s.c ∙ old.is)
+    old.is
 
 once_vars : (s : Spot) → Unique s.state.vars
 once_vars s = each_once (is_variable s.state.at_entry) 0 s.style.names s.state.vars s.made.binds_vars

@@ -24,7 +24,7 @@ use Rattle.builtin_effects.proofs.Rebinding.{Kept, Unique, bound_at, rebound_bou
 
 -- one variable has a new value, and everything else that a state speaks of is as it was
 pub record Assigned (style : Style) (name : NameId) (value : Value) (c after : Config) : Type 0 where
-  pub here : value_by (kind_of style name) name after ≡ Some value
+  pub here : value_by (kind_of style name) name after.globals (visited_entry after) ≡ Some value
   pub kept : Kept style name c after
   pub stack : after.stack ≡ c.stack
   pub preamble : after.preamble ≡ c.preamble
@@ -36,7 +36,7 @@ abbrev with_globals : List Variable → Config → Config
 with_globals globals c = record c { globals = globals }
 
 global_kept : (new : Variable) (c : Config) (kind : Option Kind) (n : NameId) → nat_eq n.0 new.name.0 ≡ false
-    → value_by kind n (with_globals (with_variable new c.globals) c) ≡ value_by kind n c
+    → value_by kind n (with_variable new c.globals) (visited_entry c) ≡ value_by kind n c.globals (visited_entry c)
 global_kept new c (Some IntGlobal) n e = variable_kept new n.0 c.globals e
 global_kept new c (Some StrGlobal) n e = variable_kept new n.0 c.globals e
 global_kept new c (Some IntEntry) n e = refl
@@ -46,7 +46,7 @@ global_kept new c (Some (BuiltinKind o)) n e = refl
 global_kept new c (Some (Wizard body)) n e = refl
 global_kept new c None n e = refl
 
-global_assigned : (style : Style) (new : Variable) (c : Config) → value_by (kind_of style new.name) new.name (with_globals (with_variable new c.globals) c) ≡ Some new.value
+global_assigned : (style : Style) (new : Variable) (c : Config) → value_by (kind_of style new.name) new.name (with_variable new c.globals) (visited_entry c) ≡ Some new.value
     → Assigned style new.name new.value c (with_globals (with_variable new c.globals) c)
 global_assigned style new c here = record {
   here = here;
@@ -93,7 +93,7 @@ visited_new c e new v =
     ∙ set_element c.entries v.at e new v.element
 
 entry_kept : (new : Variable) (c after : Config) (e : EntryState) (kind : Option Kind) (n : NameId) → nat_eq n.0 new.name.0 ≡ false
-    → visited_entry c ≡ Some e → visited_entry after ≡ Some (with_new new e) → after.globals ≡ c.globals → value_by kind n after ≡ value_by kind n c
+    → visited_entry c ≡ Some e → visited_entry after ≡ Some (with_new new e) → after.globals ≡ c.globals → value_by kind n after.globals (visited_entry after) ≡ value_by kind n c.globals (visited_entry c)
 entry_kept new c after e (Some IntGlobal) n differs before behind globals = ap (λ (l : List Variable). value_at n.0 l) globals
 entry_kept new c after e (Some StrGlobal) n differs before behind globals = ap (λ (l : List Variable). value_at n.0 l) globals
 entry_kept new c after e (Some IntEntry) n differs before behind globals =
@@ -115,7 +115,7 @@ visit_kept v c after e behind visit h = record { entry = e; is_visited = behind;
 
 entry_assigned : (style : Style) (new : Variable) (c : Config) (e : EntryState) (v : Visited c e) → visited_entry c ≡ Some e
     → (visited_entry (with_entries (set c.entries v.at (with_new new e)) c) ≡ Some (with_new new e)
-    → value_by (kind_of style new.name) new.name (with_entries (set c.entries v.at (with_new new e)) c) ≡ Some new.value)
+    → value_by (kind_of style new.name) new.name c.globals (visited_entry (with_entries (set c.entries v.at (with_new new e)) c)) ≡ Some new.value)
     → Assigned style new.name new.value c (with_entries (set c.entries v.at (with_new new e)) c)
 entry_assigned style new c e v is here =
     let after : Config = with_entries (set c.entries v.at (with_new new e)) c in
@@ -142,7 +142,7 @@ old_value c id value is =
     ] refl is
 
 entry_set : (style : Style) (new : Variable) (c : Config) (old : Value) → option_and_then (λ e. value_at new.name.0 e.variables) (visited_entry c) ≡ Some old
-    → ((d : Config) → value_by (kind_of style new.name) new.name d ≡ option_and_then (λ e. value_at new.name.0 e.variables) (visited_entry d))
+    → ((d : Config) → value_by (kind_of style new.name) new.name d.globals (visited_entry d) ≡ option_and_then (λ e. value_at new.name.0 e.variables) (visited_entry d))
     → Assigned style new.name new.value c (with_entries (with_entry_variable new (visited_index c) c.entries) c)
 entry_set style new c old is by =
     let found = old_value c new.name.0 old is in
@@ -154,40 +154,40 @@ entry_set style new c old is by =
     ∙ ap (λ (o : Option EntryState). option_and_then (λ x. value_at new.name.0 x.variables) o) behind ∙ variable_new new e.variables old found.is))
 
 global_set : (style : Style) (new : Variable) (c : Config) (old : Value) → value_at new.name.0 c.globals ≡ Some old
-    → ((d : Config) → value_by (kind_of style new.name) new.name d ≡ value_at new.name.0 d.globals)
+    → ((d : Config) → value_by (kind_of style new.name) new.name d.globals (visited_entry d) ≡ value_at new.name.0 d.globals)
     → Assigned style new.name new.value c (with_globals (with_variable new c.globals) c)
 global_set style new c old is by =
     global_assigned style new c (by (with_globals (with_variable new c.globals) c) ∙ variable_new new c.globals old is)
 
 -- what a variable that has a value is assigned
 pub assigned : (style : Style) (new : Variable) (kind : Kind) (at_entry : Bool) (c : Config) (old : Value) → kind_of style new.name ≡ Some kind
-    → is_variable at_entry kind ≡ true → value_by (Some kind) new.name c ≡ Some old
+    → is_variable at_entry kind ≡ true → value_by (Some kind) new.name c.globals (visited_entry c) ≡ Some old
     → Assigned style new.name new.value c (assigned_by (kind_of style new.name) new c)
 assigned style new kind at_entry c old is variable found =
     subst (λ (k : Option Kind). Assigned style new.name new.value c (assigned_by k new c)) (sym is) (by kind is variable found)
   where
-    by : (k : Kind) → kind_of style new.name ≡ Some k → is_variable at_entry k ≡ true → value_by (Some k) new.name c ≡ Some old
+    by : (k : Kind) → kind_of style new.name ≡ Some k → is_variable at_entry k ≡ true → value_by (Some k) new.name c.globals (visited_entry c) ≡ Some old
         → Assigned style new.name new.value c (assigned_by (Some k) new c)
-    by IntGlobal is variable found = global_set style new c old found (λ d. ap (λ (o : Option Kind). value_by o new.name d) is)
-    by StrGlobal is variable found = global_set style new c old found (λ d. ap (λ (o : Option Kind). value_by o new.name d) is)
-    by IntEntry is variable found = entry_set style new c old found (λ d. ap (λ (o : Option Kind). value_by o new.name d) is)
-    by StrEntry is variable found = entry_set style new c old found (λ d. ap (λ (o : Option Kind). value_by o new.name d) is)
+    by IntGlobal is variable found = global_set style new c old found (λ d. ap (λ (o : Option Kind). value_by o new.name d.globals (visited_entry d)) is)
+    by StrGlobal is variable found = global_set style new c old found (λ d. ap (λ (o : Option Kind). value_by o new.name d.globals (visited_entry d)) is)
+    by IntEntry is variable found = entry_set style new c old found (λ d. ap (λ (o : Option Kind). value_by o new.name d.globals (visited_entry d)) is)
+    by StrEntry is variable found = entry_set style new c old found (λ d. ap (λ (o : Option Kind). value_by o new.name d.globals (visited_entry d)) is)
     by _ is variable found = absurd (cc)
 
 -- a variable has a value
 pub record HasValue (s : Spot) (name : NameId) (kind : Kind) : Type 0 where
   pub value : Value
-  pub is : value_by (Some kind) name s.c ≡ Some value
+  pub is : value_by (Some kind) name s.c.globals (visited_entry s.c) ≡ Some value
 
 pub variable_bound : (s : Spot) (name : NameId) (kind : Kind) → kind_of s.style name ≡ Some kind → is_variable s.state.at_entry kind ≡ true → HasValue s name kind
 variable_bound s name kind is variable =
-    let found = bound_at (λ b. value_by (kind_of s.style b.name) b.name s.c ≡ Some (s.v.value b.sym.0)) (is_variable s.state.at_entry) 0 name.0 s.style.names kind
+    let found = bound_at (λ b. value_by (kind_of s.style b.name) b.name s.c.globals (visited_entry s.c) ≡ Some (s.v.value b.sym.0)) (is_variable s.state.at_entry) 0 name.0 s.style.names kind
     s.state.vars is variable s.made.binds_vars s.stands.vars in
     let from_zero : 0 + name.0 ≡ name.0 = omega arith in
     let named : found.bind.name ≡ name = ap (λ (n : ℕ). let id : NameId = record { 0 = n } in id) (found.named ∙ from_zero) in record {
       value = s.v.value found.bind.sym.0;
-      is = sym (ap (λ (k : Option Kind). value_by k name s.c) is)
-          ∙ subst (λ (n : NameId). value_by (kind_of s.style n) n s.c ≡ Some (s.v.value found.bind.sym.0)) named found.holds;
+      is = sym (ap (λ (k : Option Kind). value_by k name s.c.globals (visited_entry s.c)) is)
+          ∙ subst (λ (n : NameId). value_by (kind_of s.style n) n s.c.globals (visited_entry s.c) ≡ Some (s.v.value found.bind.sym.0)) named found.holds;
     }
 
 -- where a state with another binding stands

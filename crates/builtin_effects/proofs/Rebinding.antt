@@ -11,7 +11,7 @@ use Rattle.name_table.specs.declared.style.Style.{Style}
 use Rattle.name_table.specs.Names.{kind_at}
 use Rattle.bst_meaning.specs.declared.value.Value.{Value}
 use Rattle.bst_meaning.specs.Config.{Config, Variable}
-use Rattle.bst_meaning.specs.Machine.{value_at, with_variable}
+use Rattle.bst_meaning.specs.Machine.{value_at, with_variable, visited_entry}
 use Rattle.bst_meaning.specs.StyleParts.{kind_of}
 use Rattle.sym_state.specs.declared.symbol.Bind.{Bind}
 use Rattle.sym_state.specs.declared.symbol.Sym.{Sym}
@@ -114,21 +114,21 @@ bound_at P test id (suc i) (name ∷ names) kind binds is passes e all =
 
 -- the value of one name changes, and its binding with it
 abbrev pub Kept : Style → NameId → Config → Config → Type 0
-Kept style name c after = (n : NameId) → nat_eq n.0 name.0 ≡ false → value_by (kind_of style n) n after ≡ value_by (kind_of style n) n c
+Kept style name c after = (n : NameId) → nat_eq n.0 name.0 ≡ false → value_by (kind_of style n) n after.globals (visited_entry after) ≡ value_by (kind_of style n) n c.globals (visited_entry c)
 
 others_bound : (style : Style) (w : Valuation) (name : NameId) (c after : Config) (binds : List Bind) → Kept style name c after
-    → Differs name.0 binds → AllByRecursion (IsBound style w c) binds → AllByRecursion (IsBound style w after) binds
+    → Differs name.0 binds → AllByRecursion (IsBound style w c.globals (visited_entry c)) binds → AllByRecursion (IsBound style w after.globals (visited_entry after)) binds
 others_bound style w name c after [] kept differ all = tt
 others_bound style w name c after (b ∷ binds) kept differ all =
     (kept b.name differ.0 ∙ all.0, others_bound style w name c after binds kept differ.1 all.1)
 
 pub rebound_bound : (style : Style) (w : Valuation) (name : NameId) (s : Sym) (c after : Config) (binds : List Bind) → Kept style name c after
-    → value_by (kind_of style name) name after ≡ Some (w.value s.0) → Unique binds → AllByRecursion (IsBound style w c) binds
-    → AllByRecursion (IsBound style w after) (rebound name s binds)
+    → value_by (kind_of style name) name after.globals (visited_entry after) ≡ Some (w.value s.0) → Unique binds → AllByRecursion (IsBound style w c.globals (visited_entry c)) binds
+    → AllByRecursion (IsBound style w after.globals (visited_entry after)) (rebound name s binds)
 rebound_bound style w name s c after [] kept here once all = tt
 rebound_bound style w name s c after (b ∷ binds) kept here once all =
     elim (nat_eq b.name.0 name.0) as (λ (t : Bool). nat_eq b.name.0 name.0 ≡ t
-    → AllByRecursion (IsBound style w after) (cond t (record { name = name; sym = s } ∷ binds) (b ∷ rebound name s binds))) [
+    → AllByRecursion (IsBound style w after.globals (visited_entry after)) (cond t (record { name = name; sym = s } ∷ binds) (b ∷ rebound name s binds))) [
       | true ↦ λ is.
           (here, others_bound style w name c after binds kept (subst (λ (n : ℕ). Differs n binds) (same_number b.name.0 name.0 is) once.0) all.1)
       | false ↦ λ is. (kept b.name is ∙ all.0, rebound_bound style w name s c after binds kept here once.1 all.1)

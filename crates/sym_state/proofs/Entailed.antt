@@ -17,6 +17,7 @@ use Rattle.bst_meaning.specs.declared.condition.Cond.{Cond}
 use Rattle.bst_meaning.specs.declared.entry.EntryList.{EntryList}
 use Rattle.bst_meaning.specs.declared.value.Value.{Value}
 use Rattle.bst_meaning.specs.Config.{Config}
+use Rattle.bst_meaning.specs.Machine.{visited_entry}
 use Rattle.bst_meaning.specs.StyleParts.{kind_of}
 use Rattle.sym_state.specs.declared.symbol.Sym.{Sym}
 use Rattle.sym_state.specs.declared.symbol.Bind.{Bind}
@@ -70,21 +71,21 @@ stack_holds v match known stack below literal few all is =
 
 -- a name that the state binds has the value of its symbol
 pub found_value : (style : Style) (v : Valuation) (c : Config) (name : NameId) (known : List Bind) (there : Sym)
-    → AllByRecursion (IsBound style v c) known → symbol_at name known ≡ Some there → value_by (kind_of style name) name c ≡ Some (v.value there.0)
+    → AllByRecursion (IsBound style v c.globals (visited_entry c)) known → symbol_at name known ≡ Some there → value_by (kind_of style name) name c.globals (visited_entry c) ≡ Some (v.value there.0)
 found_value style v c name [] there all e = absurd (cc)
 found_value style v c name (b ∷ known) there all e =
-    elim (nat_eq b.name.0 name.0) as (λ t. nat_eq b.name.0 name.0 ≡ t → cond t (Some b.sym) (symbol_at name known) ≡ Some there → value_by (kind_of style name) name c ≡ Some (v.value there.0)) [
+    elim (nat_eq b.name.0 name.0) as (λ t. nat_eq b.name.0 name.0 ≡ t → cond t (Some b.sym) (symbol_at name known) ≡ Some there → value_by (kind_of style name) name c.globals (visited_entry c) ≡ Some (v.value there.0)) [
       | true ↦ λ here found.
           let same : b.sym ≡ there = cc in
-          subst (λ (s : Sym). value_by (kind_of style name) name c ≡ Some (v.value s.0)) same
-          (subst (λ (n : ℕ). let id : NameId = record { 0 = n } in value_by (kind_of style id) id c ≡ Some (v.value b.sym.0)) (same_number b.name.0 name.0 here) all.0)
+          subst (λ (s : Sym). value_by (kind_of style name) name c.globals (visited_entry c) ≡ Some (v.value s.0)) same
+          (subst (λ (n : ℕ). let id : NameId = record { 0 = n } in value_by (kind_of style id) id c.globals (visited_entry c) ≡ Some (v.value b.sym.0)) (same_number b.name.0 name.0 here) all.0)
       | false ↦ λ here found. found_value style v c name known there all.1 found
     ] refl e
 
 bind_holds : (style : Style) (v : Valuation) (c : Config) (match : ℕ → ℕ) (known : List Bind) (b : Bind)
-    → AllByRecursion (IsBound style v c) known → bind_agrees match known b ≡ true → IsBound style (through match v) c b
+    → AllByRecursion (IsBound style v c.globals (visited_entry c)) known → bind_agrees match known b ≡ true → IsBound style (through match v) c.globals (visited_entry c) b
 bind_holds style v c match known b all e =
-    elim (symbol_at b.name known) as (λ (o : Option Sym). symbol_at b.name known ≡ o → option_map_or (λ there. agrees match (b.sym, there)) o false ≡ true → IsBound style (through match v) c b) [
+    elim (symbol_at b.name known) as (λ (o : Option Sym). symbol_at b.name known ≡ o → option_map_or (λ there. agrees match (b.sym, there)) o false ≡ true → IsBound style (through match v) c.globals (visited_entry c) b) [
       | Some there ↦ λ is found.
           found_value style v c b.name known there all is ∙ ap (λ (n : ℕ). Some (v.value n)) (sym (same_number (match b.sym.0) there.0 found))
       | None ↦ λ is found. absurd (cc)
@@ -156,13 +157,15 @@ entailed style admits list v state c below piece match proofs few none stands =
     let f = neither _ _ d.1 in
     record {
       stack = stack_holds v match state.stack piece.stack below c.stack few (passed (list_all (agrees match) (stack_places state.stack piece.stack)) 1 a.0) stands.stack;
-      vars = none_fails (IsBound style (through match v) c) (bind_agrees match state.vars) vars piece.vars
-          (λ bind is. bind_holds style v c match state.vars bind stands.vars is) b.0;
-      fields = none_fails (IsBound style (through match v) c) (bind_agrees match state.fields) fields piece.fields
-          (λ bind is. bind_holds style v c match state.fields bind stands.fields is) d.0;
-      facts = none_fails (FactHolds style (through match v)) (fact_follows match state.facts) facts piece.facts
-          (λ fact is. known_holds style v (match (subject fact)) state.facts fact stands.satisfied.facts is) f.0;
-      rows = rows_hold style admits v state match rows piece.rows proofs stands.satisfied f.1;
+      met = record {
+        vars = none_fails (IsBound style (through match v) c.globals (visited_entry c)) (bind_agrees match state.vars) vars piece.vars
+            (λ bind is. bind_holds style v c match state.vars bind stands.vars is) b.0;
+        fields = none_fails (IsBound style (through match v) c.globals (visited_entry c)) (bind_agrees match state.fields) fields piece.fields
+            (λ bind is. bind_holds style v c match state.fields bind stands.fields is) d.0;
+        facts = none_fails (FactHolds style (through match v)) (fact_follows match state.facts) facts piece.facts
+            (λ fact is. known_holds style v (match (subject fact)) state.facts fact stands.satisfied.facts is) f.0;
+        rows = rows_hold style admits v state match rows piece.rows proofs stands.satisfied f.1;
+      };
     }
 
 -- the same where no line of the piece fails under its match

@@ -13,6 +13,7 @@ use Rattle.lin_facts.specs.declared.row.Term.TheVariants.{Value as ValueOf, Leng
 use Rattle.name_table.specs.declared.style.Style.{Style}
 use Rattle.bst_meaning.specs.declared.value.Value.{Value}
 use Rattle.bst_meaning.specs.Config.{Config}
+use Rattle.bst_meaning.specs.Machine.{visited_entry}
 use Rattle.sym_state.specs.declared.symbol.Sym.{Sym}
 use Rattle.sym_state.specs.declared.symbol.Bind.{Bind}
 use Rattle.sym_state.specs.declared.symbol.Fact.{Fact}
@@ -95,7 +96,7 @@ facts_agree style next v w (fact ∷ facts) a all h = (
 )
 
 pub binds_agree : (style : Style) (next : ℕ) (v w : Valuation) (c : Config) (binds : List Bind) → Agrees next v w
-    → All (λ bind. bind.sym.0 < next) binds → AllByRecursion (IsBound style v c) binds → AllByRecursion (IsBound style w c) binds
+    → All (λ bind. bind.sym.0 < next) binds → AllByRecursion (IsBound style v c.globals (visited_entry c)) binds → AllByRecursion (IsBound style w c.globals (visited_entry c)) binds
 binds_agree style next v w c [] a all h = tt
 binds_agree style next v w c (bind ∷ binds) a all h = (
   h.0 ∙ ap Some (sym (a.value bind.sym.0 (All-head (λ bind. bind.sym.0 < next) bind binds all))),

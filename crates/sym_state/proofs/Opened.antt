@@ -11,6 +11,7 @@ use Rattle.name_table.specs.declared.names.Kind.TheVariants.{Builtin, Wizard, Fi
 use Rattle.name_table.specs.declared.names.NameId.{NameId}
 use Rattle.name_table.specs.declared.style.Style.{Style}
 use Rattle.bst_meaning.specs.Config.{Config}
+use Rattle.bst_meaning.specs.Machine.{visited_entry}
 use Rattle.bst_meaning.specs.StyleParts.{kind_of}
 use Rattle.bst_meaning.specs.declared.condition.Cond.{Cond}
 use Rattle.bst_meaning.specs.declared.entry.EntryList.{EntryList}
@@ -40,12 +41,12 @@ pub record Seated (style : Style) (admits : Cond) (c : Config) (n : ℕ) (v : Va
   pub assignment : Valuation
   pub agrees : Agrees n v assignment
   pub values : (s : ℕ) → IsValue (assignment.value s)
-  pub bound : AllByRecursion (IsBound style assignment c) binds
+  pub bound : AllByRecursion (IsBound style assignment c.globals (visited_entry c)) binds
   pub kinds : AllByRecursion (λ b. IsOfItsKind admits (kind_of style b.name) b.name (assignment.value b.sym.0)) binds
 
 pub seated : (style : Style) (admits : Cond) (c : Config) (n : ℕ) (v : Valuation) (bound : List Bind) (names : List NameId)
-    → ((s : ℕ) → IsValue (v.value s)) → All (λ b. b.sym.0 < n) bound → AllByRecursion (IsBound style v c) bound
-    → AllByRecursion (HasValue style admits c) names → Seated style admits c n v (seats bound n names)
+    → ((s : ℕ) → IsValue (v.value s)) → All (λ b. b.sym.0 < n) bound → AllByRecursion (IsBound style v c.globals (visited_entry c)) bound
+    → AllByRecursion (HasValue style admits c.globals (visited_entry c)) names → Seated style admits c n v (seats bound n names)
 seated style admits c n v bound [] valid below are have = record {
   assignment = v;
   agrees = agrees_self n v;
@@ -175,7 +176,7 @@ opened style admits list v pieces whole at_entry c below numbered can =
         };
         stack = can.hold.stack ∙ ap (λ (values : List Value). values ++ below) (sym (list_agrees n v w (reverse (flat_map (λ piece. piece.stack) on)) agree (all_reversed n (flat_map (λ piece. piece.stack) on) (stacks_below pieces numbered))));
         whole = can.bottom;
-        vars = passing (IsBound style w c) (has_kind style (is_variable at_entry)) binds found.bound;
-        fields = passing (IsBound style w c) (has_kind style (is_field at_entry)) binds found.bound;
+        vars = passing (IsBound style w c.globals (visited_entry c)) (has_kind style (is_variable at_entry)) binds found.bound;
+        fields = passing (IsBound style w c.globals (visited_entry c)) (has_kind style (is_field at_entry)) binds found.bound;
       };
     }

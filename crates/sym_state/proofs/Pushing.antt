@@ -23,7 +23,7 @@ use Rattle.sym_state.specs.State.{State}
 use Rattle.sym_state.specs.Changes.{kind_facts}
 use Rattle.sym_state.specs.Facts.{FactHolds, has_kind}
 use Rattle.sym_state.specs.Results.{next_of, with_result, with_symbol}
-use Rattle.sym_state.specs.Stands.{HasList, IsBound, IsVisiting, Satisfies, Stands, value_by, values_of}
+use Rattle.sym_state.specs.Stands.{HasList, IsVisiting, Satisfies, Stands, values_of}
 use Rattle.sym_state.specs.Symbols.{Valuation, IsValue, numbers}
 use Rattle.sym_state.specs.WellMade.{WellMade}
 use Rattle.sym_state.proofs.Frames.{all_reversed, binds_agree, facts_agree, joined, list_agrees, next_agrees, next_is, rows_agree, value_case, value_list, with_next}
@@ -39,26 +39,9 @@ pub stack_of_tops : (style : Style) (admits : Cond) (list : EntryList) (v : Valu
     → Stands style admits list v state c below → reverse state.stack ≡ tops → c.stack ≡ value_list v tops ++ below
 stack_of_tops style admits list v state c below tops h e = h.stack ∙ ap (λ (l : List Sym). value_list v l ++ below) e
 
--- what is read of variables and fields doesn't depend on the stack, on what was written and on the log
+-- a configuration with another stack, other lines and another log, on which what is read of variables and fields doesn't depend
 abbrev pub with_stack : List Value → List Event → List (List ℕ) → Config → Config
 with_stack stack events log c = record c { stack = stack; events = events; log = log }
-
-pub value_same : (kind : Option Kind) (name : NameId) (stack : List Value) (events : List Event) (log : List (List ℕ)) (c : Config)
-    → value_by kind name (with_stack stack events log c) ≡ value_by kind name c
-value_same (Some Field) name stack events log c = refl
-value_same (Some IntEntry) name stack events log c = refl
-value_same (Some StrEntry) name stack events log c = refl
-value_same (Some IntGlobal) name stack events log c = refl
-value_same (Some StrGlobal) name stack events log c = refl
-value_same (Some (BuiltinKind op)) name stack events log c = refl
-value_same (Some (Wizard body)) name stack events log c = refl
-value_same None name stack events log c = refl
-
-pub binds_same : (style : Style) (v : Valuation) (stack : List Value) (events : List Event) (log : List (List ℕ)) (c : Config) (binds : List Bind)
-    → AllByRecursion (IsBound style v c) binds → AllByRecursion (IsBound style v (with_stack stack events log c)) binds
-binds_same style v stack events log c [] h = tt
-binds_same style v stack events log c (bind ∷ binds) h =
-    (value_same (kind_of style bind.name) bind.name stack events log c ∙ h.0, binds_same style v stack events log c binds h.1)
 
 pub list_same : (style : Style) (admits : Cond) (list : EntryList) (v w : Valuation) (stack : List Value) (events : List Event) (log : List (List ℕ)) (c : Config)
     → w.count ≡ v.count → HasList style admits list v c → HasList style admits list w (with_stack stack events log c)
@@ -91,8 +74,8 @@ moved style admits list v state c below tops stack events log h e = record {
   visiting = λ entered. visiting_same v v (value_list v tops ++ below) events log c refl (h.visiting entered);
   stack = ap (λ (l : List Sym). value_list v l ++ below) (sym e);
   whole = h.whole;
-  vars = binds_same style v (value_list v tops ++ below) events log c state.vars h.vars;
-  fields = binds_same style v (value_list v tops ++ below) events log c state.fields h.fields;
+  vars = h.vars;
+  fields = h.fields;
 }
 
 kind_fact : (style : Style) (kind : Kinds) (s : Sym) (value : Value) (w : Valuation) → w.value s.0 ≡ value → has_kind kind value ≡ true
@@ -150,6 +133,6 @@ pushed style admits list v state c below rest kind facts rows value events log m
           ∙ ap (λ (l : List Value). w.value state.next ∷ (l ++ below)) (sym (list_agrees state.next v w rest a old))
           ∙ sym (top_first w rest (next_of state) below);
       whole = h.whole;
-      vars = binds_same style w stack events log c state.vars (binds_agree style state.next v w c state.vars a made.vars h.vars);
-      fields = binds_same style w stack events log c state.fields (binds_agree style state.next v w c state.fields a made.fields h.fields);
+      vars = binds_agree style state.next v w c state.vars a made.vars h.vars;
+      fields = binds_agree style state.next v w c state.fields a made.fields h.fields;
     }

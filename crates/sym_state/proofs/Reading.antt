@@ -5,7 +5,7 @@ use Rattle.std.specs.Option.{option_map_or}
 use Rattle.bst_meaning.specs.Builtins.{Context, built_in}
 use Rattle.bst_meaning.specs.Config.{Config}
 use Rattle.bst_meaning.specs.Effect.{pushed}
-use Rattle.bst_meaning.specs.Machine.{call_step, with_found}
+use Rattle.bst_meaning.specs.Machine.{call_step, visited_entry, with_found}
 use Rattle.bst_meaning.specs.Operands.{truth}
 use Rattle.bst_meaning.specs.declared.fault.Fault.TheVariants.{WrongKind}
 use Rattle.bst_meaning.specs.declared.value.Value.{Value}
@@ -28,7 +28,7 @@ emptiness_is context (Missing name) stack = refl
 emptiness_is context (Func target) stack = refl
 
 pub read_as : (style : Style) (kind : Kind) (name : NameId) (place : Place) (c : Config) → takes_part true kind ≡ true
-    → call_step style (Some kind) name place c ≡ with_found (value_by (Some kind) name c) place c
+    → call_step style (Some kind) name place c ≡ with_found (value_by (Some kind) name c.globals (visited_entry c)) place c
 read_as style Field name place c e = refl
 read_as style IntEntry name place c e = refl
 read_as style StrEntry name place c e = refl

@@ -7,7 +7,8 @@ use Rattle.name_table.specs.declared.names.Kind.TheVariants.{Field, IntEntry, St
 use Rattle.name_table.specs.declared.names.NameId.{NameId}
 use Rattle.name_table.specs.declared.style.Style.{Style}
 use Rattle.bst_meaning.specs.declared.value.TheConstants.{ENTRY_SIZE, GLOBAL_SIZE}
-use Rattle.bst_meaning.specs.Config.{Config}
+use Rattle.bst_meaning.specs.Config.{Config, EntryState, Variable}
+use Rattle.bst_meaning.specs.Machine.{visited_entry}
 use Rattle.bst_meaning.specs.StyleParts.{kind_of}
 use Rattle.bst_meaning.specs.declared.condition.Cond.{Cond}
 use Rattle.bst_meaning.specs.declared.entry.EntryList.{EntryList}
@@ -36,17 +37,17 @@ IsOfItsKind cond (Some StrGlobal) name value = (has_kind Str value ≡ true) × 
 IsOfItsKind cond (Some Field) name value = IsFieldValue cond name value
 IsOfItsKind cond _ name value = Unit {0}
 
--- a variable or field has a value, which is of its kind
-pub record HasValue (style : Style) (cond : Cond) (c : Config) (name : NameId) : Type 0 where
+-- a variable or field has a value among the global variables and those of an entry, and it is of its kind
+pub record HasValue (style : Style) (cond : Cond) (globals : List Variable) (entry : Option EntryState) (name : NameId) : Type 0 where
   pub value : Value
-  pub is : value_by (kind_of style name) name c ≡ Some value
+  pub is : value_by (kind_of style name) name globals entry ≡ Some value
   pub valid : IsValue value
   pub kind : IsOfItsKind cond (kind_of style name) name value
 
 -- pieces that are numbered on hold of a configuration, by one assignment to all their symbols
 pub record PiecesHold (style : Style) (v : Valuation) (pieces : List Piece) (c : Config) (below : List Value) : Type 0 where
   pub stack : c.stack ≡ values_of v (flat_map (λ piece. piece.stack) pieces) ++ below
-  pub binds : AllByRecursion (IsBound style v c) (bound_by pieces)
+  pub binds : AllByRecursion (IsBound style v c.globals (visited_entry c)) (bound_by pieces)
   pub facts : AllByRecursion (FactHolds style v) (flat_map (λ piece. piece.facts) pieces)
   pub rows : AllByRecursion (Holds (numbers v)) (flat_map (λ piece. piece.rows) pieces)
 
@@ -64,4 +65,4 @@ pub record CanStart (style : Style) (cond : Cond) (list : EntryList) (v : Valuat
   pub position : at_entry ≡ true → v.position < v.count
   pub hold : PiecesHold style v (numbered_on 0 pieces) c below
   pub bottom : whole ≡ true → below ≡ []
-  pub have : AllByRecursion (HasValue style cond c) (names_in_play style at_entry)
+  pub have : AllByRecursion (HasValue style cond c.globals (visited_entry c)) (names_in_play style at_entry)

@@ -13,7 +13,7 @@ use Rattle.bst_meaning.specs.declared.value.Value.{Value}
 use Rattle.bst_meaning.specs.StyleParts.{kind_of}
 use Rattle.bst_meaning.specs.Entries.{Fits}
 use Rattle.bst_meaning.specs.Condition.{Meets}
-use Rattle.bst_meaning.specs.Config.{Config, EntryState, Visit}
+use Rattle.bst_meaning.specs.Config.{Config, EntryState, Variable, Visit}
 use Rattle.bst_meaning.specs.Machine.{visited_entry, value_at, field_in}
 use Rattle.sym_state.specs.declared.symbol.Sym.{Sym}
 use Rattle.sym_state.specs.declared.symbol.Bind.{Bind}
@@ -26,18 +26,18 @@ use Rattle.sym_state.specs.Facts.{FactHolds}
 abbrev pub values_of : Valuation → List Sym → List Value
 values_of v stack = map (λ s. v.value s.0) (reverse stack)
 
--- the value that the machine pushes for a variable or a field, by its kind
-abbrev pub value_by : Option Kind → NameId → Config → Option Value
-value_by (Some Field) name c = option_map (λ e. field_in name e.entry.fields) (visited_entry c)
-value_by (Some IntEntry) name c = option_and_then (λ e. value_at name.0 e.variables) (visited_entry c)
-value_by (Some StrEntry) name c = option_and_then (λ e. value_at name.0 e.variables) (visited_entry c)
-value_by (Some IntGlobal) name c = value_at name.0 c.globals
-value_by (Some StrGlobal) name c = value_at name.0 c.globals
-value_by _ name c = None
+-- the value of a variable or a field by its kind, among the global variables and those of an entry, if there is one
+abbrev pub value_by : Option Kind → NameId → List Variable → Option EntryState → Option Value
+value_by (Some Field) name globals entry = option_map (λ e. field_in name e.entry.fields) entry
+value_by (Some IntEntry) name globals entry = option_and_then (λ e. value_at name.0 e.variables) entry
+value_by (Some StrEntry) name globals entry = option_and_then (λ e. value_at name.0 e.variables) entry
+value_by (Some IntGlobal) name globals entry = value_at name.0 globals
+value_by (Some StrGlobal) name globals entry = value_at name.0 globals
+value_by _ name globals entry = None
 
--- a variable or a field has the value of its symbol
-abbrev pub IsBound : Style → Valuation → Config → Bind → Type 0
-IsBound style v c bind = value_by (kind_of style bind.name) bind.name c ≡ Some (v.value bind.sym.0)
+-- a variable or a field has the value of its symbol there
+abbrev pub IsBound : Style → Valuation → List Variable → Option EntryState → Bind → Type 0
+IsBound style v globals entry bind = value_by (kind_of style bind.name) bind.name globals entry ≡ Some (v.value bind.sym.0)
 
 -- the list fits the style and meets the condition, and the configuration has its preamble and its entries, in some order
 pub record HasList (style : Style) (cond : Cond) (list : EntryList) (v : Valuation) (c : Config) : Type 0 where
@@ -72,13 +72,17 @@ pub record Stands (style : Style) (cond : Cond) (list : EntryList) (v : Valuatio
   pub visiting : state.at_entry ≡ true → IsVisiting v c
   pub stack : c.stack ≡ values_of v state.stack ++ below
   pub whole : state.whole ≡ true → below ≡ []
-  pub vars : AllByRecursion (IsBound style v c) state.vars
-  pub fields : AllByRecursion (IsBound style v c) state.fields
+  pub vars : AllByRecursion (IsBound style v c.globals (visited_entry c)) state.vars
+  pub fields : AllByRecursion (IsBound style v c.globals (visited_entry c)) state.fields
+
+-- by an assignment to its own symbols a piece says of the global variables and an entry what holds: all but its stack
+pub record IsMet (style : Style) (v : Valuation) (piece : Piece) (globals : List Variable) (entry : Option EntryState) : Type 0 where
+  pub vars : AllByRecursion (IsBound style v globals entry) piece.vars
+  pub fields : AllByRecursion (IsBound style v globals entry) piece.fields
+  pub facts : AllByRecursion (FactHolds style v) piece.facts
+  pub rows : AllByRecursion (Holds (numbers v)) piece.rows
 
 -- a piece holds of a configuration by an assignment to its own symbols, where these values lie below its stack
 pub record PieceHolds (style : Style) (v : Valuation) (piece : Piece) (c : Config) (below : List Value) : Type 0 where
   pub stack : c.stack ≡ values_of v piece.stack ++ below
-  pub vars : AllByRecursion (IsBound style v c) piece.vars
-  pub fields : AllByRecursion (IsBound style v c) piece.fields
-  pub facts : AllByRecursion (FactHolds style v) piece.facts
-  pub rows : AllByRecursion (Holds (numbers v)) piece.rows
+  pub met : IsMet style v piece c.globals (visited_entry c)

@@ -6,7 +6,7 @@ ghost use Rattle.std.specs.Option.{option_map_or};
 ghost use Rattle.bst_meaning.specs.Builtins.{Context, built_in};
 ghost use Rattle.bst_meaning.specs.Config.{Config};
 ghost use Rattle.bst_meaning.specs.Effect.{pushed};
-ghost use Rattle.bst_meaning.specs.Machine.{call_step, with_found};
+ghost use Rattle.bst_meaning.specs.Machine.{call_step, visited_entry, with_found};
 ghost use Rattle.bst_meaning.specs.Operands.{truth};
 ghost use Rattle.bst_meaning.specs.declared.fault.Fault.TheVariants.{WrongKind};
 ghost use Rattle.bst_meaning.specs.declared.value.Value.{Value};
@@ -43,7 +43,7 @@ pub fn blank_as_the_machine_has_it()
 /// The value that a state binds to a variable or field is the one that the machine pushes where its name is called.
 pub fn values_as_the_machine_reads_them()
     ensures { (style : Style) (kind : Kind) (name : NameId) (place : Place) (c : Config) → takes_part true kind ≡ true →
-        call_step style (Some kind) name place c ≡ with_found (value_by (Some kind) name c) place c }
+        call_step style (Some kind) name place c ≡ with_found (value_by (Some kind) name c.globals (visited_entry c)) place c }
 {}
 
 /// Where the facts hold, each symbol's value is of the kind that they decide.
