@@ -9,6 +9,7 @@ pub mod Ensured
 pub mod Entailed
 pub mod Exact
 pub mod Making
+pub mod Moving
 pub mod Numbering
 pub mod Opened
 pub mod Reading

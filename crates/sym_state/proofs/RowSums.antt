@@ -35,7 +35,7 @@ kept_sum a n t parts =
       | false ↦ λ e. refl
     ] refl
 
-and_sum : (a : Assignment) (n : ℤ) (t : Term) (parts : List Part) → sum_of a (and_part n t parts) ≡ n *ℤ a t +ℤ sum_of a parts
+pub and_sum : (a : Assignment) (n : ℤ) (t : Term) (parts : List Part) → sum_of a (and_part n t parts) ≡ n *ℤ a t +ℤ sum_of a parts
 and_sum a n t [] = kept_sum a n t []
 and_sum a n t (first ∷ parts) =
     let m : ℤ = first.coefficient in

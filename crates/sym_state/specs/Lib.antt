@@ -18,3 +18,4 @@ pub mod Effects
 pub mod Cases
 pub mod Covers
 pub mod Frames
+pub mod Positions

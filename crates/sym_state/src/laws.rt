@@ -1,6 +1,6 @@
 //! What the definitions of states give, in the machine's words.
 
-ghost use Rattle.std.specs.Prelude.{◌≡◌, ℕ, ◌∷◌, ◌++◌, Bool, true, List, None, Some, Err};
+ghost use Rattle.std.specs.Prelude.{◌≡◌, ◌↔◌, ℕ, ◌∷◌, ◌++◌, Bool, true, List, None, Some, Err};
 ghost use Rattle.std.specs.List.{All, AllByRecursion};
 ghost use Rattle.std.specs.Option.{option_map_or};
 ghost use Rattle.bst_meaning.specs.Builtins.{Context, built_in};
@@ -23,6 +23,7 @@ ghost use Rattle.sym_state.specs.Decided.{known_kind};
 ghost use Rattle.sym_state.specs.Facts.{FactHolds, emptiness, has_kind};
 ghost use Rattle.sym_state.specs.Entailing.{first_unentailed, match_of, under};
 ghost use Rattle.sym_state.specs.Opening.{CanStart, StandsOpen};
+ghost use Rattle.sym_state.specs.Positions.{Position, moved_to, row_moved};
 ghost use Rattle.sym_state.specs.References.{shows};
 ghost use Rattle.sym_state.specs.Renaming.{through};
 ghost use Rattle.sym_state.specs.Stands.{PieceHolds, Satisfies, Stands, value_by, values_of};
@@ -78,4 +79,10 @@ pub fn entailed_pieces_hold()
         (piece : Piece) (kept : ℕ) (proofs : List Proof) → first_unentailed state admits piece kept proofs ≡ None
         → Stands style admits list v state c below
         → PieceHolds style (through (match_of state piece kept) v) piece c (values_of v (under state piece) ++ below) }
+{}
+
+/// A row that is moved to another position holds by an assignment exactly where the row holds by the assignment with that
+/// position in place of its own.
+pub fn rows_move()
+    ensures { (p : Position) (v : Valuation) (row : Row) → Holds (numbers v) (row_moved p row) ↔ Holds (numbers (moved_to p v)) row }
 {}
