@@ -65,8 +65,9 @@ static LAST: Shape = Shape {
     next: 4294967293,
 };
 
-/// The two symbols, and how many facts there are.
-static SYMBOLS: [&str; 1] = ["of any kind, a string: 2 => Sym(4294967293) Sym(4294967294) 1"];
+/// The two symbols, how many facts there are, and what is on top of a stack on which no symbol is known.
+static SYMBOLS: [&str; 1] =
+    ["of any kind, a string: 2 => Sym(4294967293) Sym(4294967294) 1 None"];
 
 #[test]
 fn symbols_come_in_order(rt: HostRuntime) {
@@ -83,8 +84,8 @@ fn add_symbols(line: &mut String, state: &mut State) -> Result<(), Unread>
     requires { state.old.next ≡ 4294967293 }
 {
     let [any, string] = next_two(state)?;
-    let facts = state.facts();
-    Ok(write!(line, "{any:?} {string:?} {facts}")?)
+    let (facts, top) = (state.facts(), state.at(0));
+    Ok(write!(line, "{any:?} {string:?} {facts} {top:?}")?)
 }
 
 /// The next symbol, of any kind, and the string after it.
