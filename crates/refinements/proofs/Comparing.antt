@@ -18,7 +18,7 @@ use Rattle.sym_state.specs.declared.hint.Hint.{Hint}
 use Rattle.sym_state.specs.State.{State}
 use Rattle.sym_state.specs.declared.symbol.Fact.TheVariants.{Text as TextFact}
 use Rattle.sym_state.specs.declared.symbol.Kinds.{Kinds}
-use Rattle.sym_state.specs.declared.symbol.Kinds.TheVariants.{Int, Str, Missing, Optional, Func, Any}
+use Rattle.sym_state.specs.declared.symbol.Kinds.TheVariants.{Int, Str, Any}
 use Rattle.sym_state.specs.declared.symbol.Sym.{Sym}
 use Rattle.sym_state.specs.Cases.{Cases, answer, answer_of, at_least_rows, equal, equal_by, equal_rows, greater, integer_cases, integers_decided, is_equal, is_less, less, less_cases, less_rows, passed, passed_both, text_cases, texts_decided}
 use Rattle.sym_state.specs.Decided.{exact_integer, exact_text, known_kind}

@@ -1,5 +1,5 @@
 -- Which of the cases covers what the machine does.
-use Rattle.std.proofs.Common.{◌≡◌, ℕ, ◌<◌, ◌≤◌, ◌⊎◌, Bool, true, false, cond, List, [], ◌∷◌, ◌++◌, drop, length, Ok, Err, refl, sym, ap, subst, ◌∙◌, inl, inr, arith}
+use Rattle.std.proofs.Common.{◌≡◌, ℕ, ◌<◌, ◌≤◌, ◌⊎◌, Bool, true, false, cond, List, [], ◌∷◌, ◌++◌, drop, length, Result, Ok, Err, refl, sym, ap, subst, ◌∙◌, inl, inr, arith}
 use Rattle.std.specs.List.{All, AllByRecursion}
 use Rattle.std.proofs.lemmas.Int.{ints}
 use Rattle.bv_base.specs.declared.place.Place.{Place}
@@ -19,6 +19,7 @@ use Rattle.bst_meaning.specs.Operands.{truth}
 use Rattle.sym_state.specs.declared.hint.Hint.{Hint}
 use Rattle.sym_state.specs.declared.hint.Hint.TheVariants.{Keep, Drop}
 use Rattle.sym_state.specs.declared.proof.Proof.{Proof}
+use Rattle.sym_state.specs.declared.demand.EffectFault.{EffectFault}
 use Rattle.sym_state.specs.State.{State}
 use Rattle.sym_state.specs.declared.symbol.Fact.{Fact}
 use Rattle.sym_state.specs.declared.symbol.Fact.TheVariants.{Int as IntFact}
@@ -79,6 +80,28 @@ kept style admits v state hints cases h e =
       | inr none ↦ not_shown style admits v state none.1.0 h none.1.1
     ]
 
+-- two cases that are weighed one after the other, and what follows them
+pub record BothWeighed {X : Type 0} (admits : Cond) (first second : State) (hints : List Hint) (next : Cases → Cases → Result X EffectFault) (x : X) : Type 0 where
+  pub one : Cases
+  pub other : Cases
+  pub first_weighed : weighed admits first hints ≡ Ok one
+  pub second_weighed : weighed admits second one.hints ≡ Ok other
+  pub given : next one other ≡ Ok x
+
+pub weighed_then : {X : Type 0} (admits : Cond) (first second : State) (hints : List Hint) (next : Cases → Cases → Result X EffectFault) (x : X)
+    → then_do (weighed admits first hints) (λ one. then_do (weighed admits second one.hints) (next one)) ≡ Ok x
+    → BothWeighed admits first second hints next x
+weighed_then {X} admits first second hints next x e =
+    elim (weighed admits first hints) as (λ (o : Split). weighed admits first hints ≡ o
+    → then_do o (λ one. then_do (weighed admits second one.hints) (next one)) ≡ Ok x → BothWeighed admits first second hints next x) [
+      | Err fault ↦ λ is found. absurd (cc)
+      | Ok one ↦ λ is found. elim (weighed admits second one.hints) as (λ (o : Split). weighed admits second one.hints ≡ o
+          → then_do o (next one) ≡ Ok x → BothWeighed admits first second hints next x) [
+            | Err fault ↦ λ other_is wrong. absurd (cc)
+            | Ok other ↦ λ other_is all. record { one = one; other = other; first_weighed = is; second_weighed = other_is; given = all }
+          ] refl found
+    ] refl e
+
 -- what comes of two cases
 pub record Two (admits : Cond) (first second : State) (hints : List Hint) (cases : Cases) : Type 0 where
   pub one : Cases
@@ -88,27 +111,21 @@ pub record Two (admits : Cond) (first second : State) (hints : List Hint) (cases
   pub joined : cases.states ≡ one.states ++ other.states
   pub left : cases.hints ≡ other.hints
 
+given_is : (states : List State) (hints : List Hint) (cases : Cases) → given states hints ≡ Ok cases → record { states = states; hints = hints } ≡ cases
+given_is states hints cases e = cc
+
 pub both_weighed : (admits : Cond) (first second : State) (hints : List Hint) (cases : Cases) → weighed_both admits first second hints ≡ Ok cases
     → Two admits first second hints cases
 both_weighed admits first second hints cases e =
-    let joined : Cases → Cases → Split = λ one other. given (one.states ++ other.states) other.hints in
-    elim (weighed admits first hints) as (λ (o : Split). weighed admits first hints ≡ o
-    → then_do o (λ one. then_do (weighed admits second one.hints) (joined one)) ≡ Ok cases → Two admits first second hints cases) [
-      | Err fault ↦ λ is found. absurd (cc)
-      | Ok one ↦ λ is found. elim (weighed admits second one.hints) as (λ (o : Split). weighed admits second one.hints ≡ o
-          → then_do o (joined one) ≡ Ok cases → Two admits first second hints cases) [
-            | Err fault ↦ λ other_is wrong. absurd (cc)
-            | Ok other ↦ λ other_is all.
-                let same : record { states = one.states ++ other.states; hints = other.hints } ≡ cases = cc in record {
-                  one = one;
-                  other = other;
-                  first_weighed = is;
-                  second_weighed = other_is;
-                  joined = ap (λ (c : Cases). c.states) (sym same);
-                  left = ap (λ (c : Cases). c.hints) (sym same);
-                }
-          ] refl found
-    ] refl e
+    let two = weighed_then admits first second hints (λ one other. given (one.states ++ other.states) other.hints) cases e in
+    let same = given_is (two.one.states ++ two.other.states) two.other.hints cases two.given in record {
+      one = two.one;
+      other = two.other;
+      first_weighed = two.first_weighed;
+      second_weighed = two.second_weighed;
+      joined = ap (λ (c : Cases). c.states) (sym same);
+      left = ap (λ (c : Cases). c.hints) (sym same);
+    }
 
 pub among_later : {X : Type 0} (x : X) (before after : List X) → IsAmong x after → IsAmong x (before ++ after)
 among_later x [] after h = h

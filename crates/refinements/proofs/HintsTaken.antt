@@ -1,26 +1,23 @@
 -- A test that has cases takes as many hints as it needs.
-use Rattle.std.proofs.Common.{◌≡◌, ℕ, ◌+◌, ◌≤◌, Bool, true, false, cond, ◌&&◌, List, [], ◌∷◌, ◌++◌, Option, None, Some, Result, Ok, Err, length, length-drop, drop, drop-drop, reverse, refl, sym, ap, subst, ◌∙◌, arith}
+use Rattle.std.proofs.Common.{◌≡◌, ℕ, ◌≤◌, Bool, true, false, cond, List, [], ◌∷◌, Option, None, Some, Result, Ok, Err, length, length-drop, drop, drop-drop, reverse, refl, sym, ap, subst, ◌∙◌, arith}
 use Rattle.std.specs.Prelude.{ℤ}
 use Rattle.lin_facts.specs.declared.row.Row.{Row}
 use Rattle.bst_meaning.specs.declared.condition.Cond.{Cond}
 use Rattle.sym_state.specs.declared.demand.DemandKind.TheVariants.{WrongKind}
 use Rattle.sym_state.specs.declared.hint.Hint.{Hint}
-use Rattle.sym_state.specs.declared.hint.Hint.TheVariants.{Apply, Case, Drop, Keep, Loop, Plain, Step, Walk}
 use Rattle.sym_state.specs.State.{State}
 use Rattle.sym_state.specs.declared.symbol.Fact.{Fact}
 use Rattle.sym_state.specs.declared.symbol.Kinds.{Kinds}
-use Rattle.sym_state.specs.declared.symbol.Kinds.TheVariants.{Any, Func, Int, Missing, Optional, Str}
+use Rattle.sym_state.specs.declared.symbol.Kinds.TheVariants.{Any, Int, Missing, Optional, Str}
 use Rattle.sym_state.specs.declared.symbol.Sym.{Sym}
 use Rattle.sym_state.specs.declared.test.Test.{Test}
 use Rattle.sym_state.specs.declared.test.Test.TheVariants.{Above, Empty, Equal, Greater, Less, Missing as IsMissing}
-use Rattle.sym_state.specs.Cases.{Cases, Split, at_least_rows, empty_cases, equal_by, equal_decided, equal_rows, given, hints_of, hints_on, integer_cases, less_cases, less_decided, less_rows, missing_cases, needs_of, passed_both, split_of, text_cases, texts_decided, weighed_both}
+use Rattle.sym_state.specs.Cases.{Cases, at_least_rows, empty_cases, equal_by, equal_decided, equal_rows, given, hints_of, hints_on, integer_cases, less_cases, less_decided, less_rows, missing_cases, needs_of, passed_both, split_of, text_cases, texts_decided, weighed_both}
 use Rattle.sym_state.specs.Decided.{emptiness_said, exact_integer, first_said, includes, known_kind}
 use Rattle.sym_state.specs.declared.demand.EffectFault.{EffectFault}
 use Rattle.sym_state.specs.Demands.{One, Two, demand, fails, is_of_kind, two_by, two_of}
 use Rattle.sym_state.proofs.Ensured.{one_taken, two_taken}
 use Rattle.refinements.proofs.Covering.{both_weighed, weighed_is}
-use Rattle.sym_state.specs.References.{shows}
-use Rattle.sym_state.specs.declared.demand.EffectFault.TheVariants.{NotEntailed}
 use Rattle.refinements.proofs.Labels.{labels_dropped, sign_cases}
 use Rattle.refinements.proofs.Taking.{taken_one, taken_two}
 

@@ -2,27 +2,25 @@
 use Rattle.std.proofs.Common.{◌≡◌, ◌<◌, Bool, true, false, cond, List, [], ◌∷◌, ◌++◌, reverse, Option, None, Some, Ok, Err, subst, sym, ap, ◌∙◌, arith, inl, inr}
 use Rattle.std.specs.Prelude.{ℤ, pos}
 use Rattle.std.specs.List.{All}
-use Rattle.std.proofs.lemmas.List.Elements.{All-append, All-cons, All-nil, All-same, All-tail}
+use Rattle.std.proofs.lemmas.List.Elements.{All-append, All-cons, All-nil, All-same}
 use Rattle.lin_facts.specs.declared.row.Row.{Row}
 use Rattle.lin_facts.specs.declared.row.Term.TheVariants.{Value as ValueOf}
 use Rattle.name_table.specs.declared.style.Style.{Style}
 use Rattle.bst_meaning.specs.declared.condition.Cond.{Cond}
 use Rattle.sym_state.specs.declared.demand.DemandKind.TheVariants.{WrongKind}
-use Rattle.sym_state.specs.declared.demand.EffectFault.TheVariants.{NotEntailed}
 use Rattle.sym_state.specs.declared.hint.Hint.{Hint}
-use Rattle.sym_state.specs.declared.hint.Hint.TheVariants.{Apply, Walk, Loop, Case, Plain, Keep, Drop, Step}
 use Rattle.sym_state.specs.State.{State}
 use Rattle.sym_state.specs.declared.symbol.Fact.{Fact}
 use Rattle.sym_state.specs.declared.symbol.Fact.TheVariants.{Is, Blank, Nonblank}
 use Rattle.sym_state.specs.declared.symbol.Kinds.{Kinds}
-use Rattle.sym_state.specs.declared.symbol.Kinds.TheVariants.{Int, Str, Missing, Optional, Func, Any}
+use Rattle.sym_state.specs.declared.symbol.Kinds.TheVariants.{Int, Str, Missing, Optional, Any}
 use Rattle.sym_state.specs.declared.symbol.Sym.{Sym}
 use Rattle.sym_state.specs.declared.test.Test.{Test}
 use Rattle.sym_state.specs.declared.test.Test.TheVariants.{Empty, Missing as IsMissing, Equal, Less, Greater, Above}
-use Rattle.sym_state.specs.Cases.{Cases, IsTestOf, Labelled, above_of, absurdity, at_least_rows, both, decided, empty_cases, equal_by, equal_decided, equal_rows, integer_cases, less, less_cases, less_decided, less_rows, missing_cases, not_positive_rows, passed, passed_both, positive_rows, split_of, text_cases, texts_decided, weighed, weighed_both, with_case, with_truth, without_labels}
+use Rattle.sym_state.specs.Cases.{Cases, IsTestOf, Labelled, above_of, at_least_rows, both, decided, empty_cases, equal_by, equal_decided, equal_rows, integer_cases, less, less_cases, less_decided, less_rows, missing_cases, not_positive_rows, passed, passed_both, positive_rows, split_of, text_cases, texts_decided, weighed, weighed_both, with_case, with_truth, without_labels}
 use Rattle.sym_state.specs.Decided.{emptiness_said, exact_integer, exact_text, first_said, known_kind}
 use Rattle.sym_state.specs.Demands.{fails, is_of_kind}
-use Rattle.sym_state.specs.References.{at_least, at_most, shows}
+use Rattle.sym_state.specs.References.{at_least, at_most}
 use Rattle.sym_state.specs.WellMade.{WellMade}
 use Rattle.sym_state.proofs.Below.{AreBelow, one_below, two_below}
 use Rattle.sym_state.proofs.Ensured.{one_taken, two_taken}

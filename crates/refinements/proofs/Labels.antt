@@ -1,5 +1,5 @@
 -- The cases of whether an integer is above 0, with their labels and without.
-use Rattle.std.proofs.Common.{◌≡◌, Bool, true, false, List, [], ◌∷◌, ◌++◌, map, Option, None, Some, Result, Ok, Err, refl, sym, ap, subst, ◌∙◌}
+use Rattle.std.proofs.Common.{◌≡◌, Bool, true, false, List, [], ◌∷◌, ◌++◌, map, Option, None, Some, Result, Ok, Err, refl, sym, ap}
 use Rattle.std.specs.Prelude.{ℤ}
 use Rattle.std.specs.List.{All}
 use Rattle.std.proofs.lemmas.List.Elements.{All-cons, All-head, All-nil, All-tail}
@@ -51,34 +51,12 @@ labelled_all P (first ∷ cases) h =
     let states : List State = map (λ (one : Bool × State). one.1) cases in
     All-cons (λ (one : Bool × State). P one.1) first cases (All-head P first.1 states h) (labelled_all P cases (All-tail P first.1 states h))
 
--- what comes of two weighed cases with their labels
-pub record LabelledTwo (admits : Cond) (first second : State) (hints : List Hint) (all : Labelled) : Type 0 where
-  pub one : Cases
-  pub other : Cases
-  pub first_weighed : weighed admits first hints ≡ Ok one
-  pub second_weighed : weighed admits second one.hints ≡ Ok other
-  pub joined : all.cases ≡ with_label true one.states ++ with_label false other.states
+-- the cases of both with their labels
+abbrev pub labelled : Cases → Cases → Result Labelled EffectFault
+labelled one other = Ok (record { cases = with_label true one.states ++ with_label false other.states; hints = other.hints })
 
-pub labelled_two : (admits : Cond) (state : State) (s : Sym) (hints : List Hint) (all : Labelled) → above_cases admits state s None hints ≡ Ok all
-    → LabelledTwo admits (with_case [] (positive_rows s) state) (with_case [] (not_positive_rows s) state) hints all
-labelled_two admits state s hints all e =
-    let first : State = with_case [] (positive_rows s) state in
-    let second : State = with_case [] (not_positive_rows s) state in
-    let labelled : Cases → Cases → Result Labelled EffectFault =
-    λ one other. Ok (record { cases = with_label true one.states ++ with_label false other.states; hints = other.hints }) in
-    elim (weighed admits first hints) as (λ (o : Split). weighed admits first hints ≡ o
-    → then_do o (λ one. then_do (weighed admits second one.hints) (labelled one)) ≡ Ok all → LabelledTwo admits first second hints all) [
-      | Err fault ↦ λ is found. absurd (cc)
-      | Ok one ↦ λ is found. elim (weighed admits second one.hints) as (λ (o : Split). weighed admits second one.hints ≡ o
-          → then_do o (labelled one) ≡ Ok all → LabelledTwo admits first second hints all) [
-            | Err fault ↦ λ other_is wrong. absurd (cc)
-            | Ok other ↦ λ other_is last.
-                let same : record { cases = with_label true one.states ++ with_label false other.states; hints = other.hints } ≡ all = cc in record {
-                  one = one;
-                  other = other;
-                  first_weighed = is;
-                  second_weighed = other_is;
-                  joined = ap (λ (l : Labelled). l.cases) (sym same);
-                }
-          ] refl found
-    ] refl e
+pub labels_joined : (one other : Cases) (all : Labelled) → labelled one other ≡ Ok all
+    → all.cases ≡ with_label true one.states ++ with_label false other.states
+labels_joined one other all e =
+    let same : record { cases = with_label true one.states ++ with_label false other.states; hints = other.hints } ≡ all = cc in
+    ap (λ (l : Labelled). l.cases) (sym same)

@@ -22,8 +22,8 @@ use Rattle.sym_state.proofs.Deciding.{exact_integer_is}
 use Rattle.sym_state.proofs.Saying.{at_least_holds, at_most_holds}
 use Rattle.refinements.specs.Covered.{IsAmong, OneLabelledStands, OneStands}
 use Rattle.refinements.proofs.Comparing.{above_zero, not_above}
-use Rattle.refinements.proofs.Covering.{among_later, first_kept, kept, second_kept}
-use Rattle.refinements.proofs.Labels.{labelled_two, labels_dropped, sign_cases}
+use Rattle.refinements.proofs.Covering.{among_later, first_kept, kept, second_kept, weighed_then}
+use Rattle.refinements.proofs.Labels.{labelled, labels_dropped, labels_joined, sign_cases}
 use Rattle.refinements.proofs.Fitting.{case_stands}
 
 low : (x n : ℤ) → x ≡ n → is_positive n ≡ true → pos 1 ≤ℤ x
@@ -72,17 +72,19 @@ labelled_among : (style : Style) (admits : Cond) (v : Valuation) (state : State)
     → Satisfies style admits v (with_case [] (cond t (positive_rows s) (not_positive_rows s)) state) → above_cases admits state s None hints ≡ Ok all
     → IsAmong (t, with_case [] (cond t (positive_rows s) (not_positive_rows s)) state) all.cases
 labelled_among style admits v state s hints all true h e =
-    let two = labelled_two admits state s hints all e in
+    let two = weighed_then admits (with_case [] (positive_rows s) state) (with_case [] (not_positive_rows s) state) hints labelled all e in
+    let joined = labels_joined two.one two.other all two.given in
     let case : State = with_case [] (positive_rows s) state in
     let is = kept style admits v case hints two.one h two.first_weighed in
     subst (λ (l : List (Bool × State)). IsAmong (true, case) l)
-    (sym (two.joined ∙ ap (λ (l : List State). with_label true l ++ with_label false two.other.states) is)) (inl refl)
+    (sym (joined ∙ ap (λ (l : List State). with_label true l ++ with_label false two.other.states) is)) (inl refl)
 labelled_among style admits v state s hints all false h e =
-    let two = labelled_two admits state s hints all e in
+    let two = weighed_then admits (with_case [] (positive_rows s) state) (with_case [] (not_positive_rows s) state) hints labelled all e in
+    let joined = labels_joined two.one two.other all two.given in
     let case : State = with_case [] (not_positive_rows s) state in
     let is = kept style admits v case two.one.hints two.other h two.second_weighed in
     subst (λ (l : List (Bool × State)). IsAmong (false, case) l)
-    (sym (two.joined ∙ ap (λ (l : List State). with_label true two.one.states ++ with_label false l) is))
+    (sym (joined ∙ ap (λ (l : List State). with_label true two.one.states ++ with_label false l) is))
     (among_later (false, case) (with_label true two.one.states) ((false, case) ∷ []) (inl refl))
 
 -- the integer that is known is the one that the symbol's value is

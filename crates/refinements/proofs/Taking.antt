@@ -1,27 +1,22 @@
 -- The operands of a test that has cases, and where its state stands.
-use Rattle.std.proofs.Common.{◌≡◌, ◌<◌, Bool, true, false, cond, List, [], ◌∷◌, ◌++◌, reverse, Ok, Err, refl, ap, subst, ◌∙◌}
+use Rattle.std.proofs.Common.{◌≡◌, Bool, true, false, List, [], ◌∷◌, ◌++◌, reverse, Ok, refl, ap, subst, ◌∙◌}
 use Rattle.std.specs.List.{AllByRecursion}
-use Rattle.std.proofs.lemmas.List.Elements.{All-head, All-tail}
 use Rattle.lin_facts.specs.Rows.{Holds}
 use Rattle.lin_facts.specs.declared.row.Row.{Row}
 use Rattle.name_table.specs.declared.builtin.Builtin.{Builtin}
-use Rattle.name_table.specs.declared.style.Style.{Style}
 use Rattle.bst_meaning.specs.declared.value.Value.{Value}
 use Rattle.bst_meaning.specs.Builtins.{built_in}
 use Rattle.bst_meaning.specs.Effect.{pushed}
 use Rattle.bst_meaning.specs.Machine.{context_of}
 use Rattle.bst_meaning.specs.Operands.{truth}
-use Rattle.sym_state.specs.declared.demand.DemandKind.TheVariants.{WrongKind}
 use Rattle.sym_state.specs.declared.hint.Hint.{Hint}
 use Rattle.sym_state.specs.State.{State}
 use Rattle.sym_state.specs.declared.symbol.Fact.{Fact}
-use Rattle.sym_state.specs.declared.symbol.Kinds.TheVariants.{Int, Optional}
 use Rattle.sym_state.specs.declared.symbol.Sym.{Sym}
 use Rattle.sym_state.specs.Cases.{Cases, both, decided, weighed_both, with_case, with_truth}
 use Rattle.sym_state.specs.Demands.{One, Two}
 use Rattle.sym_state.specs.Facts.{FactHolds}
 use Rattle.sym_state.specs.Symbols.{numbers}
-use Rattle.sym_state.specs.WellMade.{WellMade}
 use Rattle.sym_state.proofs.Below.{one_below, two_below}
 use Rattle.sym_state.proofs.Frames.{value_list}
 use Rattle.sym_state.proofs.Pushing.{stack_of_tops, without}

@@ -7,7 +7,7 @@ use Rattle.bst_meaning.specs.Effect.{pushed}
 use Rattle.bst_meaning.specs.Machine.{context_of}
 use Rattle.bst_meaning.specs.Operands.{truth}
 use Rattle.bst_meaning.specs.declared.value.Value.{Value}
-use Rattle.bst_meaning.specs.declared.value.Value.TheVariants.{Int as IntValue, Str as StrValue, Missing as MissingValue, Func as FuncValue}
+use Rattle.bst_meaning.specs.declared.value.Value.TheVariants.{Str as StrValue, Missing as MissingValue}
 use Rattle.sym_state.specs.declared.hint.Hint.{Hint}
 use Rattle.sym_state.specs.declared.symbol.Fact.TheVariants.{Is, Blank, Nonblank}
 use Rattle.sym_state.specs.declared.symbol.Kinds.{Kinds}
