@@ -1,5 +1,5 @@
 -- The effect of `:=` covers the machine.
-use Rattle.std.proofs.Common.{◌≡◌, ℕ, ◌≤◌, inl, inr, Bool, true, false, cond, List, [], ◌∷◌, ◌++◌, length, take, reverse, Option, None, Some, Ok, refl, sym, ap, subst, ◌∙◌, arith}
+use Rattle.std.proofs.Common.{◌≡◌, ℕ, ◌≤◌, Bool, true, false, cond, List, [], ◌∷◌, ◌++◌, length, take, reverse, Option, None, Some, Ok, refl, sym, ap, subst, ◌∙◌, arith}
 use Rattle.std.specs.Prelude.{pos, nat_le}
 use Rattle.std.specs.Option.{option_map}
 use Rattle.std.proofs.lemmas.Bool.{le-leb, leb-true}
@@ -8,7 +8,7 @@ use Rattle.std.proofs.lemmas.List.{length-take, reverse-reverse}
 use Rattle.lin_facts.specs.declared.row.Term.TheVariants.{Length as LengthOf}
 use Rattle.name_table.specs.declared.builtin.Builtin.TheVariants as op
 use Rattle.name_table.specs.declared.names.Kind.{Kind}
-use Rattle.name_table.specs.declared.names.Kind.TheVariants.{Builtin as BuiltinKind, Wizard, Field, IntEntry, StrEntry, IntGlobal, StrGlobal}
+use Rattle.name_table.specs.declared.names.Kind.TheVariants.{IntEntry, StrEntry, IntGlobal, StrGlobal}
 use Rattle.name_table.specs.declared.names.NameId.{NameId}
 use Rattle.bst_meaning.specs.declared.value.Target.TheVariants.{Named}
 use Rattle.bst_meaning.specs.declared.value.Value.{Value}
@@ -19,14 +19,12 @@ use Rattle.bst_meaning.specs.Effect.{Effect, left}
 use Rattle.bst_meaning.specs.Entries.{IsByteList}
 use Rattle.bst_meaning.specs.Machine.{assigned_by}
 use Rattle.bst_meaning.specs.StyleParts.{kind_of}
-use Rattle.sym_state.specs.declared.demand.DemandKind.TheVariants.{NoEntry, WrongKind}
-use Rattle.sym_state.specs.declared.hint.Hint.{Hint}
 use Rattle.sym_state.specs.State.{State}
-use Rattle.sym_state.specs.declared.symbol.Kinds.TheVariants.{Func, Int, Str}
+use Rattle.sym_state.specs.declared.symbol.Kinds.TheVariants.{Str}
 use Rattle.sym_state.specs.declared.symbol.Sym.{Sym}
 use Rattle.sym_state.specs.Changes.{with_bind}
 use Rattle.sym_state.specs.Decided.{ByName, ByNumber, Function, exact_function, exact_text}
-use Rattle.sym_state.specs.Demands.{After, choice, gives, is_of_kind, Chooses, Gives, Rule}
+use Rattle.sym_state.specs.Demands.{Chooses, Gives, Rule}
 use Rattle.sym_state.specs.Effects.{assigned_to, cut_bound, effect_of, fits_exactly, string_assigned}
 use Rattle.sym_state.specs.Effects as rule
 use Rattle.sym_state.specs.References.{at_most}
@@ -46,7 +44,7 @@ use Rattle.builtin_effects.proofs.Covering.{CoversAt, after_value, around, lower
 use Rattle.builtin_effects.proofs.EntryCovers.{entry_given}
 use Rattle.builtin_effects.proofs.OperandValues.{IsText, number_met, text_met}
 use Rattle.builtin_effects.proofs.Rebinding.{Unique, each_once}
-use Rattle.sym_state.proofs.Below.{one_below, three_below, two_below}
+use Rattle.sym_state.proofs.Below.{two_below}
 
 -- a value and the name of a variable on top
 record Assigning (s : Spot) (name : NameId) (kind : Kind) (a f : Sym) (rest : List Sym) : Type 0 where

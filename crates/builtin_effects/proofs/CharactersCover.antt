@@ -1,5 +1,5 @@
 -- The effects of `chr.to.int$`, `int.to.chr$` and `int.to.str$` cover the machine.
-use Rattle.std.proofs.Common.{◌≡◌, ℕ, ◌<◌, Bool, true, cond, List, [], ◌∷◌, length, reverse, Option, None, Some, Ok, Err, refl, sym, ap, subst, ◌∙◌, lt-ltb, arith}
+use Rattle.std.proofs.Common.{◌≡◌, ℕ, ◌<◌, Bool, true, cond, List, [], ◌∷◌, length, reverse, Option, None, Some, Err, refl, sym, ap, subst, ◌∙◌, lt-ltb, arith}
 use Rattle.std.specs.Prelude.{ℤ, pos, negsuc, ◌≤ℤ◌}
 use Rattle.std.proofs.lemmas.Int.{ints}
 use Rattle.lin_facts.specs.declared.row.Term.TheVariants.{Value as ValueOf, Length as LengthOf}
@@ -12,18 +12,14 @@ use Rattle.bst_meaning.specs.Effect.{pushed}
 use Rattle.bst_meaning.specs.Entries.{IsByteList}
 use Rattle.bst_meaning.specs.Operands.{has_32_bits}
 use Rattle.text_ops.specs.IntToStr.{numeral}
-use Rattle.sym_state.specs.declared.demand.DemandKind.TheVariants.{NotAscii, NotOneByte}
-use Rattle.sym_state.specs.declared.hint.Hint.{Hint}
-use Rattle.sym_state.specs.State.{State}
 use Rattle.sym_state.specs.declared.symbol.Fact.TheVariants.{Int as IntFact, Nonblank}
 use Rattle.sym_state.specs.declared.symbol.Kinds.TheVariants.{Int, Str}
 use Rattle.sym_state.specs.declared.symbol.Sym.{Sym}
 use Rattle.sym_state.specs.Decided.{exact_text}
-use Rattle.sym_state.specs.Demands.{After, Outcome, fails, gives}
-use Rattle.sym_state.specs.Effects.{byte_number, effect_of, one_byte}
+use Rattle.sym_state.specs.Effects.{byte_number, one_byte}
 use Rattle.sym_state.specs.Facts.{emptiness}
 use Rattle.sym_state.specs.References.{at_least, at_most}
-use Rattle.sym_state.specs.Results.{next_of, with_result}
+use Rattle.sym_state.specs.Results.{next_of}
 use Rattle.sym_state.specs.Symbols.{integer_of, length_of, numbers}
 use Rattle.sym_state.proofs.Deciding.{exact_text_is}
 use Rattle.sym_state.proofs.Pushing.{without}
@@ -31,7 +27,7 @@ use Rattle.sym_state.proofs.RowSums.{at_least_says, at_most_says}
 use Rattle.sym_state.proofs.Saying.{at_least_holds, at_most_holds}
 use Rattle.sym_state.proofs.Spots.{Spot}
 use Rattle.bst_meaning.proofs.ByteTexts.{numeral_bytes}
-use Rattle.builtin_effects.proofs.Covering.{CoversAt, Old, after_value, around, lower, one_given, one_then, put, row_met, term_new_length, term_new_value, value_new, CoversBy, CoversOf}
+use Rattle.builtin_effects.proofs.Covering.{after_value, around, lower, one_given, one_then, put, row_met, term_new_length, term_new_value, value_new, CoversBy, CoversOf}
 use Rattle.builtin_effects.proofs.Integers.{number_bits}
 use Rattle.builtin_effects.proofs.OperandValues.{TextTaken, number_taken, text_taken}
 use Rattle.builtin_effects.proofs.TextSizes.{numeral_nonblank, numeral_sizes}

@@ -1,5 +1,5 @@
 -- The effects of `num.names$`, `text.length$` and `width$` cover the machine.
-use Rattle.std.proofs.Common.{◌≡◌, ℕ, ◌*◌, List, [], ◌∷◌, length, Ok, refl, ap, ◌∙◌, arith, true}
+use Rattle.std.proofs.Common.{◌≡◌, ℕ, ◌*◌, List, [], ◌∷◌, length, refl, ap, ◌∙◌, arith, true}
 use Rattle.std.specs.Prelude.{ℤ, pos, negsuc, neg_ℤ, ◌*ℤ◌}
 use Rattle.std.proofs.lemmas.Int.{ints}
 use borrow.Author.Differences.{product_is}
@@ -12,13 +12,8 @@ use Rattle.text_ops.specs.Width.{width_of}
 use Rattle.bst_meaning.specs.declared.value.Value.{Value}
 use Rattle.bst_meaning.specs.declared.value.Value.TheVariants.{Int as IntValue, Str as StrValue}
 use Rattle.bst_meaning.specs.Effect.{pushed}
-use Rattle.sym_state.specs.declared.demand.DemandKind.TheVariants.{IntRange}
-use Rattle.sym_state.specs.declared.hint.Hint.{Hint}
-use Rattle.sym_state.specs.State.{State}
 use Rattle.sym_state.specs.declared.symbol.Kinds.TheVariants.{Int}
 use Rattle.sym_state.specs.declared.symbol.Sym.{Sym}
-use Rattle.sym_state.specs.Demands.{After, Outcome, fails, gives, step}
-use Rattle.sym_state.specs.Effects.{effect_of}
 use Rattle.sym_state.specs.References.{at_least, at_most, exceeds}
 use Rattle.sym_state.specs.Results.{sum_of_two, with_result}
 use Rattle.sym_state.specs.Symbols.{length_of, name_count_of, numbers}
@@ -26,7 +21,7 @@ use Rattle.sym_state.proofs.Pushing.{without}
 use Rattle.sym_state.proofs.RowSums.{at_most_says, two_holds, two_says}
 use Rattle.sym_state.proofs.Saying.{at_least_holds, exceeds_holds, minus}
 use Rattle.sym_state.proofs.Spots.{Spot}
-use Rattle.builtin_effects.proofs.Covering.{CoversAt, after_value, lower, one_then, put, row_met, term_new_value, term_old, CoversBy, CoversOf, around}
+use Rattle.builtin_effects.proofs.Covering.{CoversAt, after_value, lower, one_then, put, row_met, term_new_value, term_old, CoversOf, around}
 use Rattle.builtin_effects.proofs.Integers.{in_range, number_bits}
 use Rattle.builtin_effects.proofs.OperandValues.{TextTaken, text_taken}
 use Rattle.builtin_effects.proofs.TextSizes.{text_length_shorter, width_bounded}

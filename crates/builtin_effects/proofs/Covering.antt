@@ -1,8 +1,7 @@
 -- What covers the machine: a new value on top of what is left, and symbols that are only moved.
-use Rattle.std.proofs.Common.{◌≡◌, ℕ, ◌<◌, true, List, [], ◌∷◌, ◌++◌, reverse, Result, Ok, refl, sym, ap, subst, ◌∙◌}
-use Rattle.std.specs.List.{All, AllByRecursion}
+use Rattle.std.proofs.Common.{◌≡◌, ℕ, true, List, [], ◌∷◌, ◌++◌, reverse, Result, Ok, refl, ap, subst, ◌∙◌}
+use Rattle.std.specs.List.{AllByRecursion}
 use Rattle.std.proofs.lemmas.List.{reverse-reverse}
-use Rattle.std.proofs.lemmas.List.Elements.{All-head, All-tail}
 use Rattle.lin_facts.specs.Rows.{Holds}
 use Rattle.lin_facts.specs.declared.row.Row.{Row}
 use Rattle.lin_facts.specs.declared.row.Term.{Term}
@@ -14,22 +13,19 @@ use Rattle.bst_meaning.specs.Builtins.{Context, built_in}
 use Rattle.bst_meaning.specs.Config.{Event}
 use Rattle.bst_meaning.specs.Effect.{Effect, left, pushed}
 use Rattle.bst_meaning.specs.Machine.{context_of}
-use Rattle.sym_state.specs.declared.hint.Hint.{Hint}
-use Rattle.sym_state.specs.declared.proof.Proof.{Proof}
 use Rattle.sym_state.specs.State.{State}
 use Rattle.sym_state.specs.declared.symbol.Fact.{Fact}
 use Rattle.sym_state.specs.declared.symbol.Kinds.{Kinds}
 use Rattle.sym_state.specs.declared.symbol.Sym.{Sym}
 use Rattle.sym_state.specs.Covers.{Covers}
-use Rattle.sym_state.specs.Demands.{After, gives, is_of_kind, Rule}
+use Rattle.sym_state.specs.Demands.{gives, is_of_kind, Rule}
 use Rattle.sym_state.specs.Facts.{FactHolds, has_kind}
-use Rattle.sym_state.specs.References.{shows}
 use Rattle.sym_state.specs.Results.{with_result, with_symbol}
 use Rattle.sym_state.specs.Stands.{Stands}
 use Rattle.sym_state.specs.Symbols.{IsValue, Valuation, integer_of, length_of, numbers}
 use Rattle.sym_state.specs.WellMade.{IsTermBelow}
 use Rattle.sym_state.specs.Effects.{rule_of}
-use Rattle.sym_state.proofs.Below.{AreBelow, one_below}
+use Rattle.sym_state.proofs.Below.{AreBelow}
 use Rattle.sym_state.proofs.Ensured.{Ensures, IsShown}
 use Rattle.sym_state.proofs.Frames.{value_list, agrees_self, list_agrees, next_agrees, next_is, term_agrees, with_next}
 use Rattle.sym_state.proofs.KnownKinds.{of_kind_holds}

@@ -1,5 +1,5 @@
 -- The effects that give something of the entry, of the database or a constant cover the machine.
-use Rattle.std.proofs.Common.{◌≡◌, ℕ, ◌≤◌, true, List, [], ◌∷◌, length, map, Option, None, Some, Ok, is_none, refl, ap, subst, ◌∙◌, arith, cond, Bool, false}
+use Rattle.std.proofs.Common.{◌≡◌, ℕ, ◌≤◌, true, List, [], ◌∷◌, length, map, Option, None, Some, is_none, refl, ap, subst, ◌∙◌, arith, cond, Bool, false}
 use Rattle.std.specs.Prelude.{pos, codes, slice_get}
 use Rattle.std.specs.List.{All, AllByRecursion}
 use Rattle.std.specs.Option.{option_and_then, option_map}
@@ -20,18 +20,15 @@ use Rattle.bst_meaning.specs.Config.{EntryState}
 use Rattle.bst_meaning.specs.Effect.{pushed}
 use Rattle.bst_meaning.specs.Entries.{EntryFits, IsByteList}
 use Rattle.bst_meaning.specs.Machine.{visited_entry, visited_index}
-use Rattle.sym_state.specs.declared.demand.DemandKind.TheVariants.{NoEntry}
-use Rattle.sym_state.specs.declared.hint.Hint.{Hint}
 use Rattle.sym_state.specs.declared.symbol.Fact.TheVariants.{Text as TextFact}
 use Rattle.sym_state.specs.declared.symbol.Kinds.TheVariants.{Str}
-use Rattle.sym_state.specs.Demands.{After, gives}
-use Rattle.sym_state.specs.Effects.{effect_of, limited}
+use Rattle.sym_state.specs.Effects.{limited}
 use Rattle.sym_state.specs.References.{at_most}
-use Rattle.sym_state.specs.Results.{next_of, with_result}
+use Rattle.sym_state.specs.Results.{next_of}
 use Rattle.sym_state.specs.Symbols.{numbers}
 use Rattle.sym_state.proofs.Saying.{at_most_holds}
 use Rattle.sym_state.proofs.Spots.{Spot}
-use Rattle.builtin_effects.proofs.Covering.{CoversAt, after_value, around, put_first, term_new_length, value_new, CoversBy, CoversOf}
+use Rattle.builtin_effects.proofs.Covering.{after_value, around, put_first, term_new_length, value_new, CoversBy, CoversOf}
 
 element : {X : Type 0} (P : X → Type 0) (xs : List X) (i : ℕ) (x : X) → All P xs → slice_get xs i ≡ Some x → P x
 element P xs i x all e = subst P (get_or_from_slice_get xs i x x e) (All-get_or P xs i x (slice_get_within xs i x e) all)

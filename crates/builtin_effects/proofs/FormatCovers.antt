@@ -1,8 +1,7 @@
 -- The effect of `format.name$` covers the machine.
-use Rattle.std.proofs.Common.{◌≡◌, ℕ, true, List, [], ◌∷◌, length, reverse, Option, None, Some, Result, Ok, refl, sym, ap, subst, ◌∙◌, arith}
+use Rattle.std.proofs.Common.{◌≡◌, ℕ, true, List, [], length, Option, None, Some, Result, Ok, refl, sym, ap, subst, ◌∙◌, arith}
 use Rattle.std.specs.Prelude.{pos}
 use Rattle.std.proofs.lemmas.Int.{ints}
-use Rattle.lin_facts.specs.Rows.{Holds}
 use Rattle.lin_facts.specs.declared.row.Term.TheVariants.{Names as NamesOf, Value as ValueOf}
 use Rattle.name_split.specs.AllParts.{names_ok}
 use Rattle.name_split.specs.Formatted.{Misfit, formatted}
@@ -13,28 +12,22 @@ use Rattle.bst_meaning.specs.declared.value.Value.{Value}
 use Rattle.bst_meaning.specs.declared.value.Value.TheVariants.{Int as IntValue, Str as StrValue}
 use Rattle.bst_meaning.specs.Builtins.{pushed_name}
 use Rattle.bst_meaning.specs.Effect.{pushed}
-use Rattle.sym_state.specs.declared.demand.DemandKind.TheVariants.{BadName, BadNameIndex, BadPattern, WrongKind}
-use Rattle.sym_state.specs.declared.hint.Hint.{Hint}
-use Rattle.sym_state.specs.State.{State}
 use Rattle.sym_state.specs.declared.symbol.Fact.TheVariants.{Wellformed}
-use Rattle.sym_state.specs.declared.symbol.Kinds.TheVariants.{Int, Str}
+use Rattle.sym_state.specs.declared.symbol.Kinds.TheVariants.{Str}
 use Rattle.sym_state.specs.declared.symbol.Sym.{Sym}
-use Rattle.sym_state.specs.Decided.{exact_text, is_known}
-use Rattle.sym_state.specs.Demands.{After, demand, fails, gives, is_of_kind}
-use Rattle.sym_state.specs.Effects.{effect_of, is_pattern}
+use Rattle.sym_state.specs.Decided.{exact_text}
+use Rattle.sym_state.specs.Effects.{is_pattern}
 use Rattle.sym_state.specs.Facts.{has_good_names}
 use Rattle.sym_state.specs.References.{at_least, exceeds}
-use Rattle.sym_state.specs.Results.{with_result}
 use Rattle.sym_state.specs.Symbols.{integer_of, name_count_of, numbers}
 use Rattle.sym_state.proofs.Consequences.{known_holds}
 use Rattle.sym_state.proofs.Deciding.{exact_text_is}
-use Rattle.sym_state.proofs.Pushing.{without}
 use Rattle.sym_state.proofs.RowSums.{at_least_says, exceeds_says}
 use Rattle.sym_state.proofs.Spots.{Spot}
 use Rattle.bst_meaning.proofs.FormattedBytes.{formatted_bytes, formatted_ok}
-use Rattle.builtin_effects.proofs.Covering.{CoversAt, lower, put, row_met, three_then, CoversBy, CoversOf}
-use Rattle.builtin_effects.proofs.OperandValues.{IsNumber, IsText, number_met, text_met}
-use Rattle.sym_state.proofs.Below.{one_below, three_below, two_below}
+use Rattle.builtin_effects.proofs.Covering.{lower, put, row_met, three_then, CoversOf}
+use Rattle.builtin_effects.proofs.OperandValues.{number_met, text_met}
+use Rattle.sym_state.proofs.Below.{three_below}
 
 -- a pattern that is known and well formed
 has_pattern : (s : Spot) (p : Sym) (pattern : List ℕ) → s.v.value p.0 ≡ StrValue pattern → is_pattern (exact_text s.state.facts p.0) ≡ true

@@ -1,14 +1,12 @@
 -- What the effect of a built-in function leaves of a state as it was.
-use Rattle.std.proofs.Common.{◌≡◌, ◌≢◌, ℕ, zero, suc, ◌+◌, ◌<◌, ◌≤◌, Bool, true, false, cond, nat_eq, ◌⊎◌, inl, inr, List, [], ◌∷◌, ◌++◌, map, reverse, Option, None, Some, Ok, option_map, refl, sym, ap, subst, ◌∙◌, arith}
-use Rattle.std.specs.Prelude.{ℤ, pos, negsuc, neg_ℤ, ◌+ℤ◌, ◌-ℤ◌}
-use Rattle.std.specs.List.{AllByRecursion}
+use Rattle.std.proofs.Common.{◌≡◌, ◌≢◌, ℕ, zero, suc, ◌+◌, Bool, true, false, cond, nat_eq, inl, inr, List, [], ◌∷◌, map, reverse, Option, None, Some, Ok, option_map, refl, ap, subst, ◌∙◌, arith}
+use Rattle.std.specs.Prelude.{ℤ, pos, negsuc, ◌+ℤ◌, ◌-ℤ◌}
 use Rattle.std.specs.Option.{option_map_or}
 use Rattle.std.proofs.lemmas.Bool.Decides.{nat_tests}
-use Rattle.lin_facts.specs.declared.row.Row.{Row}
 use Rattle.name_table.specs.declared.builtin.Builtin.{Builtin}
 use Rattle.name_table.specs.declared.builtin.Builtin.TheVariants as op
 use Rattle.name_table.specs.declared.names.Kind.{Kind}
-use Rattle.name_table.specs.declared.names.Kind.TheVariants.{Builtin as BuiltinKind, Wizard, Field, IntEntry, StrEntry, IntGlobal, StrGlobal}
+use Rattle.name_table.specs.declared.names.Kind.TheVariants.{Field, IntEntry, StrEntry, IntGlobal, StrGlobal}
 use Rattle.name_table.specs.declared.names.NameId.{NameId}
 use Rattle.name_table.specs.declared.style.Style.{Style}
 use Rattle.name_table.specs.Names.{kind_at}
@@ -17,14 +15,11 @@ use Rattle.bst_meaning.specs.StyleParts.{kind_of}
 use Rattle.sym_state.specs.declared.hint.Hint.{Hint}
 use Rattle.sym_state.specs.State.{State}
 use Rattle.sym_state.specs.declared.symbol.Bind.{Bind}
-use Rattle.sym_state.specs.declared.symbol.Fact.{Fact}
-use Rattle.sym_state.specs.declared.symbol.Kinds.{Kinds}
-use Rattle.sym_state.specs.declared.symbol.Kinds.TheVariants.{Any, Str}
 use Rattle.sym_state.specs.declared.symbol.Sym.{Sym}
 use Rattle.sym_state.specs.Changes.{rebound, symbol_at, with_bind}
 use Rattle.sym_state.specs.Decided.{ByName, ByNumber, Function, exact_function, exact_integer, exact_text}
-use Rattle.sym_state.specs.Demands.{After, Chooses, Gives, OneOperand, Rule}
-use Rattle.sym_state.specs.Effects.{assigned, assigned_to, byte_number, cut_bound, effect_of, exact_sum, fits_exactly, one_byte, rule_of, string_assigned, sum, summed}
+use Rattle.sym_state.specs.Demands.{After, Chooses, Gives, Rule}
+use Rattle.sym_state.specs.Effects.{assigned, assigned_to, byte_number, cut_bound, effect_of, exact_sum, fits_exactly, one_byte, rule_of, string_assigned, summed}
 use Rattle.sym_state.specs.Frames.{EffectFrame, LeavesVariables}
 use Rattle.sym_state.specs.References.{at_most}
 use Rattle.lin_facts.specs.declared.row.Term.TheVariants.{Length}
@@ -110,25 +105,28 @@ record Names (style : Style) (state : State) (f : Sym) (below : List Sym) (name 
 -- it is bound to a symbol, in a state that leaves the variables
 assigns : (style : Style) (state rest : State) (f : Sym) (below : List Sym) (name : NameId) (kind : Kind) (symbol : Sym)
     → Names style state f below name kind → LeavesVariables state rest → EffectFrame style op.Assign state (with_bind name symbol rest)
-assigns style state rest f below name kind symbol names left = inr (refl, record {
-  extends = record {
-    whole = left.extends.whole;
-    at_entry = left.extends.at_entry;
-    fields = ap (λ (bs : List Bind). rebound name symbol bs) left.extends.fields ∙ fields_left style state name kind symbol names.made names.is names.variable;
-    next = left.extends.next;
-    facts = left.extends.facts;
-    rows = left.extends.rows;
-  };
-  top = f;
-  below = below;
-  on_top = names.tops;
-  name = name;
-  named = names.named;
-  variable = ap (λ (o : Option Kind). option_map_or (is_variable state.at_entry) o false) names.is ∙ names.variable;
-  symbol = symbol;
-  vars = ap (λ (bs : List Bind). rebound name symbol bs) left.vars;
-  others = λ other differ. ap (λ (bs : List Bind). symbol_at other (rebound name symbol bs)) left.vars ∙ others_left name other symbol state.vars differ;
-})
+assigns style state rest f below name kind symbol names left = inr (
+  refl,
+  record {
+    extends = record {
+      whole = left.extends.whole;
+      at_entry = left.extends.at_entry;
+      fields = ap (λ (bs : List Bind). rebound name symbol bs) left.extends.fields ∙ fields_left style state name kind symbol names.made names.is names.variable;
+      next = left.extends.next;
+      facts = left.extends.facts;
+      rows = left.extends.rows;
+    };
+    top = f;
+    below = below;
+    on_top = names.tops;
+    name = name;
+    named = names.named;
+    variable = ap (λ (o : Option Kind). option_map_or (is_variable state.at_entry) o false) names.is ∙ names.variable;
+    symbol = symbol;
+    vars = ap (λ (bs : List Bind). rebound name symbol bs) left.vars;
+    others = λ other differ. ap (λ (bs : List Bind). symbol_at other (rebound name symbol bs)) left.vars ∙ others_left name other symbol state.vars differ;
+  },
+)
 
 string_framed : (style : Style) (admits : Cond) (state : State) (f : Sym) (below rest : List Sym) (name : NameId) (kind : Kind) (most : ℕ) (a : Sym)
     → Names style state f below name kind → Frames style admits op.Assign state (string_assigned state name most a (without rest state))

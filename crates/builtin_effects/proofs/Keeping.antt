@@ -1,41 +1,34 @@
 -- Where a built-in function has an effect on a well-made state, the state after it is well made.
-use Rattle.std.proofs.Common.{◌≡◌, ℕ, ◌<◌, ◌≤◌, ◌+◌, ◌^◌, Bool, true, false, cond, ◌||◌, List, [], ◌∷◌, reverse, Option, None, Some, Ok, Err, refl, subst, arith}
-use Rattle.std.specs.Prelude.{ℤ, pos, negsuc, neg_ℤ, ◌+ℤ◌, ◌-ℤ◌, ◌-◌, ◌&&◌, codes, IfOk}
-use Rattle.std.specs.List.{All}
+use Rattle.std.proofs.Common.{◌≡◌, ℕ, ◌<◌, ◌≤◌, ◌+◌, ◌^◌, Bool, true, false, cond, ◌||◌, List, [], ◌∷◌, Option, None, Some, Ok, refl, subst, arith}
+use Rattle.std.specs.Prelude.{ℤ, pos, negsuc, neg_ℤ, ◌+ℤ◌, ◌-ℤ◌, codes}
 use Rattle.std.proofs.lemmas.Bool.{leb-true}
 use Rattle.std.proofs.lemmas.Bool.Decides.{nat_tests}
-use Rattle.std.proofs.lemmas.List.Elements.{All-head, All-nil, All-tail}
-use Rattle.std.proofs.lemmas.Result.{IfOk-at_ok}
+use Rattle.std.proofs.lemmas.List.Elements.{All-nil}
 use Rattle.lin_facts.specs.declared.row.Row.{Row}
 use Rattle.lin_facts.specs.declared.row.Term.{Term}
 use Rattle.lin_facts.specs.declared.row.Term.TheVariants.{Value, Length, Names}
 use Rattle.name_table.specs.declared.builtin.Builtin.{Builtin}
 use Rattle.name_table.specs.declared.builtin.Builtin.TheVariants as op
 use Rattle.name_table.specs.declared.names.Kind.{Kind}
-use Rattle.name_table.specs.declared.names.Kind.TheVariants.{Builtin as BuiltinKind, Wizard, Field, IntEntry, StrEntry, IntGlobal, StrGlobal}
+use Rattle.name_table.specs.declared.names.Kind.TheVariants.{IntEntry, StrEntry, IntGlobal, StrGlobal}
 use Rattle.name_table.specs.declared.names.NameId.{NameId}
 use Rattle.name_table.specs.declared.style.Style.{Style}
 use Rattle.bst_meaning.specs.declared.condition.Cond.{Cond}
 use Rattle.bst_meaning.specs.Entries.{IsByteList}
 use Rattle.bst_meaning.specs.Operands.{has_32_bits}
 use Rattle.bst_meaning.specs.StyleParts.{kind_of}
-use Rattle.sym_state.specs.declared.demand.DemandKind.{DemandKind}
-use Rattle.sym_state.specs.declared.demand.DemandKind.TheVariants.{NoEntry, BadCase, NotOneByte, NotAscii, BadNameIndex, BadName, BadPattern, IntRange, WholeStack, WrongKind}
-use Rattle.sym_state.specs.declared.demand.EffectFault.{EffectFault}
-use Rattle.sym_state.specs.declared.demand.EffectFault.TheVariants.{NotEntailed, WrongHint}
 use Rattle.sym_state.specs.declared.hint.Hint.{Hint}
-use Rattle.sym_state.specs.declared.hint.Hint.TheVariants.{Apply, Walk, Loop, Case, Plain, Keep, Drop, Step}
 use Rattle.sym_state.specs.State.{State}
 use Rattle.sym_state.specs.declared.symbol.Fact.{Fact}
-use Rattle.sym_state.specs.declared.symbol.Fact.TheVariants.{Int as IntFact, Text as TextFact, Nonblank, Wellformed}
+use Rattle.sym_state.specs.declared.symbol.Fact.TheVariants.{Int as IntFact, Text as TextFact, Nonblank}
 use Rattle.sym_state.specs.declared.symbol.Kinds.{Kinds}
 use Rattle.sym_state.specs.declared.symbol.Kinds.TheVariants.{Int, Str, Any}
 use Rattle.sym_state.specs.declared.symbol.Sym.{Sym}
 use Rattle.sym_state.specs.Changes.{with_bind}
-use Rattle.sym_state.specs.Decided.{ByName, ByNumber, Function, exact_function, exact_integer, exact_text, is_known, is_known_nonblank}
+use Rattle.sym_state.specs.Decided.{ByName, ByNumber, Function, exact_function, exact_integer, exact_text, is_known_nonblank}
 use Rattle.sym_state.specs.Demands.{After, Chooses, Gives, OneOperand, Rule}
-use Rattle.sym_state.specs.Effects.{assigned, assigned_to, at_most_known, byte_number, counted, cut_bound, effect_of, exact_sum, fits_exactly, is_length, is_start, join, known_size, nonblank_where, num_names, one_byte, rule_of, string_assigned, substring, sum, summed, text_length, width}
-use Rattle.sym_state.specs.References.{at_least, at_most, exceeds, shows}
+use Rattle.sym_state.specs.Effects.{assigned, assigned_to, at_most_known, byte_number, counted, cut_bound, effect_of, exact_sum, fits_exactly, join, known_size, nonblank_where, num_names, one_byte, rule_of, string_assigned, substring, sum, summed, text_length, width}
+use Rattle.sym_state.specs.References.{at_least, at_most, exceeds}
 use Rattle.sym_state.specs.Results.{next_of, sum_of_three, sum_of_two, with_result, with_symbol, with_top}
 use Rattle.sym_state.specs.WellMade.{HasSmallLimits, IsTermBelow, WellMade, size}
 use Rattle.sym_state.proofs.Exact.{exact_bytes, exact_small}

@@ -7,17 +7,10 @@ use Rattle.bst_meaning.specs.declared.value.Value.TheVariants.{Str as StrValue}
 use Rattle.bst_meaning.specs.Builtins.{shown, warning, built_in}
 use Rattle.bst_meaning.specs.Config.{EndedLine, Event, Wrote}
 use Rattle.bst_meaning.specs.Effect.{left}
-use Rattle.sym_state.specs.declared.demand.DemandKind.TheVariants.{WholeStack, WrongKind}
-use Rattle.sym_state.specs.declared.hint.Hint.{Hint}
-use Rattle.sym_state.specs.declared.symbol.Kinds.TheVariants.{Str}
 use Rattle.sym_state.specs.declared.symbol.Sym.{Sym}
-use Rattle.sym_state.specs.Demands.{After, gives, is_of_kind}
-use Rattle.sym_state.specs.Effects.{effect_of}
-use Rattle.sym_state.specs.Results.{with_top}
-use Rattle.sym_state.proofs.KnownKinds.{string_is}
 use Rattle.sym_state.proofs.Pushing.{without}
 use Rattle.sym_state.proofs.Spots.{Spot}
-use Rattle.builtin_effects.proofs.Covering.{CoversAt, kind_met, lower, machine_gives, shift, CoversBy, CoversOf, around, one_then}
+use Rattle.builtin_effects.proofs.Covering.{CoversAt, lower, machine_gives, shift, CoversOf, around, one_then}
 use Rattle.builtin_effects.proofs.OperandValues.{text_met}
 use Rattle.name_table.specs.declared.builtin.Builtin.{Builtin}
 

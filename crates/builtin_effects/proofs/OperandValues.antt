@@ -1,19 +1,15 @@
 -- Operands that are known to be strings or integers, with their values.
-use Rattle.std.proofs.Common.{◌≡◌, ℕ, ◌<◌, true, List, ◌∷◌, reverse, Ok, subst}
+use Rattle.std.proofs.Common.{◌≡◌, ℕ, ◌<◌, true, List, ◌∷◌, reverse, subst}
 use Rattle.std.specs.Prelude.{ℤ}
 use Rattle.bst_meaning.specs.declared.value.Value.{Value}
 use Rattle.bst_meaning.specs.declared.value.Value.TheVariants.{Int as IntValue, Str as StrValue}
 use Rattle.bst_meaning.specs.Entries.{IsByteList}
 use Rattle.bst_meaning.specs.Operands.{has_32_bits}
-use Rattle.sym_state.specs.declared.demand.DemandKind.TheVariants.{WrongKind}
-use Rattle.sym_state.specs.State.{State}
-use Rattle.sym_state.specs.declared.symbol.Kinds.{Kinds}
 use Rattle.sym_state.specs.declared.symbol.Kinds.TheVariants.{Int, Str}
 use Rattle.sym_state.specs.declared.symbol.Sym.{Sym}
 use Rattle.sym_state.specs.Demands.{is_of_kind}
 use Rattle.sym_state.specs.Symbols.{IsValue}
 use Rattle.sym_state.proofs.KnownKinds.{integer_is, string_is}
-use Rattle.sym_state.proofs.Pushing.{without}
 use Rattle.sym_state.proofs.Spots.{Spot}
 use Rattle.sym_state.proofs.Below.{one_below}
 use Rattle.builtin_effects.proofs.Covering.{Old, kind_met}

@@ -1,5 +1,5 @@
 -- The effects that give strings of strings cover the machine.
-use Rattle.std.proofs.Common.{◌≡◌, ℕ, ◌<◌, ◌≤◌, ◌⊎◌, inl, inr, Bool, true, false, ◌||◌, List, [], ◌∷◌, ◌++◌, length, reverse, Option, None, Some, Ok, refl, sym, ap, ◌∙◌, arith}
+use Rattle.std.proofs.Common.{◌≡◌, ℕ, ◌<◌, ◌≤◌, ◌⊎◌, inl, inr, Bool, true, false, ◌||◌, List, [], ◌∷◌, ◌++◌, length, Option, None, Some, refl, sym, ap, ◌∙◌, arith}
 use Rattle.std.specs.Prelude.{pos, negsuc, is_some}
 use Rattle.std.specs.List.{AllByRecursion}
 use Rattle.std.proofs.lemmas.Int.{ints}
@@ -18,17 +18,13 @@ use Rattle.bst_meaning.specs.declared.value.Value.TheVariants.{Int as IntValue, 
 use Rattle.bst_meaning.specs.Builtins.{built_in, case_of, change_case_in}
 use Rattle.bst_meaning.specs.Effect.{pushed}
 use Rattle.bst_meaning.specs.Entries.{IsByteList}
-use Rattle.sym_state.specs.declared.demand.DemandKind.TheVariants.{BadCase, WrongKind}
-use Rattle.sym_state.specs.declared.hint.Hint.{Hint}
-use Rattle.sym_state.specs.State.{State}
-use Rattle.sym_state.specs.declared.symbol.Kinds.TheVariants.{Int, Str}
+use Rattle.sym_state.specs.declared.symbol.Kinds.TheVariants.{Str}
 use Rattle.sym_state.specs.declared.symbol.Sym.{Sym}
 use Rattle.sym_state.specs.Decided.{exact_text, is_known_nonblank}
-use Rattle.sym_state.specs.Demands.{After, Outcome, demand, gives, is_of_kind}
-use Rattle.sym_state.specs.Effects.{effect_of, is_mode, no_longer, nonblank_where}
+use Rattle.sym_state.specs.Effects.{is_mode, no_longer, nonblank_where}
 use Rattle.sym_state.specs.Facts.{FactHolds, emptiness}
 use Rattle.sym_state.specs.References.{exceeds}
-use Rattle.sym_state.specs.Results.{next_of, sum_of_three, with_result}
+use Rattle.sym_state.specs.Results.{next_of, sum_of_three}
 use Rattle.sym_state.specs.Symbols.{length_of, numbers}
 use Rattle.sym_state.proofs.Deciding.{exact_text_is, nonblank_is}
 use Rattle.sym_state.proofs.Pushing.{without}
@@ -37,10 +33,10 @@ use Rattle.sym_state.proofs.Saying.{exceeds_holds, minus, once}
 use Rattle.sym_state.proofs.Spots.{Spot}
 use Rattle.name_table.proofs.ByteLists.{bytes_joined}
 use Rattle.bst_meaning.proofs.ByteTexts.{case_changed_bytes, purified_bytes, text_prefix_bytes, with_period_bytes}
-use Rattle.builtin_effects.proofs.Covering.{CoversAt, Old, after_value, around, lower, one_given, put, term_new_length, term_old, two_given, two_then, value_new, CoversBy, CoversOf}
-use Rattle.builtin_effects.proofs.OperandValues.{IsText, number_met, text_met, text_taken}
+use Rattle.builtin_effects.proofs.Covering.{Old, after_value, around, lower, one_given, put, term_new_length, term_old, two_given, two_then, value_new, CoversBy, CoversOf}
+use Rattle.builtin_effects.proofs.OperandValues.{number_met, text_met, text_taken}
 use Rattle.builtin_effects.proofs.TextSizes.{case_changed_shorter, joined_nonblank, joined_nonblank_behind, purified_shorter, with_period_longer, with_period_nonblank, with_period_shorter}
-use Rattle.sym_state.proofs.Below.{one_below, three_below, two_below}
+use Rattle.sym_state.proofs.Below.{two_below}
 
 -- a string is known to be nonblank
 known_nonblank : (s : Spot) (a : Sym) (bytes : List ℕ) → s.v.value a.0 ≡ StrValue bytes → is_known_nonblank s.state.facts a.0 ≡ true → blank bytes ≡ false

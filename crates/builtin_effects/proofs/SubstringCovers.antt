@@ -1,5 +1,5 @@
 -- The effect of `substring$` covers the machine.
-use Rattle.std.proofs.Common.{◌≡◌, ℕ, ◌+◌, ◌-◌, ◌<◌, ◌≤◌, ◌⊎◌, inl, inr, true, ◌&&◌, List, [], ◌∷◌, length, Option, None, Some, Ok, refl, sym, ap, subst, ◌∙◌, arith, Bool, false}
+use Rattle.std.proofs.Common.{◌≡◌, ℕ, ◌+◌, ◌-◌, ◌<◌, ◌≤◌, ◌⊎◌, inl, inr, true, List, [], ◌∷◌, length, Option, None, Some, refl, sym, ap, subst, ◌∙◌, arith, Bool, false}
 use Rattle.std.specs.Prelude.{ℤ, pos, negsuc}
 use Rattle.std.specs.List.{AllByRecursion}
 use Rattle.std.proofs.lemmas.Bool.{and_parts}
@@ -12,14 +12,10 @@ use Rattle.bst_meaning.specs.declared.value.Value.{Value}
 use Rattle.bst_meaning.specs.declared.value.Value.TheVariants.{Int as IntValue, Str as StrValue}
 use Rattle.bst_meaning.specs.Builtins.{built_in}
 use Rattle.bst_meaning.specs.Effect.{pushed}
-use Rattle.sym_state.specs.declared.demand.DemandKind.TheVariants.{WrongKind}
-use Rattle.sym_state.specs.declared.hint.Hint.{Hint}
-use Rattle.sym_state.specs.State.{State}
-use Rattle.sym_state.specs.declared.symbol.Kinds.TheVariants.{Int, Str}
+use Rattle.sym_state.specs.declared.symbol.Kinds.TheVariants.{Str}
 use Rattle.sym_state.specs.declared.symbol.Sym.{Sym}
 use Rattle.sym_state.specs.Decided.{exact_integer}
-use Rattle.sym_state.specs.Demands.{After, is_of_kind}
-use Rattle.sym_state.specs.Effects.{at_most_known, effect_of, is_length, is_start, known_size, of_length, shorter, substring_of}
+use Rattle.sym_state.specs.Effects.{at_most_known, is_length, is_start, known_size, of_length, shorter}
 use Rattle.sym_state.specs.References.{at_least, at_most, exceeds}
 use Rattle.sym_state.specs.Results.{next_of}
 use Rattle.sym_state.specs.Symbols.{length_of, numbers}
@@ -29,10 +25,10 @@ use Rattle.sym_state.proofs.RowSums.{at_least_says}
 use Rattle.sym_state.proofs.Saying.{at_least_holds, at_most_holds, exceeds_holds}
 use Rattle.sym_state.proofs.Spots.{Spot}
 use Rattle.bst_meaning.proofs.ByteTexts.{substring_bytes}
-use Rattle.builtin_effects.proofs.Covering.{CoversAt, Old, after_value, around, lower, put, row_met, term_new_length, term_old, three_given, CoversBy, CoversOf}
+use Rattle.builtin_effects.proofs.Covering.{Old, after_value, around, lower, put, row_met, term_new_length, term_old, three_given, CoversBy, CoversOf}
 use Rattle.builtin_effects.proofs.OperandValues.{IsText, number_met, text_met}
 use Rattle.builtin_effects.proofs.TextSizes.{substring_few, substring_known, substring_none, substring_shorter}
-use Rattle.sym_state.proofs.Below.{one_below, three_below, two_below}
+use Rattle.sym_state.proofs.Below.{three_below}
 
 -- a string, a start and a length on top, and what the machine gives of them
 record Cutting (s : Spot) (a b c : Sym) (rest : List Sym) : Type 0 where

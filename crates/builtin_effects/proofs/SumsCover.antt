@@ -1,5 +1,5 @@
 -- The effects of `+` and `-` cover the machine.
-use Rattle.std.proofs.Common.{◌≡◌, true, List, [], ◌∷◌, reverse, Option, None, Some, Ok, refl, sym, ap, ◌∙◌, arith}
+use Rattle.std.proofs.Common.{◌≡◌, List, [], ◌∷◌, reverse, Option, None, Some, refl, sym, ap, ◌∙◌, arith}
 use Rattle.std.specs.Prelude.{ℤ, pos, negsuc, neg_ℤ, ◌+ℤ◌, ◌-ℤ◌, ◌*ℤ◌}
 use Rattle.std.proofs.lemmas.Int.{ints}
 use Rattle.lin_facts.specs.declared.row.Term.TheVariants.{Value as ValueOf}
@@ -9,15 +9,14 @@ use Rattle.bst_meaning.specs.declared.value.Value.{Value}
 use Rattle.bst_meaning.specs.declared.value.Value.TheVariants.{Int as IntValue}
 use Rattle.bst_meaning.specs.Builtins.{built_in}
 use Rattle.bst_meaning.specs.Operands.{has_32_bits, ranged}
-use Rattle.sym_state.specs.declared.demand.DemandKind.TheVariants.{IntRange, WrongKind}
-use Rattle.sym_state.specs.declared.hint.Hint.{Hint}
+use Rattle.sym_state.specs.declared.demand.DemandKind.TheVariants.{IntRange}
 use Rattle.sym_state.specs.declared.symbol.Fact.TheVariants.{Int as IntFact}
 use Rattle.sym_state.specs.declared.symbol.Kinds.TheVariants.{Int}
 use Rattle.sym_state.specs.declared.symbol.Sym.{Sym}
 use Rattle.sym_state.specs.Decided.{exact_integer}
-use Rattle.sym_state.specs.Demands.{After, fails, gives, is_of_kind, Demands}
-use Rattle.sym_state.specs.Effects.{effect_of, exact_sum, known_integer, sum, summed}
-use Rattle.sym_state.specs.Results.{next_of, sum_of_three, sum_of_two, with_result}
+use Rattle.sym_state.specs.Demands.{Demands}
+use Rattle.sym_state.specs.Effects.{exact_sum, known_integer, sum, summed}
+use Rattle.sym_state.specs.Results.{next_of, sum_of_three, sum_of_two}
 use Rattle.sym_state.specs.Symbols.{integer_of, numbers}
 use Rattle.sym_state.proofs.Deciding.{exact_integer_is}
 use Rattle.sym_state.proofs.KnownKinds.{integer_is}
@@ -25,10 +24,9 @@ use Rattle.sym_state.proofs.Pushing.{without}
 use Rattle.sym_state.proofs.RowSums.{three_holds, two_says}
 use Rattle.sym_state.proofs.Saying.{minus, once}
 use Rattle.sym_state.proofs.Spots.{Spot}
-use Rattle.builtin_effects.proofs.Covering.{CoversAt, after_value, around, kind_met, lower, put, row_met, term_new_value, term_old, two_then, value_new, CoversBy, CoversOf}
+use Rattle.builtin_effects.proofs.Covering.{after_value, around, kind_met, lower, put, row_met, term_new_value, term_old, two_then, value_new, CoversBy, CoversOf}
 use Rattle.builtin_effects.proofs.Integers.{bits_from, in_range}
-use Rattle.sym_state.proofs.Ensured.{IsShown}
-use Rattle.sym_state.proofs.Below.{one_below, three_below, two_below}
+use Rattle.sym_state.proofs.Below.{two_below}
 
 -- a rule that adds its second operand with a sign
 record Signed (sign : ℤ) (rule : ℤ → ℤ → ℤ) : Type 0 where

@@ -41,7 +41,11 @@ fn limited(at: &At<'_>, limit: u32) -> Result<State, EffectFault>
     requires { at.now.state.now.next < 4294967295 }
     ensures { (hints : List Hint) → Gives result hints (outcome_at at.now (rule.limited limit at.now.state.now) hints) }
 {
-    let row = at_most(at.state.alloc(), Term::Length(at.state.next()), limit as i64)?;
+    let row = at_most(
+        at.state.alloc(),
+        Term::Length(at.state.next()),
+        limit as i64,
+    )?;
     Ok(with_result(at.state, 0, Kinds::Str, Said::row(Some(row)))?)
 }
 

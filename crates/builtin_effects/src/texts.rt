@@ -159,7 +159,11 @@ fn written(at: &At<'_>, s: Sym, p: Sym) -> Result<State, EffectFault>
 {
     let formed = at.state.is_known(s, &Fact::Wellformed(s));
     demand(formed, DemandKind::BadName, 3)?;
-    demand(is_pattern(at.state.exact_text(p)), DemandKind::BadPattern, 1)?;
+    demand(
+        is_pattern(at.state.exact_text(p)),
+        DemandKind::BadPattern,
+        1,
+    )?;
     Ok(with_result(at.state, 3, Kinds::Str, Said::row(None))?)
 }
 

@@ -109,8 +109,8 @@ labelled_sign_found style admits list v state c below s n hints all h is e =
             stands = stands;
           }
       | None ↦ λ exact found there. record {
-            among = subst (λ (o : Option ℤ). IsAmong (is_positive n, case_by o) all.cases) (sym exact)
-                (labelled_among style admits v state s hints all (is_positive n) there.satisfied found);
-            stands = stands;
-          }
+        among = subst (λ (o : Option ℤ). IsAmong (is_positive n, case_by o) all.cases) (sym exact)
+            (labelled_among style admits v state s hints all (is_positive n) there.satisfied found);
+        stands = stands;
+      }
     ] refl e stands

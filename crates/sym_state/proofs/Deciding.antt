@@ -8,7 +8,7 @@ use Rattle.name_table.specs.declared.style.Style.{Style}
 use Rattle.bst_meaning.specs.declared.value.Value.{Value}
 use Rattle.bst_meaning.specs.declared.value.Value.TheVariants.{Int as IntValue, Str as StrValue, Missing as MissingValue}
 use Rattle.sym_state.specs.declared.symbol.Fact.{Fact}
-use Rattle.sym_state.specs.declared.symbol.Fact.TheVariants.{Is, Int, Text, Call, Block, Blank, Nonblank, Wellformed}
+use Rattle.sym_state.specs.declared.symbol.Fact.TheVariants.{Is, Int, Text, Blank, Nonblank}
 use Rattle.sym_state.specs.declared.symbol.Kinds.TheVariants.{Int as IntKind, Str, Missing, Optional, Func, Any}
 use Rattle.sym_state.specs.Symbols.{Valuation}
 use Rattle.sym_state.specs.Facts.{subject, Says, FactHolds, emptiness}

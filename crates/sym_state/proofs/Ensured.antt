@@ -6,14 +6,14 @@ use Rattle.bst_meaning.specs.declared.condition.Cond.{Cond}
 use Rattle.sym_state.specs.declared.demand.DemandKind.{DemandKind}
 use Rattle.sym_state.specs.declared.demand.DemandKind.TheVariants.{WrongKind}
 use Rattle.sym_state.specs.declared.demand.EffectFault.{EffectFault}
-use Rattle.sym_state.specs.declared.demand.EffectFault.TheVariants.{NotEntailed, WrongHint}
+use Rattle.sym_state.specs.declared.demand.EffectFault.TheVariants.{NotEntailed}
 use Rattle.sym_state.specs.declared.hint.Hint.{Hint}
 use Rattle.sym_state.specs.declared.hint.Hint.TheVariants.{Plain, Step}
 use Rattle.sym_state.specs.declared.proof.Proof.{Proof}
 use Rattle.sym_state.specs.State.{State}
 use Rattle.sym_state.specs.declared.symbol.Kinds.{Kinds}
 use Rattle.sym_state.specs.declared.symbol.Sym.{Sym}
-use Rattle.sym_state.specs.Demands.{After, BothSteps, Chooses, Demands, Gives, One, OneOperand, Outcome, Refuses, Rule, Steps, Three, ThreeOperands, Two, TwoOperands, choice, demand, fails, is_of_kind, one_by, one_of, outcome, step, three_by, three_of, two_by, two_of}
+use Rattle.sym_state.specs.Demands.{After, BothSteps, Chooses, Demands, Gives, One, OneOperand, Outcome, Refuses, Rule, Steps, Three, ThreeOperands, Two, TwoOperands, demand, is_of_kind, one_by, one_of, outcome, step, three_by, two_by, two_of}
 use Rattle.sym_state.specs.References.{shows}
 use Rattle.sym_state.proofs.Pushing.{without}
 

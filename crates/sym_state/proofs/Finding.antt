@@ -1,5 +1,5 @@
 -- What facts decide, by the first that decides it.
-use Rattle.std.proofs.Common.{◌≡◌, ℕ, Bool, true, false, cond, ◌&&◌, ◌||◌, nat_eq, refl, ap, sym, ◌∙◌, List, [], ◌∷◌, Option, None, Some, is_some, option_map}
+use Rattle.std.proofs.Common.{◌≡◌, ℕ, Bool, true, false, cond, ◌&&◌, ◌||◌, nat_eq, refl, ap, ◌∙◌, List, [], ◌∷◌, Option, None, Some, is_some, option_map}
 use Rattle.std.specs.List.{find, list_any}
 use Rattle.std.specs.Option.{option_and_then, option_or}
 use Rattle.sym_state.specs.declared.symbol.Fact.{Fact}

@@ -8,9 +8,9 @@ use Rattle.name_table.specs.declared.style.Style.{Style}
 use Rattle.bst_meaning.specs.declared.value.Target.{Target}
 use Rattle.bst_meaning.specs.declared.value.Target.TheVariants.{Named}
 use Rattle.bst_meaning.specs.declared.value.Value.{Value}
-use Rattle.bst_meaning.specs.declared.value.Value.TheVariants.{Int as IntValue, Str as StrValue, Missing as MissingValue, Func as FuncValue}
+use Rattle.bst_meaning.specs.declared.value.Value.TheVariants.{Int as IntValue, Str as StrValue, Func as FuncValue}
 use Rattle.sym_state.specs.declared.symbol.Fact.{Fact}
-use Rattle.sym_state.specs.declared.symbol.Fact.TheVariants.{Is, Int, Text, Call, Block, Blank, Nonblank, Wellformed}
+use Rattle.sym_state.specs.declared.symbol.Fact.TheVariants.{Is, Call}
 use Rattle.sym_state.specs.declared.symbol.Kinds.{Kinds}
 use Rattle.sym_state.specs.declared.symbol.Kinds.TheVariants.{Int as IntKind, Str, Missing, Optional, Func, Any}
 use Rattle.sym_state.specs.Symbols.{Valuation}

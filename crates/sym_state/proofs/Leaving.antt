@@ -1,5 +1,5 @@
 -- What leaves the bindings of a state as they are.
-use Rattle.std.proofs.Common.{◌≡◌, ◌≤◌, ℕ, ◌+◌, List, [], ◌++◌, refl, sym, ap, ◌∙◌, arith, append_assoc}
+use Rattle.std.proofs.Common.{◌≤◌, ℕ, List, [], ◌++◌, refl, sym, ap, ◌∙◌, arith, append_assoc}
 use Rattle.std.proofs.lemmas.List.{append-nil}
 use Rattle.lin_facts.specs.declared.row.Row.{Row}
 use Rattle.sym_state.specs.State.{State}
@@ -37,12 +37,16 @@ left_twice first second third one other = record {
     at_entry = other.extends.at_entry ∙ one.extends.at_entry;
     fields = other.extends.fields ∙ one.extends.fields;
     next = let low = one.extends.next in let high = other.extends.next in omega (arith, low, high);
-    facts = (one.extends.facts.0 ++ other.extends.facts.0,
-        other.extends.facts.1 ∙ ap (λ (l : List Fact). l ++ other.extends.facts.0) one.extends.facts.1
-        ∙ append_assoc first.facts one.extends.facts.0 other.extends.facts.0);
-    rows = (one.extends.rows.0 ++ other.extends.rows.0,
-        other.extends.rows.1 ∙ ap (λ (l : List Row). l ++ other.extends.rows.0) one.extends.rows.1
-        ∙ append_assoc first.rows one.extends.rows.0 other.extends.rows.0);
+    facts = (
+      one.extends.facts.0 ++ other.extends.facts.0,
+      other.extends.facts.1 ∙ ap (λ (l : List Fact). l ++ other.extends.facts.0) one.extends.facts.1
+          ∙ append_assoc first.facts one.extends.facts.0 other.extends.facts.0,
+    );
+    rows = (
+      one.extends.rows.0 ++ other.extends.rows.0,
+      other.extends.rows.1 ∙ ap (λ (l : List Row). l ++ other.extends.rows.0) one.extends.rows.1
+          ∙ append_assoc first.rows one.extends.rows.0 other.extends.rows.0,
+    );
   };
   vars = other.vars ∙ one.vars;
 }

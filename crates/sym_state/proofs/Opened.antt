@@ -5,9 +5,8 @@ use Rattle.std.specs.List.{All, AllByRecursion, filter, flat_map}
 use Rattle.std.proofs.lemmas.List.Elements.{All-weaker}
 use Rattle.lin_facts.specs.Rows.{Holds}
 use Rattle.lin_facts.specs.declared.row.Term.TheVariants.{Length as LengthOf, Names as NamesOf}
-use Rattle.std.specs.Global.{Global}
 use Rattle.name_table.specs.declared.names.Kind.{Kind}
-use Rattle.name_table.specs.declared.names.Kind.TheVariants.{Builtin, Wizard, Field, IntEntry, StrEntry, IntGlobal, StrGlobal}
+use Rattle.name_table.specs.declared.names.Kind.TheVariants.{Field, IntEntry, StrEntry, IntGlobal, StrGlobal}
 use Rattle.name_table.specs.declared.names.NameId.{NameId}
 use Rattle.name_table.specs.declared.style.Style.{Style}
 use Rattle.bst_meaning.specs.Config.{Config}
@@ -18,12 +17,11 @@ use Rattle.bst_meaning.specs.declared.entry.EntryList.{EntryList}
 use Rattle.bst_meaning.specs.declared.value.Value.{Value}
 use Rattle.sym_state.specs.declared.symbol.Sym.{Sym}
 use Rattle.sym_state.specs.declared.symbol.Bind.{Bind}
-use Rattle.sym_state.specs.declared.symbol.Fact.{Fact}
 use Rattle.sym_state.specs.declared.piece.Piece.{Piece}
 use Rattle.sym_state.specs.Changes.{symbol_at}
 use Rattle.sym_state.specs.Facts.{FactHolds}
 use Rattle.sym_state.specs.Opening.{CanStart, HasValue, IsOfItsKind, StandsOpen}
-use Rattle.sym_state.specs.Stands.{IsBound, values_of}
+use Rattle.sym_state.specs.Stands.{IsBound}
 use Rattle.sym_state.specs.Starting.{IsNumbered, all_symbols, bound_by, field_kind, has_kind, is_nonblank, most_names, name_facts, name_rows, names_in_play, numbered_on, own_facts, own_rows, seat, seats, started}
 use Rattle.sym_state.specs.Symbols.{Agrees, IsValue, Valuation, numbers}
 use Rattle.sym_state.specs.WellMade.{is_field, is_variable}

@@ -1,21 +1,16 @@
 -- States that stand after values are taken from the literal stack and put on it.
-use Rattle.std.proofs.Common.{◌≡◌, ℕ, ◌<◌, Bool, true, false, cond, nat_eq, List, [], ◌∷◌, ◌++◌, map, reverse, Option, None, Some, refl, sym, ap, ◌∙◌}
+use Rattle.std.proofs.Common.{◌≡◌, ℕ, ◌<◌, true, nat_eq, List, [], ◌∷◌, ◌++◌, reverse, refl, sym, ap, ◌∙◌}
 use Rattle.std.specs.List.{All, AllByRecursion}
 use Rattle.std.proofs.lemmas.List.{reverse-append, reverse-reverse}
-use Rattle.std.proofs.lemmas.List.Elements.{All-append, All-cons, All-head, All-nil, All-same, All-tail}
+use Rattle.std.proofs.lemmas.List.Elements.{All-same}
 use Rattle.lin_facts.specs.Rows.{Holds}
 use Rattle.lin_facts.specs.declared.row.Row.{Row}
-use Rattle.name_table.specs.declared.names.NameId.{NameId}
-use Rattle.name_table.specs.declared.names.Kind.{Kind}
-use Rattle.name_table.specs.declared.names.Kind.TheVariants.{Builtin as BuiltinKind, Wizard, Field, IntEntry, StrEntry, IntGlobal, StrGlobal}
 use Rattle.name_table.specs.declared.style.Style.{Style}
 use Rattle.bst_meaning.specs.declared.condition.Cond.{Cond}
 use Rattle.bst_meaning.specs.declared.entry.EntryList.{EntryList}
 use Rattle.bst_meaning.specs.declared.value.Value.{Value}
 use Rattle.bst_meaning.specs.Config.{Config, Event}
-use Rattle.bst_meaning.specs.StyleParts.{kind_of}
 use Rattle.sym_state.specs.declared.symbol.Sym.{Sym}
-use Rattle.sym_state.specs.declared.symbol.Bind.{Bind}
 use Rattle.sym_state.specs.declared.symbol.Fact.{Fact}
 use Rattle.sym_state.specs.declared.symbol.Kinds.{Kinds}
 use Rattle.sym_state.specs.declared.symbol.Kinds.TheVariants.{Int, Str, Missing, Optional, Func, Any}

@@ -13,7 +13,7 @@ use Rattle.bst_meaning.specs.declared.value.Value.TheVariants.{Int, Str, Missing
 use Rattle.bv_base.specs.declared.place.Place.{Place}
 use Rattle.name_table.specs.declared.builtin.Builtin.TheVariants.{Empty}
 use Rattle.name_table.specs.declared.names.Kind.{Kind}
-use Rattle.name_table.specs.declared.names.Kind.TheVariants.{Builtin, Wizard, Field, IntEntry, StrEntry, IntGlobal, StrGlobal}
+use Rattle.name_table.specs.declared.names.Kind.TheVariants.{Field, IntEntry, StrEntry, IntGlobal, StrGlobal}
 use Rattle.name_table.specs.declared.names.NameId.{NameId}
 use Rattle.name_table.specs.declared.style.Style.{Style}
 use Rattle.sym_state.specs.Facts.{emptiness}

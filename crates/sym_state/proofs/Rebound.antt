@@ -85,6 +85,7 @@ symbol_rebound name other new (b ∷ bs) =
         ≡ cond on (option_map (λ s. new) (cond on (Some b.sym) (symbol_at name bs))) (cond on (Some b.sym) (symbol_at name bs))
     the_same true = refl
     the_same false = refl
+
     another : (on bn : Bool) → nat_eq other.0 name.0 ≡ on → nat_eq b.name.0 name.0 ≡ bn → nat_eq b.name.0 other.0 ≡ false
         → symbol_at name (rebound other new bs) ≡ cond on (option_map (λ s. new) (symbol_at name bs)) (symbol_at name bs)
         → cond bn (Some b.sym) (symbol_at name (rebound other new bs))

@@ -17,7 +17,7 @@ use Rattle.name_split.specs.Names.{names_of}
 use Rattle.name_table.specs.declared.style.Style.{Style}
 use Rattle.bst_meaning.specs.declared.condition.Cond.{Cond}
 use Rattle.bst_meaning.specs.declared.value.Value.{Value}
-use Rattle.bst_meaning.specs.declared.value.Value.TheVariants.{Int, Str, Missing, Func}
+use Rattle.bst_meaning.specs.declared.value.Value.TheVariants.{Int, Str}
 use Rattle.bst_meaning.specs.Operands.{has_32_bits}
 use Rattle.sym_state.specs.declared.proof.Reference.{Reference}
 use Rattle.sym_state.specs.declared.proof.Reference.TheVariants as ref

@@ -1,5 +1,5 @@
 -- Lists of which the last item is taken.
-use Rattle.std.proofs.Common.{◌≡◌, ◌+◌, refl, ap, ◌∙◌, sym, ℕ, ◌<◌, List, [], ◌∷◌, ◌++◌, length, slice_get, option_map, Option, None, Some, MatchOption, Bool, true, false, arith, cond}
+use Rattle.std.proofs.Common.{◌≡◌, ◌+◌, refl, ap, ◌∙◌, sym, ◌<◌, List, [], ◌∷◌, ◌++◌, length, slice_get, option_map, Option, None, Some, MatchOption, Bool, true, false, arith, cond}
 use Rattle.std.proofs.lemmas.List.{append_assoc, length-append}
 use Rattle.std.specs.List.{find}
 use Rattle.std.specs.Option.{option_or}

@@ -1,7 +1,6 @@
 -- The parts of a state that starts from pieces.
 use Rattle.std.proofs.Common.{◌≡◌, ℕ, zero, suc, ◌+◌, ◌≤◌, ◌<◌, Bool, true, false, cond, ap, sym, ◌∙◌, subst, List, [], ◌∷◌, ◌++◌, length, map, drop, arith, Some, add-one, append_assoc}
 use Rattle.std.specs.List.{All, filter, flat_map}
-use Rattle.std.specs.Global.{Global}
 use Rattle.std.proofs.lemmas.List.Elements.{All-cons, All-head, All-nil, All-same, All-tail}
 use Rattle.lin_facts.specs.declared.row.Row.{Row}
 use Rattle.name_table.specs.Names.{kind_at}

@@ -2,7 +2,6 @@
 use Rattle.std.specs.Prelude.{ℕ, suc, ◌+◌, ◌<◌, pos, Bool, true, false, nat_eq, max, if◌then◌else◌, List, [], ◌∷◌, ◌++◌, map, Option, None, Some, is_none}
 use Rattle.std.specs.List.{All, list_any, filter, flat_map, sum_by, count_by}
 use Rattle.std.specs.Option.{option_map_or}
-use Rattle.std.specs.Global.{Global}
 use Rattle.lin_facts.specs.declared.row.Row.{Row}
 use Rattle.lin_facts.specs.declared.row.Term.TheVariants.{Length, Names}
 use Rattle.name_table.specs.declared.names.NameId.{NameId}

@@ -19,8 +19,7 @@ use text_ops::is_blank::is_blank;
 pub fn exact_integer(facts: &SharedList<Fact>, sym: Sym) -> Option<i32>
     ensures { result ≡ decided.exact_integer facts.now sym.0 }
 {
-    let found =
-        facts.find(|fact| subject(fact).0 == sym.0 && integer_said(fact).is_some());
+    let found = facts.find(|fact| subject(fact).0 == sym.0 && integer_said(fact).is_some());
     match found {
         Some(fact) => integer_said(fact),
         None => None,
@@ -43,8 +42,7 @@ pub fn exact_text<'a>(facts: &'a SharedList<Fact>, sym: Sym) -> Option<&'a [u8]>
 pub fn known_emptiness(facts: &SharedList<Fact>, sym: Sym) -> Option<bool>
     ensures { result ≡ decided.first_said decided.emptiness_said sym.0 facts.now }
 {
-    let found =
-        facts.find(|fact| subject(fact).0 == sym.0 && emptiness_said(fact).is_some());
+    let found = facts.find(|fact| subject(fact).0 == sym.0 && emptiness_said(fact).is_some());
     match found {
         Some(fact) => emptiness_said(fact),
         None => None,
@@ -93,8 +91,7 @@ pub fn known_kind(facts: &SharedList<Fact>, sym: Sym) -> Kinds
 fn single_kind(facts: &SharedList<Fact>, sym: Sym) -> Option<Kinds>
     ensures { result ≡ decided.first_said (λ fact. decided.single (decided.kind_said fact)) sym.0 facts.now }
 {
-    let found =
-        facts.find(|fact| subject(fact).0 == sym.0 && single(kind_said(fact)).is_some());
+    let found = facts.find(|fact| subject(fact).0 == sym.0 && single(kind_said(fact)).is_some());
     match found {
         Some(fact) => single(kind_said(fact)),
         None => None,

@@ -41,8 +41,16 @@ impl Model for State {
 
     ghost Value = { record_of.State };
 
-    ghost view = { λ s. record { stack = s.stack; whole = s.whole; at_entry = s.at_entry; vars = s.vars; fields = s.fields;
-        facts = s.facts; rows = s.rows; next = s.next } };
+    ghost view = { λ s. record {
+      stack = s.stack;
+      whole = s.whole;
+      at_entry = s.at_entry;
+      vars = s.vars;
+      fields = s.fields;
+      facts = s.facts;
+      rows = s.rows;
+      next = s.next;
+    } };
 }
 
 /// What a state is made of.
@@ -67,8 +75,16 @@ pub struct Parts {
 impl State {
     /// The state of these parts.
     pub fn from_parts(alloc: Global, parts: Parts) -> Result<State, NoMemory>
-        ensures { IfOk result (λ state. state ≡ record { stack = parts.stack; whole = parts.whole; at_entry = parts.at_entry;
-            vars = parts.vars; fields = parts.fields; facts = parts.facts; rows = parts.rows; next = parts.next }) }
+        ensures { IfOk result (λ state. state ≡ record {
+          stack = parts.stack;
+          whole = parts.whole;
+          at_entry = parts.at_entry;
+          vars = parts.vars;
+          fields = parts.fields;
+          facts = parts.facts;
+          rows = parts.rows;
+          next = parts.next;
+        }) }
     {
         let Parts {
             stack,

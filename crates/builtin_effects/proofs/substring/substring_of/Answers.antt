@@ -1,11 +1,9 @@
 -- The choice of `substring$`.
 use Rattle.std.proofs.Common.{◌≡◌, ◌+◌, ◌-◌, Bool, ◌&&◌, cond, List, Option, subst, sym, ap, ◌∙◌}
-use Rattle.std.specs.Prelude.{ℤ, pos, MatchResult}
+use Rattle.std.specs.Prelude.{ℤ, pos}
 use Rattle.lin_facts.specs.declared.row.Row.{Row}
 use Rattle.lin_facts.specs.declared.row.Term.TheVariants.{Length}
 use Rattle.bst_meaning.specs.declared.condition.Cond.{Cond}
-use Rattle.bv_base.specs.Answers.{Refuses}
-use Rattle.sym_state.specs.declared.demand.EffectFault.TheVariants.{NoMemory}
 use Rattle.sym_state.specs.declared.hint.Hint.{Hint}
 use Rattle.sym_state.specs.State.{State}
 use Rattle.sym_state.specs.declared.symbol.Sym.{Sym}

@@ -1,4 +1,4 @@
-use Rattle.std.proofs.Common.{◌≡◌, ap, sym, ◌∙◌, option_map, subst}
+use Rattle.std.proofs.Common.{ap, sym, ◌∙◌, option_map, subst}
 use Rattle.lin_facts.specs.Rows.{IsSmall}
 use Rattle.sym_state.proofs.Bounds.{row_bounded, small_row}
 use Rattle.sym_state.proofs.references.row_at.Goals as goal

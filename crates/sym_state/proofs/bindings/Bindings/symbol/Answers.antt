@@ -1,4 +1,4 @@
-use Rattle.std.proofs.Common.{◌≡◌, ap, sym, ◌∙◌, Some, nat_eq, option_map, reverse}
+use Rattle.std.proofs.Common.{ap, sym, ◌∙◌, Some, nat_eq, option_map, reverse}
 use Rattle.std.specs.List.{find}
 use Rattle.std.specs.Option.{option_map_or}
 use Rattle.sym_state.specs.Changes.{symbol_at}

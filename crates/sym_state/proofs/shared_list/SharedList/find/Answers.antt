@@ -1,4 +1,3 @@
-use Rattle.std.proofs.Common.{◌≡◌, option_map}
 use Rattle.sym_state.proofs.SharedLists.{found_here, found_later}
 use Rattle.sym_state.proofs.shared_list.SharedList.find.Goals as goal
 

@@ -1,4 +1,4 @@
-use Rattle.std.proofs.Common.{◌≡◌, ℕ, length, option_map, Bool}
+use Rattle.std.proofs.Common.{◌≡◌, length, option_map, Bool}
 use Rattle.std.specs.Borrow.{Bor}
 use Rattle.std.specs.List.{find}
 use Rattle.std.specs.Option.{option_or}

@@ -1,4 +1,4 @@
-use Rattle.std.proofs.Common.{◌≡◌, ap, ◌∙◌, sym, ◌∷◌, length, ◌+◌, ◌<◌, arith, slice_get, ◌++◌}
+use Rattle.std.proofs.Common.{ap, ◌∙◌, sym, ◌∷◌, length, ◌<◌, arith, slice_get}
 use Rattle.sym_state.proofs.SharedLists.{behind, goes_on, one_less, taken}
 use Rattle.sym_state.proofs.shared_list.SharedList.get.Goals as goal
 

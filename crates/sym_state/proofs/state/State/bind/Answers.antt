@@ -1,7 +1,5 @@
 -- A state with another binding stays well made.
 use Rattle.std.proofs.Common.{◌<◌, subst, sym}
-use Rattle.sym_state.specs.declared.symbol.Bind.{Bind}
-use Rattle.sym_state.specs.Changes.{rebound}
 use Rattle.sym_state.specs.WellMade.{WellMade}
 use Rattle.sym_state.proofs.Rebound.{bind_kept}
 use Rattle.sym_state.proofs.state.State.bind.Goals as goal
