@@ -66,8 +66,7 @@ static LAST: Shape = Shape {
 };
 
 /// The two symbols, how many facts there are, and what is on top of a stack on which no symbol is known.
-static SYMBOLS: [&str; 1] =
-    ["of any kind, a string: 2 => Sym(4294967293) Sym(4294967294) 1 None"];
+static SYMBOLS: [&str; 1] = ["of any kind, a string: 2 => Sym(4294967293) Sym(4294967294) 1 None"];
 
 #[test]
 fn symbols_come_in_order(rt: HostRuntime) {
