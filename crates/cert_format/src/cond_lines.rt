@@ -1,0 +1,254 @@
+//! What has been read of a condition, line by line.
+
+ghost use Rattle.std.specs.Prelude.{◌≡◌, IfOk};
+ghost use Rattle.bv_base.specs.Answers.{Gives, GivesAndLeaves, Leaves};
+ghost use Rattle.cert_format.specs.Conditions as conditions;
+ghost use Rattle.cert_format.specs.Items.{last_of};
+ghost use Rattle.cert_format.specs.declared.stop.Stop.TheVariants.{NoMemory as WantOfMemory};
+
+use crate::lines::{Item, Line};
+use crate::stop::Stop;
+use bst_meaning::condition::{Cond, NamesLine};
+use bv_base::seq::Seq;
+use bv_base::text::Text;
+use name_table::names::{NameId, Names};
+use std::alloc::Global;
+
+/// The most entries that a condition may ask for.
+pub const MOST_ENTRIES: u32 = 1_000_000;
+
+/// The greatest other number of a condition, of a unit and of a hint.
+pub const MOST: u32 = 1_073_741_824;
+
+/// The line of a condition that comes next.
+#[derive(Clone, Copy, Debug, PartialEq, Eq)]
+pub(crate) enum Stage {
+    Entries,
+    Key,
+    Preamble,
+    Length,
+    /// A line on names, or one that stands after those.
+    Names,
+    /// A `nonblank` line, or one that stands after those.
+    Nonblank,
+    /// A `type` line, or one that stands after those.
+    Types,
+    End,
+    /// None.
+    Done,
+}
+
+/// What has been read of a condition.
+#[derive(Drop)]
+pub(crate) struct CondSoFar {
+    pub(crate) stage: Stage,
+    pub(crate) cond: Cond,
+}
+
+impl CondSoFar {
+    /// Before the first line.
+    pub(crate) fn new(alloc: Global) -> CondSoFar
+        ensures { result ≡ conditions.no_lines }
+    {
+        CondSoFar {
+            stage: Stage::Entries,
+            cond: Cond {
+                entries: 0,
+                key: 0,
+                preamble: 0,
+                length: 0,
+                names: Seq::new(alloc),
+                nonblank: Seq::new(alloc),
+                types: Seq::new(alloc),
+                other: false,
+            },
+        }
+    }
+
+    /// Takes the next line.
+    pub(crate) fn take(&mut self, alloc: Global, names: &Names, line: &mut Line<'_>) -> Result<(), Stop>
+        ensures { Leaves WantOfMemory (conditions.cond_line names.now line.old self.old) self.new result }
+    {
+        let word = line.item()?;
+        match self.stage {
+            Stage::Entries => self.take_entries(&word, line),
+            Stage::Key => self.take_key(&word, line),
+            Stage::Preamble => self.take_preamble(&word, line),
+            Stage::Length => self.take_length(&word, line),
+            Stage::Names | Stage::Nonblank | Stage::Types => self.take_listed(alloc, names, &word, line),
+            Stage::End => self.take_end(&word, line),
+            Stage::Done => Err(Stop::Syntax(word.left())),
+        }
+    }
+
+    /// Takes the line of `entries`.
+    fn take_entries(&mut self, word: &Item<'_>, line: &mut Line<'_>) -> Result<(), Stop>
+        ensures { Leaves WantOfMemory (conditions.entries_line word.now line.old self.old) self.new result }
+    {
+        self.cond.entries = number_line(b"entries", MOST_ENTRIES, word, line)?;
+        self.stage = Stage::Key;
+        Ok(())
+    }
+
+    /// Takes the line of `key`.
+    fn take_key(&mut self, word: &Item<'_>, line: &mut Line<'_>) -> Result<(), Stop>
+        ensures { Leaves WantOfMemory (conditions.key_line word.now line.old self.old) self.new result }
+    {
+        self.cond.key = number_line(b"key", MOST, word, line)?;
+        self.stage = Stage::Preamble;
+        Ok(())
+    }
+
+    /// Takes the line of `preamble`.
+    fn take_preamble(&mut self, word: &Item<'_>, line: &mut Line<'_>) -> Result<(), Stop>
+        ensures { Leaves WantOfMemory (conditions.preamble_line word.now line.old self.old) self.new result }
+    {
+        self.cond.preamble = number_line(b"preamble", MOST, word, line)?;
+        self.stage = Stage::Length;
+        Ok(())
+    }
+
+    /// Takes the line of `length`.
+    fn take_length(&mut self, word: &Item<'_>, line: &mut Line<'_>) -> Result<(), Stop>
+        ensures { Leaves WantOfMemory (conditions.length_line word.now line.old self.old) self.new result }
+    {
+        self.cond.length = number_line(b"length", MOST, word, line)?;
+        self.stage = Stage::Names;
+        Ok(())
+    }
+
+    /// Takes a line after the one of `length`.
+    fn take_listed(&mut self, alloc: Global, names: &Names, word: &Item<'_>, line: &mut Line<'_>) -> Result<(), Stop>
+        ensures { Leaves WantOfMemory (conditions.listed_line names.now word.now line.old self.old) self.new result }
+    {
+        if may_have_names(self.stage) && word.is_word(b"names") {
+            return self.take_names(names, line);
+        }
+        if may_have_nonblank(self.stage) && word.is_word(b"nonblank") {
+            return self.take_nonblank(names, line);
+        }
+        if word.is_word(b"type") {
+            return self.take_type(alloc, line);
+        }
+        self.take_othertype(word, line)
+    }
+
+    /// Takes a line on names, after its word.
+    fn take_names(&mut self, names: &Names, line: &mut Line<'_>) -> Result<(), Stop>
+        ensures { Leaves WantOfMemory (conditions.names_line names.now line.old self.old) self.new result }
+    {
+        let item = line.item()?;
+        let field = item.field_above(last_field(self.cond.names.as_slice()), names)?;
+        let most = last_natural(MOST, line)?;
+        self.cond.names.push(NamesLine { field, most })?;
+        Ok(())
+    }
+
+    /// Takes a `nonblank` line, after its word.
+    fn take_nonblank(&mut self, names: &Names, line: &mut Line<'_>) -> Result<(), Stop>
+        ensures { Leaves WantOfMemory (conditions.nonblank_line names.now line.old self.old) self.new result }
+    {
+        let item = line.item()?;
+        let field = item.field_above(last_id(self.cond.nonblank.as_slice()), names)?;
+        line.end()?;
+        self.cond.nonblank.push(field)?;
+        self.stage = Stage::Nonblank;
+        Ok(())
+    }
+
+    /// Takes a `type` line, after its word.
+    fn take_type(&mut self, alloc: Global, line: &mut Line<'_>) -> Result<(), Stop>
+        ensures { Leaves WantOfMemory (conditions.type_line line.old self.old) self.new result }
+    {
+        let item = line.item()?;
+        item.type_above(self.cond.types.as_slice().last())?;
+        line.end()?;
+        self.cond.types.push(Text::from_slice(alloc, item.text())?)?;
+        self.stage = Stage::Types;
+        Ok(())
+    }
+
+    /// Takes the line of `othertype`.
+    fn take_othertype(&mut self, word: &Item<'_>, line: &mut Line<'_>) -> Result<(), Stop>
+        ensures { Leaves WantOfMemory (conditions.othertype_line word.now line.old self.old) self.new result }
+    {
+        word.expect(b"othertype")?;
+        let item = line.item()?;
+        let other = item.choice()?;
+        line.end()?;
+        self.cond.other = other;
+        self.stage = Stage::End;
+        Ok(())
+    }
+
+    /// Takes the line of `end`.
+    fn take_end(&mut self, word: &Item<'_>, line: &mut Line<'_>) -> Result<(), Stop>
+        ensures { Leaves WantOfMemory (conditions.end_line word.now line.old self.old) self.new result }
+    {
+        word.expect(b"end")?;
+        line.end()?;
+        self.stage = Stage::Done;
+        Ok(())
+    }
+
+    /// The condition, where its last line has come.
+    pub(crate) fn finish(self) -> Result<Cond, Stop>
+        ensures { Gives WantOfMemory (conditions.finished self self.stage) result }
+    {
+        match self.stage {
+            Stage::Done => Ok(self.cond),
+            _ => Err(Stop::Syntax(0)),
+        }
+    }
+}
+
+/// Whether a line on names may come.
+fn may_have_names(stage: Stage) -> bool
+    ensures { result ≡ conditions.may_have_names stage }
+{
+    matches!(stage, Stage::Names)
+}
+
+/// Whether a `nonblank` line may come.
+fn may_have_nonblank(stage: Stage) -> bool
+    ensures { result ≡ conditions.may_have_nonblank stage }
+{
+    matches!(stage, Stage::Names | Stage::Nonblank)
+}
+
+/// The field of the last of some lines on names.
+fn last_field(lines: &[NamesLine]) -> Option<NameId>
+    ensures { result ≡ conditions.last_field lines.now }
+{
+    match lines.last() {
+        Some(line) => Some(line.field),
+        None => None,
+    }
+}
+
+/// The last of some ids.
+fn last_id(ids: &[NameId]) -> Option<NameId>
+    ensures { result ≡ last_of ids.now }
+{
+    match ids.last() {
+        Some(id) => Some(*id),
+        None => None,
+    }
+}
+
+/// A line of this word and a number.
+fn number_line(text: &[u8], most: u32, word: &Item<'_>, line: &mut Line<'_>) -> Result<u32, Stop>
+    ensures { Gives WantOfMemory (conditions.number_line text.now most word.now line.old) result }
+{
+    word.expect(text)?;
+    last_natural(most, line)
+}
+
+/// The last item of a line, as a number of at most so much.
+fn last_natural(most: u32, line: &mut Line<'_>) -> Result<u32, Stop>
+    ensures { Gives WantOfMemory (conditions.last_natural most line.old) result }
+{
+    let number = line.item()?.natural(most)?;
+    line.end()?;
+    Ok(number)
+}

@@ -1,0 +1,96 @@
+//! Lines of items, as bytes.
+
+ghost use Rattle.std.specs.Prelude.{◌≡◌, ◌<◌, [], ◌∷◌, ◌++◌, OnOk};
+ghost use Rattle.std.specs.Fmt.{decimal};
+ghost use Rattle.cert_format.specs.Spelling as spelling;
+
+use bv_base::memory::NoMemory;
+use name_table::names::{NameId, Names};
+use std::alloc::Global;
+use std::marker::Model;
+
+/// A text that is printed item by item. Contracts see its bytes.
+#[derive(Drop)]
+pub(crate) struct Printer {
+    alloc: Global,
+    text: Vec<u8>,
+}
+
+impl Model for Printer {
+    ghost use Rattle.std.specs.Prelude.{List, ℕ};
+
+    ghost Value = { List ℕ };
+
+    ghost view = { λ p. p.text.items };
+}
+
+impl Printer {
+    /// No bytes.
+    pub(crate) fn new(alloc: Global) -> Printer
+        ensures { result ≡ [] }
+    {
+        Printer {
+            alloc,
+            text: Vec::new(alloc),
+        }
+    }
+
+    /// Begins a line by a word.
+    pub(crate) fn word(&mut self, word: &[u8]) -> Result<(), NoMemory>
+        ensures { OnOk result (self.new ≡ self.old ++ word.now) }
+    {
+        self.text.extend_from_slice(word)?;
+        Ok(())
+    }
+
+    /// A further item.
+    pub(crate) fn item(&mut self, item: &[u8]) -> Result<(), NoMemory>
+        ensures { OnOk result (self.new ≡ self.old ++ 32 ∷ item.now) }
+    {
+        self.text.push(b' ')?;
+        self.text.extend_from_slice(item)?;
+        Ok(())
+    }
+
+    /// A number as a further item.
+    pub(crate) fn number(&mut self, number: u32) -> Result<(), NoMemory>
+        ensures { OnOk result (self.new ≡ self.old ++ 32 ∷ decimal number) }
+    {
+        let text = format!(in self.alloc; "{number}")?;
+        self.item(text.as_bytes())
+    }
+
+    /// A name of the style as a further item.
+    pub(crate) fn name(&mut self, names: &Names, id: NameId) -> Result<(), NoMemory>
+        ensures { OnOk result (self.new ≡ self.old ++ 32 ∷ spelling.name_text names.now id) }
+    {
+        self.item(name_text(names, id))
+    }
+
+    /// Ends a line.
+    pub(crate) fn end(&mut self) -> Result<(), NoMemory>
+        ensures { OnOk result (self.new ≡ self.old ++ 10 ∷ []) }
+    {
+        self.text.push(b'\n')?;
+        Ok(())
+    }
+
+    /// The bytes, which aren't copied.
+    pub(crate) fn into_text(self) -> Vec<u8>
+        ensures { result.items ≡ self }
+    {
+        let Printer { text, .. } = self;
+        text
+    }
+}
+
+/// The bytes of a name, and none where the style has no such name.
+fn name_text(names: &Names, id: NameId) -> &[u8]
+    ensures { result.now ≡ spelling.name_text names.now id }
+{
+    if id.0 < names.len() {
+        names.text(id)
+    } else {
+        &[]
+    }
+}

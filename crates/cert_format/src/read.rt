@@ -1,0 +1,44 @@
+//! The reader of conditions.
+
+ghost use Rattle.std.specs.Prelude.{◌≡◌, ◌≤◌, length};
+ghost use Rattle.bv_base.specs.Answers.{Gives};
+ghost use Rattle.cert_format.specs.CondTexts.{cond_of};
+ghost use Rattle.cert_format.specs.Conditions.{cond_read};
+ghost use Rattle.cert_format.specs.declared.fault.CertFault.TheVariants.{NoMemory};
+ghost use Rattle.cert_format.specs.declared.stop.Stop.TheVariants.{NoMemory as WantOfMemory};
+
+use crate::cond_lines::CondSoFar;
+use crate::fault::CertFault;
+use crate::lines::Lines;
+use crate::stop::{Stop, fault_of};
+use bst_meaning::condition::Cond;
+use bv_base::limits::STYLE_BYTES;
+use name_table::names::Names;
+use name_table::style::Style;
+use std::alloc::Global;
+
+/// Reads a condition of at most [`STYLE_BYTES`] bytes, or gives the first fault of the bytes.
+///
+/// Each byte is read a fixed number of times, and each name is looked up in a hash table.
+pub fn read_cond(alloc: Global, source: &[u8], style: &Style) -> Result<Cond, CertFault>
+    requires { length source.now ≤ STYLE_BYTES }
+    ensures { Gives NoMemory (cond_of style.now source.now) result }
+{
+    match cond_lines(alloc, source, &style.names) {
+        Ok(cond) => Ok(cond),
+        Err(stop) => Err(fault_of(source, stop)),
+    }
+}
+
+/// Takes the lines of a condition one after the other.
+fn cond_lines(alloc: Global, source: &[u8], names: &Names) -> Result<Cond, Stop>
+    requires { length source.now ≤ STYLE_BYTES }
+    ensures { Gives WantOfMemory (cond_read names.now source.now) result }
+{
+    let mut lines = Lines::new(source);
+    let mut cond = CondSoFar::new(alloc);
+    while let Some(mut line) = lines.next() {
+        cond.take(alloc, names, &mut line)?;
+    }
+    cond.finish()
+}
