@@ -1,7 +1,7 @@
 -- The first line of a text, and the first item of a line.
-use Rattle.std.proofs.Common.{◌≡◌, ℕ, suc, ◌+◌, ◌<◌, Bool, true, false, cond, Ok, List, map, [], ◌∷◌, length, take, drop, refl, sym, ap, ◌∙◌, arith}
+use Rattle.std.proofs.Common.{◌≡◌, ℕ, suc, ◌+◌, ◌<◌, Bool, true, false, cond, List, map, [], ◌∷◌, length, take, drop, refl, sym, ap, ◌∙◌, arith}
 use Rattle.bv_base.specs.Runs.{length_before}
-use Rattle.cert_format.specs.Lines.{Item, Line, Stretch, after_space, begun, is_newline, is_space, items_of, line_of, lines_of, longer, next_item, next_of, stretches}
+use Rattle.cert_format.specs.Lines.{Item, Line, Stretch, after_space, begun, is_newline, is_space, items_of, line_of, lines_of, longer, stretches, with_item}
 
 -- the line before so many bytes, and the lines after it
 abbrev split_at : ℕ → List ℕ → List Stretch
@@ -41,17 +41,18 @@ first_item end (b ∷ bytes) =
     (ap (begun b) (first_item end bytes)
     ∙ ap (λ (left : ℕ). record { text = b ∷ take (length_before is_space bytes) bytes; left = left } ∷ after_space end (drop (length_before is_space bytes) bytes)) same)
 
--- a line gives its first item
+-- a line by its first item and those after it
 pub item_taken : (line : Line) (end n : ℕ) (rest front back : List ℕ) (left : List Item)
     → record { items = items_of end rest; end = end } ≡ line → n ≡ length_before is_space rest → front ≡ take n rest → back ≡ drop n rest
     → left ≡ after_space end back
-    → next_item line ≡ Ok (record { text = front; left = length rest + end }, record { items = left; end = end })
+    → line ≡ with_item (record { text = front; left = length rest + end }) (record { items = left; end = end })
 item_taken line end n rest front back left is count before behind more =
-    ap next_item (sym is) ∙ ap (next_of end) (first_item end rest)
-    ∙ ap (λ (m : ℕ). next_of end (item_at m end rest)) (sym count)
-    ∙ ap (λ (text : List ℕ). Ok (record { text = text; left = length rest + end }, record { items = after_space end (drop n rest); end = end })) (sym before)
-    ∙ ap (λ (bytes : List ℕ). Ok (record { text = front; left = length rest + end }, record { items = after_space end bytes; end = end })) (sym behind)
-    ∙ ap (λ (items : List Item). Ok (record { text = front; left = length rest + end }, record { items = items; end = end })) (sym more)
+    let line_with : List Item → Line = λ items. record { items = items; end = end } in
+    sym is ∙ ap line_with (first_item end rest)
+    ∙ ap (λ (m : ℕ). line_with (item_at m end rest)) (sym count)
+    ∙ ap (λ (text : List ℕ). line_with (record { text = text; left = length rest + end } ∷ after_space end (drop n rest))) (sym before)
+    ∙ ap (λ (bytes : List ℕ). line_with (record { text = front; left = length rest + end } ∷ after_space end bytes)) (sym behind)
+    ∙ ap (λ (items : List Item). line_with (record { text = front; left = length rest + end } ∷ items)) (sym more)
 
 -- a text gives its first line
 pub line_taken : (n : ℕ) (bytes front back : List ℕ) → 0 < length bytes → n ≡ length_before is_newline bytes → front ≡ take n bytes

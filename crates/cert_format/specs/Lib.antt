@@ -2,6 +2,11 @@ pub mod CondTexts
 pub mod Conditions
 pub mod Cursors
 pub mod Faults
+pub mod HintSpelling
 pub mod Items
 pub mod Lines
+pub mod PieceItems
+pub mod PieceSpelling
+pub mod Pieces
 pub mod Spelling
+pub mod UnitSpelling

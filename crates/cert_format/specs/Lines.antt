@@ -68,6 +68,10 @@ abbrev pub next_of : ℕ → List Item → Result (Item × Line) Stop
 next_of end [] = Err (Syntax end)
 next_of end (item ∷ items) = Ok (item, record { items = items; end = end })
 
+-- a line with an item before those that are left
+abbrev pub with_item : Item → Line → Line
+with_item item line = record { items = item ∷ line.items; end = line.end }
+
 -- the next item of a line
 abbrev pub next_item : Line → Result (Item × Line) Stop
 next_item line = next_of line.end line.items

@@ -1,11 +1,18 @@
 //! Certificates and conditions: each has one spelling, in which it is read and printed.
 #![tactic(auto)]
 
+pub mod cert;
 mod cond_lines;
 pub mod fault;
+mod hex;
 mod items;
 mod lines;
+mod piece_items;
+mod piece_lines;
 pub mod print;
 mod printer;
+mod put_hints;
+mod put_pieces;
+mod put_units;
 pub mod read;
 mod stop;

@@ -4,6 +4,7 @@ ghost use Rattle.std.specs.Prelude.{◌≡◌, ℕ, ◌≤◌, [], ◌∷◌, le
 ghost use Rattle.std.specs.Option.{option_map_or};
 ghost use Rattle.bv_base.specs.Answers.{Gives, GivesAndLeaves};
 ghost use Rattle.bv_base.specs.Runs.{length_before};
+ghost use Rattle.cert_format.specs.PieceItems.{part_of};
 ghost use Rattle.cert_format.specs.Lines as lines;
 ghost use Rattle.cert_format.specs.declared.stop.Stop.TheVariants.{NoMemory as WantOfMemory};
 
@@ -80,13 +81,25 @@ impl<'a> Line<'a> {
     pub(crate) fn item(&mut self) -> Result<Item<'a>, Stop>
         ensures { GivesAndLeaves WantOfMemory (lines.next_item self.old) self.new result }
     {
+        match self.next() {
+            Some(item) => Ok(item),
+            None => Err(Stop::Syntax(self.end)),
+        }
+    }
+
+    /// Takes the next item. `None` comes exactly where none is left.
+    pub(crate) fn next(&mut self) -> Option<Item<'a>>
+        ensures { MatchOption result
+            ((self.old.items ≡ []) × (self.new ≡ self.old))
+            (λ item. self.old ≡ lines.with_item item self.new) }
+    {
         let Some(rest) = self.rest else {
-            return Err(Stop::Syntax(self.end));
+            return None;
         };
         let left = rest.len() + self.end;
         let (text, after) = rest.split_at(item_length(rest));
         self.rest = after_space(after);
-        Ok(Item { text, left })
+        Some(Item { text, left })
     }
 
     #[tactic(auto, using(crate::proofs::Lined::first_item))]
@@ -125,6 +138,16 @@ impl<'a> Item<'a> {
         ensures { result.now ≡ self.now.text }
     {
         self.text
+    }
+
+    /// A part of the item; what is at fault in it stands where the item begins.
+    pub(crate) fn part(&self, text: &'a [u8]) -> Item<'a>
+        ensures { result ≡ part_of self.now text.now }
+    {
+        Item {
+            text,
+            left: self.left,
+        }
     }
 
     /// How many bytes of the text are left where the item begins.

@@ -3,8 +3,11 @@
 ghost use Rattle.std.specs.Prelude.{◌≡◌, [], ◌∷◌, ◌++◌, map, codes, IfOk, OnOk};
 ghost use Rattle.std.specs.Fmt.{decimal};
 ghost use Rattle.cert_format.specs.Spelling as spelling;
+ghost use Rattle.cert_format.specs.UnitSpelling.{cert_lines};
 
+use crate::cert::Cert;
 use crate::printer::Printer;
+use crate::put_units::{put_commands, put_loops, put_summaries};
 use bst_meaning::condition::{Cond, NamesLine};
 use bv_base::memory::NoMemory;
 use bv_base::text::Text;
@@ -19,6 +22,27 @@ pub fn print_cond(alloc: Global, cond: &Cond, style: &Style) -> Result<Vec<u8>, 
     let mut printer = Printer::new(alloc);
     put_cond(&mut printer, &style.names, cond)?;
     Ok(printer.into_text())
+}
+
+/// The one spelling of a certificate.
+pub fn print(alloc: Global, cert: &Cert, style: &Style) -> Result<Vec<u8>, NoMemory>
+    ensures { IfOk result (λ text. text.items ≡ spelling.text_of (cert_lines style.now cert.now)) }
+{
+    let mut printer = Printer::new(alloc);
+    put_cert(&mut printer, style, cert)?;
+    Ok(printer.into_text())
+}
+
+/// Puts the lines of a certificate.
+fn put_cert(printer: &mut Printer, style: &Style, cert: &Cert) -> Result<(), NoMemory>
+    ensures { OnOk result (printer.new ≡ printer.old ++ spelling.text_of (cert_lines style.now cert.now)) }
+{
+    put_number(printer, b"bstcert", cert.list)?;
+    put_cond(printer, &style.names, &cert.cond)?;
+    put_summaries(printer, style, cert.summaries.as_slice())?;
+    put_loops(printer, style, cert.loops.as_slice())?;
+    put_commands(printer, style, cert.commands.as_slice())?;
+    put_word(printer, b"done")
 }
 
 /// Puts the lines of a condition.

@@ -2,7 +2,7 @@ use Rattle.std.proofs.Common.{◌∙◌, sym, ap, subst, [], ◌+◌, ◌≤◌,
 use Rattle.std.specs.Option.{option_map_or}
 use Rattle.cert_format.specs.Lines.{Line, items_of}
 use Rattle.cert_format.proofs.Lined.{item_taken}
-use Rattle.cert_format.proofs.lines.Line.item.Goals as goal
+use Rattle.cert_format.proofs.lines.Line.next.Goals as goal
 
 pub returns : goal.returns
 returns c =

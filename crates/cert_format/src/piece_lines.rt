@@ -1,0 +1,346 @@
+//! What has been read of a piece, line by line.
+
+ghost use Rattle.std.specs.Prelude.{◌≡◌, ◌≤◌, map, length, [], OnOk};
+ghost use Rattle.bv_base.specs.Answers.{Gives, GivesAndLeaves, Leaves};
+ghost use Rattle.cert_format.specs.Items.{last_of};
+ghost use Rattle.cert_format.specs.PieceItems as items;
+ghost use Rattle.cert_format.specs.Pieces as pieces;
+ghost use Rattle.cert_format.specs.declared.stop.Stop.TheVariants.{NoMemory as WantOfMemory};
+
+use crate::lines::{Item, Line};
+use crate::stop::Stop;
+use bv_base::seq::Seq;
+use lin_facts::row::{Part, Row};
+use name_table::names::{NameId, Names};
+use name_table::style::{MOST_BODIES, Style};
+use std::alloc::Global;
+use sym_state::piece::Piece;
+use sym_state::symbol::{Bind, Fact, Sym};
+
+/// The most symbols of a stack, facts and rows of a piece, and uses of a proof.
+pub const MOST_ITEMS: usize = 64;
+
+/// The most terms of a row.
+pub const MOST_TERMS: usize = 32;
+
+/// The line of a piece that comes next: one of this kind or a later one.
+#[derive(Clone, Copy, Debug, PartialEq, Eq)]
+pub(crate) enum PieceStage {
+    Stack,
+    Vars,
+    Fields,
+    Facts,
+    Rows,
+}
+
+/// The word with which a line of a piece begins.
+#[derive(Clone, Copy, Debug, PartialEq, Eq)]
+pub(crate) enum PieceWord {
+    Stack,
+    Var,
+    Field,
+    Is,
+    Int,
+    Text,
+    Call,
+    Block,
+    Blank,
+    Nonblank,
+    Wellformed,
+    Row,
+}
+
+/// What has been read of a piece.
+#[derive(Drop)]
+pub(crate) struct PieceSoFar {
+    /// Whether variables of entries and fields may stand.
+    pub(crate) at_entry: bool,
+    /// Whether `pos` may stand.
+    pub(crate) has_pos: bool,
+    pub(crate) stage: PieceStage,
+    /// The number of the next new symbol.
+    pub(crate) next: u32,
+    pub(crate) piece: Piece,
+}
+
+impl PieceSoFar {
+    /// Before the first line.
+    pub(crate) fn new(alloc: Global, at_entry: bool, has_pos: bool, next: u32) -> PieceSoFar
+        ensures { result ≡ pieces.no_piece at_entry has_pos next }
+    {
+        PieceSoFar {
+            at_entry,
+            has_pos,
+            stage: PieceStage::Stack,
+            next,
+            piece: Piece {
+                stack: Seq::new(alloc),
+                vars: Seq::new(alloc),
+                fields: Seq::new(alloc),
+                facts: Seq::new(alloc),
+                rows: Seq::new(alloc),
+            },
+        }
+    }
+
+    /// The word of a line that may come.
+    pub(crate) fn word(&self, text: &[u8]) -> Option<PieceWord>
+        ensures { result ≡ pieces.piece_word self.now.stage text.now }
+    {
+        where_due(self.stage, word_among(text, &WORDS)?)
+    }
+
+    /// Takes a line, after its word.
+    pub(crate) fn take(
+        &mut self,
+        alloc: Global,
+        style: &Style,
+        kind: PieceWord,
+        word: &Item<'_>,
+        line: &mut Line<'_>,
+    ) -> Result<(), Stop>
+        requires { length style.now.bodies ≤ MOST_BODIES }
+        ensures { Leaves WantOfMemory (pieces.piece_line style.now kind word.now line.old self.old) self.new result }
+    {
+        match kind {
+            PieceWord::Stack => self.take_stack(line),
+            PieceWord::Var => self.take_var(&style.names, line),
+            PieceWord::Field => self.take_field(&style.names, line),
+            PieceWord::Row => self.take_row(alloc, word, line),
+            _ => self.take_fact(alloc, style, kind, word, line),
+        }
+    }
+
+    /// Takes the line of the stack, after its word.
+    fn take_stack(&mut self, line: &mut Line<'_>) -> Result<(), Stop>
+        ensures { Leaves WantOfMemory (pieces.stack_line line.old self.old) self.new result }
+    {
+        let item = line.item()?;
+        self.push_symbol(&item)?;
+        self.push_symbols(line)?;
+        line.end()
+    }
+
+    /// Pushes symbols, one after the other.
+    fn push_symbols(&mut self, line: &mut Line<'_>) -> Result<(), Stop>
+        ensures read { Leaves WantOfMemory (pieces.push_symbols line.old.items self.old) self.new result }
+        ensures left { OnOk result (line.new ≡ record { items = []; end = line.old.end }) }
+    {
+        while let Some(item) = line.next() {
+            self.push_symbol(&item)?;
+        }
+        Ok(())
+    }
+
+    /// Pushes a symbol.
+    fn push_symbol(&mut self, item: &Item<'_>) -> Result<(), Stop>
+        ensures { Leaves WantOfMemory (pieces.push_symbol item.now self.old) self.new result }
+    {
+        let sym = item.placed(self.next)?;
+        if self.piece.stack.as_slice().len() >= MOST_ITEMS {
+            return Err(Stop::TooMany(item.left()));
+        }
+        self.piece.stack.push(sym)?;
+        self.next = next_after(self.next, sym);
+        self.stage = PieceStage::Vars;
+        Ok(())
+    }
+
+    /// Takes the line of a variable, after its word.
+    fn take_var(&mut self, names: &Names, line: &mut Line<'_>) -> Result<(), Stop>
+        ensures { Leaves WantOfMemory (pieces.var_line names.now line.old self.old) self.new result }
+    {
+        let item = line.item()?;
+        let name = item.variable_above(self.at_entry, last_bound(self.piece.vars.as_slice()), names)?;
+        let bind = bound(self.next, name, line)?;
+        self.piece.vars.push(bind)?;
+        self.next = next_after(self.next, bind.sym);
+        self.stage = PieceStage::Vars;
+        Ok(())
+    }
+
+    /// Takes the line of a field, after its word.
+    fn take_field(&mut self, names: &Names, line: &mut Line<'_>) -> Result<(), Stop>
+        ensures { Leaves WantOfMemory (pieces.field_line names.now line.old self.old) self.new result }
+    {
+        let item = line.item()?;
+        let name = item.entry_field(self.at_entry, last_bound(self.piece.fields.as_slice()), names)?;
+        let bind = bound(self.next, name, line)?;
+        self.piece.fields.push(bind)?;
+        self.next = next_after(self.next, bind.sym);
+        self.stage = PieceStage::Fields;
+        Ok(())
+    }
+
+    /// Takes a fact, after the word of its line.
+    fn take_fact(
+        &mut self,
+        alloc: Global,
+        style: &Style,
+        kind: PieceWord,
+        word: &Item<'_>,
+        line: &mut Line<'_>,
+    ) -> Result<(), Stop>
+        requires { length style.now.bodies ≤ MOST_BODIES }
+        ensures { Leaves WantOfMemory (pieces.fact_line style.now kind word.now line.old self.old) self.new result }
+    {
+        if self.piece.facts.as_slice().len() >= MOST_ITEMS {
+            return Err(Stop::TooMany(word.left()));
+        }
+        let sym = line.item()?.known(self.next)?;
+        let fact = fact_of(alloc, style, kind, sym, line)?;
+        self.piece.facts.push(fact)?;
+        self.stage = PieceStage::Facts;
+        Ok(())
+    }
+
+    /// Takes a row, after the word of its line.
+    fn take_row(&mut self, alloc: Global, word: &Item<'_>, line: &mut Line<'_>) -> Result<(), Stop>
+        ensures { Leaves WantOfMemory (pieces.row_line word.now line.old self.old) self.new result }
+    {
+        if self.piece.rows.as_slice().len() >= MOST_ITEMS {
+            return Err(Stop::TooMany(word.left()));
+        }
+        let constant = line.item()?.row_number()?;
+        let parts = self.parts(alloc, line)?;
+        line.end()?;
+        self.piece.rows.push(Row { constant, parts })?;
+        self.stage = PieceStage::Rows;
+        Ok(())
+    }
+
+    /// The coefficients and terms of a row.
+    fn parts(&self, alloc: Global, line: &mut Line<'_>) -> Result<Seq<Part>, Stop>
+        ensures read { Gives WantOfMemory (pieces.parts self.now.has_pos self.now.next line.old.end line.old.items []) result }
+        ensures left { OnOk result (line.new ≡ record { items = []; end = line.old.end }) }
+    {
+        let mut parts = Seq::new(alloc);
+        while let Some(first) = line.next() {
+            let part = self.part(&first, parts.as_slice(), line)?;
+            parts.push(part)?;
+        }
+        Ok(parts)
+    }
+
+    /// A coefficient and its term, behind those before them.
+    fn part(&self, first: &Item<'_>, before: &[Part], line: &mut Line<'_>) -> Result<Part, Stop>
+        ensures { GivesAndLeaves WantOfMemory (pieces.part self.now.has_pos self.now.next before.now first.now line.old) line.new result }
+    {
+        let coefficient = first.coefficient()?;
+        if before.len() >= MOST_TERMS {
+            return Err(Stop::TooMany(first.left()));
+        }
+        let term = line.item()?.term_behind(self.has_pos, self.next, before.last())?;
+        Ok(Part { coefficient, term })
+    }
+}
+
+/// The words of the lines of a piece.
+const WORDS: [(&[u8], PieceWord); 12] = [
+    (b"stack", PieceWord::Stack),
+    (b"var", PieceWord::Var),
+    (b"field", PieceWord::Field),
+    (b"is", PieceWord::Is),
+    (b"int", PieceWord::Int),
+    (b"text", PieceWord::Text),
+    (b"call", PieceWord::Call),
+    (b"block", PieceWord::Block),
+    (b"blank", PieceWord::Blank),
+    (b"nonblank", PieceWord::Nonblank),
+    (b"wellformed", PieceWord::Wellformed),
+    (b"row", PieceWord::Row),
+];
+
+/// The word among some.
+fn word_among(text: &[u8], words: &[(&[u8], PieceWord)]) -> Option<PieceWord>
+    ensures { result ≡ pieces.word_among text.now (map (λ word. (word.0.now, word.1)) words.now) }
+{
+    for (known, word) in words {
+        if text == *known {
+            return Some(*word);
+        }
+    }
+    None
+}
+
+/// A word, where its line may come.
+fn where_due(stage: PieceStage, word: PieceWord) -> Option<PieceWord>
+    ensures { result ≡ pieces.where_due stage word }
+{
+    if stage_rank(stage) <= word_rank(word) {
+        Some(word)
+    } else {
+        None
+    }
+}
+
+/// The order of the lines of a piece, by which a line may come.
+fn stage_rank(stage: PieceStage) -> u8
+    ensures { result ≡ pieces.stage_rank stage }
+{
+    match stage {
+        PieceStage::Stack => 0,
+        PieceStage::Vars => 1,
+        PieceStage::Fields => 2,
+        PieceStage::Facts => 3,
+        PieceStage::Rows => 4,
+    }
+}
+
+/// The order of the lines of a piece, by their words.
+fn word_rank(word: PieceWord) -> u8
+    ensures { result ≡ pieces.word_rank word }
+{
+    match word {
+        PieceWord::Stack => 0,
+        PieceWord::Var => 1,
+        PieceWord::Field => 2,
+        PieceWord::Row => 4,
+        _ => 3,
+    }
+}
+
+/// The number of the next new symbol after a symbol stood at a place.
+fn next_after(next: u32, sym: Sym) -> u32
+    ensures { result ≡ items.next_after next sym }
+{
+    next.max(sym.0.saturating_add(1))
+}
+
+/// The name of the last of some bindings.
+fn last_bound(binds: &[Bind]) -> Option<NameId>
+    ensures { result ≡ pieces.last_bound binds.now }
+{
+    match binds.last() {
+        Some(bind) => Some(bind.name),
+        None => None,
+    }
+}
+
+/// The symbol of a variable or a field, which ends its line.
+fn bound(next: u32, name: NameId, line: &mut Line<'_>) -> Result<Bind, Stop>
+    ensures { Gives WantOfMemory (pieces.bound next name line.old) result }
+{
+    let sym = line.item()?.placed(next)?;
+    line.end()?;
+    Ok(Bind { name, sym })
+}
+
+/// A fact by the word of its line, after its symbol.
+fn fact_of(alloc: Global, style: &Style, kind: PieceWord, sym: Sym, line: &mut Line<'_>) -> Result<Fact, Stop>
+    requires { length style.now.bodies ≤ MOST_BODIES }
+    ensures { Gives WantOfMemory (pieces.fact_of style.now kind sym line.old) result }
+{
+    let fact = match kind {
+        PieceWord::Is => Fact::Is(sym, line.item()?.kind()?),
+        PieceWord::Int => Fact::Int(sym, line.item()?.integer()?),
+        PieceWord::Text => Fact::Text(sym, line.item()?.hex(alloc)?),
+        PieceWord::Call => Fact::Call(sym, line.item()?.name(&style.names)?),
+        PieceWord::Block => Fact::Block(sym, line.item()?.block_number(style.bodies.as_slice())?),
+        PieceWord::Blank => Fact::Blank(sym),
+        PieceWord::Nonblank => Fact::Nonblank(sym),
+        _ => Fact::Wellformed(sym),
+    };
+    line.end()?;
+    Ok(fact)
+}
