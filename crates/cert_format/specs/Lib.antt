@@ -3,6 +3,7 @@ pub mod Conditions
 pub mod Cursors
 pub mod Faults
 pub mod HintSpelling
+pub mod Hints
 pub mod Items
 pub mod Lines
 pub mod PieceItems

@@ -245,7 +245,7 @@ fn number_line(text: &[u8], most: u32, word: &Item<'_>, line: &mut Line<'_>) -> 
 }
 
 /// The last item of a line, as a number of at most so much.
-fn last_natural(most: u32, line: &mut Line<'_>) -> Result<u32, Stop>
+pub(crate) fn last_natural(most: u32, line: &mut Line<'_>) -> Result<u32, Stop>
     ensures { Gives WantOfMemory (conditions.last_natural most line.old) result }
 {
     let number = line.item()?.natural(most)?;

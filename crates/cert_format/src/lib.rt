@@ -5,6 +5,7 @@ pub mod cert;
 mod cond_lines;
 pub mod fault;
 mod hex;
+mod hint_lines;
 mod items;
 mod lines;
 mod piece_items;

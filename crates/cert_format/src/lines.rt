@@ -48,7 +48,7 @@ impl<'a> Lines<'a> {
             return None;
         }
         let (bytes, after) = self.rest.split_at(line_length(self.rest));
-        self.rest = after_newline(after);
+        self.rest = after_first(after);
         Some(Line {
             rest: Some(bytes),
             end: after.len(),
@@ -158,8 +158,8 @@ impl<'a> Item<'a> {
     }
 }
 
-/// What follows a line before its byte 10.
-fn after_newline(bytes: &[u8]) -> &[u8]
+/// All but the first byte.
+pub(crate) fn after_first(bytes: &[u8]) -> &[u8]
     ensures { result.now ≡ drop 1 bytes.now }
 {
     match bytes {

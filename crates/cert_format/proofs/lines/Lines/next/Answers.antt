@@ -14,4 +14,4 @@ returns c =
     let front = c.split_at.result.0.now in
     sym c.self.view_is
     ∙ line_taken c.line_length.result bytes front back some c.line_length.ensures.length c.split_at.ensures.front c.split_at.ensures.back
-    ∙ ap (λ (rest : List ℕ). record { items = items_of (length back) front; end = length back } ∷ lines_of rest) (sym c.after_newline-self-inside.ensures)
+    ∙ ap (λ (rest : List ℕ). record { items = items_of (length back) front; end = length back } ∷ lines_of rest) (sym c.after_first-self-inside.ensures)
