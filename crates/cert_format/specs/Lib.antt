@@ -11,3 +11,4 @@ pub mod PieceSpelling
 pub mod Pieces
 pub mod Spelling
 pub mod UnitSpelling
+pub mod Units

@@ -227,7 +227,7 @@ fn last_field(lines: &[NamesLine]) -> Option<NameId>
 }
 
 /// The last of some ids.
-fn last_id(ids: &[NameId]) -> Option<NameId>
+pub(crate) fn last_id(ids: &[NameId]) -> Option<NameId>
     ensures { result ≡ last_of ids.now }
 {
     match ids.last() {

@@ -17,3 +17,4 @@ mod put_pieces;
 mod put_units;
 pub mod read;
 mod stop;
+mod unit_lines;

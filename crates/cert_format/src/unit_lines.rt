@@ -1,0 +1,429 @@
+//! What has been read of a summary, a loop or a command, line by line.
+
+ghost use Rattle.std.specs.Prelude.{◌≡◌, ◌<◌, ◌≤◌, Some, map, length, OnOk};
+ghost use Rattle.bv_base.specs.Answers.{Leaves};
+ghost use Rattle.cert_format.specs.Units as units;
+ghost use Rattle.cert_format.specs.declared.stop.Stop.TheVariants.{NoMemory as WantOfMemory};
+
+use crate::cond_lines::last_id;
+use crate::hint_lines::hint_line;
+use crate::lines::{Item, Line};
+use crate::piece_lines::{PieceSoFar, PieceWord};
+use crate::stop::Stop;
+use bst_meaning::value::Target;
+use bv_base::memory::NoMemory;
+use bv_base::seq::Seq;
+use name_table::names::{NameId, Names};
+use name_table::style::{MOST_BODIES, Style};
+use std::alloc::Global;
+use sym_state::hint::Hint;
+use sym_state::piece::Piece;
+
+/// The most pieces of a unit.
+pub const MOST_PIECES: u32 = 64;
+
+/// What the first line of a unit says.
+#[derive(Clone, Copy, Debug, PartialEq, Eq)]
+pub(crate) enum UnitKind {
+    Summary(Target),
+    Loop(Target, Target),
+    Command(u32),
+}
+
+/// The line of a unit that comes next: one of this kind or a later one.
+#[derive(Clone, Copy, Debug, PartialEq, Eq)]
+pub(crate) enum UnitStage {
+    Entry,
+    Whole,
+    Writes,
+    Pieces,
+    Hints,
+    Done,
+}
+
+/// The word before a piece.
+#[derive(Clone, Copy, Debug, PartialEq, Eq)]
+pub(crate) enum Mark {
+    Pre,
+    Post,
+    Case,
+    Exit,
+    After,
+    Visit,
+    Keeps,
+}
+
+/// What has been read of a unit.
+#[derive(Drop)]
+pub(crate) struct UnitSoFar {
+    pub(crate) kind: UnitKind,
+    pub(crate) stage: UnitStage,
+    pub(crate) entry: bool,
+    pub(crate) whole: bool,
+    pub(crate) writes: Seq<NameId>,
+    /// The word before the open piece.
+    pub(crate) last: Option<Mark>,
+    /// How many pieces were opened.
+    pub(crate) count: u32,
+    /// How many symbols the pre has.
+    pub(crate) symbols: u32,
+    /// The open piece.
+    pub(crate) piece: PieceSoFar,
+    pub(crate) pre: Option<Piece>,
+    pub(crate) cases: Seq<Piece>,
+    /// The posts of a summary or the exits of a loop.
+    pub(crate) later: Seq<Piece>,
+    pub(crate) after: Option<Piece>,
+    pub(crate) visit: Option<Piece>,
+    pub(crate) keeps: Option<Piece>,
+    pub(crate) hints: Seq<Hint>,
+}
+
+impl UnitSoFar {
+    /// After the first line.
+    pub(crate) fn new(alloc: Global, kind: UnitKind) -> UnitSoFar
+        ensures { result ≡ units.no_unit kind }
+    {
+        UnitSoFar {
+            kind,
+            stage: first_stage(kind),
+            entry: false,
+            whole: false,
+            writes: Seq::new(alloc),
+            last: None,
+            count: 0,
+            symbols: 0,
+            piece: PieceSoFar::new(alloc, false, false, 0),
+            pre: None,
+            cases: Seq::new(alloc),
+            later: Seq::new(alloc),
+            after: None,
+            visit: None,
+            keeps: None,
+            hints: Seq::new(alloc),
+        }
+    }
+
+    /// Takes a line, after its first word.
+    pub(crate) fn take(&mut self, alloc: Global, style: &Style, word: &Item<'_>, line: &mut Line<'_>) -> Result<(), Stop>
+        requires { length style.now.bodies ≤ MOST_BODIES }
+        ensures { Leaves WantOfMemory (units.unit_line style.now word.now line.old self.old) self.new result }
+    {
+        match self.stage {
+            UnitStage::Hints => self.take_hint(alloc, word, line),
+            UnitStage::Done => Err(Stop::Syntax(word.left())),
+            _ => self.take_body(alloc, style, word, line),
+        }
+    }
+
+    /// Takes a hint, or `end`.
+    fn take_hint(&mut self, alloc: Global, word: &Item<'_>, line: &mut Line<'_>) -> Result<(), Stop>
+        ensures { Leaves WantOfMemory (units.hint_or_end word.now line.old self.old) self.new result }
+    {
+        if word.is_word(b"end") {
+            line.end()?;
+            self.stage = UnitStage::Done;
+            return Ok(());
+        }
+        let hint = hint_line(alloc, word, line)?;
+        self.hints.push(hint)?;
+        Ok(())
+    }
+
+    /// Takes a line before the hints.
+    fn take_body(&mut self, alloc: Global, style: &Style, word: &Item<'_>, line: &mut Line<'_>) -> Result<(), Stop>
+        requires { length style.now.bodies ≤ MOST_BODIES }
+        ensures { Leaves WantOfMemory (units.body_line style.now word.now line.old self.old) self.new result }
+    {
+        if may_have_entry(self.stage) && word.is_word(b"entry") {
+            line.end()?;
+            self.entry = true;
+            self.stage = UnitStage::Whole;
+            return Ok(());
+        }
+        if may_have_whole(self.stage) && word.is_word(b"whole") {
+            line.end()?;
+            self.whole = true;
+            self.stage = UnitStage::Writes;
+            return Ok(());
+        }
+        if may_have_writes(self.stage) && word.is_word(b"writes") {
+            return self.take_writes(&style.names, line);
+        }
+        self.take_piece(alloc, style, word, line)
+    }
+
+    /// Takes the line of a variable that may be written, after its word.
+    fn take_writes(&mut self, names: &Names, line: &mut Line<'_>) -> Result<(), Stop>
+        ensures { Leaves WantOfMemory (units.writes_line names.now line.old self.old) self.new result }
+    {
+        let item = line.item()?;
+        let id = item.variable_above(self.entry, last_id(self.writes.as_slice()), names)?;
+        line.end()?;
+        self.writes.push(id)?;
+        self.stage = UnitStage::Writes;
+        Ok(())
+    }
+
+    /// Takes a line of the open piece, or one that ends it.
+    fn take_piece(&mut self, alloc: Global, style: &Style, word: &Item<'_>, line: &mut Line<'_>) -> Result<(), Stop>
+        requires { length style.now.bodies ≤ MOST_BODIES }
+        ensures { Leaves WantOfMemory
+            (units.piece_or_mark style.now (units.open_word self.old.last self.old.piece word.now) word.now line.old self.old)
+            self.new
+            result }
+    {
+        match self.open_word(word) {
+            Some(kind) => self.piece.take(alloc, style, kind, word, line),
+            None => self.take_marked(alloc, word, line),
+        }
+    }
+
+    /// The word of a line of the open piece.
+    fn open_word(&self, word: &Item<'_>) -> Option<PieceWord>
+        ensures { result ≡ units.open_word self.now.last self.now.piece word.now }
+    {
+        match self.last {
+            Some(_) => self.piece.word(word.text()),
+            None => None,
+        }
+    }
+
+    /// Takes the line of a word before a piece, or `hints`.
+    fn take_marked(&mut self, alloc: Global, word: &Item<'_>, line: &mut Line<'_>) -> Result<(), Stop>
+        ensures { Leaves WantOfMemory
+            (units.marked_line (units.mark_among word.now.text units.mark_words) word.now line.old self.old)
+            self.new
+            result }
+    {
+        match mark_of(word.text()) {
+            Some(mark) => self.take_mark(alloc, mark, word, line),
+            None => self.take_hints(alloc, word, line),
+        }
+    }
+
+    /// Takes the line of a word before a piece.
+    fn take_mark(&mut self, alloc: Global, mark: Mark, word: &Item<'_>, line: &mut Line<'_>) -> Result<(), Stop>
+        ensures { Leaves WantOfMemory (units.marked_line (Some mark) word.now line.old self.old) self.new result }
+    {
+        if !may_follow(self.kind, self.last, mark) {
+            return Err(Stop::Syntax(word.left()));
+        }
+        if self.count >= MOST_PIECES {
+            return Err(Stop::TooMany(word.left()));
+        }
+        line.end()?;
+        self.open(alloc, mark)?;
+        Ok(())
+    }
+
+    /// Opens a piece behind the last one.
+    fn open(&mut self, alloc: Global, mark: Mark) -> Result<(), NoMemory>
+        requires { self.old.count < MOST_PIECES }
+        ensures { OnOk result (self.new ≡ units.opened mark self.old) }
+    {
+        let at_entry = is_at_entry(self.kind, self.entry);
+        let has_pos = may_have_pos(self.kind, self.entry, mark);
+        let symbols = first_symbol(mark, self.symbols_so_far());
+        self.place(PieceSoFar::new(alloc, at_entry, has_pos, symbols))?;
+        self.stage = UnitStage::Pieces;
+        self.last = Some(mark);
+        self.count += 1;
+        Ok(())
+    }
+
+    /// The symbols of the pre, of which the last line has been read.
+    fn symbols_so_far(&self) -> u32
+        ensures { result ≡ units.symbols_of self.now.last self.now }
+    {
+        match self.last {
+            Some(Mark::Pre) => self.piece.next,
+            _ => self.symbols,
+        }
+    }
+
+    /// Takes `hints`, after the last piece.
+    fn take_hints(&mut self, alloc: Global, word: &Item<'_>, line: &mut Line<'_>) -> Result<(), Stop>
+        ensures { Leaves WantOfMemory (units.hints_line word.now line.old self.old) self.new result }
+    {
+        if !(word.is_word(b"hints") && may_have_hints(self.kind, self.last)) {
+            return Err(Stop::Syntax(word.left()));
+        }
+        line.end()?;
+        self.place(PieceSoFar::new(alloc, false, false, 0))?;
+        self.stage = UnitStage::Hints;
+        self.last = None;
+        Ok(())
+    }
+
+    /// Puts the open piece into its place, and opens another one.
+    fn place(&mut self, next: PieceSoFar) -> Result<(), NoMemory>
+        ensures { OnOk result (self.new ≡ units.placed_as self.old.last next self.old) }
+    {
+        let PieceSoFar {
+            piece,
+            next: symbols,
+            ..
+        } = std::mem::replace(&mut self.piece, next);
+        match self.last {
+            None => {}
+            Some(Mark::Pre) => {
+                self.symbols = symbols;
+                self.pre = Some(piece);
+            }
+            Some(Mark::Case) => self.cases.push(piece)?,
+            Some(Mark::Post | Mark::Exit) => self.later.push(piece)?,
+            Some(Mark::After) => self.after = Some(piece),
+            Some(Mark::Visit) => self.visit = Some(piece),
+            Some(Mark::Keeps) => self.keeps = Some(piece),
+        }
+        Ok(())
+    }
+}
+
+/// What stands between the first line of a unit and its pieces.
+fn first_stage(kind: UnitKind) -> UnitStage
+    ensures { result ≡ units.first_stage kind }
+{
+    match kind {
+        UnitKind::Command(_) => UnitStage::Pieces,
+        _ => UnitStage::Entry,
+    }
+}
+
+/// The words before pieces.
+const MARKS: [(&[u8], Mark); 7] = [
+    (b"pre", Mark::Pre),
+    (b"post", Mark::Post),
+    (b"case", Mark::Case),
+    (b"exit", Mark::Exit),
+    (b"after", Mark::After),
+    (b"visit", Mark::Visit),
+    (b"keeps", Mark::Keeps),
+];
+
+/// The word before a piece.
+fn mark_of(text: &[u8]) -> Option<Mark>
+    ensures { result ≡ units.mark_among text.now units.mark_words }
+{
+    mark_among(text, &MARKS)
+}
+
+/// The word among some.
+fn mark_among(text: &[u8], words: &[(&[u8], Mark)]) -> Option<Mark>
+    ensures { result ≡ units.mark_among text.now (map (λ word. (word.0.now, word.1)) words.now) }
+{
+    for (known, mark) in words {
+        if text == *known {
+            return Some(*mark);
+        }
+    }
+    None
+}
+
+/// Whether a piece may come behind the last one.
+fn may_follow(kind: UnitKind, last: Option<Mark>, mark: Mark) -> bool
+    ensures { result ≡ units.may_follow kind last mark }
+{
+    match kind {
+        UnitKind::Summary(_) => in_summary(last, mark),
+        UnitKind::Loop(_, _) => in_loop(last, mark),
+        UnitKind::Command(_) => in_command(last, mark),
+    }
+}
+
+/// Whether a piece of a summary may come.
+fn in_summary(last: Option<Mark>, mark: Mark) -> bool
+    ensures { result ≡ units.in_summary last mark }
+{
+    match (last, mark) {
+        (None, Mark::Pre) => true,
+        (Some(_), Mark::Post) => true,
+        _ => false,
+    }
+}
+
+/// Whether a piece of a loop may come.
+fn in_loop(last: Option<Mark>, mark: Mark) -> bool
+    ensures { result ≡ units.in_loop last mark }
+{
+    match (last, mark) {
+        (None, Mark::Case) => true,
+        (Some(Mark::Case), Mark::Case) => true,
+        (Some(_), Mark::Exit) => true,
+        _ => false,
+    }
+}
+
+/// Whether a piece of a command may come.
+fn in_command(last: Option<Mark>, mark: Mark) -> bool
+    ensures { result ≡ units.in_command last mark }
+{
+    match (last, mark) {
+        (None, Mark::After | Mark::Visit | Mark::Keeps) => true,
+        (Some(Mark::After), Mark::Visit | Mark::Keeps) => true,
+        (Some(Mark::Visit), Mark::Keeps) => true,
+        _ => false,
+    }
+}
+
+/// Whether the hints may come.
+fn may_have_hints(kind: UnitKind, last: Option<Mark>) -> bool
+    ensures { result ≡ units.may_have_hints kind last }
+{
+    match kind {
+        UnitKind::Command(_) => true,
+        _ => last.is_some(),
+    }
+}
+
+/// Whether variables of entries and fields may stand in the pieces of a unit.
+fn is_at_entry(kind: UnitKind, entry: bool) -> bool
+    ensures { result ≡ units.is_at_entry kind entry }
+{
+    match kind {
+        UnitKind::Command(_) => true,
+        _ => entry,
+    }
+}
+
+/// Whether `pos` may stand in a piece.
+fn may_have_pos(kind: UnitKind, entry: bool, mark: Mark) -> bool
+    ensures { result ≡ units.may_have_pos kind entry mark }
+{
+    match kind {
+        UnitKind::Command(_) => matches!(mark, Mark::Visit),
+        _ => entry,
+    }
+}
+
+/// The number of the first new symbol of a piece.
+fn first_symbol(mark: Mark, symbols: u32) -> u32
+    ensures { result ≡ units.first_symbol mark symbols }
+{
+    match mark {
+        Mark::Post => symbols,
+        _ => 0,
+    }
+}
+
+/// Whether an `entry` line may come.
+fn may_have_entry(stage: UnitStage) -> bool
+    ensures { result ≡ units.may_have_entry stage }
+{
+    matches!(stage, UnitStage::Entry)
+}
+
+/// Whether a `whole` line may come.
+fn may_have_whole(stage: UnitStage) -> bool
+    ensures { result ≡ units.may_have_whole stage }
+{
+    matches!(stage, UnitStage::Entry | UnitStage::Whole)
+}
+
+/// Whether a `writes` line may come.
+fn may_have_writes(stage: UnitStage) -> bool
+    ensures { result ≡ units.may_have_writes stage }
+{
+    matches!(stage, UnitStage::Entry | UnitStage::Whole | UnitStage::Writes)
+}
