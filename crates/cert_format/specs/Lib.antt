@@ -1,4 +1,4 @@
-pub mod CondTexts
+pub mod Certs
 pub mod Conditions
 pub mod Cursors
 pub mod Faults
@@ -10,5 +10,6 @@ pub mod PieceItems
 pub mod PieceSpelling
 pub mod Pieces
 pub mod Spelling
+pub mod Texts
 pub mod UnitSpelling
 pub mod Units

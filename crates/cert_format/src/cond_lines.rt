@@ -70,13 +70,26 @@ impl CondSoFar {
         ensures { Leaves WantOfMemory (conditions.cond_line names.now line.old self.old) self.new result }
     {
         let word = line.item()?;
+        self.take_worded(alloc, names, &word, line)
+    }
+
+    /// Takes a line, after its first word.
+    pub(crate) fn take_worded(
+        &mut self,
+        alloc: Global,
+        names: &Names,
+        word: &Item<'_>,
+        line: &mut Line<'_>,
+    ) -> Result<(), Stop>
+        ensures { Leaves WantOfMemory (conditions.worded_line names.now self.old.stage word.now line.old self.old) self.new result }
+    {
         match self.stage {
-            Stage::Entries => self.take_entries(&word, line),
-            Stage::Key => self.take_key(&word, line),
-            Stage::Preamble => self.take_preamble(&word, line),
-            Stage::Length => self.take_length(&word, line),
-            Stage::Names | Stage::Nonblank | Stage::Types => self.take_listed(alloc, names, &word, line),
-            Stage::End => self.take_end(&word, line),
+            Stage::Entries => self.take_entries(word, line),
+            Stage::Key => self.take_key(word, line),
+            Stage::Preamble => self.take_preamble(word, line),
+            Stage::Length => self.take_length(word, line),
+            Stage::Names | Stage::Nonblank | Stage::Types => self.take_listed(alloc, names, word, line),
+            Stage::End => self.take_end(word, line),
             Stage::Done => Err(Stop::Syntax(word.left())),
         }
     }

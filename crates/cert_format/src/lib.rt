@@ -2,6 +2,7 @@
 #![tactic(auto)]
 
 pub mod cert;
+mod cert_lines;
 mod cond_lines;
 pub mod fault;
 mod hex;

@@ -1,12 +1,15 @@
-//! The reader of conditions.
+//! The readers of certificates and conditions.
 
 ghost use Rattle.std.specs.Prelude.{◌≡◌, ◌≤◌, length};
 ghost use Rattle.bv_base.specs.Answers.{Gives};
-ghost use Rattle.cert_format.specs.CondTexts.{cond_of};
+ghost use Rattle.cert_format.specs.Texts.{cert_of, cond_of};
+ghost use Rattle.cert_format.specs.Certs.{cert_read};
 ghost use Rattle.cert_format.specs.Conditions.{cond_read};
 ghost use Rattle.cert_format.specs.declared.fault.CertFault.TheVariants.{NoMemory};
 ghost use Rattle.cert_format.specs.declared.stop.Stop.TheVariants.{NoMemory as WantOfMemory};
 
+use crate::cert::Cert;
+use crate::cert_lines::CertSoFar;
 use crate::cond_lines::CondSoFar;
 use crate::fault::CertFault;
 use crate::lines::Lines;
@@ -14,8 +17,38 @@ use crate::stop::{Stop, fault_of};
 use bst_meaning::condition::Cond;
 use bv_base::limits::STYLE_BYTES;
 use name_table::names::Names;
-use name_table::style::Style;
+use name_table::style::{MOST_BODIES, Style};
 use std::alloc::Global;
+
+/// Reads a certificate of at most [`STYLE_BYTES`] bytes, or gives the first fault of the bytes. The style has as many
+/// bodies as a style that is read.
+///
+/// Each byte is read a fixed number of times, and each name is looked up in a hash table. A block is looked for among
+/// the bodies before it.
+pub fn read(alloc: Global, source: &[u8], style: &Style) -> Result<Cert, CertFault>
+    requires text { length source.now ≤ STYLE_BYTES }
+    requires bodies { length style.now.bodies ≤ MOST_BODIES }
+    ensures { Gives NoMemory (cert_of style.now source.now) result }
+{
+    match cert_lines(alloc, source, style) {
+        Ok(cert) => Ok(cert),
+        Err(stop) => Err(fault_of(source, stop)),
+    }
+}
+
+/// Takes the lines of a certificate one after the other.
+fn cert_lines(alloc: Global, source: &[u8], style: &Style) -> Result<Cert, Stop>
+    requires text { length source.now ≤ STYLE_BYTES }
+    requires bodies { length style.now.bodies ≤ MOST_BODIES }
+    ensures { Gives WantOfMemory (cert_read style.now source.now) result }
+{
+    let mut lines = Lines::new(source);
+    let mut cert = CertSoFar::new(alloc);
+    while let Some(mut line) = lines.next() {
+        cert.take(alloc, style, &mut line)?;
+    }
+    cert.finish()
+}
 
 /// Reads a condition of at most [`STYLE_BYTES`] bytes, or gives the first fault of the bytes.
 ///
