@@ -1,6 +1,6 @@
 -- How the lines of a piece are read (docs/CERTIFICATES.md, "Pieces").
-use Rattle.std.specs.Prelude.{ℕ, Bool, true, false, ◌&&◌, not, nat_eq, nat_lt, nat_le, if◌then◌else◌, List, [], ◌∷◌, ◌++◌, length, codes, Option, None, Some, Result, Ok, Err}
-use Rattle.std.specs.Option.{option_map, option_map_or, option_and_then}
+use Rattle.std.specs.Prelude.{ℕ, Bool, nat_le, if◌then◌else◌, List, [], ◌∷◌, ◌++◌, length, codes, Option, None, Some, Result, Ok, Err}
+use Rattle.std.specs.Option.{option_map, option_and_then}
 use Rattle.bv_base.specs.Answers.{then_do}
 use Rattle.lin_facts.specs.declared.row.Part.{Part}
 use Rattle.name_table.specs.Names.{same_name}
@@ -11,7 +11,7 @@ use Rattle.sym_state.specs.declared.symbol.Bind.{Bind}
 use Rattle.sym_state.specs.declared.symbol.Fact.{Fact}
 use Rattle.sym_state.specs.declared.symbol.Fact.TheVariants as fact
 use Rattle.sym_state.specs.declared.symbol.Sym.{Sym}
-use Rattle.cert_format.specs.Items.{field_in, is_above, last_of, name_in}
+use Rattle.cert_format.specs.Items.{last_of, name_in}
 use Rattle.cert_format.specs.Lines.{Item, Line, line_end, next_item}
 use Rattle.cert_format.specs.PieceItems as items
 use Rattle.cert_format.specs.declared.piece_items.TheConstants.{ROW_SIZE}
@@ -22,7 +22,7 @@ use Rattle.cert_format.specs.declared.piece_lines.PieceWord.{PieceWord}
 use Rattle.cert_format.specs.declared.piece_lines.PieceWord.TheVariants.{Stack, Var, Field, Is, Int, Text, Call, Block, Blank, Nonblank, Wellformed, Row}
 use Rattle.cert_format.specs.declared.piece_lines.TheConstants.{MOST_ITEMS, MOST_TERMS}
 use Rattle.cert_format.specs.declared.stop.Stop.{Stop}
-use Rattle.cert_format.specs.declared.stop.Stop.TheVariants.{Syntax, OutOfRange, NotCanonical, TooMany}
+use Rattle.cert_format.specs.declared.stop.Stop.TheVariants.{TooMany}
 
 -- before the first line
 abbrev pub no_piece : Bool → Bool → ℕ → PieceSoFar

@@ -1,13 +1,12 @@
 -- How the lines of summaries, loops and commands are read (docs/CERTIFICATES.md, "Units").
-use Rattle.std.specs.Prelude.{ℕ, ◌+◌, Bool, true, false, ◌&&◌, nat_le, if◌then◌else◌, List, [], ◌∷◌, ◌++◌, length, codes, Option, None, Some, is_some, Result, Ok, Err}
+use Rattle.std.specs.Prelude.{ℕ, ◌+◌, Bool, true, false, ◌&&◌, nat_le, if◌then◌else◌, List, [], ◌∷◌, ◌++◌, codes, Option, None, Some, is_some, Result, Ok, Err}
 use Rattle.bv_base.specs.Answers.{then_do}
 use Rattle.name_table.specs.Names.{same_name}
 use Rattle.name_table.specs.declared.names.Kind.{Kind}
 use Rattle.name_table.specs.declared.style.Style.{Style}
-use Rattle.sym_state.specs.declared.piece.Piece.{Piece}
 use Rattle.cert_format.specs.Hints.{hint_line}
 use Rattle.cert_format.specs.Items.{is_word, last_of}
-use Rattle.cert_format.specs.Lines.{Item, Line, line_end, next_item}
+use Rattle.cert_format.specs.Lines.{Item, Line, next_item}
 use Rattle.cert_format.specs.PieceItems.{variable_above}
 use Rattle.cert_format.specs.Pieces.{at_end, no_piece, piece_line, piece_word}
 use Rattle.cert_format.specs.declared.piece_lines.PieceSoFar.{PieceSoFar}

@@ -69,7 +69,12 @@ impl CertSoFar {
     }
 
     /// Takes the next line.
-    pub(crate) fn take(&mut self, alloc: Global, style: &Style, line: &mut Line<'_>) -> Result<(), Stop>
+    pub(crate) fn take(
+        &mut self,
+        alloc: Global,
+        style: &Style,
+        line: &mut Line<'_>,
+    ) -> Result<(), Stop>
         requires { length style.now.bodies ≤ MOST_BODIES }
         ensures { Leaves WantOfMemory (certs.cert_line style.now line.old self.old) self.new result }
     {
@@ -96,7 +101,13 @@ impl CertSoFar {
     }
 
     /// Takes a line of the condition.
-    fn take_cond(&mut self, alloc: Global, style: &Style, word: &Item<'_>, line: &mut Line<'_>) -> Result<(), Stop>
+    fn take_cond(
+        &mut self,
+        alloc: Global,
+        style: &Style,
+        word: &Item<'_>,
+        line: &mut Line<'_>,
+    ) -> Result<(), Stop>
         ensures { Leaves WantOfMemory (certs.in_cond style.now word.now line.old self.old) self.new result }
     {
         self.cond.take_worded(alloc, &style.names, word, line)?;
@@ -105,7 +116,13 @@ impl CertSoFar {
     }
 
     /// Takes the first line of a unit, or `done`.
-    fn take_between(&mut self, alloc: Global, style: &Style, word: &Item<'_>, line: &mut Line<'_>) -> Result<(), Stop>
+    fn take_between(
+        &mut self,
+        alloc: Global,
+        style: &Style,
+        word: &Item<'_>,
+        line: &mut Line<'_>,
+    ) -> Result<(), Stop>
         requires { length style.now.bodies ≤ MOST_BODIES }
         ensures { Leaves WantOfMemory (certs.between_units style.now word.now line.old self.old) self.new result }
     {
@@ -129,7 +146,13 @@ impl CertSoFar {
     }
 
     /// Takes the first line of a summary, after its word.
-    fn take_summary(&mut self, alloc: Global, style: &Style, word: &Item<'_>, line: &mut Line<'_>) -> Result<(), Stop>
+    fn take_summary(
+        &mut self,
+        alloc: Global,
+        style: &Style,
+        word: &Item<'_>,
+        line: &mut Line<'_>,
+    ) -> Result<(), Stop>
         requires { length style.now.bodies ≤ MOST_BODIES }
         ensures { Leaves WantOfMemory (certs.summary_line style.now word.now line.old self.old) self.new result }
     {
@@ -143,7 +166,13 @@ impl CertSoFar {
     }
 
     /// Takes the first line of a loop, after its word.
-    fn take_loop(&mut self, alloc: Global, style: &Style, word: &Item<'_>, line: &mut Line<'_>) -> Result<(), Stop>
+    fn take_loop(
+        &mut self,
+        alloc: Global,
+        style: &Style,
+        word: &Item<'_>,
+        line: &mut Line<'_>,
+    ) -> Result<(), Stop>
         requires { length style.now.bodies ≤ MOST_BODIES }
         ensures { Leaves WantOfMemory (certs.loop_line style.now word.now line.old self.old) self.new result }
     {
@@ -158,11 +187,18 @@ impl CertSoFar {
     }
 
     /// Takes the first line of a command, after its word.
-    fn take_command(&mut self, alloc: Global, style: &Style, line: &mut Line<'_>) -> Result<(), Stop>
+    fn take_command(
+        &mut self,
+        alloc: Global,
+        style: &Style,
+        line: &mut Line<'_>,
+    ) -> Result<(), Stop>
         ensures { Leaves WantOfMemory (certs.command_line style.now line.old self.old) self.new result }
     {
         let last = last_command(self.commands.as_slice());
-        let index = line.item()?.command_number(style.commands.as_slice().len(), last)?;
+        let index = line
+            .item()?
+            .command_number(style.commands.as_slice().len(), last)?;
         line.end()?;
         self.begin(alloc, UnitKind::Command(index));
         Ok(())
@@ -187,7 +223,13 @@ impl CertSoFar {
     }
 
     /// Takes a line of a unit.
-    fn take_in_unit(&mut self, alloc: Global, style: &Style, word: &Item<'_>, line: &mut Line<'_>) -> Result<(), Stop>
+    fn take_in_unit(
+        &mut self,
+        alloc: Global,
+        style: &Style,
+        word: &Item<'_>,
+        line: &mut Line<'_>,
+    ) -> Result<(), Stop>
         requires { length style.now.bodies ≤ MOST_BODIES }
         ensures { Leaves WantOfMemory (certs.in_unit style.now word.now line.old self.old) self.new result }
     {

@@ -66,7 +66,12 @@ impl CondSoFar {
     }
 
     /// Takes the next line.
-    pub(crate) fn take(&mut self, alloc: Global, names: &Names, line: &mut Line<'_>) -> Result<(), Stop>
+    pub(crate) fn take(
+        &mut self,
+        alloc: Global,
+        names: &Names,
+        line: &mut Line<'_>,
+    ) -> Result<(), Stop>
         ensures { Leaves WantOfMemory (conditions.cond_line names.now line.old self.old) self.new result }
     {
         let word = line.item()?;
@@ -88,7 +93,9 @@ impl CondSoFar {
             Stage::Key => self.take_key(word, line),
             Stage::Preamble => self.take_preamble(word, line),
             Stage::Length => self.take_length(word, line),
-            Stage::Names | Stage::Nonblank | Stage::Types => self.take_listed(alloc, names, word, line),
+            Stage::Names | Stage::Nonblank | Stage::Types => self.take_listed(
+                alloc, names, word, line,
+            ),
             Stage::End => self.take_end(word, line),
             Stage::Done => Err(Stop::Syntax(word.left())),
         }
@@ -131,7 +138,13 @@ impl CondSoFar {
     }
 
     /// Takes a line after the one of `length`.
-    fn take_listed(&mut self, alloc: Global, names: &Names, word: &Item<'_>, line: &mut Line<'_>) -> Result<(), Stop>
+    fn take_listed(
+        &mut self,
+        alloc: Global,
+        names: &Names,
+        word: &Item<'_>,
+        line: &mut Line<'_>,
+    ) -> Result<(), Stop>
         ensures { Leaves WantOfMemory (conditions.listed_line names.now word.now line.old self.old) self.new result }
     {
         if may_have_names(self.stage) && word.is_word(b"names") {

@@ -58,7 +58,11 @@ impl<'a> Item<'a> {
         ensures { Gives WantOfMemory (items.integer ROW_SIZE ROW_SIZE self.now) result }
     {
         let (negative, size) = self.signed(ROW_SIZE, ROW_SIZE)?;
-        Ok(if negative { -(size as i64) } else { size as i64 })
+        Ok(if negative {
+            -(size as i64)
+        } else {
+            size as i64
+        })
     }
 
     /// An integer of 32 bits.
@@ -66,7 +70,11 @@ impl<'a> Item<'a> {
         ensures { Gives WantOfMemory (items.integer 2147483648 2147483647 self.now) result }
     {
         let (negative, size) = self.signed(2147483648, 2147483647)?;
-        let value = if negative { -(size as i64) } else { size as i64 };
+        let value = if negative {
+            -(size as i64)
+        } else {
+            size as i64
+        };
         Ok(value as i32)
     }
 
@@ -118,7 +126,12 @@ impl<'a> Item<'a> {
     }
 
     /// A variable of the style, above the last one.
-    pub(crate) fn variable_above(&self, at_entry: bool, last: Option<NameId>, names: &Names) -> Result<NameId, Stop>
+    pub(crate) fn variable_above(
+        &self,
+        at_entry: bool,
+        last: Option<NameId>,
+        names: &Names,
+    ) -> Result<NameId, Stop>
         ensures { Gives WantOfMemory (items.variable_above at_entry last names.now self.now) result }
     {
         let id = self.variable(at_entry, names)?;
@@ -130,7 +143,12 @@ impl<'a> Item<'a> {
     }
 
     /// A field of the style, above the last one; it stands at an entry alone.
-    pub(crate) fn entry_field(&self, at_entry: bool, last: Option<NameId>, names: &Names) -> Result<NameId, Stop>
+    pub(crate) fn entry_field(
+        &self,
+        at_entry: bool,
+        last: Option<NameId>,
+        names: &Names,
+    ) -> Result<NameId, Stop>
         ensures { Gives WantOfMemory (items.entry_field at_entry last names.now self.now) result }
     {
         let id = self.field(names)?;
@@ -185,7 +203,12 @@ impl<'a> Item<'a> {
     }
 
     /// A term behind the last one.
-    pub(crate) fn term_behind(&self, has_pos: bool, next: u32, last: Option<&Part>) -> Result<Term, Stop>
+    pub(crate) fn term_behind(
+        &self,
+        has_pos: bool,
+        next: u32,
+        last: Option<&Part>,
+    ) -> Result<Term, Stop>
         ensures { Gives WantOfMemory (items.term_behind has_pos next (option_copied last.entry) self.now) result }
     {
         let term = self.term(has_pos, next)?;

@@ -151,7 +151,11 @@ impl PieceSoFar {
         ensures { Leaves WantOfMemory (pieces.var_line names.now line.old self.old) self.new result }
     {
         let item = line.item()?;
-        let name = item.variable_above(self.at_entry, last_bound(self.piece.vars.as_slice()), names)?;
+        let name = item.variable_above(
+            self.at_entry,
+            last_bound(self.piece.vars.as_slice()),
+            names,
+        )?;
         let bind = bound(self.next, name, line)?;
         self.piece.vars.push(bind)?;
         self.next = next_after(self.next, bind.sym);
@@ -164,7 +168,11 @@ impl PieceSoFar {
         ensures { Leaves WantOfMemory (pieces.field_line names.now line.old self.old) self.new result }
     {
         let item = line.item()?;
-        let name = item.entry_field(self.at_entry, last_bound(self.piece.fields.as_slice()), names)?;
+        let name = item.entry_field(
+            self.at_entry,
+            last_bound(self.piece.fields.as_slice()),
+            names,
+        )?;
         let bind = bound(self.next, name, line)?;
         self.piece.fields.push(bind)?;
         self.next = next_after(self.next, bind.sym);
@@ -230,7 +238,9 @@ impl PieceSoFar {
         if before.len() >= MOST_TERMS {
             return Err(Stop::TooMany(first.left()));
         }
-        let term = line.item()?.term_behind(self.has_pos, self.next, before.last())?;
+        let term = line
+            .item()?
+            .term_behind(self.has_pos, self.next, before.last())?;
         Ok(Part { coefficient, term })
     }
 }
@@ -327,7 +337,13 @@ fn bound(next: u32, name: NameId, line: &mut Line<'_>) -> Result<Bind, Stop>
 }
 
 /// A fact by the word of its line, after its symbol.
-fn fact_of(alloc: Global, style: &Style, kind: PieceWord, sym: Sym, line: &mut Line<'_>) -> Result<Fact, Stop>
+fn fact_of(
+    alloc: Global,
+    style: &Style,
+    kind: PieceWord,
+    sym: Sym,
+    line: &mut Line<'_>,
+) -> Result<Fact, Stop>
     requires { length style.now.bodies ≤ MOST_BODIES }
     ensures { Gives WantOfMemory (pieces.fact_of style.now kind sym line.old) result }
 {

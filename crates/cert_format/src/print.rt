@@ -113,7 +113,12 @@ fn put_nonblank(printer: &mut Printer, names: &Names, fields: &[NameId]) -> Resu
 }
 
 /// Puts a line of a word and a name.
-pub(crate) fn put_name(printer: &mut Printer, word: &[u8], names: &Names, id: NameId) -> Result<(), NoMemory>
+pub(crate) fn put_name(
+    printer: &mut Printer,
+    word: &[u8],
+    names: &Names,
+    id: NameId,
+) -> Result<(), NoMemory>
     ensures { OnOk result (printer.new ≡ printer.old
         ++ spelling.line_text (word.now ∷ (spelling.name_text names.now id ∷ []))) }
 {

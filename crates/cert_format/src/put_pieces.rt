@@ -45,7 +45,12 @@ fn put_symbols(printer: &mut Printer, symbols: &[Sym]) -> Result<(), NoMemory>
 }
 
 /// Puts the lines of variables or fields.
-fn put_binds(printer: &mut Printer, word: &[u8], names: &Names, binds: &[Bind]) -> Result<(), NoMemory>
+fn put_binds(
+    printer: &mut Printer,
+    word: &[u8],
+    names: &Names,
+    binds: &[Bind],
+) -> Result<(), NoMemory>
     ensures { OnOk result (printer.new ≡ printer.old ++ text_of (map (spelling.bind_items word.now names.now) binds.now)) }
 {
     for bind in binds {
@@ -100,7 +105,12 @@ fn put_symbol(printer: &mut Printer, word: &[u8], sym: Sym) -> Result<(), NoMemo
 }
 
 /// Puts a line of a word, a symbol and an item.
-fn put_symbol_item(printer: &mut Printer, word: &[u8], sym: Sym, item: &[u8]) -> Result<(), NoMemory>
+fn put_symbol_item(
+    printer: &mut Printer,
+    word: &[u8],
+    sym: Sym,
+    item: &[u8],
+) -> Result<(), NoMemory>
     ensures { OnOk result (printer.new ≡ printer.old
         ++ line_text (word.now ∷ (spelling.sym_text sym ∷ (item.now ∷ [])))) }
 {
@@ -133,7 +143,12 @@ fn put_symbol_text(printer: &mut Printer, sym: Sym, text: &[u8]) -> Result<(), N
 }
 
 /// Puts the fact of an exact function.
-fn put_symbol_name(printer: &mut Printer, names: &Names, sym: Sym, name: NameId) -> Result<(), NoMemory>
+fn put_symbol_name(
+    printer: &mut Printer,
+    names: &Names,
+    sym: Sym,
+    name: NameId,
+) -> Result<(), NoMemory>
     ensures { OnOk result (printer.new ≡ printer.old
         ++ line_text (codes "call" ∷ (spelling.sym_text sym ∷ (name_text names.now name ∷ [])))) }
 {

@@ -18,7 +18,11 @@ use name_table::style::{Body, BodyId, Style};
 use sym_state::piece::Piece;
 
 /// Puts the lines of summaries.
-pub(crate) fn put_summaries(printer: &mut Printer, style: &Style, summaries: &[Summary]) -> Result<(), NoMemory>
+pub(crate) fn put_summaries(
+    printer: &mut Printer,
+    style: &Style,
+    summaries: &[Summary],
+) -> Result<(), NoMemory>
     ensures { OnOk result (printer.new ≡ printer.old
         ++ text_of (spelling.each_lines (spelling.summary_lines style.now) summaries.now)) }
 {
@@ -33,7 +37,13 @@ fn put_summary(printer: &mut Printer, style: &Style, summary: &Summary) -> Resul
     ensures { OnOk result (printer.new ≡ printer.old ++ text_of (spelling.summary_lines style.now summary.now)) }
 {
     put_summary_word(printer, style, summary.body)?;
-    put_head(printer, &style.names, summary.entry, summary.whole, summary.writes.as_slice())?;
+    put_head(
+        printer,
+        &style.names,
+        summary.entry,
+        summary.whole,
+        summary.writes.as_slice(),
+    )?;
     put_marked(printer, b"pre", &style.names, &summary.pre)?;
     put_pieces(printer, b"post", &style.names, summary.posts.as_slice())?;
     put_hints(printer, summary.hints.as_slice())
@@ -50,7 +60,11 @@ fn put_summary_word(printer: &mut Printer, style: &Style, body: Target) -> Resul
 }
 
 /// Puts the lines of loops.
-pub(crate) fn put_loops(printer: &mut Printer, style: &Style, loops: &[Loop]) -> Result<(), NoMemory>
+pub(crate) fn put_loops(
+    printer: &mut Printer,
+    style: &Style,
+    loops: &[Loop],
+) -> Result<(), NoMemory>
     ensures { OnOk result (printer.new ≡ printer.old
         ++ text_of (spelling.each_lines (spelling.loop_lines style.now) loops.now)) }
 {
@@ -65,14 +79,25 @@ fn put_loop(printer: &mut Printer, style: &Style, one: &Loop) -> Result<(), NoMe
     ensures { OnOk result (printer.new ≡ printer.old ++ text_of (spelling.loop_lines style.now one.now)) }
 {
     put_loop_word(printer, style, one.test, one.body)?;
-    put_head(printer, &style.names, one.entry, one.whole, one.writes.as_slice())?;
+    put_head(
+        printer,
+        &style.names,
+        one.entry,
+        one.whole,
+        one.writes.as_slice(),
+    )?;
     put_pieces(printer, b"case", &style.names, one.cases.as_slice())?;
     put_pieces(printer, b"exit", &style.names, one.exits.as_slice())?;
     put_hints(printer, one.hints.as_slice())
 }
 
 /// Puts the first line of a loop.
-fn put_loop_word(printer: &mut Printer, style: &Style, test: Target, body: Target) -> Result<(), NoMemory>
+fn put_loop_word(
+    printer: &mut Printer,
+    style: &Style,
+    test: Target,
+    body: Target,
+) -> Result<(), NoMemory>
     ensures { OnOk result (printer.new ≡ printer.old
         ++ line_text (codes "loop" ∷ (spelling.body_text style.now test ∷ (spelling.body_text style.now body ∷ [])))) }
 {
@@ -83,7 +108,11 @@ fn put_loop_word(printer: &mut Printer, style: &Style, test: Target, body: Targe
 }
 
 /// Puts the lines of commands.
-pub(crate) fn put_commands(printer: &mut Printer, style: &Style, commands: &[CommandPart]) -> Result<(), NoMemory>
+pub(crate) fn put_commands(
+    printer: &mut Printer,
+    style: &Style,
+    commands: &[CommandPart],
+) -> Result<(), NoMemory>
     ensures { OnOk result (printer.new ≡ printer.old
         ++ text_of (spelling.each_lines (spelling.command_lines style.now) commands.now)) }
 {
@@ -105,7 +134,13 @@ fn put_command(printer: &mut Printer, style: &Style, command: &CommandPart) -> R
 }
 
 /// Puts the lines of a unit between its first line and its pieces.
-fn put_head(printer: &mut Printer, names: &Names, entry: bool, whole: bool, writes: &[NameId]) -> Result<(), NoMemory>
+fn put_head(
+    printer: &mut Printer,
+    names: &Names,
+    entry: bool,
+    whole: bool,
+    writes: &[NameId],
+) -> Result<(), NoMemory>
     ensures { OnOk result (printer.new ≡ printer.old ++ text_of (spelling.head_lines names.now entry whole writes.now)) }
 {
     put_flag(printer, b"entry", entry)?;
@@ -127,11 +162,20 @@ fn put_writes(printer: &mut Printer, names: &Names, writes: &[NameId]) -> Result
 fn put_flag(printer: &mut Printer, word: &[u8], stands: bool) -> Result<(), NoMemory>
     ensures { OnOk result (printer.new ≡ printer.old ++ text_of (spelling.word_lines word.now stands)) }
 {
-    if stands { put_word(printer, word) } else { Ok(()) }
+    if stands {
+        put_word(printer, word)
+    } else {
+        Ok(())
+    }
 }
 
 /// Puts pieces, each behind a word.
-fn put_pieces(printer: &mut Printer, word: &[u8], names: &Names, pieces: &[Piece]) -> Result<(), NoMemory>
+fn put_pieces(
+    printer: &mut Printer,
+    word: &[u8],
+    names: &Names,
+    pieces: &[Piece],
+) -> Result<(), NoMemory>
     ensures { OnOk result (printer.new ≡ printer.old ++ text_of (spelling.all_marked word.now names.now pieces.now)) }
 {
     for piece in pieces {
@@ -141,7 +185,12 @@ fn put_pieces(printer: &mut Printer, word: &[u8], names: &Names, pieces: &[Piece
 }
 
 /// Puts a piece that may be missing.
-fn put_maybe(printer: &mut Printer, word: &[u8], names: &Names, piece: Option<&Piece>) -> Result<(), NoMemory>
+fn put_maybe(
+    printer: &mut Printer,
+    word: &[u8],
+    names: &Names,
+    piece: Option<&Piece>,
+) -> Result<(), NoMemory>
     ensures { OnOk result (printer.new ≡ printer.old
         ++ text_of (spelling.maybe_marked word.now names.now (option_copied piece.entry))) }
 {
@@ -152,7 +201,12 @@ fn put_maybe(printer: &mut Printer, word: &[u8], names: &Names, piece: Option<&P
 }
 
 /// Puts a piece behind a word.
-fn put_marked(printer: &mut Printer, word: &[u8], names: &Names, piece: &Piece) -> Result<(), NoMemory>
+fn put_marked(
+    printer: &mut Printer,
+    word: &[u8],
+    names: &Names,
+    piece: &Piece,
+) -> Result<(), NoMemory>
     ensures { OnOk result (printer.new ≡ printer.old ++ text_of (spelling.marked_lines word.now names.now piece.now)) }
 {
     put_word(printer, word)?;

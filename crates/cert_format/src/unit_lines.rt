@@ -105,7 +105,13 @@ impl UnitSoFar {
     }
 
     /// Takes a line, after its first word.
-    pub(crate) fn take(&mut self, alloc: Global, style: &Style, word: &Item<'_>, line: &mut Line<'_>) -> Result<(), Stop>
+    pub(crate) fn take(
+        &mut self,
+        alloc: Global,
+        style: &Style,
+        word: &Item<'_>,
+        line: &mut Line<'_>,
+    ) -> Result<(), Stop>
         requires { length style.now.bodies ≤ MOST_BODIES }
         ensures { Leaves WantOfMemory (units.unit_line style.now word.now line.old self.old) self.new result }
     {
@@ -131,7 +137,13 @@ impl UnitSoFar {
     }
 
     /// Takes a line before the hints.
-    fn take_body(&mut self, alloc: Global, style: &Style, word: &Item<'_>, line: &mut Line<'_>) -> Result<(), Stop>
+    fn take_body(
+        &mut self,
+        alloc: Global,
+        style: &Style,
+        word: &Item<'_>,
+        line: &mut Line<'_>,
+    ) -> Result<(), Stop>
         requires { length style.now.bodies ≤ MOST_BODIES }
         ensures { Leaves WantOfMemory (units.body_line style.now word.now line.old self.old) self.new result }
     {
@@ -166,7 +178,13 @@ impl UnitSoFar {
     }
 
     /// Takes a line of the open piece, or one that ends it.
-    fn take_piece(&mut self, alloc: Global, style: &Style, word: &Item<'_>, line: &mut Line<'_>) -> Result<(), Stop>
+    fn take_piece(
+        &mut self,
+        alloc: Global,
+        style: &Style,
+        word: &Item<'_>,
+        line: &mut Line<'_>,
+    ) -> Result<(), Stop>
         requires { length style.now.bodies ≤ MOST_BODIES }
         ensures { Leaves WantOfMemory
             (units.piece_or_mark style.now (units.open_word self.old.last self.old.piece word.now) word.now line.old self.old)
@@ -190,7 +208,12 @@ impl UnitSoFar {
     }
 
     /// Takes the line of a word before a piece, or `hints`.
-    fn take_marked(&mut self, alloc: Global, word: &Item<'_>, line: &mut Line<'_>) -> Result<(), Stop>
+    fn take_marked(
+        &mut self,
+        alloc: Global,
+        word: &Item<'_>,
+        line: &mut Line<'_>,
+    ) -> Result<(), Stop>
         ensures { Leaves WantOfMemory
             (units.marked_line (units.mark_among word.now.text units.mark_words) word.now line.old self.old)
             self.new
@@ -203,7 +226,13 @@ impl UnitSoFar {
     }
 
     /// Takes the line of a word before a piece.
-    fn take_mark(&mut self, alloc: Global, mark: Mark, word: &Item<'_>, line: &mut Line<'_>) -> Result<(), Stop>
+    fn take_mark(
+        &mut self,
+        alloc: Global,
+        mark: Mark,
+        word: &Item<'_>,
+        line: &mut Line<'_>,
+    ) -> Result<(), Stop>
         ensures { Leaves WantOfMemory (units.marked_line (Some mark) word.now line.old self.old) self.new result }
     {
         if !may_follow(self.kind, self.last, mark) {
@@ -243,7 +272,12 @@ impl UnitSoFar {
     }
 
     /// Takes `hints`, after the last piece.
-    fn take_hints(&mut self, alloc: Global, word: &Item<'_>, line: &mut Line<'_>) -> Result<(), Stop>
+    fn take_hints(
+        &mut self,
+        alloc: Global,
+        word: &Item<'_>,
+        line: &mut Line<'_>,
+    ) -> Result<(), Stop>
         ensures { Leaves WantOfMemory (units.hints_line word.now line.old self.old) self.new result }
     {
         if !(word.is_word(b"hints") && may_have_hints(self.kind, self.last)) {
@@ -425,5 +459,8 @@ fn may_have_whole(stage: UnitStage) -> bool
 fn may_have_writes(stage: UnitStage) -> bool
     ensures { result ≡ units.may_have_writes stage }
 {
-    matches!(stage, UnitStage::Entry | UnitStage::Whole | UnitStage::Writes)
+    matches!(
+        stage,
+        UnitStage::Entry | UnitStage::Whole | UnitStage::Writes
+    )
 }

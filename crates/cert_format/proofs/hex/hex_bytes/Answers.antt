@@ -1,4 +1,4 @@
-use Rattle.std.proofs.Common.{◌≡◌, ◌∙◌, ◌++◌, ◌∷◌, [], List, ℕ, ap, sym, take, drop, length, ◌-◌}
+use Rattle.std.proofs.Common.{◌∙◌, ◌++◌, List, ℕ, ap, sym, take, drop, length, ◌-◌}
 use Rattle.std.specs.Option.{option_map}
 use Rattle.cert_format.specs.PieceItems.{hex_bytes as bytes_of}
 use Rattle.cert_format.proofs.Hexed.{hex_step}

@@ -1,4 +1,4 @@
-use Rattle.std.proofs.Common.{◌≡◌, ◌++◌, map, drop}
+use Rattle.std.proofs.Common.{◌≡◌, ◌++◌, drop}
 use Rattle.cert_format.specs.PieceSpelling.{part_items}
 use Rattle.cert_format.specs.Spelling.{after_item}
 use Rattle.cert_format.proofs.put_pieces.put_parts.Given as goal

@@ -1,4 +1,4 @@
-use Rattle.std.proofs.Common.{◌≡◌, ◌++◌, map, drop}
+use Rattle.std.proofs.Common.{◌≡◌, ◌++◌, drop}
 use Rattle.cert_format.specs.UnitSpelling.{all_marked}
 use Rattle.cert_format.specs.Spelling.{text_of}
 use Rattle.cert_format.proofs.put_units.put_pieces.Given as goal

@@ -1,4 +1,4 @@
-use Rattle.std.proofs.Common.{◌≡◌, ◌++◌, map, drop}
+use Rattle.std.proofs.Common.{◌≡◌, ◌++◌, drop}
 use Rattle.cert_format.specs.UnitSpelling.{each_lines, summary_lines}
 use Rattle.cert_format.specs.Spelling.{text_of}
 use Rattle.cert_format.proofs.put_units.put_summaries.Given as goal
