@@ -1,5 +1,10 @@
+pub mod CondRead
+pub mod CondSteps
 pub mod Hexed
 pub mod Lined
+pub mod Named
+pub mod Numerals
 pub mod Parted
 pub mod Running
+pub mod Split
 pub mod Texts

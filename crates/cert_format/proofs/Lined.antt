@@ -20,7 +20,7 @@ first_line b [] = line_case b [] (is_newline b) refl
 first_line b (c ∷ bytes) = line_case b (c ∷ bytes) (is_newline b) (ap (longer b) (first_line c bytes))
 
 -- the item before so many bytes, and the items after it
-abbrev item_at : ℕ → ℕ → List ℕ → List Item
+abbrev pub item_at : ℕ → ℕ → List ℕ → List Item
 item_at n end bytes = record { text = take n bytes; left = length bytes + end } ∷ after_space end (drop n bytes)
 
 item_case : (end b : ℕ) (bytes : List ℕ) (t : Bool)

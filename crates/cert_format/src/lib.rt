@@ -8,6 +8,7 @@ pub mod fault;
 mod hex;
 mod hint_lines;
 mod items;
+pub mod laws;
 mod lines;
 mod piece_items;
 mod piece_lines;

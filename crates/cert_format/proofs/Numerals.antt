@@ -1,0 +1,56 @@
+-- Numbers of items, and what they spell.
+use Rattle.std.proofs.Common.{◌≡◌, ◌≢◌, ℕ, ◌^◌, ◌<◌, ◌≤◌, Bool, true, false, not, nat_eq, nat_lt, Ok, Err, List, [], ◌∷◌, length, get_or, refl, sym, ap, ◌∙◌, arith, rules}
+use Rattle.std.specs.Fmt.{decimal}
+use Rattle.std.specs.List.{list_all}
+use Rattle.std.proofs.lemmas.Bool.{and_parts}
+use Rattle.std.proofs.lemmas.Bool.Decides.{nat_tests}
+use Rattle.std.proofs.lemmas.Fmt.{decimal-digits_value}
+use Rattle.std.proofs.lemmas.Str.Parse.{IsNumeralModel, numerals_by_fold}
+use Rattle.bv_base.proofs.ThenLemmas.{ok_is, unless_ok}
+use Rattle.bv_base.specs.Runs.{is_digit, number_from}
+use Rattle.cert_format.specs.Items.{has_leading_zero, is_empty, is_numeral, natural}
+use Rattle.cert_format.specs.Lines.{Item}
+
+own : IsNumeralModel (λ ds. list_all is_digit ds ≡ true) (number_from 0)
+own = numerals_by_fold _ (search rules) number_from (search rules)
+
+-- what a number says, and that it is within its limit
+pub record Natural (most : ℕ) (text : List ℕ) (n : ℕ) : Type 0 where
+  pub spelled : text ≡ decimal n
+  pub small : n ≤ most
+
+no_zero : (text : List ℕ) → 0 < length text → has_leading_zero text ≡ false → get_or text 0 0 ≡ 48 → length text ≡ 1
+no_zero [] some lead first = absurd (omega (arith, some))
+no_zero (d ∷ []) some lead first = refl
+no_zero (d ∷ (e ∷ ds)) some lead first = grind (arith, nat_tests)
+
+numeral : (text : List ℕ) → not (is_numeral text) ≡ false → is_numeral text ≡ true
+numeral text e = by_value (is_numeral text) e
+  where
+    by_value : (b : Bool) → not b ≡ false → b ≡ true
+    by_value true e = refl
+    by_value false e = absurd (cc)
+
+pub spelled_number : (text : List ℕ) → is_numeral text ≡ true → has_leading_zero text ≡ false → number_from 0 text < 2 ^ 64
+    → text ≡ decimal (number_from 0 text)
+spelled_number text is lead small =
+    let parts = and_parts (not (is_empty text)) (list_all is_digit text) is in
+    let first : not (nat_eq (length text) 0) ≡ true = parts.0 in
+    let some : 0 < length text = grind (arith, nat_tests) in
+    sym (decimal-digits_value own text parts.1 some (no_zero text some lead) small)
+
+not_over : (most n : ℕ) → nat_lt most n ≡ false → n ≤ most
+not_over most n over = grind (arith, nat_tests)
+
+pub natural_read : (most : ℕ) (item : Item) (n : ℕ) → most ≤ 4294967295 → natural most item ≡ Ok n → Natural most item.text n
+natural_read most item n bound e =
+    let a = unless_ok _ _ _ _ e in
+    let b = unless_ok _ _ _ _ a.1 in
+    let c = unless_ok _ _ _ _ b.1 in
+    let is : n ≡ number_from 0 item.text = ok_is (number_from 0 item.text) n c.1 in
+    let over : nat_lt most (number_from 0 item.text) ≡ false = b.0 in
+    let small : number_from 0 item.text ≤ most = not_over most (number_from 0 item.text) over in
+    record {
+      spelled = spelled_number item.text (numeral item.text a.0) c.0 (omega (arith, small, bound)) ∙ ap decimal (sym is);
+      small = omega (arith, small, is);
+    }
