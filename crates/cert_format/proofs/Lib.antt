@@ -1,10 +1,15 @@
+pub mod CondBack
 pub mod CondRead
 pub mod CondSteps
+pub mod CondTaken
+pub mod CondWhole
 pub mod Hexed
 pub mod Lined
 pub mod Named
+pub mod NamesTaken
 pub mod Numerals
 pub mod Parted
 pub mod Running
 pub mod Split
+pub mod Spelt
 pub mod Texts

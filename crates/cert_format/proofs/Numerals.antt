@@ -1,10 +1,10 @@
 -- Numbers of items, and what they spell.
-use Rattle.std.proofs.Common.{◌≡◌, ◌≢◌, ℕ, ◌^◌, ◌<◌, ◌≤◌, Bool, true, false, not, nat_eq, nat_lt, Ok, Err, List, [], ◌∷◌, length, get_or, refl, sym, ap, ◌∙◌, arith, rules}
+use Rattle.std.proofs.Common.{◌≡◌, ℕ, zero, suc, ◌^◌, ◌<◌, ◌≤◌, Bool, true, false, not, nat_eq, nat_lt, Ok, Err, List, [], ◌∷◌, length, get_or, refl, sym, ap, ◌∙◌, arith, rules}
 use Rattle.std.specs.Fmt.{decimal}
 use Rattle.std.specs.List.{list_all}
-use Rattle.std.proofs.lemmas.Bool.{and_parts}
+use Rattle.std.proofs.lemmas.Bool.{and_from, and_parts}
 use Rattle.std.proofs.lemmas.Bool.Decides.{nat_tests}
-use Rattle.std.proofs.lemmas.Fmt.{decimal-digits_value}
+use Rattle.std.proofs.lemmas.Fmt.{decimal-digits_value, decimal_nonempty, digits_decimal, digits_value-decimal, first_decimal}
 use Rattle.std.proofs.lemmas.Str.Parse.{IsNumeralModel, numerals_by_fold}
 use Rattle.bv_base.proofs.ThenLemmas.{ok_is, unless_ok}
 use Rattle.bv_base.specs.Runs.{is_digit, number_from}
@@ -54,3 +54,37 @@ natural_read most item n bound e =
       spelled = spelled_number item.text (numeral item.text a.0) c.0 (omega (arith, small, bound)) ∙ ap decimal (sym is);
       small = omega (arith, small, is);
     }
+
+no_lead : (text : List ℕ) → 48 < get_or text 0 0 → has_leading_zero text ≡ false
+no_lead [] first = refl
+no_lead (d ∷ []) first = refl
+no_lead (d ∷ (e ∷ ds)) first = grind (arith, nat_tests)
+
+zero_text : decimal 0 ≡ 48 ∷ []
+zero_text = decimal-digits_value own (48 ∷ []) refl (omega arith) (λ e. refl) (omega arith)
+
+plain_lead : (n : ℕ) → n < 2 ^ 64 → has_leading_zero (decimal n) ≡ false
+plain_lead zero small = ap has_leading_zero zero_text
+plain_lead (suc n) small = no_lead (decimal (suc n)) (first_decimal (suc n) (omega arith) small)
+
+some_bytes : (text : List ℕ) → 0 < length text → not (is_empty text) ≡ true
+some_bytes text some = grind (arith, nat_tests)
+
+not_over_is : (most n : ℕ) → n ≤ most → nat_lt most n ≡ false
+not_over_is most n small = grind (arith, nat_tests)
+
+natural_by : (most left : ℕ) (text : List ℕ) (n : ℕ) → is_numeral text ≡ true → number_from 0 text ≡ n → has_leading_zero text ≡ false
+    → nat_lt most n ≡ false → natural most (record { text = text; left = left }) ≡ Ok n
+natural_by most left text n is value lead over = rw is (rw value (rw over (rw lead refl)))
+
+-- a number within its limit is read as what it spells
+pub natural_taken : (most : ℕ) (item : Item) (n : ℕ) → most ≤ 4294967295 → n ≤ most → item.text ≡ decimal n → natural most item ≡ Ok n
+natural_taken most item n bound small said =
+    let fits : n < 2 ^ 64 = omega (arith, bound, small) in
+    let is = and_from (not (is_empty (decimal n))) (list_all is_digit (decimal n)) (some_bytes (decimal n) (decimal_nonempty n fits)) (digits_decimal own n fits) in
+    ap (λ (text : List ℕ). natural most (record { text = text; left = item.left })) said
+    ∙ natural_by most item.left (decimal n) n is (digits_value-decimal own n fits) (plain_lead n fits) (not_over_is most n small)
+
+-- a number is spelled by digits, at least one
+pub decimal_digits : (n : ℕ) → n < 2 ^ 64 → (list_all is_digit (decimal n) ≡ true) × (not (is_empty (decimal n)) ≡ true)
+decimal_digits n fits = (digits_decimal own n fits, some_bytes (decimal n) (decimal_nonempty n fits))

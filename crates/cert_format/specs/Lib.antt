@@ -1,4 +1,5 @@
 pub mod Certs
+pub mod CondText
 pub mod Conditions
 pub mod Cursors
 pub mod Faults
