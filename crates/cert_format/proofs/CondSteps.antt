@@ -331,7 +331,7 @@ finished_is Nonblank c condition e names = absurd (cc)
 finished_is Types c condition e names = absurd (cc)
 finished_is End c condition e names = absurd (cc)
 
-told_ok : {A : Type 0} (source : List ℕ) (r : Result A Stop) (value : A) → told source r ≡ Ok value → r ≡ Ok value
+pub told_ok : {A : Type 0} (source : List ℕ) (r : Result A Stop) (value : A) → told source r ≡ Ok value → r ≡ Ok value
 told_ok source (Ok v) value e = ap Ok (sym (ok_is v value e))
 told_ok source (Err s) value e = absurd (cc)
 

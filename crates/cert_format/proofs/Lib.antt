@@ -1,4 +1,5 @@
 pub mod CondBack
+pub mod CondKept
 pub mod CondRead
 pub mod CondSteps
 pub mod CondTaken

@@ -49,3 +49,8 @@ pub record IsCond (names : List (List ℕ × Kind)) (cond : Cond) : Type 0 where
 pub record ArePlain (names : List (List ℕ × Kind)) : Type 0 where
   pub apart : AreApart names
   pub solid : Each (λ entry. is_type entry.0 ≡ true) names
+
+-- a text is that of a condition: this keeps the limits and the order, and the text is its spelling
+pub record CondText (names : List (List ℕ × Kind)) (source : List ℕ) (cond : Cond) : Type 0 where
+  pub kept : IsCond names cond
+  pub spelled : source ≡ text_of (cond_items names cond)
