@@ -10,6 +10,7 @@ pub mod Named
 pub mod NamesTaken
 pub mod Numerals
 pub mod Parted
+pub mod Plain
 pub mod Running
 pub mod Split
 pub mod Spelt

@@ -67,7 +67,7 @@ plain_lead : (n : ℕ) → n < 2 ^ 64 → has_leading_zero (decimal n) ≡ false
 plain_lead zero small = ap has_leading_zero zero_text
 plain_lead (suc n) small = no_lead (decimal (suc n)) (first_decimal (suc n) (omega arith) small)
 
-some_bytes : (text : List ℕ) → 0 < length text → not (is_empty text) ≡ true
+pub some_bytes : (text : List ℕ) → 0 < length text → not (is_empty text) ≡ true
 some_bytes text some = grind (arith, nat_tests)
 
 not_over_is : (most n : ℕ) → n ≤ most → nat_lt most n ≡ false

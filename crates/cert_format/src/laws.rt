@@ -2,13 +2,14 @@
 
 ghost use Rattle.std.specs.Prelude.{◌≡◌, ◌↔◌, ℕ, List, Ok};
 ghost use Rattle.bst_meaning.specs.declared.condition.Cond.{Cond as Condition};
+ghost use Rattle.name_table.specs.Sound.{IsSound};
 ghost use Rattle.name_table.specs.declared.style.Style.{Style};
-ghost use Rattle.cert_format.specs.CondText.{ArePlain, CondText};
+ghost use Rattle.cert_format.specs.CondText.{CondText};
 ghost use Rattle.cert_format.specs.Texts.{cond_of};
 
-/// A text is read as a condition exactly where it is the text of that condition: so each text is of one condition at
-/// most, and each condition has one text. The names of the style have to be apart, and without white space.
+/// A text is read as a condition of a style that was read exactly where it is the text of that condition: so each text
+/// is of one condition at most, and each condition has one text.
 pub fn read_as_the_condition()
-    ensures { (style : Style) (source : List ℕ) (condition : Condition) → ArePlain style.names
+    ensures { (style : Style) (source : List ℕ) (condition : Condition) → IsSound style
         → (cond_of style source ≡ Ok condition) ↔ CondText style.names source condition }
 {}
