@@ -1,3 +1,4 @@
+pub mod Blocks
 pub mod CondBack
 pub mod CondKept
 pub mod CondRead

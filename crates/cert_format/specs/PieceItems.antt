@@ -239,6 +239,16 @@ body_from id number (body ∷ bodies) =
 abbrev pub body_of : ℕ → List Body → Option BodyId
 body_of number bodies = body_from 0 number bodies
 
+-- the blocks among bodies, the first of which has this id, in order
+abbrev pub blocks_from : ℕ → List Body → List BodyId
+blocks_from id [] = []
+blocks_from id (body ∷ bodies) =
+    if is_some body.block then record { 0 = id } ∷ blocks_from (suc id) bodies else blocks_from (suc id) bodies
+
+-- the blocks of a style, in order
+abbrev pub blocks_of : List Body → List BodyId
+blocks_of bodies = blocks_from 0 bodies
+
 -- a block of the style
 abbrev pub block_number : List Body → Item → Result ℕ Stop
 block_number bodies item =

@@ -1,6 +1,6 @@
 //! What has been read of a certificate, line by line.
 
-ghost use Rattle.std.specs.Prelude.{◌≡◌, ◌≤◌, length, OnOk};
+ghost use Rattle.std.specs.Prelude.{◌≡◌, OnOk};
 ghost use Rattle.bv_base.specs.Answers.{Gives, Leaves};
 ghost use Rattle.cert_format.specs.Certs as certs;
 ghost use Rattle.cert_format.specs.declared.stop.Stop.TheVariants.{NoMemory as WantOfMemory};
@@ -9,14 +9,13 @@ use crate::cert::{Cert, CommandPart, Loop, Summary};
 use crate::cond_lines::{CondSoFar, MOST, Stage};
 use crate::items::{has_leading_zero, is_numeral};
 use crate::lines::{Item, Line};
-use crate::piece_items::body_of;
 use crate::stop::Stop;
+use crate::styled::Styled;
 use crate::unit_lines::{UnitKind, UnitSoFar, UnitStage};
 use bst_meaning::value::Target;
 use bv_base::memory::NoMemory;
 use bv_base::runs::number;
 use bv_base::seq::Seq;
-use name_table::style::{Body, MOST_BODIES, Style};
 use std::alloc::Global;
 use sym_state::piece::Piece;
 
@@ -72,10 +71,9 @@ impl CertSoFar {
     pub(crate) fn take(
         &mut self,
         alloc: Global,
-        style: &Style,
+        style: &Styled<'_>,
         line: &mut Line<'_>,
     ) -> Result<(), Stop>
-        requires { length style.now.bodies ≤ MOST_BODIES }
         ensures { Leaves WantOfMemory (certs.cert_line style.now line.old self.old) self.new result }
     {
         let word = line.item()?;
@@ -104,13 +102,13 @@ impl CertSoFar {
     fn take_cond(
         &mut self,
         alloc: Global,
-        style: &Style,
+        style: &Styled<'_>,
         word: &Item<'_>,
         line: &mut Line<'_>,
     ) -> Result<(), Stop>
         ensures { Leaves WantOfMemory (certs.in_cond style.now word.now line.old self.old) self.new result }
     {
-        self.cond.take_worded(alloc, &style.names, word, line)?;
+        self.cond.take_worded(alloc, style.names(), word, line)?;
         self.stage = after_cond(self.cond.stage);
         Ok(())
     }
@@ -119,11 +117,10 @@ impl CertSoFar {
     fn take_between(
         &mut self,
         alloc: Global,
-        style: &Style,
+        style: &Styled<'_>,
         word: &Item<'_>,
         line: &mut Line<'_>,
     ) -> Result<(), Stop>
-        requires { length style.now.bodies ≤ MOST_BODIES }
         ensures { Leaves WantOfMemory (certs.between_units style.now word.now line.old self.old) self.new result }
     {
         if word.is_word(b"summary") && self.is_before_loops() {
@@ -149,11 +146,10 @@ impl CertSoFar {
     fn take_summary(
         &mut self,
         alloc: Global,
-        style: &Style,
+        style: &Styled<'_>,
         word: &Item<'_>,
         line: &mut Line<'_>,
     ) -> Result<(), Stop>
-        requires { length style.now.bodies ≤ MOST_BODIES }
         ensures { Leaves WantOfMemory (certs.summary_line style.now word.now line.old self.old) self.new result }
     {
         if self.summaries.as_slice().len() >= MOST_UNITS {
@@ -169,11 +165,10 @@ impl CertSoFar {
     fn take_loop(
         &mut self,
         alloc: Global,
-        style: &Style,
+        style: &Styled<'_>,
         word: &Item<'_>,
         line: &mut Line<'_>,
     ) -> Result<(), Stop>
-        requires { length style.now.bodies ≤ MOST_BODIES }
         ensures { Leaves WantOfMemory (certs.loop_line style.now word.now line.old self.old) self.new result }
     {
         if self.loops.as_slice().len() >= MOST_UNITS {
@@ -190,7 +185,7 @@ impl CertSoFar {
     fn take_command(
         &mut self,
         alloc: Global,
-        style: &Style,
+        style: &Styled<'_>,
         line: &mut Line<'_>,
     ) -> Result<(), Stop>
         ensures { Leaves WantOfMemory (certs.command_line style.now line.old self.old) self.new result }
@@ -198,7 +193,7 @@ impl CertSoFar {
         let last = last_command(self.commands.as_slice());
         let index = line
             .item()?
-            .command_number(style.commands.as_slice().len(), last)?;
+            .command_number(style.commands(), last)?;
         line.end()?;
         self.begin(alloc, UnitKind::Command(index));
         Ok(())
@@ -226,11 +221,10 @@ impl CertSoFar {
     fn take_in_unit(
         &mut self,
         alloc: Global,
-        style: &Style,
+        style: &Styled<'_>,
         word: &Item<'_>,
         line: &mut Line<'_>,
     ) -> Result<(), Stop>
-        requires { length style.now.bodies ≤ MOST_BODIES }
         ensures { Leaves WantOfMemory (certs.in_unit style.now word.now line.old self.old) self.new result }
     {
         self.unit.take(alloc, style, word, line)?;
@@ -452,23 +446,21 @@ impl<'a> Item<'a> {
     }
 
     /// A body: the name of a function, or `#` and the number of a block.
-    fn body(&self, style: &Style) -> Result<Target, Stop>
-        requires { length style.now.bodies ≤ MOST_BODIES }
+    fn body(&self, style: &Styled<'_>) -> Result<Target, Stop>
         ensures { Gives WantOfMemory (certs.body style.now self.now) result }
     {
         match self.after(b"#") {
-            Some(part) => part.block(style.bodies.as_slice()),
-            None => Ok(Target::Named(self.name(&style.names)?)),
+            Some(part) => part.block(style),
+            None => Ok(Target::Named(self.name(style.names())?)),
         }
     }
 
     /// A block by its number.
-    fn block(&self, bodies: &[Body]) -> Result<Target, Stop>
-        requires { length bodies.now ≤ MOST_BODIES }
-        ensures { Gives WantOfMemory (certs.block_of_number bodies.now self.now) result }
+    fn block(&self, style: &Styled<'_>) -> Result<Target, Stop>
+        ensures { Gives WantOfMemory (certs.block_of_number style.now.bodies self.now) result }
     {
-        let number = self.block_number(bodies)?;
-        match body_of(bodies, number) {
+        let number = self.block_number(style)?;
+        match style.block(number) {
             Some(body) => Ok(Target::Block(body)),
             None => Err(Stop::OutOfRange(self.left())),
         }

@@ -19,4 +19,5 @@ mod put_pieces;
 mod put_units;
 pub mod read;
 mod stop;
+mod styled;
 mod unit_lines;

@@ -1,6 +1,6 @@
 //! What the items of pieces say.
 
-ghost use Rattle.std.specs.Prelude.{◌≡◌, ◌≤◌, false, length, min, IfOk, option_copied};
+ghost use Rattle.std.specs.Prelude.{◌≡◌, ◌≤◌, false, min, IfOk, option_copied};
 ghost use Rattle.std.specs.Option.{option_map};
 ghost use Rattle.bv_base.specs.Answers.{Gives};
 ghost use Rattle.bv_base.specs.Runs.{number_from};
@@ -12,10 +12,10 @@ use crate::cond_lines::MOST;
 use crate::items::{has_leading_zero, is_above, is_numeral};
 use crate::lines::Item;
 use crate::stop::Stop;
+use crate::styled::Styled;
 use bv_base::runs::number;
 use lin_facts::row::{Part, Term};
 use name_table::names::{Kind, NameId, Names};
-use name_table::style::{Body, BodyId, MOST_BODIES};
 use sym_state::symbol::{Kinds, Sym};
 
 /// The greatest size of a number of a row.
@@ -185,15 +185,14 @@ impl<'a> Item<'a> {
     }
 
     /// The number of a block of the style.
-    pub(crate) fn block_number(&self, bodies: &[Body]) -> Result<u32, Stop>
-        requires { length bodies.now ≤ MOST_BODIES }
-        ensures { Gives WantOfMemory (items.block_number bodies.now self.now) result }
+    pub(crate) fn block_number(&self, style: &Styled<'_>) -> Result<u32, Stop>
+        ensures { Gives WantOfMemory (items.block_number style.now.bodies self.now) result }
     {
         if !is_numeral(self.text()) {
             return Err(Stop::Syntax(self.left()));
         }
         let value = number(self.text());
-        if value > u64::from(MOST) || body_of(bodies, value as u32).is_none() {
+        if value > u64::from(MOST) || style.block(value as u32).is_none() {
             return Err(Stop::OutOfRange(self.left()));
         }
         if has_leading_zero(self.text()) {
@@ -356,29 +355,4 @@ fn is_of_entry(names: &Names, id: NameId) -> bool
     ensures { result ≡ items.is_of_entry (kind_at id names.now) }
 {
     id.0 < names.len() && matches!(names.kind(id), Kind::IntEntry | Kind::StrEntry)
-}
-
-/// The block of a number.
-pub(crate) fn body_of(bodies: &[Body], number: u32) -> Option<BodyId>
-    requires { length bodies.now ≤ MOST_BODIES }
-    ensures { result ≡ items.body_of number bodies.now }
-{
-    let mut id: u32 = 0;
-    for body in bodies {
-        if is_block(body.block, number) {
-            return Some(BodyId(id));
-        }
-        id += 1;
-    }
-    None
-}
-
-/// Whether a body is the block of a number.
-fn is_block(block: Option<u32>, number: u32) -> bool
-    ensures { result ≡ items.is_block number block }
-{
-    match block {
-        Some(n) => n == number,
-        None => false,
-    }
 }

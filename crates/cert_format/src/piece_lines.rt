@@ -1,6 +1,6 @@
 //! What has been read of a piece, line by line.
 
-ghost use Rattle.std.specs.Prelude.{◌≡◌, ◌≤◌, map, length, [], OnOk};
+ghost use Rattle.std.specs.Prelude.{◌≡◌, map, [], OnOk};
 ghost use Rattle.bv_base.specs.Answers.{Gives, GivesAndLeaves, Leaves};
 ghost use Rattle.cert_format.specs.Items.{last_of};
 ghost use Rattle.cert_format.specs.PieceItems as items;
@@ -9,10 +9,10 @@ ghost use Rattle.cert_format.specs.declared.stop.Stop.TheVariants.{NoMemory as W
 
 use crate::lines::{Item, Line};
 use crate::stop::Stop;
+use crate::styled::Styled;
 use bv_base::seq::Seq;
 use lin_facts::row::{Part, Row};
 use name_table::names::{NameId, Names};
-use name_table::style::{MOST_BODIES, Style};
 use std::alloc::Global;
 use sym_state::piece::Piece;
 use sym_state::symbol::{Bind, Fact, Sym};
@@ -94,18 +94,17 @@ impl PieceSoFar {
     pub(crate) fn take(
         &mut self,
         alloc: Global,
-        style: &Style,
+        style: &Styled<'_>,
         kind: PieceWord,
         word: &Item<'_>,
         line: &mut Line<'_>,
     ) -> Result<(), Stop>
-        requires { length style.now.bodies ≤ MOST_BODIES }
         ensures { Leaves WantOfMemory (pieces.piece_line style.now kind word.now line.old self.old) self.new result }
     {
         match kind {
             PieceWord::Stack => self.take_stack(line),
-            PieceWord::Var => self.take_var(&style.names, line),
-            PieceWord::Field => self.take_field(&style.names, line),
+            PieceWord::Var => self.take_var(style.names(), line),
+            PieceWord::Field => self.take_field(style.names(), line),
             PieceWord::Row => self.take_row(alloc, word, line),
             _ => self.take_fact(alloc, style, kind, word, line),
         }
@@ -184,12 +183,11 @@ impl PieceSoFar {
     fn take_fact(
         &mut self,
         alloc: Global,
-        style: &Style,
+        style: &Styled<'_>,
         kind: PieceWord,
         word: &Item<'_>,
         line: &mut Line<'_>,
     ) -> Result<(), Stop>
-        requires { length style.now.bodies ≤ MOST_BODIES }
         ensures { Leaves WantOfMemory (pieces.fact_line style.now kind word.now line.old self.old) self.new result }
     {
         if self.piece.facts.as_slice().len() >= MOST_ITEMS {
@@ -339,20 +337,19 @@ fn bound(next: u32, name: NameId, line: &mut Line<'_>) -> Result<Bind, Stop>
 /// A fact by the word of its line, after its symbol.
 fn fact_of(
     alloc: Global,
-    style: &Style,
+    style: &Styled<'_>,
     kind: PieceWord,
     sym: Sym,
     line: &mut Line<'_>,
 ) -> Result<Fact, Stop>
-    requires { length style.now.bodies ≤ MOST_BODIES }
     ensures { Gives WantOfMemory (pieces.fact_of style.now kind sym line.old) result }
 {
     let fact = match kind {
         PieceWord::Is => Fact::Is(sym, line.item()?.kind()?),
         PieceWord::Int => Fact::Int(sym, line.item()?.integer()?),
         PieceWord::Text => Fact::Text(sym, line.item()?.hex(alloc)?),
-        PieceWord::Call => Fact::Call(sym, line.item()?.name(&style.names)?),
-        PieceWord::Block => Fact::Block(sym, line.item()?.block_number(style.bodies.as_slice())?),
+        PieceWord::Call => Fact::Call(sym, line.item()?.name(style.names())?),
+        PieceWord::Block => Fact::Block(sym, line.item()?.block_number(style)?),
         PieceWord::Blank => Fact::Blank(sym),
         PieceWord::Nonblank => Fact::Nonblank(sym),
         _ => Fact::Wellformed(sym),

@@ -5,6 +5,7 @@ ghost use Rattle.bv_base.specs.Answers.{Gives};
 ghost use Rattle.cert_format.specs.Texts.{cert_of, cond_of};
 ghost use Rattle.cert_format.specs.Certs.{cert_read};
 ghost use Rattle.cert_format.specs.Conditions.{cond_read};
+ghost use Rattle.name_table.specs.Sound.{IsSound};
 ghost use Rattle.cert_format.specs.declared.fault.CertFault.TheVariants.{NoMemory};
 ghost use Rattle.cert_format.specs.declared.stop.Stop.TheVariants.{NoMemory as WantOfMemory};
 
@@ -14,20 +15,19 @@ use crate::cond_lines::CondSoFar;
 use crate::fault::CertFault;
 use crate::lines::Lines;
 use crate::stop::{Stop, fault_of};
+use crate::styled::Styled;
 use bst_meaning::condition::Cond;
 use bv_base::limits::STYLE_BYTES;
 use name_table::names::Names;
-use name_table::style::{MOST_BODIES, Style};
+use name_table::style::Style;
 use std::alloc::Global;
 
-/// Reads a certificate of at most [`STYLE_BYTES`] bytes, or gives the first fault of the bytes. The style has as many
-/// bodies as a style that is read.
+/// Reads a certificate of at most [`STYLE_BYTES`] bytes for a style that was read, or gives the first fault of the bytes.
 ///
-/// Each byte is read a fixed number of times, and each name is looked up in a hash table. A block is looked for among
-/// the bodies before it.
+/// Each byte is read a fixed number of times, each name is looked up in a hash table, and each block in a list.
 pub fn read(alloc: Global, source: &[u8], style: &Style) -> Result<Cert, CertFault>
     requires text { length source.now ≤ STYLE_BYTES }
-    requires bodies { length style.now.bodies ≤ MOST_BODIES }
+    requires style { IsSound style.now }
     ensures { Gives NoMemory (cert_of style.now source.now) result }
 {
     match cert_lines(alloc, source, style) {
@@ -39,7 +39,16 @@ pub fn read(alloc: Global, source: &[u8], style: &Style) -> Result<Cert, CertFau
 /// Takes the lines of a certificate one after the other.
 fn cert_lines(alloc: Global, source: &[u8], style: &Style) -> Result<Cert, Stop>
     requires text { length source.now ≤ STYLE_BYTES }
-    requires bodies { length style.now.bodies ≤ MOST_BODIES }
+    requires style { IsSound style.now }
+    ensures { Gives WantOfMemory (cert_read style.now source.now) result }
+{
+    let styled = Styled::new(alloc, style)?;
+    styled_lines(alloc, source, &styled)
+}
+
+/// Takes the lines of a certificate one after the other, by the parts of the style.
+fn styled_lines(alloc: Global, source: &[u8], style: &Styled<'_>) -> Result<Cert, Stop>
+    requires { length source.now ≤ STYLE_BYTES }
     ensures { Gives WantOfMemory (cert_read style.now source.now) result }
 {
     let mut lines = Lines::new(source);

@@ -1,6 +1,6 @@
 //! What has been read of a summary, a loop or a command, line by line.
 
-ghost use Rattle.std.specs.Prelude.{◌≡◌, ◌<◌, ◌≤◌, Some, map, length, OnOk};
+ghost use Rattle.std.specs.Prelude.{◌≡◌, ◌<◌, Some, map, OnOk};
 ghost use Rattle.bv_base.specs.Answers.{Leaves};
 ghost use Rattle.cert_format.specs.Units as units;
 ghost use Rattle.cert_format.specs.declared.stop.Stop.TheVariants.{NoMemory as WantOfMemory};
@@ -10,11 +10,11 @@ use crate::hint_lines::hint_line;
 use crate::lines::{Item, Line};
 use crate::piece_lines::{PieceSoFar, PieceWord};
 use crate::stop::Stop;
+use crate::styled::Styled;
 use bst_meaning::value::Target;
 use bv_base::memory::NoMemory;
 use bv_base::seq::Seq;
 use name_table::names::{NameId, Names};
-use name_table::style::{MOST_BODIES, Style};
 use std::alloc::Global;
 use sym_state::hint::Hint;
 use sym_state::piece::Piece;
@@ -108,11 +108,10 @@ impl UnitSoFar {
     pub(crate) fn take(
         &mut self,
         alloc: Global,
-        style: &Style,
+        style: &Styled<'_>,
         word: &Item<'_>,
         line: &mut Line<'_>,
     ) -> Result<(), Stop>
-        requires { length style.now.bodies ≤ MOST_BODIES }
         ensures { Leaves WantOfMemory (units.unit_line style.now word.now line.old self.old) self.new result }
     {
         match self.stage {
@@ -140,11 +139,10 @@ impl UnitSoFar {
     fn take_body(
         &mut self,
         alloc: Global,
-        style: &Style,
+        style: &Styled<'_>,
         word: &Item<'_>,
         line: &mut Line<'_>,
     ) -> Result<(), Stop>
-        requires { length style.now.bodies ≤ MOST_BODIES }
         ensures { Leaves WantOfMemory (units.body_line style.now word.now line.old self.old) self.new result }
     {
         if may_have_entry(self.stage) && word.is_word(b"entry") {
@@ -160,7 +158,7 @@ impl UnitSoFar {
             return Ok(());
         }
         if may_have_writes(self.stage) && word.is_word(b"writes") {
-            return self.take_writes(&style.names, line);
+            return self.take_writes(style.names(), line);
         }
         self.take_piece(alloc, style, word, line)
     }
@@ -181,11 +179,10 @@ impl UnitSoFar {
     fn take_piece(
         &mut self,
         alloc: Global,
-        style: &Style,
+        style: &Styled<'_>,
         word: &Item<'_>,
         line: &mut Line<'_>,
     ) -> Result<(), Stop>
-        requires { length style.now.bodies ≤ MOST_BODIES }
         ensures { Leaves WantOfMemory
             (units.piece_or_mark style.now (units.open_word self.old.last self.old.piece word.now) word.now line.old self.old)
             self.new

@@ -1,7 +1,7 @@
 use Rattle.std.proofs.Common.{◌≡◌, length}
 use Rattle.cert_format.specs.Certs.{cert_lines, no_cert}
 use Rattle.cert_format.specs.Lines.{lines_of}
-use Rattle.cert_format.proofs.read.cert_lines.Given as goal
+use Rattle.cert_format.proofs.read.styled_lines.Given as goal
 
 abbrev pub invariant-loop-line : goal.invariant-loop-line
 invariant-loop-line l = cert_lines l.style l.lines l.cert ≡ cert_lines l.style (lines_of l.source) no_cert
