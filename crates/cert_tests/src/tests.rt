@@ -1,0 +1,254 @@
+//! A certificate with every kind of line. A row changes one line of it, and says what comes of that.
+
+ghost use Rattle.name_table.specs.Sound.{IsSound};
+
+use bst_parse::parse::parse;
+use bv_base::limits::STYLE_BYTES;
+use bv_base::memory::NoMemory;
+use bv_base::place::Place;
+use cert_format::fault::CertFault;
+use cert_format::print::print;
+use cert_format::read::read;
+use name_table::style::Style;
+use std::alloc::Global;
+use std::process::Abort;
+use std::test::Fail;
+
+/// The style.
+const STYLE: &str = "ENTRY{author title}{ie}{se} INTEGERS{n} STRINGS{s} FUNCTION{g}{pop$} FUNCTION{f}{\"a\" g {n} pop$} READ EXECUTE{f}";
+
+/// The lines of the certificate, the first of which has the number 1.
+static LINES: [&str; 47] = [
+    "bstcert 1",
+    "entries 9",
+    "key 9",
+    "preamble 9",
+    "length 9",
+    "names author 3",
+    "nonblank author",
+    "nonblank title",
+    "type misc",
+    "othertype yes",
+    "end",
+    "summary g",
+    "entry",
+    "whole",
+    "writes n",
+    "writes s",
+    "pre",
+    "stack 0",
+    "var n 1",
+    "field title 2",
+    "is 0 str",
+    "int 1 5",
+    "text 0 6162",
+    "call 0 f",
+    "block 0 0",
+    "row 4 -1 length:0 2 pos",
+    "post",
+    "stack 3 0",
+    "hints",
+    "use 0",
+    "step 1 2:r0 1:v3 1:p",
+    "case 0",
+    "end",
+    "loop g #0",
+    "case",
+    "stack 0",
+    "exit",
+    "hints",
+    "end",
+    "command 6",
+    "after",
+    "visit",
+    "row 0 1 pos",
+    "keeps",
+    "hints",
+    "end",
+    "done",
+];
+
+/// A line that is changed.
+#[derive(Clone, Copy)]
+struct Row {
+    line: usize,
+    text: &'static str,
+    told: &'static str,
+}
+
+/// A line with this number becomes this text, and this comes of it.
+macro_rules! on {
+    ($line:expr, $text:expr, $told:expr) => {
+        Row {
+            line: $line,
+            text: $text,
+            told: $told,
+        }
+    };
+}
+
+/// Lines of the condition.
+static CONDITION: [Row; 31] = [
+    on!(0, "", "read"),
+    on!(1, "bstcert 2", "1:9 OutOfRange"),
+    on!(1, "bstcert 01", "1:9 NotCanonical"),
+    on!(1, "bstcer 1", "1:1 Syntax"),
+    on!(1, "bstcert", "1:8 Syntax"),
+    on!(2, "entries 00", "2:9 NotCanonical"),
+    on!(2, "entries  0", "2:9 Syntax"),
+    on!(2, "entries 1000000", "read"),
+    on!(2, "entries 1000001", "2:9 OutOfRange"),
+    on!(2, "entries 9 ", "2:11 Syntax"),
+    on!(2, "entries 9 9", "2:11 Syntax"),
+    on!(2, "entries -9", "2:9 Syntax"),
+    on!(3, "key 1073741824", "read"),
+    on!(3, "key 1073741825", "3:5 OutOfRange"),
+    on!(4, "length 9", "4:1 Syntax"),
+    on!(5, "", "5:1 Syntax"),
+    on!(6, "names Author 3", "6:7 UnknownName"),
+    on!(6, "names n 3", "6:7 UnknownName"),
+    on!(6, "names author", "6:13 Syntax"),
+    on!(6, "names author 03", "6:14 NotCanonical"),
+    on!(7, "nonblank n", "7:10 UnknownName"),
+    on!(8, "nonblank author", "8:10 NotCanonical"),
+    on!(8, "names title 1", "8:1 Syntax"),
+    on!(9, "type ", "9:6 Syntax"),
+    on!(9, "type a\tb", "9:6 Syntax"),
+    on!(10, "othertype maybe", "10:11 Syntax"),
+    on!(10, "type misc", "10:6 NotCanonical"),
+    on!(11, "ends", "11:1 Syntax"),
+    on!(11, "end end", "11:5 Syntax"),
+    on!(47, "done done", "47:6 Syntax"),
+    on!(47, "don", "47:1 Syntax"),
+];
+
+/// Lines of pieces.
+static PIECES: [Row; 36] = [
+    on!(12, "summary h", "12:9 UnknownName"),
+    on!(12, "summary #0", "read"),
+    on!(12, "summary #1", "12:9 OutOfRange"),
+    on!(12, "summary #00", "12:9 NotCanonical"),
+    on!(12, "summary #", "12:9 Syntax"),
+    on!(13, "whole", "14:1 Syntax"),
+    on!(15, "writes author", "15:8 UnknownName"),
+    on!(15, "writes ie", "read"),
+    on!(15, "writes s", "16:8 NotCanonical"),
+    on!(17, "post", "17:1 Syntax"),
+    on!(18, "stack", "18:6 Syntax"),
+    on!(18, "stack 1", "18:7 NotCanonical"),
+    on!(18, "stack 00", "18:7 NotCanonical"),
+    on!(18, "stack -0", "18:7 Syntax"),
+    on!(19, "var n 3", "19:7 NotCanonical"),
+    on!(19, "var title 1", "19:5 UnknownName"),
+    on!(20, "field n 2", "20:7 UnknownName"),
+    on!(20, "stack 0", "20:1 Syntax"),
+    on!(21, "is 3 str", "21:4 OutOfRange"),
+    on!(21, "is 0 any", "21:6 Syntax"),
+    on!(22, "int 1 2147483648", "22:7 OutOfRange"),
+    on!(22, "int 1 -2147483648", "read"),
+    on!(22, "int 1 -0", "22:7 NotCanonical"),
+    on!(22, "int 1 +5", "22:7 Syntax"),
+    on!(23, "text 0 -", "read"),
+    on!(23, "text 0 6A", "23:8 Syntax"),
+    on!(23, "text 0 616", "23:8 Syntax"),
+    on!(24, "call 0 h", "24:8 UnknownName"),
+    on!(25, "block 0 1", "25:9 OutOfRange"),
+    on!(26, "row 1099511627777", "26:5 OutOfRange"),
+    on!(26, "row 4 0 length:0", "26:7 NotCanonical"),
+    on!(26, "row 4 1", "26:8 Syntax"),
+    on!(26, "row 4 1 value:9", "26:9 OutOfRange"),
+    on!(26, "row 4 1 names:0 1 length:0", "26:19 NotCanonical"),
+    on!(28, "stack 4", "28:7 NotCanonical"),
+    on!(28, "is 2 opt", "read"),
+];
+
+/// Lines of hints, loops and commands.
+static HINTS: [Row; 22] = [
+    on!(30, "use 1073741825", "30:5 OutOfRange"),
+    on!(30, "used 0", "30:1 Syntax"),
+    on!(30, "plain 0", "30:7 Syntax"),
+    on!(31, "step 0 2:r0", "31:6 OutOfRange"),
+    on!(31, "step 1 0:r0", "31:8 OutOfRange"),
+    on!(31, "step 4294967295 4294967295:r4294967295", "read"),
+    on!(31, "step 1 1:r4294967296", "31:8 OutOfRange"),
+    on!(31, "step 1 1:r00", "31:8 NotCanonical"),
+    on!(31, "step 1 01:r0", "31:8 NotCanonical"),
+    on!(31, "step 1 1:x0", "31:8 Syntax"),
+    on!(31, "step 1 1:p0", "31:8 Syntax"),
+    on!(31, "step 1 1:r", "31:8 Syntax"),
+    on!(31, "drop", "31:5 Syntax"),
+    on!(34, "loop g", "34:7 Syntax"),
+    on!(34, "summary g", "35:1 Syntax"),
+    on!(37, "case", "read"),
+    on!(40, "command 7", "40:9 OutOfRange"),
+    on!(40, "loop g #0", "41:1 Syntax"),
+    on!(42, "row 0 1 pos", "42:9 OutOfRange"),
+    on!(43, "var ie 0", "read"),
+    on!(44, "visit", "44:1 Syntax"),
+    on!(46, "hints", "46:1 Syntax"),
+];
+
+#[test]
+fn lines_of_a_condition(rt: HostRuntime) -> Result<(), Fail> {
+    expect_rows(&rt, rt.alloc(), &CONDITION)?;
+    Ok(())
+}
+
+#[test]
+fn lines_of_pieces(rt: HostRuntime) -> Result<(), Fail> {
+    expect_rows(&rt, rt.alloc(), &PIECES)?;
+    Ok(())
+}
+
+#[test]
+fn lines_of_hints_loops_and_commands(rt: HostRuntime) -> Result<(), Fail> {
+    expect_rows(&rt, rt.alloc(), &HINTS)?;
+    Ok(())
+}
+
+/// Expects of each row what it says.
+fn expect_rows(rt: &impl Abort, alloc: Global, rows: &[Row]) -> Result<(), NoMemory> {
+    let Ok(style) = parse(alloc, STYLE.as_bytes()) else {
+        return Err(NoMemory);
+    };
+    for row in rows {
+        let source = changed(alloc, *row)?;
+        expect_told(rt, alloc, &style, source.as_slice(), row.told)?;
+    }
+    Ok(())
+}
+
+/// The certificate with the line of a row changed.
+fn changed(alloc: Global, row: Row) -> Result<Vec<u8>, NoMemory> {
+    let mut source = Vec::new(alloc);
+    for (index, line) in LINES.iter().enumerate() {
+        let text = if index + 1 == row.line { row.text } else { *line };
+        source.extend_from_slice(text.as_bytes())?;
+        source.push(b'\n')?;
+    }
+    Ok(source)
+}
+
+/// Expects a text to be read, and printed as it is, or to have this fault.
+fn expect_told(rt: &impl Abort, alloc: Global, style: &Style, source: &[u8], told: &str) -> Result<(), NoMemory>
+    requires { IsSound style.now }
+{
+    assert!(rt; source.len() <= STYLE_BYTES);
+    match read(alloc, source, style) {
+        Ok(cert) => {
+            assert_eq!(rt; told, "read");
+            let printed = print(alloc, &cert, style)?;
+            assert_eq!(rt; printed.as_slice(), source);
+        }
+        Err(fault) => expect_fault(rt, alloc, fault, told)?,
+    }
+    Ok(())
+}
+
+/// Expects a fault to be told so.
+fn expect_fault(rt: &impl Abort, alloc: Global, fault: CertFault, told: &str) -> Result<(), NoMemory> {
+    let (name, Place { line, column }) = (fault.name(), fault.place());
+    let text = format!(in alloc; "{line}:{column} {name}")?;
+    assert_eq!(rt; text.as_str(), told);
+    Ok(())
+}
