@@ -1,10 +1,9 @@
 -- The blocks of a sound style by their numbers.
-use Rattle.std.proofs.Common.{◌≡◌, ℕ, zero, suc, ◌+◌, Bool, true, false, cond, nat_eq, map, Option, Some, None, List, [], ◌∷◌, refl, sym, ap, ◌∙◌, arith}
+use Rattle.std.proofs.Common.{◌≡◌, ℕ, zero, suc, ◌+◌, true, false, cond, nat_eq, map, Option, Some, None, List, [], ◌∷◌, refl, ap, ◌∙◌, arith}
 use Rattle.std.specs.Prelude.{slice_get, is_some}
 use Rattle.std.proofs.lemmas.Bool.Decides.{nat_tests}
 use Rattle.name_table.specs.Sound.{AreNumbered}
 use Rattle.name_table.specs.declared.style.Body.{Body}
-use Rattle.name_table.specs.declared.style.BodyId.{BodyId}
 use Rattle.cert_format.specs.PieceItems.{blocks_from, body_from, is_block}
 
 is_first : (n m : ℕ) → m ≡ n → nat_eq m (n + 0) ≡ true

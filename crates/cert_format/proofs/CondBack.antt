@@ -1,5 +1,5 @@
 -- The text of a condition is read as that condition.
-use Rattle.std.proofs.Common.{◌≡◌, ℕ, ◌^◌, ◌<◌, ◌≤◌, Bool, true, false, ◌&&◌, not, List, [], ◌∷◌, ◌++◌, map, Result, Ok, Err, codes, refl, sym, ap, subst, ◌∙◌, append_assoc, arith}
+use Rattle.std.proofs.Common.{◌≡◌, ℕ, ◌≤◌, Bool, true, false, not, List, [], ◌∷◌, ◌++◌, map, Ok, codes, refl, sym, ap, subst, ◌∙◌, append_assoc, arith}
 use Rattle.std.specs.Fmt.{decimal}
 use Rattle.std.specs.List.{list_all}
 use Rattle.std.specs.Cmp.Lexicographic.{slice_cmp}
@@ -22,10 +22,10 @@ use Rattle.cert_format.specs.Texts.{cond_of, told}
 use Rattle.cert_format.specs.declared.cond_lines.CondSoFar.{CondSoFar}
 use Rattle.cert_format.specs.declared.cond_lines.Stage.TheVariants.{Key, Preamble, Length, Names, Done}
 use Rattle.cert_format.proofs.CondTaken.{at_stage, entries_taken, key_taken, length_taken, preamble_taken, then_go}
-use Rattle.cert_format.proofs.CondWhole.{Goes, GoesListed, end_all, fits_names, names_all, nonblank_all, types_all, up_of}
+use Rattle.cert_format.proofs.CondWhole.{Goes, end_all, fits_names, names_all, nonblank_all, types_all, up_of}
 use Rattle.cert_format.proofs.NamesTaken.{field_solid, type_solid}
 use Rattle.cert_format.proofs.Numerals.{decimal_digits}
-use Rattle.cert_format.proofs.Spelt.{AllHave, SolidLine, SolidLines, spelt}
+use Rattle.cert_format.proofs.Spelt.{SolidLine, SolidLines, spelt}
 
 digits_black : (text : List ℕ) → list_all is_digit text ≡ true → list_all is_black text ≡ true
 digits_black [] e = refl
@@ -48,9 +48,10 @@ solid_append (line ∷ a) b first second = (first.0, solid_append a b first.1 se
 names_solid : (names : List (List ℕ × Kind)) (ns : List NamesLine) → ArePlain names → Each (IsNamesLine names) ns → SolidLines (map (names_items names) ns)
 names_solid names [] plain each = tt
 names_solid names (x ∷ ns) plain each =
-    let field : is_type (name_text names x.field) ≡ true = field_solid names x.field plain each.0.0 in
-    ((type_solid (codes "names") refl, (type_solid (name_text names x.field) field, (type_solid (decimal x.most) (decimal_type x.most each.0.1), tt))),
-    names_solid names ns plain each.1)
+    let field : is_type (name_text names x.field) ≡ true = field_solid names x.field plain each.0.0 in (
+      (type_solid (codes "names") refl, (type_solid (name_text names x.field) field, (type_solid (decimal x.most) (decimal_type x.most each.0.1), tt))),
+      names_solid names ns plain each.1,
+    )
 
 nonblank_solid : (names : List (List ℕ × Kind)) (ids : List NameId) → ArePlain names → Each (IsField names) ids → SolidLines (map (nonblank_items names) ids)
 nonblank_solid names [] plain each = tt
@@ -74,9 +75,13 @@ number_solid word n solid small = (type_solid word solid, (type_solid (decimal n
 
 numbers_solid : (names : List (List ℕ × Kind)) (c : Cond) → IsCond names c → SolidLines (cond_numbers c)
 numbers_solid names c is =
-    let few : c.entries ≤ 1073741824 = omega (arith, is.entries) in
-    (number_solid (codes "entries") c.entries refl few, (number_solid (codes "key") c.key refl is.key,
-    (number_solid (codes "preamble") c.preamble refl is.preamble, (number_solid (codes "length") c.length refl is.length, tt))))
+    let few : c.entries ≤ 1073741824 = omega (arith, is.entries) in (
+      number_solid (codes "entries") c.entries refl few,
+      (
+        number_solid (codes "key") c.key refl is.key,
+        (number_solid (codes "preamble") c.preamble refl is.preamble, (number_solid (codes "length") c.length refl is.length, tt)),
+      ),
+    )
 
 -- the lines of a condition can be lines
 lines_solid : (names : List (List ℕ × Kind)) (c : Cond) → ArePlain names → IsCond names c → SolidLines (cond_items names c)

@@ -1,21 +1,14 @@
 -- The lines of a condition that are read are those that it spells.
-use Rattle.std.proofs.Common.{◌≡◌, ℕ, ◌<◌, ◌≤◌, Bool, true, false, ◌&&◌, cond, nat_eq, List, [], ◌∷◌, ◌++◌, map, Result, Ok, Err, Option, codes, refl, sym, ap, subst, ◌∙◌, append_assoc, arith}
+use Rattle.std.proofs.Common.{◌≡◌, ℕ, ◌<◌, ◌≤◌, Bool, true, false, cond, nat_eq, List, [], ◌∷◌, Ok, Err, codes, refl, sym, ap, subst, ◌∙◌, arith}
 use Rattle.std.specs.Fmt.{decimal}
 use Rattle.std.proofs.lemmas.Bool.Decides.{nat_tests}
-use Rattle.std.proofs.lemmas.List.{append-nil}
-use Rattle.bst_meaning.specs.declared.condition.Cond.{Cond}
-use Rattle.bst_meaning.specs.declared.condition.NamesLine.{NamesLine}
-use Rattle.bv_base.specs.Answers.{then_do}
 use Rattle.bv_base.proofs.ThenLemmas.{ok_is, then_ok, unless_ok, where_ok}
-use Rattle.name_table.specs.declared.names.Kind.{Kind}
-use Rattle.name_table.specs.declared.names.NameId.{NameId}
 use Rattle.sym_state.proofs.Consequences.{same_bytes}
 use Rattle.cert_format.specs.Conditions as conditions
 use Rattle.cert_format.specs.Items.{choice, expected, is_word, natural}
 use Rattle.cert_format.specs.Lines.{Item, Line, ended_by, line_end, next_item, next_of, with_item}
-use Rattle.cert_format.specs.Spelling.{choice_text, cond_end, cond_items, cond_lists, cond_numbers, name_text, names_items, nonblank_items, type_items}
+use Rattle.cert_format.specs.Spelling.{choice_text}
 use Rattle.cert_format.specs.declared.stop.Stop.{Stop}
-use Rattle.cert_format.proofs.Named.{field_read}
 use Rattle.cert_format.proofs.Numerals.{natural_read}
 use Rattle.cert_format.proofs.Split.{Ended, texts, texts_of}
 
@@ -95,6 +88,7 @@ choice_read item other e = by_yes (is_word (codes "yes") item) refl (is_word (co
     by_no : (t : Bool) → is_word (codes "no") item ≡ t → (s : Stop) → cond t (Ok false) (Err s) ≡ Ok other → item.text ≡ choice_text other
     by_no true is s e = same_bytes item.text (codes "no") is ∙ ap choice_text (sym (ok_is false other e))
     by_no false is s e = absurd (cc)
+
     by_yes : (t : Bool) → is_word (codes "yes") item ≡ t → (f : Bool) → is_word (codes "no") item ≡ f → (s : Stop)
         → cond t (Ok true) (cond f (Ok false) (Err s)) ≡ Ok other → item.text ≡ choice_text other
     by_yes true is f ruled s e = same_bytes item.text (codes "yes") is ∙ ap choice_text (sym (ok_is true other e))

@@ -1,28 +1,20 @@
 -- The lines that a condition spells are read as that condition.
-use Rattle.std.proofs.Common.{◌≡◌, ℕ, ◌-◌, ◌<◌, ◌≤◌, Bool, true, false, ◌&&◌, not, cond, nat_eq, List, [], ◌∷◌, ◌++◌, length, map, Option, Some, None, Result, Ok, Err, codes, lit≤, refl, sym, ap, ◌∙◌, append_assoc, arith}
+use Rattle.std.proofs.Common.{◌≡◌, ℕ, ◌<◌, ◌≤◌, true, false, nat_eq, List, [], ◌∷◌, ◌++◌, Result, Ok, codes, lit≤, refl, ap, ◌∙◌, arith}
 use Rattle.std.specs.Fmt.{decimal}
-use Rattle.std.specs.Prelude.{slice_get}
-use Rattle.std.proofs.lemmas.Bool.{and_parts}
 use Rattle.std.proofs.lemmas.Bool.Decides.{nat_tests}
-use Rattle.std.specs.Cmp.Lexicographic.{bytes_decides, slice_cmp}
-use Rattle.std.specs.Ordering.{is_lt, nat_cmp}
+use Rattle.std.specs.Cmp.Lexicographic.{bytes_decides}
 use Rattle.bst_meaning.specs.declared.condition.Cond.{Cond}
 use Rattle.bst_meaning.specs.declared.condition.NamesLine.{NamesLine}
 use Rattle.bv_base.specs.Answers.{then_do}
-use Rattle.bv_base.proofs.ThenLemmas.{ok}
-use Rattle.name_table.specs.Sound.{Each}
 use Rattle.name_table.specs.declared.names.Kind.{Kind}
-use Rattle.name_table.specs.declared.names.NameId.{NameId}
-use Rattle.name_table.specs.declared.style.Style.{Style}
-use Rattle.cert_format.specs.CondText.{ArePlain, IsCond, IsField, IsNamesLine, is_below, is_chain}
+use Rattle.cert_format.specs.CondText.{ArePlain, IsNamesLine}
 use Rattle.cert_format.specs.Conditions as conditions
-use Rattle.cert_format.specs.Items.{choice, expected, field_above, is_above, is_behind, is_type, is_word, last_of, natural, type_above}
-use Rattle.cert_format.specs.Lines.{Item, Line, ended_by, line_end, lines_of, next_item, next_of}
-use Rattle.cert_format.specs.Spelling.{choice_text, cond_end, cond_items, cond_lists, cond_numbers, name_text, names_items, nonblank_items, text_of, type_items}
-use Rattle.cert_format.specs.Texts.{cond_of, told}
+use Rattle.cert_format.specs.Items.{expected, field_above, is_above, is_word, natural}
+use Rattle.cert_format.specs.Lines.{Item, Line, ended_by, line_end, next_item}
+use Rattle.cert_format.specs.Spelling.{name_text, names_items}
 use Rattle.cert_format.specs.declared.cond_lines.CondSoFar.{CondSoFar}
 use Rattle.cert_format.specs.declared.cond_lines.Stage.{Stage}
-use Rattle.cert_format.specs.declared.cond_lines.Stage.TheVariants.{Entries, Key, Preamble, Length, Names, Nonblank, Types, End, Done}
+use Rattle.cert_format.specs.declared.cond_lines.Stage.TheVariants.{Entries, Key, Preamble, Length, Names}
 use Rattle.cert_format.specs.declared.stop.Stop.{Stop}
 use Rattle.cert_format.proofs.CondRead.{Has}
 use Rattle.cert_format.proofs.NamesTaken.{field_taken}

@@ -1,36 +1,26 @@
 -- A condition that keeps the limits and the order is read from its spelling.
-use Rattle.std.proofs.Common.{◌≡◌, ℕ, suc, ◌+◌, ◌-◌, ◌^◌, ◌<◌, ◌≤◌, Bool, true, false, ◌&&◌, not, cond, List, [], ◌∷◌, ◌++◌, length, length-append, map, Option, Some, None, Result, Ok, Err, codes, refl, sym, ap, subst, ◌∙◌, append_assoc, arith}
-use Rattle.std.specs.Fmt.{decimal}
-use Rattle.std.specs.List.{list_all}
+use Rattle.std.proofs.Common.{◌≡◌, ℕ, suc, ◌+◌, ◌-◌, Bool, true, false, ◌&&◌, List, [], ◌∷◌, ◌++◌, length, length-append, map, Option, Some, None, Ok, codes, refl, sym, ap, subst, ◌∙◌, append_assoc, arith}
 use Rattle.std.specs.Option.{option_map}
 use Rattle.std.specs.Prelude.{slice_get}
-use Rattle.std.specs.Cmp.Lexicographic.{slice_cmp}
-use Rattle.std.specs.Ordering.{is_lt, nat_cmp}
-use Rattle.std.proofs.lemmas.Bool.{and_from, and_parts}
-use Rattle.std.proofs.lemmas.Bool.Decides.{nat_tests}
+use Rattle.std.proofs.lemmas.Bool.{and_parts}
 use Rattle.std.proofs.lemmas.List.{append-nil}
 use Rattle.bst_meaning.specs.declared.condition.Cond.{Cond}
 use Rattle.bst_meaning.specs.declared.condition.NamesLine.{NamesLine}
-use Rattle.bv_base.specs.Answers.{then_do}
-use Rattle.bv_base.specs.Runs.{is_black, is_digit}
 use Rattle.name_table.specs.Sound.{Each}
 use Rattle.name_table.specs.declared.names.Kind.{Kind}
 use Rattle.name_table.specs.declared.names.NameId.{NameId}
-use Rattle.name_table.specs.declared.style.Style.{Style}
-use Rattle.cert_format.specs.CondText.{ArePlain, IsCond, IsField, IsNamesLine, is_below, is_chain}
+use Rattle.cert_format.specs.CondText.{ArePlain, IsField, IsNamesLine, is_chain}
 use Rattle.cert_format.specs.Conditions as conditions
-use Rattle.cert_format.specs.Items.{choice, expected, field_above, is_above, is_behind, is_empty, is_type, is_word, last_of, type_above}
-use Rattle.cert_format.specs.Lines.{Item, Line, line_end, lines_of, next_item}
-use Rattle.cert_format.specs.Spelling.{choice_text, cond_end, cond_items, cond_lists, cond_numbers, name_text, names_items, nonblank_items, text_of, type_items}
-use Rattle.cert_format.specs.Texts.{cond_of, told}
+use Rattle.cert_format.specs.Items.{choice, expected, field_above, is_above, is_behind, is_type, is_word, last_of, type_above}
+use Rattle.cert_format.specs.Lines.{Item, Line, line_end, next_item}
+use Rattle.cert_format.specs.Spelling.{choice_text, cond_end, name_text, names_items, nonblank_items, type_items}
 use Rattle.cert_format.specs.declared.cond_lines.CondSoFar.{CondSoFar}
 use Rattle.cert_format.specs.declared.cond_lines.Stage.{Stage}
-use Rattle.cert_format.specs.declared.cond_lines.Stage.TheVariants.{Entries, Key, Preamble, Length, Names, Nonblank, Types, End, Done}
+use Rattle.cert_format.specs.declared.cond_lines.Stage.TheVariants.{Names, Nonblank, Types, End, Done}
 use Rattle.cert_format.proofs.CondRead.{Has}
-use Rattle.cert_format.proofs.CondTaken.{at_stage, entries_taken, expect_taken, key_taken, length_taken, line_taken, names_line_taken, other_word, preamble_taken, take_end, take_first, then_go, word_taken}
-use Rattle.cert_format.proofs.NamesTaken.{field_solid, field_taken, type_solid}
-use Rattle.cert_format.proofs.Numerals.{decimal_digits}
-use Rattle.cert_format.proofs.Spelt.{AllHave, Solid, SolidLines, Spelt, spelt}
+use Rattle.cert_format.proofs.CondTaken.{at_stage, expect_taken, line_taken, names_line_taken, other_word, take_end, take_first, then_go, word_taken}
+use Rattle.cert_format.proofs.NamesTaken.{field_taken}
+use Rattle.cert_format.proofs.Spelt.{AllHave}
 
 and_false : (b : Bool) → b && false ≡ false
 and_false true = refl

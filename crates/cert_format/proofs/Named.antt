@@ -1,5 +1,5 @@
 -- Names by their ids, and what they spell.
-use Rattle.std.proofs.Common.{◌≡◌, ℕ, suc, Bool, true, false, cond, Option, Some, None, Ok, Err, List, [], ◌∷◌, refl, sym, ap, ◌∙◌}
+use Rattle.std.proofs.Common.{◌≡◌, ℕ, Bool, true, false, cond, Option, Some, None, Ok, List, [], ◌∷◌, refl, sym, ap, ◌∙◌}
 use Rattle.std.specs.Option.{option_map}
 use Rattle.bv_base.proofs.ThenLemmas.{ok_is, then_ok, unless_ok, where_ok}
 use Rattle.name_table.specs.Names.{id_of, later, same_name}
@@ -21,6 +21,7 @@ named name (first ∷ rest) id e = by_name (same_name name first.0) refl (id_of 
     by_rest : (r : Option NameId) → ((k : NameId) → r ≡ Some k → name ≡ name_text rest k) → option_map later r ≡ Some id → name ≡ name_text (first ∷ rest) id
     by_rest (Some k) all e = all k refl ∙ ap (name_text (first ∷ rest)) (sym (some_is (later k) id e))
     by_rest None all e = absurd (cc)
+
     by_name : (t : Bool) → same_name name first.0 ≡ t → (r : Option NameId) → ((k : NameId) → r ≡ Some k → name ≡ name_text rest k)
         → cond t (Some (record { 0 = 0 })) (option_map later r) ≡ Some id → name ≡ name_text (first ∷ rest) id
     by_name true same r all e =

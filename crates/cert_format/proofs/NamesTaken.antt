@@ -1,19 +1,17 @@
 -- A name of plain names is found by what its id spells.
-use Rattle.std.proofs.Common.{◌≡◌, ℕ, zero, suc, Bool, true, false, ◌&&◌, not, cond, nat_eq, Option, Some, None, Ok, Err, List, [], ◌∷◌, refl, sym, ap, ◌∙◌, arith}
-use Rattle.std.proofs.lemmas.Bool.{and_from, and_parts}
+use Rattle.std.proofs.Common.{◌≡◌, ℕ, zero, suc, Bool, true, false, not, Option, Some, None, Ok, List, [], ◌∷◌, refl, ap, ◌∙◌, arith}
+use Rattle.std.proofs.lemmas.Bool.{and_parts}
 use Rattle.std.proofs.lemmas.Bool.Decides.{nat_tests}
 use Rattle.std.specs.List.{list_all}
 use Rattle.std.specs.Option.{option_map}
 use Rattle.std.specs.Cmp.Lexicographic.{bytes_decides}
-use Rattle.bv_base.specs.Answers.{then_do}
-use Rattle.bv_base.specs.Bytes.{is_white}
 use Rattle.bv_base.specs.Runs.{NoneOf, is_black}
 use Rattle.name_table.specs.Names.{id_of, kind_at, later, same_name}
 use Rattle.name_table.specs.Sound.{AreApart, Each}
 use Rattle.name_table.specs.declared.names.Kind.{Kind}
 use Rattle.name_table.specs.declared.names.NameId.{NameId}
 use Rattle.cert_format.specs.CondText.{ArePlain, IsField}
-use Rattle.cert_format.specs.Items.{field_above, field_in, found, is_above, is_empty, is_field, is_type, name_in}
+use Rattle.cert_format.specs.Items.{field_above, is_above, is_empty, is_field, is_type}
 use Rattle.cert_format.specs.Lines.{Item, is_newline, is_space}
 use Rattle.cert_format.specs.Spelling.{name_text}
 use Rattle.cert_format.proofs.Spelt.{Solid}

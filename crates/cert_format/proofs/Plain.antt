@@ -22,6 +22,7 @@ name_black b e = by_low (nat_le 33 b) refl (nat_le b 126) (not (is_mark b)) (nat
   where
     by_high : (h : Bool) → nat_le 128 b ≡ h → h ≡ true → is_black b ≡ true
     by_high h is e = high_black b (grind (arith, nat_tests))
+
     by_low : (t : Bool) → nat_le 33 b ≡ t → (m k h : Bool) → nat_le 128 b ≡ h → (((t && m) && k) || h) ≡ true → is_black b ≡ true
     by_low true low m k h is e = high_black b (grind (arith, nat_tests))
     by_low false low m k h is e = by_high h is e

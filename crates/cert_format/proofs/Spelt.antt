@@ -2,8 +2,8 @@
 use Rattle.std.proofs.Common.{◌≡◌, ℕ, suc, ◌+◌, ◌<◌, Bool, true, false, cond, List, [], ◌∷◌, ◌++◌, length, map, refl, sym, ap, ◌∙◌, append_assoc, arith}
 use Rattle.bv_base.specs.Runs.{NoneOf}
 use Rattle.bv_base.proofs.RunLemmas.{none_joined}
-use Rattle.cert_format.specs.Lines.{Item, Line, Stretch, begun, is_newline, is_space, items_of, line_of, lines_of, longer, stretches}
-use Rattle.cert_format.specs.Spelling.{after_item, line_text, text_of}
+use Rattle.cert_format.specs.Lines.{Item, Line, begun, is_newline, is_space, items_of, line_of, lines_of, longer, stretches}
+use Rattle.cert_format.specs.Spelling.{after_item, text_of}
 use Rattle.cert_format.proofs.CondRead.{Has}
 use Rattle.cert_format.proofs.Split.{texts, texts_of}
 

@@ -1,9 +1,9 @@
 -- A text is the bytes of its lines, where each ends with byte 10.
-use Rattle.std.proofs.Common.{◌≡◌, ℕ, ◌+◌, ◌<◌, Bool, true, false, cond, List, [], ◌∷◌, ◌++◌, length, map, refl, sym, ap, ◌∙◌, append_assoc, arith}
+use Rattle.std.proofs.Common.{◌≡◌, ℕ, ◌+◌, ◌<◌, Bool, true, false, cond, List, [], ◌∷◌, ◌++◌, length, map, refl, sym, ap, ◌∙◌, arith}
 use Rattle.std.proofs.lemmas.Bool.{eqb-true}
 use Rattle.cert_format.specs.Lines.{Item, Line, Stretch, begun, is_newline, is_space, items_of, line_of, lines_of, longer, stretches}
 use Rattle.cert_format.specs.Spelling.{after_item, line_text, text_of}
-use Rattle.cert_format.proofs.Lined.{first_item, item_at}
+use Rattle.cert_format.proofs.Lined.{first_item}
 
 -- the items of a line, as their bytes
 abbrev pub texts_of : List Item → List (List ℕ)

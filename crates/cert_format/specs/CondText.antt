@@ -1,16 +1,14 @@
 -- The texts of conditions: limits and order, and the spelling (docs/CERTIFICATES.md, "Conditions").
-use Rattle.std.specs.Prelude.{◌≡◌, ℕ, ◌≤◌, Bool, true, ◌&&◌, not, nat_lt, List, [], ◌∷◌}
-use Rattle.std.specs.List.{list_all}
+use Rattle.std.specs.Prelude.{◌≡◌, ℕ, ◌≤◌, Bool, true, ◌&&◌, nat_lt, List, [], ◌∷◌}
 use Rattle.std.specs.Cmp.Lexicographic.{slice_cmp}
 use Rattle.std.specs.Ordering.{is_lt, nat_cmp}
 use Rattle.bst_meaning.specs.declared.condition.Cond.{Cond}
 use Rattle.bst_meaning.specs.declared.condition.NamesLine.{NamesLine}
-use Rattle.bv_base.specs.Runs.{is_black}
 use Rattle.name_table.specs.Names.{kind_at}
 use Rattle.name_table.specs.Sound.{AreApart, Each}
 use Rattle.name_table.specs.declared.names.Kind.{Kind}
 use Rattle.name_table.specs.declared.names.NameId.{NameId}
-use Rattle.cert_format.specs.Items.{is_empty, is_field, is_type}
+use Rattle.cert_format.specs.Items.{is_field, is_type}
 use Rattle.cert_format.specs.Spelling.{cond_items, text_of}
 use Rattle.cert_format.specs.declared.cond_lines.TheConstants.{MOST, MOST_ENTRIES}
 

@@ -191,9 +191,7 @@ impl CertSoFar {
         ensures { Leaves WantOfMemory (certs.command_line style.now line.old self.old) self.new result }
     {
         let last = last_command(self.commands.as_slice());
-        let index = line
-            .item()?
-            .command_number(style.commands(), last)?;
+        let index = line.item()?.command_number(style.commands(), last)?;
         line.end()?;
         self.begin(alloc, UnitKind::Command(index));
         Ok(())

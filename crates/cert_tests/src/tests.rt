@@ -15,7 +15,8 @@ use std::process::Abort;
 use std::test::Fail;
 
 /// The style.
-const STYLE: &str = "ENTRY{author title}{ie}{se} INTEGERS{n} STRINGS{s} FUNCTION{g}{pop$} FUNCTION{f}{\"a\" g {n} pop$} READ EXECUTE{f}";
+const STYLE: &str =
+    "ENTRY{author title}{ie}{se} INTEGERS{n} STRINGS{s} FUNCTION{g}{pop$} FUNCTION{f}{\"a\" g {n} pop$} READ EXECUTE{f}";
 
 /// The lines of the certificate, the first of which has the number 1.
 static LINES: [&str; 47] = [
@@ -222,7 +223,11 @@ fn expect_rows(rt: &impl Abort, alloc: Global, rows: &[Row]) -> Result<(), NoMem
 fn changed(alloc: Global, row: Row) -> Result<Vec<u8>, NoMemory> {
     let mut source = Vec::new(alloc);
     for (index, line) in LINES.iter().enumerate() {
-        let text = if index + 1 == row.line { row.text } else { *line };
+        let text = if index + 1 == row.line {
+            row.text
+        } else {
+            *line
+        };
         source.extend_from_slice(text.as_bytes())?;
         source.push(b'\n')?;
     }
@@ -230,7 +235,13 @@ fn changed(alloc: Global, row: Row) -> Result<Vec<u8>, NoMemory> {
 }
 
 /// Expects a text to be read, and printed as it is, or to have this fault.
-fn expect_told(rt: &impl Abort, alloc: Global, style: &Style, source: &[u8], told: &str) -> Result<(), NoMemory>
+fn expect_told(
+    rt: &impl Abort,
+    alloc: Global,
+    style: &Style,
+    source: &[u8],
+    told: &str,
+) -> Result<(), NoMemory>
     requires { IsSound style.now }
 {
     assert!(rt; source.len() <= STYLE_BYTES);
@@ -246,7 +257,12 @@ fn expect_told(rt: &impl Abort, alloc: Global, style: &Style, source: &[u8], tol
 }
 
 /// Expects a fault to be told so.
-fn expect_fault(rt: &impl Abort, alloc: Global, fault: CertFault, told: &str) -> Result<(), NoMemory> {
+fn expect_fault(
+    rt: &impl Abort,
+    alloc: Global,
+    fault: CertFault,
+    told: &str,
+) -> Result<(), NoMemory> {
     let (name, Place { line, column }) = (fault.name(), fault.place());
     let text = format!(in alloc; "{line}:{column} {name}")?;
     assert_eq!(rt; text.as_str(), told);
