@@ -124,7 +124,7 @@ static CONDITION: [Row; 31] = [
 ];
 
 /// Lines of pieces.
-static PIECES: [Row; 36] = [
+static PIECES: [Row; 38] = [
     on!(12, "summary h", "12:9 UnknownName"),
     on!(12, "summary #0", "read"),
     on!(12, "summary #1", "12:9 OutOfRange"),
@@ -139,6 +139,16 @@ static PIECES: [Row; 36] = [
     on!(18, "stack 1", "18:7 NotCanonical"),
     on!(18, "stack 00", "18:7 NotCanonical"),
     on!(18, "stack -0", "18:7 Syntax"),
+    on!(
+        18,
+        "stack 0 0 0 0 0 0 0 0 0 0 0 0 0 0 0 0 0 0 0 0 0 0 0 0 0 0 0 0 0 0 0 0 0 0 0 0 0 0 0 0 0 0 0 0 0 0 0 0 0 0 0 0 0 0 0 0 0 0 0 0 0 0 0 0",
+        "read"
+    ),
+    on!(
+        18,
+        "stack 0 0 0 0 0 0 0 0 0 0 0 0 0 0 0 0 0 0 0 0 0 0 0 0 0 0 0 0 0 0 0 0 0 0 0 0 0 0 0 0 0 0 0 0 0 0 0 0 0 0 0 0 0 0 0 0 0 0 0 0 0 0 0 0 0",
+        "18:135 TooMany"
+    ),
     on!(19, "var n 3", "19:7 NotCanonical"),
     on!(19, "var title 1", "19:5 UnknownName"),
     on!(20, "field n 2", "20:7 UnknownName"),
@@ -164,7 +174,7 @@ static PIECES: [Row; 36] = [
 ];
 
 /// Lines of hints, loops and commands.
-static HINTS: [Row; 22] = [
+static HINTS: [Row; 24] = [
     on!(30, "use 1073741825", "30:5 OutOfRange"),
     on!(30, "used 0", "30:1 Syntax"),
     on!(30, "plain 0", "30:7 Syntax"),
@@ -177,6 +187,16 @@ static HINTS: [Row; 22] = [
     on!(31, "step 1 1:x0", "31:8 Syntax"),
     on!(31, "step 1 1:p0", "31:8 Syntax"),
     on!(31, "step 1 1:r", "31:8 Syntax"),
+    on!(
+        31,
+        "step 1 1:p 1:p 1:p 1:p 1:p 1:p 1:p 1:p 1:p 1:p 1:p 1:p 1:p 1:p 1:p 1:p 1:p 1:p 1:p 1:p 1:p 1:p 1:p 1:p 1:p 1:p 1:p 1:p 1:p 1:p 1:p 1:p 1:p 1:p 1:p 1:p 1:p 1:p 1:p 1:p 1:p 1:p 1:p 1:p 1:p 1:p 1:p 1:p 1:p 1:p 1:p 1:p 1:p 1:p 1:p 1:p 1:p 1:p 1:p 1:p 1:p 1:p 1:p 1:p",
+        "read"
+    ),
+    on!(
+        31,
+        "step 1 1:p 1:p 1:p 1:p 1:p 1:p 1:p 1:p 1:p 1:p 1:p 1:p 1:p 1:p 1:p 1:p 1:p 1:p 1:p 1:p 1:p 1:p 1:p 1:p 1:p 1:p 1:p 1:p 1:p 1:p 1:p 1:p 1:p 1:p 1:p 1:p 1:p 1:p 1:p 1:p 1:p 1:p 1:p 1:p 1:p 1:p 1:p 1:p 1:p 1:p 1:p 1:p 1:p 1:p 1:p 1:p 1:p 1:p 1:p 1:p 1:p 1:p 1:p 1:p 1:p",
+        "31:264 TooMany"
+    ),
     on!(31, "drop", "31:5 Syntax"),
     on!(34, "loop g", "34:7 Syntax"),
     on!(34, "summary g", "35:1 Syntax"),
