@@ -2,6 +2,7 @@
 use Rattle.std.proofs.Common.{◌≡◌, ℕ, zero, suc, ◌+◌, ◌<◌, ◌≤◌, ◌||◌, Bool, true, false, cond, nat_eq, nat_le, List, [], ◌∷◌, length, take, drop, Result, IfOk, refl, sym, ap, ◌∙◌, subst, arith}
 use Rattle.std.proofs.lemmas.Bool.Decides.{nat_tests}
 use Rattle.bv_base.specs.declared.place.Place.{Place}
+use Rattle.bv_base.specs.declared.limits.TheConstants.{GREATEST_INTEGER}
 use Rattle.bv_base.specs.Bytes.{is_white}
 use Rattle.bst_lex.specs.declared.lexeme.LexFault.{LexFault}
 use Rattle.bst_lex.specs.declared.lexeme.Piece.{Piece}
@@ -42,7 +43,7 @@ digits_reach place before minus bytes all some h =
     let P : Piece → Type 0 = Reaches all in
     ok_cases P (nat_eq (length_before ends_digits bytes) 0) _ _ (λ e. tt)
     (λ e. ok_cases P (may_follow (drop (length_before ends_digits bytes) bytes)) _ _
-    (λ f. ok_cases P (nat_le (number_from 0 (take (length_before ends_digits bytes) bytes)) (cond minus 2147483648 2147483647)) _ _
+    (λ f. ok_cases P (nat_le (number_from 0 (take (length_before ends_digits bytes) bytes)) (cond minus (suc GREATEST_INTEGER) GREATEST_INTEGER)) _ _
     (λ g. (omega arith, omega arith)) (λ g. tt))
     (λ f. tt))
 

@@ -1,7 +1,8 @@
 -- The grammar of lexemes over whole texts: lexemes with white space and comments between them, up to the end or to
 -- a fault (docs/LANGUAGE.md, "Lexemes" and "Faults of lexemes").
-use Rattle.std.specs.Prelude.{◌≡◌, ℕ, ◌+◌, ◌<◌, ◌≤◌, ◌⊎◌, Bool, true, false, ◌&&◌, not, nat_eq, if◌then◌else◌, List, [], ◌∷◌, ◌++◌, length, drop, Option, None, Some}
+use Rattle.std.specs.Prelude.{◌≡◌, ℕ, suc, ◌+◌, ◌<◌, ◌≤◌, ◌⊎◌, Bool, true, false, ◌&&◌, not, nat_eq, if◌then◌else◌, List, [], ◌∷◌, ◌++◌, length, drop, Option, None, Some}
 use Rattle.bv_base.specs.Bytes.{is_white}
+use Rattle.bv_base.specs.declared.limits.TheConstants.{GREATEST_INTEGER}
 use Rattle.bv_base.specs.declared.place.Place.{Place}
 use Rattle.bst_lex.specs.declared.lexeme.LexFault.{LexFault}
 use Rattle.bst_lex.specs.declared.lexeme.LexFault.TheVariants.{NoEndQuote, BadInteger, StuffAfterToken, IllegalByte, IntegerRange}
@@ -40,7 +41,7 @@ sign minus = if minus then 45 ∷ [] else []
 
 -- the number without its sign that an integer may have at most
 abbrev pub greatest : Bool → ℕ
-greatest minus = if minus then 2147483648 else 2147483647
+greatest minus = if minus then suc GREATEST_INTEGER else GREATEST_INTEGER
 
 -- `#`, an optional `-` and digits
 pub record IsInteger (minus : Bool) (digits text : List ℕ) : Type 0 where

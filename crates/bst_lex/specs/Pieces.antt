@@ -3,6 +3,7 @@
 use Rattle.std.specs.Prelude.{ℕ, zero, suc, ◌+◌, ℤ, pos, negsuc, Bool, true, false, ◌&&◌, ◌||◌, not, nat_eq, nat_le, nat_lt, if◌then◌else◌, List, [], ◌∷◌, take, drop, Result, Ok, Err, codes}
 use Rattle.bv_base.specs.Bytes.{is_among, is_white}
 use Rattle.bv_base.specs.declared.place.Place.{Place}
+use Rattle.bv_base.specs.declared.limits.TheConstants.{GREATEST_INTEGER}
 use Rattle.bst_lex.specs.declared.lexeme.LexFault.{LexFault}
 use Rattle.bst_lex.specs.declared.lexeme.LexFault.TheVariants.{NoEndQuote, BadInteger, StuffAfterToken, IllegalByte, IntegerRange}
 use Rattle.bst_lex.specs.declared.lexeme.Piece.{Piece}
@@ -69,7 +70,7 @@ signed false n = pos n
 -- an integer has 32 bits
 abbrev pub ranged : Place → ℕ → Bool → ℕ → Result Piece LexFault
 ranged place length minus n =
-    if nat_le n (if minus then 2147483648 else 2147483647)
+    if nat_le n (if minus then suc GREATEST_INTEGER else GREATEST_INTEGER)
     then Ok (record { length = length; shape = Integer (signed minus n) })
     else Err (IntegerRange place)
 

@@ -6,6 +6,7 @@ ghost use Rattle.bv_base.specs.Runs.{length_before};
 
 use crate::lexeme::{LexFault, Piece, Shape};
 use bv_base::bytes::is_white;
+use bv_base::limits::GREATEST_INTEGER;
 use bv_base::place::Place;
 use bv_base::runs::{digits_length, length_before, number};
 
@@ -80,7 +81,7 @@ fn digits_at(place: Place, before: usize, minus: bool, bytes: &[u8]) -> Result<P
 fn ranged(place: Place, length: usize, minus: bool, number: u64) -> Result<Piece, LexFault>
     ensures { result ≡ pieces.ranged place length minus number }
 {
-    let greatest = if minus { 2147483648 } else { 2147483647 };
+    let greatest = GREATEST_INTEGER as u64 + if minus { 1 } else { 0 };
     if number > greatest {
         return Err(LexFault::IntegerRange(place));
     }

@@ -16,6 +16,7 @@ use crate::stack::Stack;
 use crate::stop::Stop;
 use bst_meaning::fault::Fault;
 use bst_meaning::value::Value;
+use bv_base::limits::GREATEST_INTEGER;
 use bv_base::text::Text;
 use std::alloc::Global;
 use text_ops::int_to_str::int_to_str;
@@ -103,7 +104,7 @@ pub fn int_to_str_of(alloc: Global, stack: &Stack<Value>) -> Result<Outcome, Sto
 pub fn count(n: u128, stack: &Stack<Value>) -> Result<Outcome, Stop>
     ensures { Gives result stack.now (ranged (pos n) (drop 1 stack.now)) }
 {
-    if n <= 2147483647 {
+    if n <= GREATEST_INTEGER as u128 {
         Ok(Outcome::Push(1, Value::Int(n as i32)))
     } else {
         Err(Stop::Fault(Fault::IntRange))

@@ -17,6 +17,7 @@ ghost use Rattle.builtin_effects.specs.Given.{Gives, facts_of, outcome_at, rows_
 use crate::at::At;
 use crate::results::{Said, part, with_result};
 use crate::steps::{both_steps, step};
+use bv_base::limits::GREATEST_INTEGER;
 use bv_base::memory::NoMemory;
 use lin_facts::row::{Part, Row, Term};
 use sym_state::demand::{DemandKind, EffectFault};
@@ -26,6 +27,7 @@ use sym_state::references::{at_least, at_most, exceeds};
 use sym_state::results::{sum_of_three, sum_of_two};
 use sym_state::state::State;
 use sym_state::symbol::{Fact, Kinds, Sym};
+use text_ops::width::WIDEST_BYTE;
 
 /// `+`
 pub fn plus(at: &At<'_>, hints: &mut Hints<'_>) -> Result<State, EffectFault>
@@ -88,8 +90,8 @@ fn unknown_sum(
 {
     let alloc = at.state.alloc();
     let x = Term::Value(a.0);
-    let low = sum_of_two(alloc, 2147483648, part(1, x), second)?;
-    let high = sum_of_two(alloc, 2147483647, part(-1, x), opposite)?;
+    let low = sum_of_two(alloc, GREATEST_INTEGER as i64 + 1, part(1, x), second)?;
+    let high = sum_of_two(alloc, GREATEST_INTEGER as i64, part(-1, x), opposite)?;
     let fault = EffectFault::unmet(DemandKind::IntRange, 0);
     both_steps(at, &low, &high, fault, hints)?;
     Ok(new_sum(at, a, second, opposite)?)
@@ -194,7 +196,7 @@ pub fn num_names(at: &At<'_>, hints: &mut Hints<'_>) -> Result<State, EffectFaul
     let names = Term::Names(a.0);
     let alloc = at.state.alloc();
     let r = Term::Value(at.state.next());
-    let high = at_most(alloc, names, 2147483647)?;
+    let high = at_most(alloc, names, GREATEST_INTEGER as i64)?;
     let said = Said::rows(exceeds(alloc, r, names, 0)?, exceeds(alloc, names, r, 0)?);
     counted(at, &high, said, hints)
 }
@@ -208,7 +210,7 @@ pub fn text_length(at: &At<'_>, hints: &mut Hints<'_>) -> Result<State, EffectFa
     let length = Term::Length(a.0);
     let alloc = at.state.alloc();
     let r = Term::Value(at.state.next());
-    let high = at_most(alloc, length, 2147483647)?;
+    let high = at_most(alloc, length, GREATEST_INTEGER as i64)?;
     let said = Said::rows(at_least(alloc, r, 0)?, exceeds(alloc, length, r, 0)?);
     counted(at, &high, said, hints)
 }
@@ -222,8 +224,8 @@ pub fn width(at: &At<'_>, hints: &mut Hints<'_>) -> Result<State, EffectFault>
     let length = Term::Length(a.0);
     let alloc = at.state.alloc();
     let r = Term::Value(at.state.next());
-    let high = sum_of_two(alloc, 2147483647, part(-1028, length), part(0, length))?;
-    let most = sum_of_two(alloc, 0, part(1028, length), part(-1, r))?;
+    let high = sum_of_two(alloc, GREATEST_INTEGER as i64, part(-(WIDEST_BYTE as i64), length), part(0, length))?;
+    let most = sum_of_two(alloc, 0, part(WIDEST_BYTE as i64, length), part(-1, r))?;
     counted(at, &high, Said::rows(at_least(alloc, r, 0)?, most), hints)
 }
 

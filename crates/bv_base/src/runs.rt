@@ -5,6 +5,7 @@ ghost use Rattle.bv_base.specs.Bytes.{is_white as white};
 ghost use Rattle.bv_base.specs.Runs as runs;
 
 use crate::bytes::is_white;
+use crate::limits::WIDEST_NUMBER;
 
 /// Whether a byte is a digit.
 pub fn is_digit(b: u8) -> bool
@@ -59,13 +60,13 @@ pub fn after_white(bytes: &[u8]) -> &[u8]
     bytes.split_at(white_length(bytes)).1
 }
 
-/// The number that digits write, or 4294967296 where it is greater.
+/// The number that digits write, or [`WIDEST_NUMBER`] where it is greater.
 pub fn number(digits: &[u8]) -> u64
-    ensures { result ≡ min 4294967296 (runs.number_from 0 digits.now) }
+    ensures { result ≡ min WIDEST_NUMBER (runs.number_from 0 digits.now) }
 {
     let mut value: u64 = 0;
     for digit in digits {
-        value = (10 * value + digit.saturating_sub(b'0') as u64).min(4294967296);
+        value = (10 * value + digit.saturating_sub(b'0') as u64).min(WIDEST_NUMBER);
     }
     value
 }

@@ -12,7 +12,6 @@ pub mod NamesTaken
 pub mod Numerals
 pub mod Parted
 pub mod Plain
-pub mod Running
 pub mod Split
 pub mod Spelt
 pub mod Texts

@@ -1,7 +1,8 @@
 -- How the lines of a piece are read (docs/CERTIFICATES.md, "Pieces").
-use Rattle.std.specs.Prelude.{ℕ, Bool, nat_le, if◌then◌else◌, List, [], ◌∷◌, ◌++◌, length, codes, Option, None, Some, Result, Ok, Err}
+use Rattle.std.specs.Prelude.{ℕ, suc, Bool, nat_le, if◌then◌else◌, List, [], ◌∷◌, ◌++◌, length, codes, Option, None, Some, Result, Ok, Err}
 use Rattle.std.specs.Option.{option_map, option_and_then}
 use Rattle.bv_base.specs.Answers.{then_do}
+use Rattle.bv_base.specs.declared.limits.TheConstants.{GREATEST_INTEGER}
 use Rattle.lin_facts.specs.declared.row.Part.{Part}
 use Rattle.name_table.specs.Names.{same_name}
 use Rattle.name_table.specs.declared.names.Kind.{Kind}
@@ -105,7 +106,7 @@ fact_of style Is sym line =
     then_do (next_item line) (λ item. then_do (items.kind item.0) (λ kind. at_end item.1 (fact.Is sym kind)))
 fact_of style Int sym line =
     then_do (next_item line) (λ item.
-    then_do (items.integer 2147483648 2147483647 item.0) (λ n. at_end item.1 (fact.Int sym n)))
+    then_do (items.integer (suc GREATEST_INTEGER) GREATEST_INTEGER item.0) (λ n. at_end item.1 (fact.Int sym n)))
 fact_of style Text sym line =
     then_do (next_item line) (λ item.
     then_do (items.text item.0) (λ text. at_end item.1 (fact.Text sym text)))

@@ -1,9 +1,8 @@
 //! What the items of pieces say.
 
-ghost use Rattle.std.specs.Prelude.{◌≡◌, ◌≤◌, false, min, IfOk, option_copied};
+ghost use Rattle.std.specs.Prelude.{◌≡◌, ◌≤◌, suc, false, IfOk, option_copied};
 ghost use Rattle.std.specs.Option.{option_map};
 ghost use Rattle.bv_base.specs.Answers.{Gives};
-ghost use Rattle.bv_base.specs.Runs.{number_from};
 ghost use Rattle.name_table.specs.Names.{kind_at};
 ghost use Rattle.cert_format.specs.PieceItems as items;
 ghost use Rattle.cert_format.specs.declared.stop.Stop.TheVariants.{NoMemory as WantOfMemory};
@@ -13,6 +12,7 @@ use crate::items::{has_leading_zero, is_above, is_numeral};
 use crate::lines::Item;
 use crate::stop::Stop;
 use crate::styled::Styled;
+use bv_base::limits::GREATEST_INTEGER;
 use bv_base::runs::number;
 use lin_facts::row::{Part, Term};
 use name_table::names::{Kind, NameId, Names};
@@ -67,9 +67,9 @@ impl<'a> Item<'a> {
 
     /// An integer of 32 bits.
     pub(crate) fn integer(&self) -> Result<i32, Stop>
-        ensures { Gives WantOfMemory (items.integer 2147483648 2147483647 self.now) result }
+        ensures { Gives WantOfMemory (items.integer (suc GREATEST_INTEGER) GREATEST_INTEGER self.now) result }
     {
-        let (negative, size) = self.signed(2147483648, 2147483647)?;
+        let (negative, size) = self.signed(GREATEST_INTEGER as u64 + 1, GREATEST_INTEGER as u64)?;
         let value = if negative {
             -(size as i64)
         } else {
@@ -90,7 +90,7 @@ impl<'a> Item<'a> {
         if !is_numeral(digits) {
             return Err(Stop::Syntax(self.left()));
         }
-        let size = wide_number(digits);
+        let size = number(digits);
         if size > if negative { below } else { above } {
             return Err(Stop::OutOfRange(self.left()));
         }
@@ -286,17 +286,6 @@ fn unsigned(text: &[u8]) -> &[u8]
     } else {
         text
     }
-}
-
-/// The number that digits write, or 2199023255552 where it is greater.
-fn wide_number(digits: &[u8]) -> u64
-    ensures { result ≡ min 2199023255552 (number_from 0 digits.now) }
-{
-    let mut value: u64 = 0;
-    for digit in digits {
-        value = (10 * value + digit.saturating_sub(b'0') as u64).min(2199023255552);
-    }
-    value
 }
 
 /// Whether a term may stand behind the last one.

@@ -4,6 +4,8 @@ use Rattle.std.specs.Prelude.{ℕ, zero, suc, ◌+◌, ◌-◌, ℤ, pos, negsuc
 use Rattle.std.specs.Option.{option_map_or}
 use Rattle.lin_facts.specs.declared.row.Row.{Row}
 use Rattle.lin_facts.specs.declared.row.Term.TheVariants.{Value, Length, Names}
+use Rattle.bv_base.specs.declared.limits.TheConstants.{GREATEST_INTEGER}
+use Rattle.text_ops.specs.declared.width.TheConstants.{WIDEST_BYTE}
 use Rattle.name_split.specs.Patterns.{pattern_ok}
 use Rattle.name_table.specs.declared.builtin.Builtin.{Builtin}
 use Rattle.name_table.specs.declared.builtin.Builtin.TheVariants as op
@@ -59,8 +61,8 @@ summed sign a b rest (Some n) = Demands (has_32_bits n) IntRange 0 (known_intege
 summed sign a b rest None =
     let r = next_of rest in
     BothSteps
-    (sum_of_two (pos 2147483648) (pos 1) (Value a.0) sign (Value b.0))
-    (sum_of_two (pos 2147483647) (negsuc 0) (Value a.0) (neg_ℤ sign) (Value b.0))
+    (sum_of_two (pos (suc GREATEST_INTEGER)) (pos 1) (Value a.0) sign (Value b.0))
+    (sum_of_two (pos GREATEST_INTEGER) (negsuc 0) (Value a.0) (neg_ℤ sign) (Value b.0))
     (fails IntRange 0)
     (Gives (with_result Int [] (
     sum_of_three (pos 0) (pos 1) (Value r.0) (negsuc 0) (Value a.0) (neg_ℤ sign) (Value b.0)
@@ -190,20 +192,20 @@ counted enough first second = OneOperand Str (λ a rest.
 -- the count of names itself
 abbrev pub num_names : Rule
 num_names =
-    counted (λ a. at_most (Names a.0) (pos 2147483647))
+    counted (λ a. at_most (Names a.0) (pos GREATEST_INTEGER))
     (λ a r. exceeds (Value r.0) (Names a.0) (pos 0)) (λ a r. exceeds (Names a.0) (Value r.0) (pos 0))
 
 -- no more than the bytes of the string
 abbrev pub text_length : Rule
 text_length =
-    counted (λ a. at_most (Length a.0) (pos 2147483647))
+    counted (λ a. at_most (Length a.0) (pos GREATEST_INTEGER))
     (λ a r. at_least (Value r.0) (pos 0)) (λ a r. exceeds (Length a.0) (Value r.0) (pos 0))
 
--- no more than 1028 for each byte of the string
+-- no more than the widest byte for each byte of the string
 abbrev pub width : Rule
 width =
-    counted (λ a. sum_of_two (pos 2147483647) (negsuc 1027) (Length a.0) (pos 0) (Length a.0))
-    (λ a r. at_least (Value r.0) (pos 0)) (λ a r. sum_of_two (pos 0) (pos 1028) (Length a.0) (negsuc 0) (Value r.0))
+    counted (λ a. sum_of_two (pos GREATEST_INTEGER) (neg_ℤ (pos WIDEST_BYTE)) (Length a.0) (pos 0) (Length a.0))
+    (λ a r. at_least (Value r.0) (pos 0)) (λ a r. sum_of_two (pos 0) (pos WIDEST_BYTE) (Length a.0) (negsuc 0) (Value r.0))
 
 -- `substring$`: a result is no longer than a known length, and empty where that is below 0
 abbrev pub at_most_known : Option ℤ → Sym → List Row

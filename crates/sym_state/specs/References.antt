@@ -6,6 +6,7 @@ use Rattle.lin_facts.specs.declared.row.Term.{Term}
 use Rattle.lin_facts.specs.declared.row.Term.TheVariants.{Value, Length, Names, Pos, Count}
 use Rattle.lin_facts.specs.declared.row.Row.{Row}
 use Rattle.lin_facts.specs.declared.row.StepUse.{StepUse}
+use Rattle.bv_base.specs.declared.limits.TheConstants.{GREATEST_INTEGER}
 use Rattle.bst_meaning.specs.declared.condition.Cond.{Cond}
 use Rattle.sym_state.specs.declared.proof.Reference.{Reference}
 use Rattle.sym_state.specs.declared.proof.Reference.TheVariants as ref
@@ -37,8 +38,8 @@ on_symbol state s row = if nat_lt s.0 state.next then row else None
 -- the row that a reference says, where it is there
 abbrev pub row_said : Cond → State → Reference → Option Row
 row_said cond state (ref.Row k) = slice_get state.rows k
-row_said cond state (ref.ValueLow s) = on_symbol state s (Some (at_least (Value s.0) (negsuc 2147483647)))
-row_said cond state (ref.ValueHigh s) = on_symbol state s (Some (at_most (Value s.0) (pos 2147483647)))
+row_said cond state (ref.ValueLow s) = on_symbol state s (Some (at_least (Value s.0) (negsuc GREATEST_INTEGER)))
+row_said cond state (ref.ValueHigh s) = on_symbol state s (Some (at_most (Value s.0) (pos GREATEST_INTEGER)))
 row_said cond state (ref.LengthLow s) = on_symbol state s (Some (at_least (Length s.0) (pos 0)))
 row_said cond state (ref.NamesLow s) = on_symbol state s (Some (at_least (Names s.0) (pos 0)))
 row_said cond state (ref.NamesHigh s) = on_symbol state s (Some (exceeds (Length s.0) (Names s.0) (pos 0)))

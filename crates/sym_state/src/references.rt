@@ -12,6 +12,7 @@ use crate::state::State;
 use crate::symbol::Sym;
 use bst_meaning::condition::Cond;
 use bv_base::copied::Copied;
+use bv_base::limits::GREATEST_INTEGER;
 use bv_base::memory::NoMemory;
 use bv_base::seq::Seq;
 use lin_facts::row::{Part, Row, Term};
@@ -33,12 +34,12 @@ pub fn row_said(
         Reference::ValueLow(s) => Ok(on_symbol(
             state,
             s,
-            at_least(alloc, Term::Value(s.0), -2147483648)?,
+            at_least(alloc, Term::Value(s.0), -(GREATEST_INTEGER as i64) - 1)?,
         )),
         Reference::ValueHigh(s) => Ok(on_symbol(
             state,
             s,
-            at_most(alloc, Term::Value(s.0), 2147483647)?,
+            at_most(alloc, Term::Value(s.0), GREATEST_INTEGER as i64)?,
         )),
         Reference::LengthLow(s) => Ok(on_symbol(state, s, at_least(alloc, Term::Length(s.0), 0)?)),
         Reference::NamesLow(s) => Ok(on_symbol(state, s, at_least(alloc, Term::Names(s.0), 0)?)),

@@ -14,6 +14,7 @@ ghost use Rattle.text_ops.specs.TextPrefix.{text_prefix_of};
 ghost use Rattle.text_ops.specs.Width.{width_of};
 ghost use Rattle.text_ops.specs.declared.change_case.Case.{Case};
 ghost use Rattle.text_ops.specs.declared.change_case.Case.TheVariants.{Title, Lower};
+ghost use Rattle.text_ops.specs.declared.width.TheConstants.{WIDEST_BYTE};
 
 /// A second full stop is never put.
 pub fn one_period_is_enough()
@@ -44,9 +45,9 @@ pub fn a_purified_text_is_pure()
     ensures short { (text : List ℕ) → length (purified text) ≤ length text }
 {}
 
-/// No text is wider than 1028 for each of its bytes.
+/// No text is wider than [`WIDEST_BYTE`] for each of its bytes.
 pub fn a_width_is_bounded()
-    ensures { (text : List ℕ) → width_of text ≤ 1028 * length text }
+    ensures { (text : List ℕ) → width_of text ≤ WIDEST_BYTE * length text }
 {}
 
 /// In another case a text has the same bytes in the same order, ASCII letters, `\` and white space aside. Where the

@@ -3,9 +3,13 @@
 ghost use Rattle.std.specs.Prelude.{◌≡◌, ◌+◌, ◌*◌, ◌<◌, ◌≤◌, ◌∷◌, length, sum_by};
 ghost use Rattle.bv_base.specs.Levels.{inside, beyond, word_letters, ControlWord};
 ghost use Rattle.text_ops.specs.Width as specs;
+ghost use Rattle.text_ops.specs.declared.width.TheConstants.{WIDEST_BYTE};
 
 use crate::levels::{is_brace, split_word};
 use bv_base::levels::{begins_special, is_closing, is_foreign, next_level, split_white};
+
+/// The width of the widest byte, in hundredths of a point.
+pub const WIDEST_BYTE: usize = 1028;
 
 /// The widths of the bytes from 32 to 126, in order.
 const WIDTHS: [u16; 95] = [
@@ -22,7 +26,7 @@ const WIDTHS: [u16; 95] = [
 
 /// The sum of the widths of a text's bytes. A special character has the width of its letters and of its foreign words.
 ///
-/// It is at most 1028 times the text's length.
+/// It is at most [`WIDEST_BYTE`] times the text's length.
 pub fn width(s: &[u8]) -> u128
     ensures { result ≡ specs.width_of s.now }
 {
@@ -53,7 +57,7 @@ struct Measured<'a> {
 fn special_width(text: &[u8]) -> Measured<'_>
     ensures width { result.width ≡ sum_by specs.part_width (specs.printed_parts (inside 1 text.now)) }
     ensures later { result.later.now ≡ beyond 1 text.now }
-    ensures bound { result.width + 1028 * length result.later.now ≤ 1028 * length text.now }
+    ensures bound { result.width + WIDEST_BYTE * length result.later.now ≤ WIDEST_BYTE * length text.now }
 {
     let mut width: u128 = 0;
     let mut level = 1;
@@ -134,7 +138,7 @@ fn pass_word(level: usize, text: &[u8]) -> Passed<'_>
 #[tactic(auto, using(crate::proofs::WidthBounds::byte_width_bound))]
 fn byte_width(b: u8) -> u16
     ensures width { result ≡ specs.byte_width b }
-    ensures bound { result ≤ 1028 }
+    ensures bound { result ≤ WIDEST_BYTE }
 {
     match b {
         b' '..=b'~' => WIDTHS[(b - b' ') as usize],
@@ -146,7 +150,7 @@ fn byte_width(b: u8) -> u16
 #[tactic(auto, using(crate::proofs::WidthBounds::word_width_bound))]
 fn word_width(letters: &[u8]) -> u16
     ensures width { result ≡ specs.word_width letters.now }
-    ensures bound { result ≤ 1028 }
+    ensures bound { result ≤ WIDEST_BYTE }
 {
     match letters {
         b"ss" => 500,

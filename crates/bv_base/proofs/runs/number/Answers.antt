@@ -1,5 +1,6 @@
 use Rattle.std.proofs.Common.{◌≡◌, ◌+◌, ◌*◌, ◌-◌, min, ap, sym, ◌∙◌, arith, add-one, drop, get_or, drop-cons, List, ◌∷◌, ℕ}
 use Rattle.bv_base.specs.Runs.{number_from}
+use Rattle.bv_base.specs.declared.limits.TheConstants.{WIDEST_NUMBER}
 use Rattle.bv_base.proofs.Running.{number_same}
 use Rattle.bv_base.proofs.runs.number.Goals as goal
 
@@ -13,6 +14,6 @@ loop-digit-preserved c =
     record {
       capped = omega arith;
       number = number_same c.min-value.result (10 * c.loop-digit.value + (digit - 48)) rest (omega arith)
-          ∙ ap (λ ds. min 4294967296 (number_from c.loop-digit.value ds)) (sym first)
+          ∙ ap (λ ds. min WIDEST_NUMBER (number_from c.loop-digit.value ds)) (sym first)
           ∙ c.loop-digit.invariant.number;
     }

@@ -2,6 +2,7 @@ use Rattle.std.proofs.Common.{◌≡◌, ◌∙◌, ◌+◌, ◌*◌, ◌≤◌,
 use Rattle.std.specs.List.{sum_by}
 use Rattle.std.proofs.lemmas.List.Sums.{sum_by-cons}
 use Rattle.bv_base.specs.Levels.{begins_special, pieces_after, Special, inside, closing, beyond}
+use Rattle.text_ops.specs.declared.width.TheConstants.{WIDEST_BYTE}
 use Rattle.text_ops.specs.Width.{piece_width}
 use Rattle.text_ops.proofs.PieceSteps.{special_piece, special_bound, tail, tail_length}
 use Rattle.text_ops.proofs.width.width.Goals as goal
@@ -13,7 +14,7 @@ loop-rest-preserved-then-begins_special c =
     let step : sum_by piece_width (pieces_after 0 c.loop-rest.level c.loop-rest.rest.now) ≡ c.special_width-special.result.width + sum_by piece_width (pieces_after 0 c.loop-rest.level c.special_width-special.result.later.now)
     = rw (c.special_width-special.ensures.width, c.special_width-special.ensures.later)
     (ap (sum_by piece_width) (special_piece c.loop-rest.level c.loop-rest.rest.now begins) ∙ sum_by-cons piece_width (Special (inside 1 (tail c.loop-rest.rest.now)) (closing 1 (tail c.loop-rest.rest.now))) (pieces_after 0 c.loop-rest.level (beyond 1 (tail c.loop-rest.rest.now)))) in
-    let within : c.special_width-special.result.width + 1028 * length c.special_width-special.result.later.now ≤ 1028 * length (tail c.loop-rest.rest.now) = c.special_width-special.ensures.bound in
+    let within : c.special_width-special.result.width + WIDEST_BYTE * length c.special_width-special.result.later.now ≤ WIDEST_BYTE * length (tail c.loop-rest.rest.now) = c.special_width-special.ensures.bound in
     let shorter : length c.special_width-special.result.later.now + 1 ≤ length c.loop-rest.rest.now = rw c.special_width-special.ensures.later (special_bound c.loop-rest.level c.loop-rest.rest.now begins) in
     record {
       width = omega (arith, step, c.loop-rest.invariant.width);
