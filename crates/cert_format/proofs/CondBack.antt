@@ -1,5 +1,5 @@
 -- The text of a condition is read as that condition.
-use Rattle.std.proofs.Common.{◌≡◌, ℕ, ◌≤◌, Bool, true, false, not, List, [], ◌∷◌, ◌++◌, map, Ok, codes, refl, sym, ap, subst, ◌∙◌, append_assoc, arith}
+use Rattle.std.proofs.Common.{◌≡◌, ℕ, ◌≤◌, Bool, true, false, not, List, [], ◌∷◌, ◌++◌, map, Ok, codes, lit≤, refl, sym, ap, subst, ◌∙◌, append_assoc, arith}
 use Rattle.std.specs.Fmt.{decimal}
 use Rattle.std.specs.List.{list_all}
 use Rattle.std.specs.Cmp.Lexicographic.{slice_cmp}
@@ -21,7 +21,7 @@ use Rattle.cert_format.specs.Spelling.{choice_text, cond_end, cond_items, cond_l
 use Rattle.cert_format.specs.Texts.{cond_of, told}
 use Rattle.cert_format.specs.declared.cond_lines.CondSoFar.{CondSoFar}
 use Rattle.cert_format.specs.declared.cond_lines.Stage.TheVariants.{Key, Preamble, Length, Names, Done}
-use Rattle.cert_format.proofs.CondTaken.{at_stage, entries_taken, key_taken, length_taken, preamble_taken, then_go}
+use Rattle.cert_format.proofs.CondTaken.{at_stage, numbered, then_go}
 use Rattle.cert_format.proofs.CondWhole.{Goes, end_all, fits_names, names_all, nonblank_all, types_all, up_of}
 use Rattle.cert_format.proofs.NamesTaken.{field_solid, type_solid}
 use Rattle.cert_format.proofs.Numerals.{decimal_digits}
@@ -110,13 +110,13 @@ numbers_all names c more q is next (a ∷ (b ∷ (d ∷ (e ∷ lines)))) have =
     let c2 : Cond = record c1 { key = c.key } in
     let c3 : Cond = record c2 { preamble = c.preamble } in
     then_go (conditions.cond_line names a conditions.no_lines) (at_stage Key c1) (conditions.cond_lines names (b ∷ (d ∷ (e ∷ lines)))) (Ok q)
-    (entries_taken names a c0 c.entries is.entries have.0)
+    (numbered names a (codes "entries") 1000000 c.entries conditions.no_lines (at_stage Key c1) (λ number. Ok (at_stage Key (record c0 { entries = number }))) (lit≤ tt) is.entries have.0 (λ word rest. refl) refl)
     (then_go (conditions.cond_line names b (at_stage Key c1)) (at_stage Preamble c2) (conditions.cond_lines names (d ∷ (e ∷ lines))) (Ok q)
-    (key_taken names b c1 c.key is.key have.1.0)
+    (numbered names b (codes "key") 1073741824 c.key (at_stage Key c1) (at_stage Preamble c2) (λ number. Ok (at_stage Preamble (record c1 { key = number }))) (lit≤ tt) is.key have.1.0 (λ word rest. refl) refl)
     (then_go (conditions.cond_line names d (at_stage Preamble c2)) (at_stage Length c3) (conditions.cond_lines names (e ∷ lines)) (Ok q)
-    (preamble_taken names d c2 c.preamble is.preamble have.1.1.0)
+    (numbered names d (codes "preamble") 1073741824 c.preamble (at_stage Preamble c2) (at_stage Length c3) (λ number. Ok (at_stage Length (record c2 { preamble = number }))) (lit≤ tt) is.preamble have.1.1.0 (λ word rest. refl) refl)
     (then_go (conditions.cond_line names e (at_stage Length c3)) (at_stage Names (numbers_only c)) (conditions.cond_lines names lines) (Ok q)
-    (length_taken names e c3 c.length is.length have.1.1.1.0)
+    (numbered names e (codes "length") 1073741824 c.length (at_stage Length c3) (at_stage Names (numbers_only c)) (λ number. Ok (at_stage Names (record c3 { length = number }))) (lit≤ tt) is.length have.1.1.1.0 (λ word rest. refl) refl)
     (next lines have.1.1.1.1))))
 
 -- all lines of a condition
