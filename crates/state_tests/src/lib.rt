@@ -3,5 +3,7 @@
 //! here, beside one reader of their rows and one writer of what comes of them.
 #![tactic(auto)]
 
+pub mod walk;
+
 #[cfg(test)]
 mod tests;
