@@ -224,7 +224,12 @@ pub fn width(at: &At<'_>, hints: &mut Hints<'_>) -> Result<State, EffectFault>
     let length = Term::Length(a.0);
     let alloc = at.state.alloc();
     let r = Term::Value(at.state.next());
-    let high = sum_of_two(alloc, GREATEST_INTEGER as i64, part(-(WIDEST_BYTE as i64), length), part(0, length))?;
+    let high = sum_of_two(
+        alloc,
+        GREATEST_INTEGER as i64,
+        part(-(WIDEST_BYTE as i64), length),
+        part(0, length),
+    )?;
     let most = sum_of_two(alloc, 0, part(WIDEST_BYTE as i64, length), part(-1, r))?;
     counted(at, &high, Said::rows(at_least(alloc, r, 0)?, most), hints)
 }

@@ -162,8 +162,8 @@ covered_on style admits list v symbols t tokens o state after c below at calls p
     let one = taken style t tokens c at.next in
     let there : Config = record c { frames = one.frames } in
     let is : with_effect style (Ok covers.effect) t.place there ≡ step style c =
-        sym (one.is ∙ call_is style t.token o t.place there calls
-        ∙ ap (λ (r : Result Effect Fault). with_effect style r t.place there) covers.gives) in
+    sym (one.is ∙ call_is style t.token o t.place there calls
+    ∙ ap (λ (r : Result Effect Fault). with_effect style r t.place there) covers.gives) in
     subst (λ (d : Config). At style admits list v symbols tokens after d below) is
     (record {
       assignment = covers.assignment;

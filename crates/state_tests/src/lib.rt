@@ -3,7 +3,6 @@
 //! here, beside one reader of their rows and one writer of what comes of them.
 #![tactic(auto)]
 
-pub mod walk;
-
 #[cfg(test)]
 mod tests;
+pub mod walk;

@@ -63,11 +63,11 @@ literal_stands s token kind fact value is of_kind about says machine =
     let new : w.value (subject fact) ≡ value = ap (λ (n : ℕ). w.value n) about ∙ next_is s.state.next value s.v in
     let holds : FactHolds s.style w fact = subst (λ (x : Value). Says s.style fact x) (sym new) says in
     let on : Stands s.style s.admits s.list w (with_result kind (fact ∷ []) [] (without tops s.state))
-        (with_stack (value ∷ (value_list s.v tops ++ s.below)) s.c.events s.c.log s.c) s.below
-        = pushed s.style s.admits s.list s.v s.state s.c s.below tops kind (fact ∷ []) [] value s.c.events s.c.log s.made s.stands
-            (tops_below s.style s.state tops s.made refl) is of_kind (holds, tt) tt in
+    (with_stack (value ∷ (value_list s.v tops ++ s.below)) s.c.events s.c.log s.c) s.below
+    = pushed s.style s.admits s.list s.v s.state s.c s.below tops kind (fact ∷ []) [] value s.c.events s.c.log s.made s.stands
+    (tops_below s.style s.state tops s.made refl) is of_kind (holds, tt) tt in
     let on_state = subst (λ (x : State). Stands s.style s.admits s.list w (with_result kind (fact ∷ []) [] x)
-        (with_stack (value ∷ (value_list s.v tops ++ s.below)) s.c.events s.c.log s.c) s.below) whole on in
+    (with_stack (value ∷ (value_list s.v tops ++ s.below)) s.c.events s.c.log s.c) s.below) whole on in
     record {
       value = value;
       pushes = machine;
@@ -116,7 +116,7 @@ bound_stands s name a old =
     let tops : List Sym = a ∷ reverse s.state.stack in
     let on = moved s.style s.admits s.list s.v s.state s.c s.below tops (s.state.stack ++ a ∷ []) s.c.events s.c.log s.stands (on_top s.state.stack a) in
     let on_stack = subst (λ (l : List Value). Stands s.style s.admits s.list s.v (with_top a s.state)
-        (with_stack (s.v.value a.0 ∷ l) s.c.events s.c.log s.c) s.below) (sym s.stands.stack) on in
+    (with_stack (s.v.value a.0 ∷ l) s.c.events s.c.log s.c) s.below) (sym s.stands.stack) on in
     record {
       value = s.v.value a.0;
       pushes = value_pushed s.style (kind_of s.style name) name s.place s.c (s.v.value a.0) old.value;
@@ -190,7 +190,7 @@ push_made style state (IntToken n) after sound fits made is =
 push_made style state (StrToken text) after sound fits made is =
     let bytes : IsByteList (text_of style text) = each_of_texts IsByteList style.texts text.0 tt sound.byte_texts in
     let short : length (text_of style text) ≤ 2 ^ 45 =
-        each_of_texts (λ (b : List ℕ). length b ≤ 2 ^ 45) style.texts text.0 (omega arith) (each_short style.texts sound.short_texts) in
+    each_of_texts (λ (b : List ℕ). length b ≤ 2 ^ 45) style.texts text.0 (omega arith) (each_short style.texts sound.short_texts) in
     subst (λ (x : State). WellMade style x) (the_same is) (literal_made style state Str (TextFact (next_of state) (text_of style text)) made refl tt tt bytes short)
   where
     each_short : (texts : List (List ℕ)) → Each (λ text. length text ≤ STYLE_BYTES) texts → Each (λ text. length text ≤ 2 ^ 45) texts
