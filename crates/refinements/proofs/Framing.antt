@@ -31,15 +31,15 @@ AreLeft state cases = All (LeavesVariables state) cases.states
 
 -- the state of a case, with a result on top and without
 case_left : (state : State) (facts : List Fact) (rows : List Row) → LeavesVariables state (with_case facts rows state)
-case_left state facts rows = added state state.stack state.next facts rows (omega arith)
+case_left state facts rows = added state state.stack state.next facts rows (omega arith) (omega arith)
 
 truth_left : (state : State) (rest : List Sym) (t : Bool) → LeavesVariables state (with_truth t (without rest state))
-truth_left state rest t = added state _ _ _ _ (omega arith)
+truth_left state rest t = added state _ _ _ _ (omega arith) (omega arith)
 
 truth_case_left : (state : State) (rest : List Sym) (t : Bool) (facts : List Fact) (rows : List Row)
     → LeavesVariables state (with_truth t (with_case facts rows (without rest state)))
 truth_case_left state rest t facts rows =
-    left_twice state (with_case facts rows state) (with_truth t (with_case facts rows (without rest state))) (case_left state facts rows)
+    left_twice state (with_case facts rows state) (with_truth t (with_case facts rows (without rest state))) (omega arith) (case_left state facts rows)
     (truth_left (with_case facts rows state) rest t)
 
 decided_left : (state : State) (rest : List Sym) (t : Bool) (hints : List Hint) (cases : Cases)
