@@ -24,7 +24,7 @@ use Rattle.cert_format.proofs.CondSteps.{told_ok}
 use Rattle.cert_format.proofs.CondWhole.{fits_names}
 use Rattle.cert_format.proofs.Numerals.{natural_read}
 
-each_snoc : {A : Type 0} (P : A → Type 0) (xs : List A) (x : A) → Each P xs → P x → Each P (xs ++ x ∷ [])
+pub each_snoc : {A : Type 0} (P : A → Type 0) (xs : List A) (x : A) → Each P xs → P x → Each P (xs ++ x ∷ [])
 each_snoc P [] x each is = (is, tt)
 each_snoc P (y ∷ xs) x each is = (each.0, each_snoc P xs x each.1 is)
 
@@ -33,7 +33,7 @@ last_cons x y xs =
     let place : length (x ∷ (y ∷ xs)) - 1 ≡ suc (length (y ∷ xs) - 1) = omega arith in
     ap (λ (n : ℕ). slice_get (x ∷ (y ∷ xs)) n) place
 
-chain_snoc : {A : Type 0} (before : A → A → Bool) (fits : Option A → A → Bool) → ((a b : A) → fits (Some a) b ≡ true → before a b ≡ true)
+pub chain_snoc : {A : Type 0} (before : A → A → Bool) (fits : Option A → A → Bool) → ((a b : A) → fits (Some a) b ≡ true → before a b ≡ true)
     → (xs : List A) (x : A) → is_chain before xs ≡ true → fits (last_of xs) x ≡ true → is_chain before (xs ++ x ∷ []) ≡ true
 chain_snoc before fits same [] x chain fit = refl
 chain_snoc before fits same (y ∷ []) x chain fit = and_from (before y x) true (same y x fit) refl
@@ -55,7 +55,7 @@ field_kept last names item id e =
     (subst (IsField names) (sym (same ∙ other)) d.0, subst (λ (i : NameId). is_above last i ≡ true) (sym same) b.0)
 
 -- a number that is read is within its limit
-last_kept : (most : ℕ) (line : Line) (n : ℕ) → most ≤ 4294967295 → conditions.last_natural most line ≡ Ok n → n ≤ most
+pub last_kept : (most : ℕ) (line : Line) (n : ℕ) → most ≤ 4294967295 → conditions.last_natural most line ≡ Ok n → n ≤ most
 last_kept most line n bound e =
     let a = then_ok (next_item line) _ _ e in
     let b = then_ok (natural most a.0.0) _ _ a.2 in
@@ -170,7 +170,7 @@ with_numbers names s c q entries key preamble long is few keys preambles longs s
     let kept : Kept names next = all_kept names next.cond few keys preambles longs is.bounds is.names_rise is.fields is.nonblank_rise is.types is.types_rise in
     subst (Kept names) (sym same) kept
 
-kept_at : (names : List (List ℕ × Kind)) (s : Stage) (c : Cond) (word : Item) (rest : Line) (q : CondSoFar) → IsCond names c
+pub kept_at : (names : List (List ℕ × Kind)) (s : Stage) (c : Cond) (word : Item) (rest : Line) (q : CondSoFar) → IsCond names c
     → conditions.worded_line names s word rest (record { stage = s; cond = c }) ≡ Ok q → Kept names q
 kept_at names Entries c word rest q is e =
     let a = then_ok (conditions.number_line (codes "entries") 1000000 word rest) _ _ e in
@@ -221,7 +221,7 @@ finished_cond Nonblank c condition e = absurd (cc)
 finished_cond Types c condition e = absurd (cc)
 finished_cond End c condition e = absurd (cc)
 
-none_kept : (names : List (List ℕ × Kind)) → Kept names conditions.no_lines
+pub none_kept : (names : List (List ℕ × Kind)) → Kept names conditions.no_lines
 none_kept names = all_kept names conditions.no_lines.cond (lit≤ tt) (lit≤ tt) (lit≤ tt) (lit≤ tt) tt refl tt refl tt refl
 
 -- a condition that is read keeps the limits and the order
