@@ -1,0 +1,5 @@
+pub mod Courses
+pub mod Entailed
+pub mod Uses
+pub mod Walks
+pub mod Units

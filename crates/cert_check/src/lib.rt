@@ -1,0 +1,5 @@
+//! The rules of the checker on units: summaries and calls.
+#![tactic(auto)]
+
+pub mod limits;
+pub mod refusal;
