@@ -24,7 +24,7 @@ use Rattle.cert_check.specs.declared.limits.TheConstants.{MOST_DEPTH}
 use Rattle.cert_check.specs.declared.refusal.Reason.TheVariants.{HintsLeft}
 use Rattle.cert_check.specs.declared.refusal.Refusal.{Refusal}
 use Rattle.cert_check.specs.Courses.{Course, Walk, counts, gives_all, placed, refuses}
-use Rattle.cert_check.specs.Entailed.{Shown, piece_by}
+use Rattle.sym_state.specs.Showing.{Shown, piece_by}
 use Rattle.cert_check.specs.Walks.{Onward, Scope, body_walked, chosen_in, entered, name_entered, named}
 
 -- the body of a target, which a built-in function, a variable and a field don't have

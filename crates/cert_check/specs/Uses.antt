@@ -18,7 +18,7 @@ use Rattle.sym_state.specs.Changes.{bound, symbol_at, with_bind}
 use Rattle.sym_state.specs.Entailing.{match_of, under}
 use Rattle.sym_state.specs.Renaming.{bind_renamed, fact_renamed, row_renamed, sym_renamed}
 use Rattle.sym_state.specs.Starting.{own_facts, own_rows, seat, seats, symbols_of, unbound}
-use Rattle.cert_check.specs.Entailed.{Shown, piece_by}
+use Rattle.sym_state.specs.Showing.{Shown, piece_by}
 
 -- a name is among these
 abbrev pub is_among : List NameId → NameId → Bool

@@ -3,6 +3,7 @@
 #![tactic(auto)]
 
 mod bindings;
+mod by_hints;
 pub mod demand;
 pub mod entails;
 pub mod facts;
@@ -21,3 +22,7 @@ pub mod start;
 pub mod state;
 pub mod symbol;
 pub mod test;
+
+pub use crate::by_hints::shown_by;
+pub use crate::matching::Matching;
+pub use crate::raising::symbols_of;

@@ -7,9 +7,10 @@ ghost use Rattle.sym_state.specs.Renaming as renaming;
 ghost use Rattle.sym_state.specs.WellMade.{IsBounded};
 
 use crate::bindings::Bindings;
+use crate::facts::{renamed_to, subject};
 use crate::piece::Piece;
 use crate::state::State;
-use crate::symbol::{Bind, Sym};
+use crate::symbol::{Bind, Fact, Sym};
 use bv_base::memory::NoMemory;
 use bv_base::seq::Seq;
 use lin_facts::row::{Part, Row, Term};
@@ -35,6 +36,16 @@ impl Matching {
         Ok(Matching { kept, places })
     }
 
+    /// A match that these places come before: all its symbols have places.
+    pub fn behind(&self, alloc: Global, places: Vec<(Sym, Sym)>) -> Result<Matching, NoMemory>
+        requires { self.now.kept ≡ 0 }
+        ensures { IfOk result (λ matching. matched_by matching ≡ rule.matched 0 (places.items ++ self.now.places.items)) }
+    {
+        let mut places = places;
+        places.extend_from_slice(self.places.as_slice())?;
+        Ok(Matching { kept: 0, places })
+    }
+
     /// The state's symbol that one of the piece's is matched to.
     pub fn symbol(&self, sym: Sym) -> Sym
         ensures { result.0 ≡ matched_by self.now sym.0 }
@@ -44,6 +55,23 @@ impl Matching {
         } else {
             at_first_place(self.places.as_slice(), sym)
         }
+    }
+
+    /// A binding with its symbol matched.
+    pub fn bind(&self, bind: Bind) -> Bind
+        ensures { result ≡ renaming.bind_renamed (matched_by self.now) bind }
+    {
+        Bind {
+            name: bind.name,
+            sym: self.symbol(bind.sym),
+        }
+    }
+
+    /// A fact with its symbol matched.
+    pub fn fact(&self, alloc: Global, fact: &Fact) -> Result<Fact, NoMemory>
+        ensures { IfOk result (λ new. new ≡ renaming.fact_renamed (matched_by self.now) fact.now) }
+    {
+        renamed_to(alloc, self.symbol(subject(fact)), fact)
     }
 
     /// A row with its symbols matched.

@@ -1,6 +1,6 @@
 //! Symbolic states.
 
-ghost use Rattle.std.specs.Prelude.{◌≡◌, ◌<◌, ◌≤◌, ◌^◌, ◌++◌, [], ◌∷◌, length, slice_get, reverse, drop, option_map, OnOk, OnErr, IfOk, IfSome, MatchOption};
+ghost use Rattle.std.specs.Prelude.{◌≡◌, ◌+◌, ◌<◌, ◌≤◌, ◌^◌, ◌++◌, [], ◌∷◌, length, slice_get, reverse, drop, option_map, OnOk, OnErr, IfOk, IfSome, MatchOption};
 ghost use Rattle.std.specs.List.{All};
 ghost use Rattle.std.specs.Option.{option_and_then};
 ghost use Rattle.name_table.specs.declared.style.Style.{Style};
@@ -343,6 +343,16 @@ impl State {
         after.facts.append(facts)?;
         after.rows.append(rows)?;
         Ok(after)
+    }
+
+    /// The state with so many symbols more, of which nothing is known.
+    pub fn with_symbols(self, more: u32) -> State
+        requires { self.next + more < 4294967296 }
+        ensures { result ≡ record self { next = self.next + more } }
+    {
+        let mut after = self;
+        after.next += more;
+        after
     }
 
     /// A state that is the same.

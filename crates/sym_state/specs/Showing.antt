@@ -1,5 +1,5 @@
--- How a walk shows a piece (docs/CHECKER.md, "Entailment"): its lines in order, and each of its rows by the next hint.
-use Rattle.std.specs.Prelude.{ℕ, suc, ◌+◌, if◌then◌else◌, List, [], ◌∷◌, length, Option, None, Some, Result, Ok, Err}
+-- How a piece is shown by the next hints (docs/STATES.md, "Entailment"): its lines in order, and each of its rows by a step.
+use Rattle.std.specs.Prelude.{ℕ, suc, nat_lt, if◌then◌else◌, List, [], ◌∷◌, length, Option, None, Some, Result, Ok, Err}
 use Rattle.bv_base.specs.Answers.{then_do}
 use Rattle.lin_facts.specs.declared.row.Row.{Row}
 use Rattle.bst_meaning.specs.declared.condition.Cond.{Cond}
@@ -9,7 +9,7 @@ use Rattle.sym_state.specs.declared.demand.EffectFault.TheVariants.{NotEntailed,
 use Rattle.sym_state.specs.declared.hint.Hint.{Hint}
 use Rattle.sym_state.specs.declared.hint.Hint.TheVariants.{Step}
 use Rattle.sym_state.specs.declared.piece.Piece.{Piece}
-use Rattle.sym_state.specs.Entailing.{after_stack, first_unentailed, match_of}
+use Rattle.sym_state.specs.Entailing.{first_before_rows, first_row_line, match_of}
 use Rattle.sym_state.specs.References.{shows}
 use Rattle.sym_state.specs.Renaming.{row_renamed}
 
@@ -17,12 +17,16 @@ use Rattle.sym_state.specs.Renaming.{row_renamed}
 abbrev pub Shown : Type 0
 Shown = Result (List Hint) EffectFault
 
--- the next hint is a step that shows a row, which is the piece's line of this number
+-- the hint is a step that shows a row under a match, which is the piece's line of this number
+abbrev pub row_shown_by : (ℕ → ℕ) → Cond → State → ℕ → Row → Hint → List Hint → Shown
+row_shown_by match cond state line row (Step proof) hints =
+    if shows cond state proof (row_renamed match row) then Ok hints else Err (NotEntailed line)
+row_shown_by match cond state line row hint hints = Err WrongHint
+
+-- the next hint shows a row
 abbrev pub row_by : (ℕ → ℕ) → Cond → State → ℕ → Row → List Hint → Shown
 row_by match cond state line row [] = Err HintsShort
-row_by match cond state line row (Step proof ∷ hints) =
-    if shows cond state proof (row_renamed match row) then Ok hints else Err (NotEntailed line)
-row_by match cond state line row (hint ∷ hints) = Err WrongHint
+row_by match cond state line row (hint ∷ hints) = row_shown_by match cond state line row hint hints
 
 -- rows in order, whose lines are numbered from here
 abbrev pub rows_by : (ℕ → ℕ) → Cond → State → ℕ → List Row → List Hint → Shown
@@ -35,12 +39,10 @@ abbrev pub behind_lines : Option ℕ → Shown → Shown
 behind_lines (Some line) rows = Err (NotEntailed line)
 behind_lines None rows = rows
 
--- the number of the first row's line
-abbrev pub first_row_line : Piece → ℕ
-first_row_line piece = after_stack piece.stack + (length piece.vars + (length piece.fields + length piece.facts))
-
--- a state entails a piece, whose symbols below `kept` are the state's own
+-- a state shows a piece, whose symbols below `kept` are the state's own: line 0 fails where it knows fewer symbols on the stack
 abbrev pub piece_by : Cond → State → Piece → ℕ → List Hint → Shown
 piece_by cond state piece kept hints =
-    behind_lines (first_unentailed state cond (record piece { rows = [] }) kept [])
-    (rows_by (match_of state piece kept) cond state (first_row_line piece) piece.rows hints)
+    let match = match_of state piece kept in
+    if nat_lt (length state.stack) (length piece.stack)
+    then Err (NotEntailed 0)
+    else behind_lines (first_before_rows match state piece) (rows_by match cond state (first_row_line piece) piece.rows hints)
