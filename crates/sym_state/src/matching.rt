@@ -28,7 +28,9 @@ impl Matching {
     /// The match of a piece that lies on the top of a state's stack.
     pub fn new(alloc: Global, state: &State, piece: &Piece, kept: u32) -> Result<Matching, NoMemory>
         requires { length piece.now.stack ≤ length state.now.stack }
-        ensures { IfOk result (λ matching. matched_by matching ≡ rule.match_of state.now piece.now kept) }
+        ensures matched { IfOk result (λ matching. matched_by matching ≡ rule.match_of state.now piece.now kept) }
+        ensures kept { IfOk result (λ matching. matching.kept ≡ kept) }
+        ensures places { IfOk result (λ matching. matching.places.items ≡ rule.places state.now piece.now) }
     {
         let mut places = stack_places(alloc, state.stack(), piece.stack.as_slice())?;
         add_binds(&mut places, state.vars(), piece.vars.as_slice())?;
