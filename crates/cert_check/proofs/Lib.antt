@@ -1,1 +1,3 @@
+pub mod LeftMade
+pub mod LeftPlaces
 pub mod LeftSteps

@@ -1,4 +1,5 @@
 pub mod Courses
 pub mod Uses
+pub mod Left
 pub mod Walks
 pub mod Units
