@@ -154,7 +154,7 @@ left_by_made style admits name written n kept pre post state small made old belo
 
 -- the state that a unit leaves by a post is well made, where a well-made state came to the unit
 pub left_made : (style : Style) (admits : Cond) (unit : Passage) (pre post : Piece) (kept : ℕ) (state : State) (hints left : List Hint)
-    → HasSmallFields admits → WellMade style state → HasPlaces kept pre → IsPost style kept post
+    → HasSmallFields admits → WellMade style state → HasPlaces 0 kept pre → IsPost style kept post
     → comes_by unit admits pre state hints ≡ Ok left → WellMade style (left_state style admits unit pre kept state post)
 unfolding left_state
 left_made style admits unit pre post kept state hints left small made has is came =
@@ -176,17 +176,17 @@ left_made style admits unit pre post kept state hints left small made has is cam
     left_by_made style admits name written n kept pre post state small made (omega arith)
     (λ s less. let h = below s less in omega (arith, h)) (seats_below binds first n unit.writes bound (omega arith)) is
 
--- it has no more new symbols than the post has of its own and the unit writes variables
-pub left_next : (style : Style) (admits : Cond) (unit : Passage) (pre post : Piece) (kept : ℕ) (state : State)
-    → (left_state style admits unit pre kept state post).next ≤ state.next + ((symbols_of post - kept) + length unit.writes)
+-- its new symbols are those of the post's own that stand for no other, and those of written variables that the post doesn't bind
+pub next_few : (style : Style) (admits : Cond) (unit : Passage) (pre post : Piece) (kept : ℕ) (state : State)
+    → (left_state style admits unit pre kept state post).next
+    ≤ state.next + (new_symbols unit state post kept (own_count post kept) + length unit.writes)
 unfolding left_state
-left_next style admits unit pre post kept state =
+next_few style admits unit pre post kept state =
     let count : ℕ = own_count post kept in
     let own : List (Sym × Sym) = own_places unit state post kept count state.next in
     let name : ℕ → ℕ = post_match own state pre in
     let first : ℕ = state.next + new_symbols unit state post kept count in
     let binds : List Bind = map (bind_renamed name) post.vars in
-    let new = few_new unit state post kept count in
     let seated = count_by-le-length (λ (w : NameId). is_none (symbol_at w binds)) unit.writes in
     let same = binds_next (seats binds first unit.writes) (record state {
       stack = under state pre ++ map (sym_renamed name) post.stack;
@@ -194,4 +194,12 @@ left_next style admits unit pre post kept state =
       rows = state.rows ++ rows_left style admits name (seats binds first unit.writes) post;
       next = first + unbound binds unit.writes;
     }) in
-    omega (arith, new, seated, same)
+    omega (arith, seated, same)
+
+-- they are no more than the post has of its own and the unit writes variables
+pub left_next : (style : Style) (admits : Cond) (unit : Passage) (pre post : Piece) (kept : ℕ) (state : State)
+    → (left_state style admits unit pre kept state post).next ≤ state.next + ((symbols_of post - kept) + length unit.writes)
+left_next style admits unit pre post kept state =
+    let new = few_new unit state post kept (own_count post kept) in
+    let next = next_few style admits unit pre post kept state in
+    omega (arith, new, next)

@@ -191,7 +191,7 @@ own_has unit state post s (suc more) next k low high =
 
 -- the state's symbol for a symbol that a post may name is below the number of the state's symbols and of the new ones
 pub name_below : (style : Style) (unit : Passage) (match : ℕ → ℕ) (state : State) (pre post : Piece) (kept s : ℕ) → WellMade style state
-    → length pre.stack ≤ length state.stack → LinesPass match state pre → HasPlaces kept pre → s < max kept (symbols_of post)
+    → length pre.stack ≤ length state.stack → LinesPass match state pre → HasPlaces 0 kept pre → s < max kept (symbols_of post)
     → post_match (own_places unit state post kept (own_count post kept) state.next) state pre s
     < state.next + new_symbols unit state post kept (own_count post kept)
 name_below style unit match state pre post kept s made few lines has less =
@@ -206,7 +206,7 @@ name_below style unit match state pre post kept s made few lines has less =
     (places_below style state pre made)) in
     matched_below n (own ++ places state pre) s all
     (elim (nat_lt s kept) as (λ (b : Bool). nat_lt s kept ≡ b → has_place (own ++ places state pre) s ≡ true) [
-      | true ↦ λ is. has_second own (places state pre) s (pre_has match state pre s few lines (has s (grind (arith, nat_tests))))
+      | true ↦ λ is. has_second own (places state pre) s (pre_has match state pre s few lines (has s (omega arith) (grind (arith, nat_tests))))
       | false ↦ λ is.
           let high : kept ≤ s = grind (arith, nat_tests) in
           has_first own (places state pre) s (own_has unit state post kept count state.next s high (omega (arith, high, less)))

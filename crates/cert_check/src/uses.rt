@@ -6,11 +6,11 @@ ghost use Rattle.bv_base.specs.Answers.{Leaves};
 ghost use Rattle.cert_check.specs.Uses as rule;
 ghost use Rattle.sym_state.specs.declared.demand.EffectFault.TheVariants.{NoMemory as WantOfMemory};
 ghost use Rattle.sym_state.specs.Demands.{HasFewUses};
-ghost use Rattle.sym_state.specs.Entailing.{line_count, places};
+ghost use Rattle.sym_state.specs.Entailing.{places};
 ghost use Rattle.sym_state.specs.Matches.{matched_by};
 ghost use Rattle.sym_state.specs.Renaming.{bind_renamed, fact_renamed, row_renamed, sym_renamed};
+ghost use Rattle.sym_state.specs.Showing.{CanShow};
 ghost use Rattle.sym_state.specs.Starting.{symbols_of as count_of};
-ghost use Rattle.sym_state.specs.WellMade.{HasBounds, IsBounded};
 
 use bst_meaning::condition::Cond;
 use bv_base::memory::NoMemory;
@@ -55,11 +55,9 @@ pub(crate) fn comes_by(
     state: &State,
     hints: &mut Hints<'_>,
 ) -> Result<(), EffectFault>
-    requires state { HasBounds state.now }
-    requires rows { All IsBounded piece.now.rows }
-    requires lines { line_count piece.now ≤ 2147483648 }
-    requires proofs { All HasFewUses hints.old }
+    requires { CanShow state.now piece.now hints.old }
     ensures shown { Leaves WantOfMemory (rule.comes_by unit.now cond.now piece.now state.now hints.old) hints.new result }
+    ensures few { OnOk result (length piece.now.stack ≤ length state.now.stack) }
     ensures stays { OnErr result (hints.new ≡ hints.old) }
     ensures proofs { All HasFewUses hints.new }
 {
@@ -263,29 +261,32 @@ fn left_by(
     requires names { All (λ bind. bind.name.0 < length style.now.names) written.now }
     ensures { IfOk result (λ state. state ≡ rule.left_by style.now cond.now (matched_by matching.now) written.now (below.next + more) post.now below) }
 {
-    let facts = facts_left(style, cond, matching, written, post, below.alloc())?;
-    let rows = rows_left(style, cond, matching, written, post, below.alloc())?;
+    let (facts, rows) = added(style, cond, matching, written, post, below.alloc())?;
     let stacked = with_stack(below, matching, post.stack.as_slice())?;
     let told = stacked.with_case(facts, rows)?;
     with_binds(told.with_symbols(more), written)
 }
 
-/// The facts that a post adds.
-fn facts_left(
+/// The facts and rows that a post adds: first the own ones of the written variables.
+fn added(
     style: &Style,
     cond: &Cond,
     matching: &Matching,
     written: &[Bind],
     post: &Piece,
     alloc: Global,
-) -> Result<Vec<Fact>, NoMemory>
+) -> Result<(Vec<Fact>, Vec<Row>), NoMemory>
     requires { All (λ bind. bind.name.0 < length style.now.names) written.now }
-    ensures { IfOk result (λ facts. facts.items ≡ rule.facts_left style.now cond.now (matched_by matching.now) written.now post.now) }
+    ensures facts { IfOk result (λ more. more.0.items ≡ rule.facts_left style.now cond.now (matched_by matching.now) written.now post.now) }
+    ensures rows { IfOk result (λ more. more.1.items ≡ rule.rows_left style.now cond.now (matched_by matching.now) written.now post.now) }
 {
     let mut facts = Vec::new(alloc);
     add_own_facts(&mut facts, style, cond, written)?;
     add_facts(&mut facts, matching, post.facts.as_slice(), alloc)?;
-    Ok(facts)
+    let mut rows = Vec::new(alloc);
+    add_own_rows(alloc, &mut rows, style, cond, written)?;
+    add_rows(&mut rows, matching, post.rows.as_slice(), alloc)?;
+    Ok((facts, rows))
 }
 
 /// Adds facts with their symbols matched.
@@ -301,24 +302,6 @@ fn add_facts(
         all.push(matching.fact(alloc, fact)?)?;
     }
     Ok(())
-}
-
-/// The rows that a post adds.
-fn rows_left(
-    style: &Style,
-    cond: &Cond,
-    matching: &Matching,
-    written: &[Bind],
-    post: &Piece,
-    alloc: Global,
-) -> Result<Vec<Row>, NoMemory>
-    requires { All (λ bind. bind.name.0 < length style.now.names) written.now }
-    ensures { IfOk result (λ rows. rows.items ≡ rule.rows_left style.now cond.now (matched_by matching.now) written.now post.now) }
-{
-    let mut rows = Vec::new(alloc);
-    add_own_rows(alloc, &mut rows, style, cond, written)?;
-    add_rows(&mut rows, matching, post.rows.as_slice(), alloc)?;
-    Ok(rows)
 }
 
 /// Adds rows with their symbols matched.

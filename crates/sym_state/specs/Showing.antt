@@ -1,5 +1,6 @@
 -- How a piece is shown by the next hints (docs/STATES.md, "Entailment"): its lines in order, and each of its rows by a step.
-use Rattle.std.specs.Prelude.{ℕ, suc, nat_lt, if◌then◌else◌, List, [], ◌∷◌, length, Option, None, Some, Result, Ok, Err}
+use Rattle.std.specs.Prelude.{ℕ, suc, ◌≤◌, nat_lt, if◌then◌else◌, List, [], ◌∷◌, length, Option, None, Some, Result, Ok, Err}
+use Rattle.std.specs.List.{All}
 use Rattle.bv_base.specs.Answers.{then_do}
 use Rattle.lin_facts.specs.declared.row.Row.{Row}
 use Rattle.bst_meaning.specs.declared.condition.Cond.{Cond}
@@ -9,9 +10,11 @@ use Rattle.sym_state.specs.declared.demand.EffectFault.TheVariants.{NotEntailed,
 use Rattle.sym_state.specs.declared.hint.Hint.{Hint}
 use Rattle.sym_state.specs.declared.hint.Hint.TheVariants.{Step}
 use Rattle.sym_state.specs.declared.piece.Piece.{Piece}
-use Rattle.sym_state.specs.Entailing.{first_before_rows, first_row_line, match_of}
+use Rattle.sym_state.specs.Demands.{HasFewUses}
+use Rattle.sym_state.specs.Entailing.{first_before_rows, first_row_line, line_count, match_of}
 use Rattle.sym_state.specs.References.{shows}
 use Rattle.sym_state.specs.Renaming.{row_renamed}
+use Rattle.sym_state.specs.WellMade.{HasBounds, IsBounded}
 
 -- the hints that are left, or why a piece isn't shown
 abbrev pub Shown : Type 0
@@ -46,3 +49,10 @@ piece_by cond state piece kept hints =
     if nat_lt (length state.stack) (length piece.stack)
     then Err (NotEntailed 0)
     else behind_lines (first_before_rows match state piece) (rows_by match cond state (first_row_line piece) piece.rows hints)
+
+-- a state, a piece and hints that a call may take: texts and rows within their bounds, few lines, short proofs
+pub record CanShow (state : State) (piece : Piece) (hints : List Hint) : Type 0 where
+  pub bounds : HasBounds state
+  pub rows : All IsBounded piece.rows
+  pub lines : line_count piece ≤ 2147483648
+  pub proofs : All HasFewUses hints

@@ -6,7 +6,6 @@ ghost use Rattle.bv_base.specs.Answers.{Leaves};
 ghost use Rattle.sym_state.specs.declared.demand.EffectFault.TheVariants.{NoMemory as WantOfMemory};
 ghost use Rattle.sym_state.specs.declared.hint.Hint.{Hint};
 ghost use Rattle.sym_state.specs.Demands.{HasFewUses};
-ghost use Rattle.sym_state.specs.Entailing.{line_count};
 ghost use Rattle.sym_state.specs.Matches.{matched_by};
 ghost use Rattle.sym_state.specs.Showing as rule;
 ghost use Rattle.sym_state.specs.WellMade.{HasBounds, IsBounded};
@@ -30,11 +29,9 @@ pub fn shown_by(
     kept: u32,
     hints: &mut Hints<'_>,
 ) -> Result<(), EffectFault>
-    requires state { HasBounds state.now }
-    requires rows { All IsBounded piece.now.rows }
-    requires lines { line_count piece.now ≤ 2147483648 }
-    requires proofs { All HasFewUses hints.old }
+    requires { rule.CanShow state.now piece.now hints.old }
     ensures shown { Leaves WantOfMemory (rule.piece_by cond.now state.now piece.now kept hints.old) hints.new result }
+    ensures few { OnOk result (length piece.now.stack ≤ length state.now.stack) }
     ensures stays { OnErr result (hints.new ≡ hints.old) }
     ensures proofs { All HasFewUses hints.new }
 {
