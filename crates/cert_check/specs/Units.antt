@@ -82,7 +82,7 @@ own_walked scope place (Block body) None state course = Ok course
 -- the body of a summary is walked from its pre: each state at its end entails one of its posts, and no hint is left
 abbrev pub summary_checked : Style → Cert → Summary → Result (List Hint) Refusal
 summary_checked style cert summary =
-    let scope = record { style = style; cert = cert; writes = Some summary.writes } in
+    let scope : Scope = record { style = style; cert = cert; writes = Some summary.writes } in
     let body = body_of style summary.body in
     let place = place_of style body in
     let state = started style cert.cond (summary.pre ∷ []) summary.whole summary.entry in

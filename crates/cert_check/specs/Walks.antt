@@ -2,7 +2,7 @@
 -- state's place. How a body is walked that a token enters is told to each rule.
 use Rattle.std.specs.Prelude.{ℕ, zero, suc, Bool, true, false, nat_eq, if◌then◌else◌, List, [], ◌∷◌, length, reverse, map, Option, None, Some, Result, Ok, Err, slice_get}
 use Rattle.std.specs.List.{list_all, list_any}
-use Rattle.std.specs.Option.{option_and_then, option_map_or}
+use Rattle.std.specs.Option.{option_and_then, option_map, option_map_or}
 use Rattle.bv_base.specs.Answers.{then_do}
 use Rattle.bv_base.specs.declared.place.Place.{Place}
 use Rattle.name_table.specs.Sound.{block_of}
@@ -35,6 +35,7 @@ use Rattle.sym_state.specs.declared.demand.EffectFault.{EffectFault}
 use Rattle.sym_state.specs.declared.demand.EffectFault.TheVariants as fault
 use Rattle.sym_state.specs.declared.hint.Hint.{Hint}
 use Rattle.sym_state.specs.declared.hint.Hint.TheVariants as hint
+use Rattle.sym_state.specs.declared.piece.Piece.{Piece}
 use Rattle.sym_state.specs.declared.symbol.Fact.{Fact}
 use Rattle.sym_state.specs.declared.symbol.Fact.TheVariants as fact
 use Rattle.sym_state.specs.declared.symbol.Kinds.{Kinds}
@@ -150,10 +151,14 @@ block_body number id [] = None
 block_body number id (body ∷ bodies) =
     if option_map_or (nat_eq number) body.block false then Some (record { 0 = id }) else block_body number (suc id) bodies
 
--- a block is entered
-abbrev pub block_entered : Scope → Enter → Place → Option BodyId → State → Course → Walk
-block_entered scope enter place None state course = refuses place reason.UnknownFunction
-block_entered scope enter place (Some body) state course = entered scope place (Block body) (enter place body) state course
+-- what an exact function is: a name, or the block with its number
+abbrev pub target_of : Style → Function → Option Target
+target_of style (ByName name) = Some (Named name)
+target_of style (ByNumber number) = option_map Block (block_body number 0 style.bodies)
+
+-- what a symbol exactly is
+abbrev pub exact_target : Style → State → Sym → Option Target
+exact_target style state s = option_and_then (target_of style) (exact_function state.facts s.0)
 
 -- the test that a built-in function makes
 abbrev pub test_of : Builtin → Option Test
@@ -174,17 +179,16 @@ abbrev pub Call : Type 0
 Call = NameId → Onward
 
 -- what `if$` enters in a case: the exact function, of which a name counts
-abbrev pub function_entered : Scope → Enter → Call → Place → Option Function → State → Course → Walk
+abbrev pub function_entered : Scope → Enter → Call → Place → Option Target → Onward
 function_entered scope enter call place None state course = refuses place reason.UnknownFunction
-function_entered scope enter call place (Some (ByName name)) state course = call name state course
-function_entered scope enter call place (Some (ByNumber number)) state course =
-    block_entered scope enter place (block_body number 0 scope.style.bodies) state course
+function_entered scope enter call place (Some (Named name)) state course = call name state course
+function_entered scope enter call place (Some (Block body)) state course = entered scope place (Block body) (enter place body) state course
 
 -- the function of each case is entered, in order: the first function where the integer is above 0, else the second
 abbrev pub cases_entered : Scope → Enter → Call → Place → Three → List (Bool × State) → Course → Walk
 cases_entered scope enter call place three [] course = Ok course
 cases_entered scope enter call place three (case ∷ cases) course =
-    then_do (function_entered scope enter call place (exact_function case.1.facts (if case.0 then three.middle else three.top).0) case.1 course)
+    then_do (function_entered scope enter call place (exact_target scope.style case.1 (if case.0 then three.middle else three.top)) case.1 course)
     (cases_entered scope enter call place three cases)
 
 -- `if$`: an integer and two functions, of which those are entered whose cases are kept
@@ -211,17 +215,21 @@ named scope enter if_else (Some (kind.Builtin op)) name place state course = bui
 named scope enter if_else (Some (kind.Wizard body)) name place state course = entered scope place (Named name) (enter place body) state course
 named scope enter if_else _ name place state course = variable name place state course
 
+-- a function that the style defines
+abbrev pub is_wizard : Option Kind → Bool
+is_wizard (Some (kind.Wizard body)) = true
+is_wizard _ = false
+
 -- a name of a kind is entered: what isn't a function of the style takes the hint of a summary here, since its token takes none
-abbrev pub entering : Scope → Enter → Onward → Option Kind → NameId → Place → Onward
-entering scope enter if_else (Some (kind.Wizard body)) name place state course =
-    named scope enter if_else (Some (kind.Wizard body)) name place state course
-entering scope enter if_else other name place state course =
-    entered scope place (Named name) (named scope enter if_else other name place) state course
+abbrev pub entering : Scope → Onward → Option Kind → NameId → Place → Onward
+entering scope call found name place state course =
+    if is_wizard found then call state course else entered scope place (Named name) call state course
 
 -- a name is entered that counts
 abbrev pub name_entered : Scope → Enter → Onward → Place → Call
 name_entered scope enter if_else place name state course =
-    then_do (counts 1 place course) (entering scope enter if_else (kind_of scope.style name) name place state)
+    let found = kind_of scope.style name in
+    then_do (counts 1 place course) (entering scope (named scope enter if_else found name place) found name place state)
 
 -- `if$` in a state whose stack this is, its top first: it takes three operands before it enters another
 abbrev pub if_else : Scope → Enter → Place → List Sym → Onward
@@ -239,16 +247,19 @@ chosen_in scope enter place state course = if_else scope enter place (reverse st
 abbrev pub number_of : Style → BodyId → ℕ
 number_of style body = option_map_or (λ found. option_map_or (λ number. number) found 0) (block_of body style.bodies) 0
 
+-- the state after a literal of a token; a name is none
+abbrev pub literal_state : Style → Token → State → State
+literal_state style (token.Int n) state = literal Int (fact.Int (next_of state) n) state
+literal_state style (token.Str text) state = literal Str (fact.Text (next_of state) (text_of style text)) state
+literal_state style (token.Quote name) state = literal Func (fact.Call (next_of state) name) state
+literal_state style (token.Block body) state = literal Func (fact.Block (next_of state) (number_of style body)) state
+literal_state style (token.Call name) state = state
+
 -- what a token gives of a state
 abbrev pub token_taken : Scope → Enter → Token → Place → State → Course → Walk
-token_taken scope enter (token.Int n) place state course = gives place (literal Int (fact.Int (next_of state) n) state) course
-token_taken scope enter (token.Str text) place state course =
-    gives place (literal Str (fact.Text (next_of state) (text_of scope.style text)) state) course
-token_taken scope enter (token.Quote name) place state course = gives place (literal Func (fact.Call (next_of state) name) state) course
-token_taken scope enter (token.Block body) place state course =
-    gives place (literal Func (fact.Block (next_of state) (number_of scope.style body)) state) course
 token_taken scope enter (token.Call name) place state course =
     named scope enter (chosen_in scope enter place) (kind_of scope.style name) name place state course
+token_taken scope enter other place state course = gives place (literal_state scope.style other state) course
 
 -- a token is taken from a state: it counts
 abbrev pub taken : Scope → Enter → TokenAt → State → Course → Walk

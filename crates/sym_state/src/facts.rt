@@ -74,6 +74,17 @@ pub fn exact_name(facts: &SharedList<Fact>, sym: Sym) -> Option<NameId>
     }
 }
 
+/// The number of the block that a symbol exactly is.
+pub fn exact_block(facts: &SharedList<Fact>, sym: Sym) -> Option<u32>
+    ensures { result ≡ option_and_then decided.number_of (decided.exact_function facts.now sym.0) }
+{
+    let found = facts.find(|fact| subject(fact).0 == sym.0 && is_function_said(fact));
+    match found {
+        Some(fact) => function_number(fact),
+        None => None,
+    }
+}
+
 /// The kind of a symbol: the first single kind that a fact says, and where none does that of strings and missing fields
 /// if one says it.
 pub fn known_kind(facts: &SharedList<Fact>, sym: Sym) -> Kinds
@@ -290,6 +301,16 @@ fn function_name(fact: &Fact) -> Option<NameId>
 {
     match fact {
         Fact::Call(_, name) => Some(*name),
+        _ => None,
+    }
+}
+
+/// The number of the block that a fact says.
+fn function_number(fact: &Fact) -> Option<u32>
+    ensures { result ≡ option_and_then decided.number_of (decided.function_said fact.now) }
+{
+    match fact {
+        Fact::Block(_, number) => Some(*number),
         _ => None,
     }
 }

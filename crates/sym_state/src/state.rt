@@ -235,6 +235,13 @@ impl State {
         facts::exact_name(&self.facts, sym)
     }
 
+    /// The number of the block that a symbol exactly is.
+    pub fn exact_block(&self, sym: Sym) -> Option<u32>
+        ensures { result ≡ option_and_then decided.number_of (decided.exact_function self.now.facts sym.0) }
+    {
+        facts::exact_block(&self.facts, sym)
+    }
+
     /// What `empty$` gives for a symbol, true for 1, by the first fact on it that decides that.
     pub fn known_emptiness(&self, sym: Sym) -> Option<bool>
         ensures { result ≡ decided.first_said decided.emptiness_said sym.0 self.now.facts }
