@@ -26,7 +26,7 @@ use Rattle.sym_state.specs.declared.proof.Proof.{Proof}
 use Rattle.sym_state.specs.State.{State}
 use Rattle.sym_state.specs.Changes.{symbol_at}
 use Rattle.sym_state.specs.Facts.{FactHolds, subject}
-use Rattle.sym_state.specs.Entailing.{agrees, bind_agrees, fact_follows, first_failing, first_line_failing, first_unentailed, first_unshown, match_of, row_shown, stack_places, under, after_stack}
+use Rattle.sym_state.specs.Entailing.{agrees, bind_agrees, fact_follows, first_before_rows, first_failing, first_line_failing, first_row_line, first_unentailed, first_unshown, match_of, row_shown, stack_places, under, after_stack}
 use Rattle.sym_state.specs.Renaming.{row_renamed, term_renamed, through}
 use Rattle.sym_state.specs.Stands.{IsBound, PieceHolds, Satisfies, Stands, value_by, values_of}
 use Rattle.sym_state.specs.Symbols.{Valuation, numbers}
@@ -142,31 +142,56 @@ passed : (test : Bool) (line : ℕ) → cond test None (Some line) ≡ None → 
 passed true line e = refl
 passed false line e = absurd (cc)
 
+-- what holds of a state where no line of a piece before the rows fails under a match
+pub record LinesPass (match : ℕ → ℕ) (state : State) (piece : Piece) : Type 0 where
+  pub stack : list_all (agrees match) (stack_places state.stack piece.stack) ≡ true
+  pub vars : first_failing (bind_agrees match state.vars) (after_stack piece.stack) piece.vars ≡ None
+  pub fields : first_failing (bind_agrees match state.fields) (after_stack piece.stack + length piece.vars) piece.fields ≡ None
+  pub facts : first_failing (fact_follows match state.facts) (after_stack piece.stack + length piece.vars + length piece.fields) piece.facts ≡ None
+
+pub lines_pass : (match : ℕ → ℕ) (state : State) (piece : Piece) → first_before_rows match state piece ≡ None → LinesPass match state piece
+lines_pass match state piece none =
+    let a = neither _ _ none in
+    let b = neither _ _ a.1 in
+    let d = neither _ _ b.1 in
+    record {
+      stack = passed (list_all (agrees match) (stack_places state.stack piece.stack)) 1 a.0;
+      vars = b.0;
+      fields = d.0;
+      facts = d.1;
+    }
+
+-- where no line before the rows fails and the rows hold, the piece holds
+pub lines_hold : (style : Style) (admits : Cond) (list : EntryList) (v : Valuation) (state : State) (c : Config) (below : List Value)
+    (piece : Piece) (match : ℕ → ℕ) → length piece.stack ≤ length state.stack → first_before_rows match state piece ≡ None
+    → AllByRecursion (Holds (numbers (through match v))) piece.rows → Stands style admits list v state c below
+    → PieceHolds style (through match v) piece c (values_of v (under state piece) ++ below)
+lines_hold style admits list v state c below piece match few none rows stands =
+    let vars = after_stack piece.stack in
+    let fields = vars + length piece.vars in
+    let facts = fields + length piece.fields in
+    let lines = lines_pass match state piece none in
+    record {
+      stack = stack_holds v match state.stack piece.stack below c.stack few lines.stack stands.stack;
+      met = record {
+        vars = none_fails (IsBound style (through match v) c.globals (visited_entry c)) (bind_agrees match state.vars) vars piece.vars
+            (λ bind is. bind_holds style v c match state.vars bind stands.vars is) lines.vars;
+        fields = none_fails (IsBound style (through match v) c.globals (visited_entry c)) (bind_agrees match state.fields) fields piece.fields
+            (λ bind is. bind_holds style v c match state.fields bind stands.fields is) lines.fields;
+        facts = none_fails (FactHolds style (through match v)) (fact_follows match state.facts) facts piece.facts
+            (λ fact is. known_holds style v (match (subject fact)) state.facts fact stands.satisfied.facts is) lines.facts;
+        rows = rows;
+      };
+    }
+
 pub entailed : (style : Style) (admits : Cond) (list : EntryList) (v : Valuation) (state : State) (c : Config) (below : List Value)
     (piece : Piece) (match : ℕ → ℕ) (proofs : List Proof) → length piece.stack ≤ length state.stack
     → first_line_failing match admits state piece proofs ≡ None → Stands style admits list v state c below
     → PieceHolds style (through match v) piece c (values_of v (under state piece) ++ below)
 entailed style admits list v state c below piece match proofs few none stands =
-    let vars = after_stack piece.stack in
-    let fields = vars + length piece.vars in
-    let facts = fields + length piece.fields in
-    let rows = facts + length piece.facts in
-    let a = neither _ _ none in
-    let b = neither _ _ a.1 in
-    let d = neither _ _ b.1 in
-    let f = neither _ _ d.1 in
-    record {
-      stack = stack_holds v match state.stack piece.stack below c.stack few (passed (list_all (agrees match) (stack_places state.stack piece.stack)) 1 a.0) stands.stack;
-      met = record {
-        vars = none_fails (IsBound style (through match v) c.globals (visited_entry c)) (bind_agrees match state.vars) vars piece.vars
-            (λ bind is. bind_holds style v c match state.vars bind stands.vars is) b.0;
-        fields = none_fails (IsBound style (through match v) c.globals (visited_entry c)) (bind_agrees match state.fields) fields piece.fields
-            (λ bind is. bind_holds style v c match state.fields bind stands.fields is) d.0;
-        facts = none_fails (FactHolds style (through match v)) (fact_follows match state.facts) facts piece.facts
-            (λ fact is. known_holds style v (match (subject fact)) state.facts fact stands.satisfied.facts is) f.0;
-        rows = rows_hold style admits v state match rows piece.rows proofs stands.satisfied f.1;
-      };
-    }
+    let both = neither _ _ none in
+    lines_hold style admits list v state c below piece match few both.0
+    (rows_hold style admits v state match (first_row_line piece) piece.rows proofs stands.satisfied both.1) stands
 
 -- the same where no line of the piece fails under its match
 pub unentailed_none : (style : Style) (admits : Cond) (list : EntryList) (v : Valuation) (state : State) (c : Config) (below : List Value)

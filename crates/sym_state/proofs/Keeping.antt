@@ -36,7 +36,7 @@ most_small name (line ∷ lines) most all e =
       | false ↦ λ found. most_small name lines most (All-tail (λ (l : NamesLine). l.most ≤ 2 ^ 45) line lines all) found
     ] e
 
-own_bounded : (admits : Cond) (kind : Option Kind) (b : Bind) → HasSmallFields admits → All IsBounded (own_rows admits kind b)
+pub own_bounded : (admits : Cond) (kind : Option Kind) (b : Bind) → HasSmallFields admits → All IsBounded (own_rows admits kind b)
 own_bounded admits (Some StrEntry) b small = All-cons IsBounded _ [] (length_bounded b.sym.0 250 (omega arith)) (All-nil IsBounded)
 own_bounded admits (Some StrGlobal) b small = All-cons IsBounded _ [] (length_bounded b.sym.0 20000 (omega arith)) (All-nil IsBounded)
 own_bounded admits (Some Field) b small =

@@ -16,6 +16,7 @@ pub mod Reading
 pub mod RowSums
 pub mod Saying
 pub mod Shown
+pub mod ShownPieces
 pub mod SharedLists
 pub mod Spots
 pub mod Started

@@ -57,78 +57,78 @@ raised_binds n k piece few =
     (All-map (λ b. b.sym.0 < n) (bind_renamed (raised k)) piece.fields
     (All-weaker (λ b. b.sym.0 < symbols_of piece) (λ b. k + b.sym.0 < n) (λ b h. omega arith) piece.fields (fields_below (symbols_of piece) piece (omega arith))))
 
-subject_renamed : (k : ℕ) (fact : Fact) → subject (fact_renamed (raised k) fact) ≡ k + subject fact
-subject_renamed k (Is s x) = refl
-subject_renamed k (Int s x) = refl
-subject_renamed k (Text s x) = refl
-subject_renamed k (Call s x) = refl
-subject_renamed k (Block s x) = refl
-subject_renamed k (Blank s) = refl
-subject_renamed k (Nonblank s) = refl
-subject_renamed k (Wellformed s) = refl
+pub subject_renamed : (name : ℕ → ℕ) (fact : Fact) → subject (fact_renamed name fact) ≡ name (subject fact)
+subject_renamed name (Is s x) = refl
+subject_renamed name (Int s x) = refl
+subject_renamed name (Text s x) = refl
+subject_renamed name (Call s x) = refl
+subject_renamed name (Block s x) = refl
+subject_renamed name (Blank s) = refl
+subject_renamed name (Nonblank s) = refl
+subject_renamed name (Wellformed s) = refl
 
 raised_facts : (n k : ℕ) (piece : Piece) → k + symbols_of piece ≤ n → IsNumbered piece → All (λ f. subject f < n) (map (fact_renamed (raised k)) piece.facts)
 raised_facts n k piece few numbered =
     All-map (λ f. subject f < n) (fact_renamed (raised k)) piece.facts
     (All-weaker (λ f. subject f < symbols_of piece) (λ f. subject (fact_renamed (raised k) f) < n)
-    (λ f h. let is = subject_renamed k f in omega arith) piece.facts numbered.facts)
+    (λ f h. let is = subject_renamed (raised k) f in omega arith) piece.facts numbered.facts)
 
-raised_term : (n m k : ℕ) (t : Term) → k + m ≤ n → IsTermBelow m t → IsTermBelow n (term_renamed (raised k) t)
-raised_term n m k (Value s) few h = omega arith
-raised_term n m k (Length s) few h = omega arith
-raised_term n m k (Names s) few h = omega arith
-raised_term n m k _ few h = tt
+renamed_term : (n m : ℕ) (name : ℕ → ℕ) (t : Term) → ((s : ℕ) → s < m → name s < n) → IsTermBelow m t → IsTermBelow n (term_renamed name t)
+renamed_term n m name (Value s) below h = below s h
+renamed_term n m name (Length s) below h = below s h
+renamed_term n m name (Names s) below h = below s h
+renamed_term n m name _ below h = tt
+
+abbrev part_renamed : (ℕ → ℕ) → Part → Part
+part_renamed name part = record { coefficient = part.coefficient; term = term_renamed name part.term }
 
 abbrev pub RowBelow : ℕ → Row → Type 0
 RowBelow n row = All (λ part. IsTermBelow n part.term) row.parts
 
-raised_row : (n m k : ℕ) (row : Row) → k + m ≤ n → RowBelow m row → RowBelow n (row_renamed (raised k) row)
-raised_row n m k row few h =
-    let name : Part → Part = λ part. record { coefficient = part.coefficient; term = term_renamed (raised k) part.term } in
-    All-map (λ part. IsTermBelow n part.term) name row.parts
-    (All-weaker (λ part. IsTermBelow m part.term) (λ part. IsTermBelow n (term_renamed (raised k) part.term)) (λ part below. raised_term n m k part.term few below) row.parts h)
+pub renamed_row : (n m : ℕ) (name : ℕ → ℕ) (row : Row) → ((s : ℕ) → s < m → name s < n) → RowBelow m row → RowBelow n (row_renamed name row)
+renamed_row n m name row below h =
+    All-map (λ part. IsTermBelow n part.term) (part_renamed name) row.parts
+    (All-weaker (λ part. IsTermBelow m part.term) (λ part. IsTermBelow n (term_renamed name part.term)) (λ part less. renamed_term n m name part.term below less) row.parts h)
 
 raised_rows : (n k : ℕ) (piece : Piece) → k + symbols_of piece ≤ n → IsNumbered piece → All (RowBelow n) (map (row_renamed (raised k)) piece.rows)
 raised_rows n k piece few numbered =
     All-map (RowBelow n) (row_renamed (raised k)) piece.rows
-    (All-weaker (RowBelow (symbols_of piece)) (λ row. RowBelow n (row_renamed (raised k) row)) (λ row h. raised_row n (symbols_of piece) k row few h) piece.rows numbered.rows)
+    (All-weaker (RowBelow (symbols_of piece)) (λ row. RowBelow n (row_renamed (raised k) row))
+    (λ row h. renamed_row n (symbols_of piece) (raised k) row (λ s less. omega arith) h) piece.rows numbered.rows)
 
-short_renamed : (k : ℕ) (fact : Fact) → HasShortText fact → HasShortText (fact_renamed (raised k) fact)
-short_renamed k (Text s x) h = h
-short_renamed k _ h = tt
+pub short_renamed : (name : ℕ → ℕ) (fact : Fact) → HasShortText fact → HasShortText (fact_renamed name fact)
+short_renamed name (Text s x) h = h
+short_renamed name _ h = tt
 
-small_renamed : (k : ℕ) (fact : Fact) → HasSmallInteger fact → HasSmallInteger (fact_renamed (raised k) fact)
-small_renamed k (Int s x) h = h
-small_renamed k _ h = tt
+pub small_renamed : (name : ℕ → ℕ) (fact : Fact) → HasSmallInteger fact → HasSmallInteger (fact_renamed name fact)
+small_renamed name (Int s x) h = h
+small_renamed name _ h = tt
 
-bytes_renamed : (k : ℕ) (fact : Fact) → HasByteText fact → HasByteText (fact_renamed (raised k) fact)
-bytes_renamed k (Text s x) h = h
-bytes_renamed k _ h = tt
+pub bytes_renamed : (name : ℕ → ℕ) (fact : Fact) → HasByteText fact → HasByteText (fact_renamed name fact)
+bytes_renamed name (Text s x) h = h
+bytes_renamed name _ h = tt
 
-style_renamed : (style : Style) (k : ℕ) (fact : Fact) → IsOfStyle style fact → IsOfStyle style (fact_renamed (raised k) fact)
-style_renamed style k (Call s x) h = h
-style_renamed style k (Block s x) h = h
-style_renamed style k _ h = tt
-
-abbrev part_renamed : ℕ → Part → Part
-part_renamed k part = record { coefficient = part.coefficient; term = term_renamed (raised k) part.term }
+pub style_renamed : (style : Style) (name : ℕ → ℕ) (fact : Fact) → IsOfStyle style fact → IsOfStyle style (fact_renamed name fact)
+style_renamed style name (Call s x) h = h
+style_renamed style name (Block s x) h = h
+style_renamed style name _ h = tt
 
 abbrev sizes : List Part → ℕ
 sizes parts = sum_by (λ (part : Part). size part.coefficient) parts
 
-sizes_renamed : (k : ℕ) (parts : List Part) → sizes (map (part_renamed k) parts) ≡ sizes parts
-sizes_renamed k [] = refl
-sizes_renamed k (part ∷ parts) =
+sizes_renamed : (name : ℕ → ℕ) (parts : List Part) → sizes (map (part_renamed name) parts) ≡ sizes parts
+sizes_renamed name [] = refl
+sizes_renamed name (part ∷ parts) =
     let measure : Part → ℕ = λ p. size p.coefficient in
-    sum_by-cons measure (part_renamed k part) (map (part_renamed k) parts)
-    ∙ ap (λ (n : ℕ). size part.coefficient + n) (sizes_renamed k parts)
+    sum_by-cons measure (part_renamed name part) (map (part_renamed name) parts)
+    ∙ ap (λ (n : ℕ). size part.coefficient + n) (sizes_renamed name parts)
     ∙ sym (sum_by-cons measure part parts)
 
-bounded_renamed : (k : ℕ) (row : Row) → IsBounded row → IsBounded (row_renamed (raised k) row)
-bounded_renamed k row h = record {
-  parts = let same = length-map row.parts (part_renamed k) in omega (arith, same, h.parts);
+pub bounded_renamed : (name : ℕ → ℕ) (row : Row) → IsBounded row → IsBounded (row_renamed name row)
+bounded_renamed name row h = record {
+  parts = let same = length-map row.parts (part_renamed name) in omega (arith, same, h.parts);
   constant = h.constant;
-  coefficients = let same = sizes_renamed k row.parts in omega (arith, same, h.coefficients);
+  coefficients = let same = sizes_renamed name row.parts in omega (arith, same, h.coefficients);
 }
 
 -- a symbol that is bound is below what all are below
@@ -144,7 +144,7 @@ unbound-cons : (binds : List Bind) (name : NameId) (names : List NameId) → unb
 unbound-cons binds name names = sum_by-cons (λ (n : NameId). cond (is_none (symbol_at n binds)) 1 0) name names
 
 -- the symbols of seats are below the number that comes after them
-seats_below : (binds : List Bind) (first n : ℕ) (names : List NameId) → All (λ b. b.sym.0 < first) binds → first + unbound binds names ≤ n
+pub seats_below : (binds : List Bind) (first n : ℕ) (names : List NameId) → All (λ b. b.sym.0 < first) binds → first + unbound binds names ≤ n
     → All (λ b. b.sym.0 < n) (seats binds first names)
 seats_below binds first n [] all few = All-nil (λ b. b.sym.0 < n)
 seats_below binds first n (name ∷ names) all few =
@@ -208,7 +208,7 @@ seated_names style at_entry test binds first stricter =
     ∙ ids_filter (takes_part at_entry) test stricter style.names 0 style.names (λ j. ap (λ (n : ℕ). let d : NameId = record { 0 = n } in kind_at d style.names) (omega arith))
 
 -- what a variable or a field gives of its own
-own_facts_are : (P : Fact → Type 0) (admits : Cond) (kind : Option Kind) (b : Bind)
+pub own_facts_are : (P : Fact → Type 0) (admits : Cond) (kind : Option Kind) (b : Bind)
     → ((k : Kinds) → P (Is b.sym k)) → P (Nonblank b.sym) → P (Wellformed b.sym) → All P (own_facts admits kind b)
 own_facts_are P admits (Some IntEntry) b is nonblank wellformed = All-cons P (Is b.sym IntKind) [] (is IntKind) (All-nil P)
 own_facts_are P admits (Some IntGlobal) b is nonblank wellformed = All-cons P (Is b.sym IntKind) [] (is IntKind) (All-nil P)
@@ -232,7 +232,7 @@ own_facts_are P admits None b is nonblank wellformed = All-nil P
 row_below : (n : ℕ) (t : Term) (m : ℕ) → IsTermBelow n t → RowBelow n (at_most t (pos m))
 row_below n t m h = All-cons (λ (part : Part). IsTermBelow n part.term) _ [] h (All-nil (λ (part : Part). IsTermBelow n part.term))
 
-own_rows_below : (n : ℕ) (admits : Cond) (kind : Option Kind) (b : Bind) → b.sym.0 < n → All (RowBelow n) (own_rows admits kind b)
+pub own_rows_below : (n : ℕ) (admits : Cond) (kind : Option Kind) (b : Bind) → b.sym.0 < n → All (RowBelow n) (own_rows admits kind b)
 own_rows_below n admits (Some StrEntry) b h = All-cons (RowBelow n) _ [] (row_below n (Length b.sym.0) 250 h) (All-nil (RowBelow n))
 own_rows_below n admits (Some StrGlobal) b h = All-cons (RowBelow n) _ [] (row_below n (Length b.sym.0) 20000 h) (All-nil (RowBelow n))
 own_rows_below n admits (Some Field) b h =
@@ -328,14 +328,14 @@ started_made style admits pieces whole at_entry numbered fit bounded =
           (each_given (RowBelow n) (λ b. own_rows admits (kind_of style b.name) b) (λ b. b.sym.0 < n) seated (λ b h. own_rows_below n admits (kind_of style b.name) b h) below);
       binds_vars = seated_names style at_entry (is_variable at_entry) (bound_by on) first (λ k e. (or_parts (is_variable at_entry k) (is_field at_entry k) e).0);
       binds_fields = seated_names style at_entry (is_field at_entry) (bound_by on) first (λ k e. (or_parts (is_variable at_entry k) (is_field at_entry k) e).1);
-      of_style = all_facts (IsOfStyle style) style admits pieces whole at_entry (style_renamed style) (λ b k. tt) (λ b. tt) (λ b. tt)
+      of_style = all_facts (IsOfStyle style) style admits pieces whole at_entry (λ k. style_renamed style (raised k)) (λ b k. tt) (λ b. tt) (λ b. tt)
           (All-weaker (IsFit style) (λ piece. All (IsOfStyle style) piece.facts) (λ piece h. h.of_style) pieces fit);
-      integers = all_facts HasSmallInteger style admits pieces whole at_entry small_renamed (λ b k. tt) (λ b. tt) (λ b. tt)
+      integers = all_facts HasSmallInteger style admits pieces whole at_entry (λ k. small_renamed (raised k)) (λ b k. tt) (λ b. tt) (λ b. tt)
           (All-weaker (IsFit style) (λ piece. All HasSmallInteger piece.facts) (λ piece h. h.integers) pieces fit);
-      bytes = all_facts HasByteText style admits pieces whole at_entry bytes_renamed (λ b k. tt) (λ b. tt) (λ b. tt)
+      bytes = all_facts HasByteText style admits pieces whole at_entry (λ k. bytes_renamed (raised k)) (λ b k. tt) (λ b. tt) (λ b. tt)
           (All-weaker (IsFit style) (λ piece. All HasByteText piece.facts) (λ piece h. h.bytes) pieces fit);
       bounds = record {
-        facts = all_facts HasShortText style admits pieces whole at_entry short_renamed (λ b k. tt) (λ b. tt) (λ b. tt)
+        facts = all_facts HasShortText style admits pieces whole at_entry (λ k. short_renamed (raised k)) (λ b k. tt) (λ b. tt) (λ b. tt)
             (All-weaker (IsFit style) (λ piece. All HasShortText piece.facts) (λ piece h. h.texts) pieces fit);
         rows = bounded;
       };
@@ -345,4 +345,4 @@ started_made style admits pieces whole at_entry numbered fit bounded =
 pub pieces_bounded : (style : Style) (pieces : List Piece) → All (IsFit style) pieces → All IsBounded (flat_map (λ piece. piece.rows) (numbered_on 0 pieces))
 pieces_bounded style pieces fit =
     each_part IsBounded (λ piece. piece.rows) (IsFit style) (all_symbols pieces) 0 pieces
-    (λ k piece few h. All-map IsBounded (row_renamed (raised k)) piece.rows (All-weaker IsBounded (λ row. IsBounded (row_renamed (raised k) row)) (λ row g. bounded_renamed k row g) piece.rows h.rows)) (omega arith) fit
+    (λ k piece few h. All-map IsBounded (row_renamed (raised k)) piece.rows (All-weaker IsBounded (λ row. IsBounded (row_renamed (raised k) row)) (λ row g. bounded_renamed (raised k) row g) piece.rows h.rows)) (omega arith) fit

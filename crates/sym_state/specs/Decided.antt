@@ -132,6 +132,11 @@ abbrev pub name_of : Function → Option NameId
 name_of (ByName name) = Some name
 name_of (ByNumber number) = None
 
+-- the number of a function that is a block
+abbrev pub number_of : Function → Option ℕ
+number_of (ByName name) = None
+number_of (ByNumber number) = Some number
+
 -- a symbol is known nonblank where the first fact that decides `empty$` decides 0
 abbrev pub is_known_nonblank : List Fact → ℕ → Bool
 is_known_nonblank facts s = option_map_or not (first_said emptiness_said s facts) false

@@ -72,18 +72,26 @@ abbrev pub after_stack : List Sym → ℕ
 after_stack [] = 1
 after_stack (s ∷ stack) = 2
 
--- the first line of a piece that fails under a match: those of the stack, the variables, the fields, the facts, the rows
-abbrev pub first_line_failing : (ℕ → ℕ) → Cond → State → Piece → List Proof → Option ℕ
-first_line_failing match cond state piece proofs =
+-- the number of the first row's line
+abbrev pub first_row_line : Piece → ℕ
+first_row_line piece = after_stack piece.stack + (length piece.vars + (length piece.fields + length piece.facts))
+
+-- the first line before the rows that fails under a match: those of the stack, the variables, the fields, the facts
+abbrev pub first_before_rows : (ℕ → ℕ) → State → Piece → Option ℕ
+first_before_rows match state piece =
     let vars = after_stack piece.stack in
     let fields = vars + length piece.vars in
     let facts = fields + length piece.fields in
-    let rows = facts + length piece.facts in
     option_or (if list_all (agrees match) (stack_places state.stack piece.stack) then None else Some 1)
     (option_or (first_failing (bind_agrees match state.vars) vars piece.vars)
     (option_or (first_failing (bind_agrees match state.fields) fields piece.fields)
-    (option_or (first_failing (fact_follows match state.facts) facts piece.facts)
-    (first_unshown match cond state rows piece.rows proofs))))
+    (first_failing (fact_follows match state.facts) facts piece.facts)))
+
+-- the first line of a piece that fails under a match: the rows come last
+abbrev pub first_line_failing : (ℕ → ℕ) → Cond → State → Piece → List Proof → Option ℕ
+first_line_failing match cond state piece proofs =
+    option_or (first_before_rows match state piece)
+    (first_unshown match cond state (first_row_line piece) piece.rows proofs)
 
 -- how many lines a piece has at most
 abbrev pub line_count : Piece → ℕ

@@ -12,6 +12,7 @@ pub mod SharedLists
 pub mod Starting
 pub mod Entailing
 pub mod Matches
+pub mod Showing
 pub mod Opening
 pub mod Demands
 pub mod Results

@@ -69,22 +69,7 @@ fn first_line_failing(
     requires lines { rule.line_count piece.now ≤ 2147483648 }
     ensures { IfOk result (λ line. line ≡ rule.first_line_failing (matched_by matching.now) cond.now state.now piece.now proofs.now) }
 {
-    if !stack_agrees(matching, state.stack(), piece.stack.as_slice()) {
-        return Ok(Some(1));
-    }
-    let vars = after_stack(piece.stack.as_slice());
-    let fields = vars + piece.vars.as_slice().len() as u32;
-    let facts = fields + piece.fields.as_slice().len() as u32;
-    let rows = facts + piece.facts.as_slice().len() as u32;
-    let line = first_unbound(matching, state.vars(), vars, piece.vars.as_slice());
-    if line.is_some() {
-        return Ok(line);
-    }
-    let line = first_unbound(matching, state.fields(), fields, piece.fields.as_slice());
-    if line.is_some() {
-        return Ok(line);
-    }
-    let line = first_unknown(matching, state, facts, piece.facts.as_slice());
+    let line = first_before_rows(state, piece, matching);
     if line.is_some() {
         return Ok(line);
     }
@@ -93,10 +78,44 @@ fn first_line_failing(
         state,
         cond,
         matching,
-        rows,
+        first_row_line(piece),
         piece.rows.as_slice(),
         proofs,
     )
+}
+
+/// The first line before the rows that fails under a match.
+pub(crate) fn first_before_rows(state: &State, piece: &Piece, matching: &Matching) -> Option<u32>
+    requires stack { length piece.now.stack ≤ length state.now.stack }
+    requires lines { rule.line_count piece.now ≤ 2147483648 }
+    ensures { result ≡ rule.first_before_rows (matched_by matching.now) state.now piece.now }
+{
+    if !stack_agrees(matching, state.stack(), piece.stack.as_slice()) {
+        return Some(1);
+    }
+    let vars = after_stack(piece.stack.as_slice());
+    let fields = vars + piece.vars.as_slice().len() as u32;
+    let facts = fields + piece.fields.as_slice().len() as u32;
+    let line = first_unbound(matching, state.vars(), vars, piece.vars.as_slice());
+    if line.is_some() {
+        return line;
+    }
+    let line = first_unbound(matching, state.fields(), fields, piece.fields.as_slice());
+    if line.is_some() {
+        return line;
+    }
+    first_unknown(matching, state, facts, piece.facts.as_slice())
+}
+
+/// The number of the first row's line.
+pub(crate) fn first_row_line(piece: &Piece) -> u32
+    requires { rule.line_count piece.now ≤ 2147483648 }
+    ensures { result ≡ rule.first_row_line piece.now }
+{
+    let facts = piece.facts.as_slice().len() as u32;
+    let fields = piece.fields.as_slice().len() as u32;
+    let vars = piece.vars.as_slice().len() as u32;
+    after_stack(piece.stack.as_slice()) + (vars + (fields + facts))
 }
 
 /// The number of the line after the one of the stack.

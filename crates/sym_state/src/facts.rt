@@ -1,18 +1,22 @@
 //! What the facts of a state decide (docs/STATES.md, "What facts decide").
 
-ghost use Rattle.std.specs.Prelude.{◌≡◌, ◌≤◌, ◌^◌, ◌&&◌, false, nat_eq, length, option_map, is_some, IfSome};
+ghost use Rattle.std.specs.Prelude.{◌≡◌, ◌≤◌, ◌^◌, ◌&&◌, false, nat_eq, length, option_map, is_some, ℕ, IfOk, IfSome};
 ghost use Rattle.std.specs.List.{All, list_any};
 ghost use Rattle.std.specs.Option.{option_and_then, option_map_or};
 ghost use Rattle.std.specs.Ordering.{int_eq};
 ghost use Rattle.std.specs.Cmp.Lexicographic.{pointwise};
 ghost use Rattle.sym_state.specs.Decided as decided;
 ghost use Rattle.sym_state.specs.Facts as rule;
+ghost use Rattle.sym_state.specs.Renaming.{fact_renamed};
 ghost use Rattle.sym_state.specs.WellMade.{HasShortText};
 
 use crate::shared_list::SharedList;
 use crate::symbol::{Fact, Kinds, Sym};
+use bv_base::memory::NoMemory;
+use bv_base::text::Text;
 use name_split::names::names_ok;
 use name_table::names::NameId;
+use std::alloc::Global;
 use text_ops::is_blank::is_blank;
 
 /// The exact integer of a symbol.
@@ -66,6 +70,17 @@ pub fn exact_name(facts: &SharedList<Fact>, sym: Sym) -> Option<NameId>
     let found = facts.find(|fact| subject(fact).0 == sym.0 && is_function_said(fact));
     match found {
         Some(fact) => function_name(fact),
+        None => None,
+    }
+}
+
+/// The number of the block that a symbol exactly is.
+pub fn exact_block(facts: &SharedList<Fact>, sym: Sym) -> Option<u32>
+    ensures { result ≡ option_and_then decided.number_of (decided.exact_function facts.now sym.0) }
+{
+    let found = facts.find(|fact| subject(fact).0 == sym.0 && is_function_said(fact));
+    match found {
+        Some(fact) => function_number(fact),
         None => None,
     }
 }
@@ -143,6 +158,22 @@ pub fn subject(fact: &Fact) -> Sym
         Fact::Nonblank(sym) => *sym,
         Fact::Wellformed(sym) => *sym,
     }
+}
+
+/// A fact on another symbol.
+pub(crate) fn renamed_to(alloc: Global, sym: Sym, fact: &Fact) -> Result<Fact, NoMemory>
+    ensures { (name : ℕ → ℕ) → sym.0 ≡ name (rule.subject fact.now) → IfOk result (λ new. new ≡ fact_renamed name fact.now) }
+{
+    Ok(match fact {
+        Fact::Is(_, kind) => Fact::Is(sym, *kind),
+        Fact::Int(_, n) => Fact::Int(sym, *n),
+        Fact::Text(_, text) => Fact::Text(sym, Text::from_slice(alloc, text.as_slice())?),
+        Fact::Call(_, name) => Fact::Call(sym, *name),
+        Fact::Block(_, number) => Fact::Block(sym, *number),
+        Fact::Blank(_) => Fact::Blank(sym),
+        Fact::Nonblank(_) => Fact::Nonblank(sym),
+        Fact::Wellformed(_) => Fact::Wellformed(sym),
+    })
 }
 
 /// Whether a fact is a consequence of another, on the same symbol.
@@ -270,6 +301,16 @@ fn function_name(fact: &Fact) -> Option<NameId>
 {
     match fact {
         Fact::Call(_, name) => Some(*name),
+        _ => None,
+    }
+}
+
+/// The number of the block that a fact says.
+fn function_number(fact: &Fact) -> Option<u32>
+    ensures { result ≡ option_and_then decided.number_of (decided.function_said fact.now) }
+{
+    match fact {
+        Fact::Block(_, number) => Some(*number),
         _ => None,
     }
 }

@@ -1,6 +1,8 @@
 //! The hints of a certificate, and a cursor on them.
 
-ghost use Rattle.std.specs.Prelude.{◌≡◌, [], ◌∷◌, MatchOption};
+ghost use Rattle.std.specs.Prelude.{◌≡◌, [], ◌∷◌, IfSome, MatchOption};
+ghost use Rattle.std.specs.List.{All};
+ghost use Rattle.sym_state.specs.Demands.{HasFewUses};
 
 use crate::proof::Proof;
 use std::marker::Model;
@@ -66,6 +68,19 @@ impl<'a> Hints<'a> {
                 self.rest = rest;
                 Some(first)
             }
+        }
+    }
+
+    /// The same, where the proofs of all hints that are left are short.
+    pub fn next_short(&mut self) -> Option<&'a Hint>
+        requires { All HasFewUses self.old }
+        ensures first { MatchOption result ((self.old ≡ []) × (self.new ≡ [])) (λ hint. self.old ≡ hint.now ∷ self.new) }
+        ensures few { All HasFewUses self.new }
+        ensures uses { IfSome result (λ hint. HasFewUses hint.now) }
+    {
+        match self.next() {
+            Some(hint) => Some(hint),
+            None => None,
         }
     }
 }

@@ -1,6 +1,6 @@
 //! What the definitions of states give, in the machine's words.
 
-ghost use Rattle.std.specs.Prelude.{◌≡◌, ◌↔◌, ℕ, ◌+◌, ◌≤◌, ◌^◌, ◌∷◌, ◌++◌, Bool, true, List, None, Some, Err};
+ghost use Rattle.std.specs.Prelude.{◌≡◌, ◌↔◌, ℕ, ◌+◌, ◌≤◌, ◌^◌, ◌∷◌, ◌++◌, Bool, true, List, None, Some, Ok, Err};
 ghost use Rattle.std.specs.List.{All, AllByRecursion};
 ghost use Rattle.std.specs.Option.{option_map_or};
 ghost use Rattle.bst_meaning.specs.Builtins.{Context, built_in};
@@ -31,11 +31,13 @@ ghost use Rattle.sym_state.specs.Positions.{Position, moved_to, position_sizes, 
 ghost use Rattle.sym_state.specs.Pushes.{pushed_by};
 ghost use Rattle.sym_state.specs.References.{shows};
 ghost use Rattle.sym_state.specs.Renaming.{through};
+ghost use Rattle.sym_state.specs.Showing.{piece_by};
 ghost use Rattle.sym_state.specs.Stands.{PieceHolds, Satisfies, Stands, value_by, values_of};
 ghost use Rattle.sym_state.specs.Starting.{IsFit, IsNumbered, all_symbols, started};
 ghost use Rattle.sym_state.specs.State.{State};
 ghost use Rattle.sym_state.specs.Symbols.{Valuation, numbers};
 ghost use Rattle.sym_state.specs.WellMade.{HasSmallFields, IsBounded, WellMade, size, takes_part};
+ghost use Rattle.sym_state.specs.declared.hint.Hint.{Hint};
 ghost use Rattle.sym_state.specs.declared.piece.Piece.{Piece};
 ghost use Rattle.sym_state.specs.declared.proof.Proof.{Proof};
 ghost use Rattle.sym_state.specs.declared.symbol.Fact.{Fact};
@@ -82,6 +84,14 @@ pub fn shown_rows_hold()
 pub fn entailed_pieces_hold()
     ensures { (style : Style) (admits : Cond) (list : EntryList) (v : Valuation) (state : State) (c : Config) (below : List Value)
         (piece : Piece) (kept : ℕ) (proofs : List Proof) → first_unentailed state admits piece kept proofs ≡ None
+        → Stands style admits list v state c below
+        → PieceHolds style (through (match_of state piece kept) v) piece c (values_of v (under state piece) ++ below) }
+{}
+
+/// A piece that is shown by hints holds wherever the state stands, by the assignment through the match.
+pub fn shown_pieces_hold()
+    ensures { (style : Style) (admits : Cond) (list : EntryList) (v : Valuation) (state : State) (c : Config) (below : List Value)
+        (piece : Piece) (kept : ℕ) (hints left : List Hint) → piece_by admits state piece kept hints ≡ Ok left
         → Stands style admits list v state c below
         → PieceHolds style (through (match_of state piece kept) v) piece c (values_of v (under state piece) ++ below) }
 {}

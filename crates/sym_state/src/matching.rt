@@ -7,9 +7,10 @@ ghost use Rattle.sym_state.specs.Renaming as renaming;
 ghost use Rattle.sym_state.specs.WellMade.{IsBounded};
 
 use crate::bindings::Bindings;
+use crate::facts::{renamed_to, subject};
 use crate::piece::Piece;
 use crate::state::State;
-use crate::symbol::{Bind, Sym};
+use crate::symbol::{Bind, Fact, Sym};
 use bv_base::memory::NoMemory;
 use bv_base::seq::Seq;
 use lin_facts::row::{Part, Row, Term};
@@ -27,12 +28,24 @@ impl Matching {
     /// The match of a piece that lies on the top of a state's stack.
     pub fn new(alloc: Global, state: &State, piece: &Piece, kept: u32) -> Result<Matching, NoMemory>
         requires { length piece.now.stack ≤ length state.now.stack }
-        ensures { IfOk result (λ matching. matched_by matching ≡ rule.match_of state.now piece.now kept) }
+        ensures matched { IfOk result (λ matching. matched_by matching ≡ rule.match_of state.now piece.now kept) }
+        ensures kept { IfOk result (λ matching. matching.kept ≡ kept) }
+        ensures places { IfOk result (λ matching. matching.places.items ≡ rule.places state.now piece.now) }
     {
         let mut places = stack_places(alloc, state.stack(), piece.stack.as_slice())?;
         add_binds(&mut places, state.vars(), piece.vars.as_slice())?;
         add_binds(&mut places, state.fields(), piece.fields.as_slice())?;
         Ok(Matching { kept, places })
+    }
+
+    /// A match that these places come before: all its symbols have places.
+    pub fn behind(&self, alloc: Global, places: Vec<(Sym, Sym)>) -> Result<Matching, NoMemory>
+        requires { self.now.kept ≡ 0 }
+        ensures { IfOk result (λ matching. matched_by matching ≡ rule.matched 0 (places.items ++ self.now.places.items)) }
+    {
+        let mut places = places;
+        places.extend_from_slice(self.places.as_slice())?;
+        Ok(Matching { kept: 0, places })
     }
 
     /// The state's symbol that one of the piece's is matched to.
@@ -44,6 +57,23 @@ impl Matching {
         } else {
             at_first_place(self.places.as_slice(), sym)
         }
+    }
+
+    /// A binding with its symbol matched.
+    pub fn bind(&self, bind: Bind) -> Bind
+        ensures { result ≡ renaming.bind_renamed (matched_by self.now) bind }
+    {
+        Bind {
+            name: bind.name,
+            sym: self.symbol(bind.sym),
+        }
+    }
+
+    /// A fact with its symbol matched.
+    pub fn fact(&self, alloc: Global, fact: &Fact) -> Result<Fact, NoMemory>
+        ensures { IfOk result (λ new. new ≡ renaming.fact_renamed (matched_by self.now) fact.now) }
+    {
+        renamed_to(alloc, self.symbol(subject(fact)), fact)
     }
 
     /// A row with its symbols matched.

@@ -7,11 +7,11 @@ ghost use Rattle.sym_state.specs.Renaming as renaming;
 ghost use Rattle.sym_state.specs.Starting as rule;
 ghost use Rattle.sym_state.specs.WellMade.{IsTermBelow};
 
+use crate::facts::{renamed_to, subject};
 use crate::piece::Piece;
 use crate::symbol::{Bind, Fact, Sym};
 use bv_base::memory::NoMemory;
 use bv_base::seq::Seq;
-use bv_base::text::Text;
 use lin_facts::row::{Part, Row, Term};
 use std::alloc::Global;
 
@@ -71,7 +71,7 @@ fn add_piece(alloc: Global, contents: &mut Contents, piece: &Piece) -> Result<()
 }
 
 /// How many symbols a piece has.
-fn symbols_of(piece: &Piece) -> u64
+pub fn symbols_of(piece: &Piece) -> u64
     ensures { result ≡ rule.symbols_of piece.now }
 {
     let placed = symbols_bound(piece.vars.as_slice()).max(symbols_bound(piece.fields.as_slice()));
@@ -141,19 +141,7 @@ fn raised_fact(alloc: Global, from: u32, fact: &Fact) -> Result<Fact, NoMemory>
     requires { subject fact.now < 4294967296 - from }
     ensures { IfOk result (λ new. new ≡ renaming.fact_renamed (rule.raised from) fact.now) }
 {
-    Ok(match fact {
-        Fact::Is(sym, kind) => Fact::Is(Sym(from + sym.0), *kind),
-        Fact::Int(sym, n) => Fact::Int(Sym(from + sym.0), *n),
-        Fact::Text(sym, text) => Fact::Text(
-            Sym(from + sym.0),
-            Text::from_slice(alloc, text.as_slice())?,
-        ),
-        Fact::Call(sym, name) => Fact::Call(Sym(from + sym.0), *name),
-        Fact::Block(sym, number) => Fact::Block(Sym(from + sym.0), *number),
-        Fact::Blank(sym) => Fact::Blank(Sym(from + sym.0)),
-        Fact::Nonblank(sym) => Fact::Nonblank(Sym(from + sym.0)),
-        Fact::Wellformed(sym) => Fact::Wellformed(Sym(from + sym.0)),
-    })
+    renamed_to(alloc, Sym(from + subject(fact).0), fact)
 }
 
 /// Adds rows whose symbols are numbered on.

@@ -108,7 +108,7 @@ fn is_field(at_entry: bool, kind: Kind) -> bool
 }
 
 /// Each name with its symbol, that of a piece or the next new one, and the symbol after the last.
-fn seats(
+pub fn seats(
     alloc: Global,
     binds: &[Bind],
     first: u32,
@@ -175,7 +175,7 @@ fn fields(
 }
 
 /// Adds the facts that each variable and field gives.
-fn add_own_facts(
+pub fn add_own_facts(
     facts: &mut Vec<Fact>,
     style: &Style,
     cond: &Cond,
@@ -222,7 +222,7 @@ fn push_field_facts(facts: &mut Vec<Fact>, cond: &Cond, bind: Bind) -> Result<()
 }
 
 /// Adds the rows that each variable and field gives.
-fn add_own_rows(
+pub fn add_own_rows(
     alloc: Global,
     rows: &mut Vec<Row>,
     style: &Style,

@@ -1,6 +1,6 @@
 //! Symbolic states.
 
-ghost use Rattle.std.specs.Prelude.{◌≡◌, ◌<◌, ◌≤◌, ◌^◌, ◌++◌, [], ◌∷◌, length, slice_get, reverse, drop, option_map, OnOk, OnErr, IfOk, IfSome, MatchOption};
+ghost use Rattle.std.specs.Prelude.{◌≡◌, ◌+◌, ◌<◌, ◌≤◌, ◌^◌, ◌++◌, [], ◌∷◌, length, slice_get, reverse, drop, option_map, OnOk, OnErr, IfOk, IfSome, MatchOption};
 ghost use Rattle.std.specs.Global.{Global as Allocator};
 ghost use Rattle.std.specs.List.{All};
 ghost use Rattle.std.specs.Option.{option_and_then};
@@ -239,6 +239,13 @@ impl State {
         facts::exact_name(&self.facts, sym)
     }
 
+    /// The number of the block that a symbol exactly is.
+    pub fn exact_block(&self, sym: Sym) -> Option<u32>
+        ensures { result ≡ option_and_then decided.number_of (decided.exact_function self.now.facts sym.0) }
+    {
+        facts::exact_block(&self.facts, sym)
+    }
+
     /// What `empty$` gives for a symbol, true for 1, by the first fact on it that decides that.
     pub fn known_emptiness(&self, sym: Sym) -> Option<bool>
         ensures { result ≡ decided.first_said decided.emptiness_said sym.0 self.now.facts }
@@ -349,6 +356,16 @@ impl State {
         after.facts.append(facts)?;
         after.rows.append(rows)?;
         Ok(after)
+    }
+
+    /// The state with so many symbols more, of which nothing is known.
+    pub fn with_symbols(self, more: u32) -> State
+        requires { self.next + more < 4294967296 }
+        ensures { result ≡ record self { next = self.next + more } }
+    {
+        let mut after = self;
+        after.next += more;
+        after
     }
 
     /// A state that is the same.

@@ -12,6 +12,6 @@ returns-clause-sound c =
     IfOk-weaker c.first_line_failing.result _ _
     (λ line is none style list v config below stands.
     entailed style c.args.cond.now list v c.args.state.now config below c.args.piece.now match c.args.proofs.now few
-    (ap (λ (m : ℕ → ℕ). first_line_failing m c.args.cond.now c.args.state.now c.args.piece.now c.args.proofs.now) (sym c.in_ok-matching.ensures) ∙ sym is ∙ none)
+    (ap (λ (m : ℕ → ℕ). first_line_failing m c.args.cond.now c.args.state.now c.args.piece.now c.args.proofs.now) (sym c.in_ok-matching.ensures.matched) ∙ sym is ∙ none)
     stands)
     c.first_line_failing.ensures

@@ -1,0 +1,4 @@
+pub mod LeftFew
+pub mod LeftMade
+pub mod LeftPlaces
+pub mod LeftSteps

@@ -1,0 +1,285 @@
+-- The walk over tokens (docs/CHECKER.md, "The walk"): each token is taken from each state in order, and what it gives takes the
+-- state's place. How a body is walked that a token enters is told to each rule.
+use Rattle.std.specs.Prelude.{ℕ, zero, suc, Bool, true, false, nat_eq, if◌then◌else◌, List, [], ◌∷◌, length, reverse, map, Option, None, Some, Result, Ok, Err, slice_get}
+use Rattle.std.specs.List.{list_all, list_any}
+use Rattle.std.specs.Option.{option_and_then, option_map, option_map_or}
+use Rattle.bv_base.specs.Answers.{then_do}
+use Rattle.bv_base.specs.declared.place.Place.{Place}
+use Rattle.name_table.specs.Sound.{block_of}
+use Rattle.name_table.specs.declared.builtin.Builtin.{Builtin}
+use Rattle.name_table.specs.declared.builtin.Builtin.TheVariants as op
+use Rattle.name_table.specs.declared.names.Kind.{Kind}
+use Rattle.name_table.specs.declared.names.Kind.TheVariants as kind
+use Rattle.name_table.specs.declared.names.NameId.{NameId}
+use Rattle.name_table.specs.declared.style.Body.{Body}
+use Rattle.name_table.specs.declared.style.BodyId.{BodyId}
+use Rattle.name_table.specs.declared.style.Style.{Style}
+use Rattle.name_table.specs.declared.style.Token.{Token}
+use Rattle.name_table.specs.declared.style.Token.TheVariants as token
+use Rattle.name_table.specs.declared.style.TokenAt.{TokenAt}
+use Rattle.bst_meaning.specs.StyleParts.{kind_of, text_of, tokens_of}
+use Rattle.bst_meaning.specs.declared.value.Target.{Target}
+use Rattle.bst_meaning.specs.declared.value.Target.TheVariants.{Named, Block}
+use Rattle.cert_format.specs.declared.cert.Cert.{Cert}
+use Rattle.cert_format.specs.declared.cert.Summary.{Summary}
+use Rattle.sym_state.specs.State.{State}
+use Rattle.sym_state.specs.Cases.{Labelled, above_of, split_of}
+use Rattle.sym_state.specs.Changes.{bound}
+use Rattle.sym_state.specs.Decided.{Function, ByName, ByNumber, exact_function, name_of}
+use Rattle.sym_state.specs.Demands.{Outcome, Three, fails, three_by}
+use Rattle.sym_state.specs.Effects.{effect_of}
+use Rattle.sym_state.specs.Results.{next_of, with_result, with_top}
+use Rattle.sym_state.specs.Starting.{symbols_of}
+use Rattle.sym_state.specs.declared.demand.DemandKind.TheVariants.{NoEntry}
+use Rattle.sym_state.specs.declared.demand.EffectFault.{EffectFault}
+use Rattle.sym_state.specs.declared.demand.EffectFault.TheVariants as fault
+use Rattle.sym_state.specs.declared.hint.Hint.{Hint}
+use Rattle.sym_state.specs.declared.hint.Hint.TheVariants as hint
+use Rattle.sym_state.specs.declared.piece.Piece.{Piece}
+use Rattle.sym_state.specs.declared.symbol.Fact.{Fact}
+use Rattle.sym_state.specs.declared.symbol.Fact.TheVariants as fact
+use Rattle.sym_state.specs.declared.symbol.Kinds.{Kinds}
+use Rattle.sym_state.specs.declared.symbol.Kinds.TheVariants.{Int, Str, Func}
+use Rattle.sym_state.specs.declared.symbol.Sym.{Sym}
+use Rattle.sym_state.specs.declared.test.Test.{Test}
+use Rattle.sym_state.specs.declared.test.Test.TheVariants as test
+use Rattle.cert_check.specs.declared.refusal.Reason.TheVariants as reason
+use Rattle.cert_check.specs.Courses.{Course, Walk, counts, gives, gives_all, placed, refuses}
+use Rattle.cert_check.specs.Uses.{Passage, comes_by, is_among, left_state, passage}
+
+-- where a walk is: the style and the certificate, and the variables that the scope which is checked may write: all where none is listed
+pub record Scope : Type 0 where
+  pub style : Style
+  pub cert : Cert
+  pub writes : Option (List NameId)
+
+-- how a body is walked that a token at a place enters
+abbrev pub Enter : Type 0
+Enter = Place → BodyId → State → Course → Walk
+
+-- a literal is a new symbol on top, with the fact that says its value
+abbrev pub literal : Kinds → Fact → State → State
+literal kind said state = with_result kind (said ∷ []) [] state
+
+-- the unit may write a variable
+abbrev pub may_write : Scope → NameId → Bool
+may_write scope name = option_map_or (λ writes. is_among writes name) scope.writes true
+
+-- the variable that `:=` writes, which the exact function on top names
+abbrev pub written_by : Builtin → State → Option NameId
+written_by op.Assign state = option_and_then (λ s. option_and_then name_of (exact_function state.facts s.0)) (slice_get (reverse state.stack) 0)
+written_by _ state = None
+
+-- the unit may write what a built-in function writes
+abbrev pub is_within : Scope → Option NameId → Bool
+is_within scope written = option_map_or (may_write scope) written true
+
+-- a variable that the unit may not write isn't written: that comes behind the demands and before the hints
+abbrev pub confined : Bool → Outcome → Outcome
+confined true outcome = outcome
+confined false (Err (fault.Demand demand)) = Err (fault.Demand demand)
+confined false _ = Err (fault.NotEntailed 0)
+
+-- a built-in function that is neither a test nor enters a function gives one state
+abbrev pub plain : Scope → Builtin → Place → State → Course → Walk
+plain scope op place state course =
+    then_do (placed place (confined (is_within scope (written_by op state)) (effect_of scope.style scope.cert.cond state op course.hints)))
+    (λ after. gives place after.state (record course { hints = after.hints }))
+
+-- a test gives the states of its cases
+abbrev pub split : Scope → Test → Place → State → Course → Walk
+split scope asked place state course =
+    then_do (placed place (split_of scope.cert.cond state asked course.hints)) (λ cases.
+    gives_all place cases.states (record course { hints = cases.hints }))
+
+-- a variable or a field puts its symbol on top
+abbrev pub variable : NameId → Place → State → Course → Walk
+variable name place state course =
+    option_map_or (λ s. gives place (with_top s state) course) (bound name state) (refuses place (reason.Demand (record { kind = NoEntry; operand = 0 })))
+
+-- two targets are the same
+abbrev pub is_target : Target → Target → Bool
+is_target (Named a) (Named b) = nat_eq a.0 b.0
+is_target (Block a) (Block b) = nat_eq a.0 b.0
+is_target _ b = false
+
+-- the certificate has a summary of a target
+abbrev pub has_summary : Cert → Target → Bool
+has_summary cert target = list_any (λ summary. is_target summary.body target) cert.summaries
+
+-- a unit is used that a state came to: the unit which is checked may write what this one writes, each of these variables counts,
+-- and each of its posts gives one state
+abbrev pub leaves : Scope → Place → Passage → Piece → List Piece → ℕ → State → Course → Walk
+leaves scope place unit pre posts kept state course =
+    if list_all (may_write scope) unit.writes
+    then then_do (counts (length unit.writes) place course)
+    (gives_all place (map (left_state scope.style scope.cert.cond unit pre kept state) posts))
+    else refuses place (reason.NotEntailed 0)
+
+-- a summary is used: its pre is entailed first
+abbrev pub summary_used : Scope → Place → Summary → State → Course → Walk
+summary_used scope place summary state course =
+    then_do (placed place (comes_by (passage summary) scope.cert.cond summary.pre state course.hints)) (λ hints.
+    leaves scope place (passage summary) summary.pre summary.posts (symbols_of summary.pre) state (record course { hints = hints }))
+
+-- the summary that a hint names is used, where it is one of the target
+abbrev pub use_of : Scope → Place → Target → Option Summary → State → Course → Walk
+use_of scope place target None state course = refuses place reason.NoSummary
+use_of scope place target (Some summary) state course =
+    if is_target summary.body target then summary_used scope place summary state course else refuses place reason.NoSummary
+
+-- how a state is walked on
+abbrev pub Onward : Type 0
+Onward = State → Course → Walk
+
+-- where what is entered has a summary the next hint uses one or walks
+abbrev pub entered_by : Scope → Place → Target → Onward → State → Course → List Hint → Walk
+entered_by scope place target walk state course [] = refuses place reason.HintsShort
+entered_by scope place target walk state course (hint.Apply k ∷ hints) =
+    use_of scope place target (slice_get scope.cert.summaries k) state (record course { hints = hints })
+entered_by scope place target walk state course (hint.Walk ∷ hints) = walk state (record course { hints = hints })
+entered_by scope place target walk state course (hint ∷ hints) = refuses place reason.WrongHint
+
+-- a target is entered: one without a summary is walked
+abbrev pub entered : Scope → Place → Target → Onward → Onward
+entered scope place target walk state course =
+    if has_summary scope.cert target then entered_by scope place target walk state course course.hints else walk state course
+
+-- the body of the block with a number, among bodies that are numbered from here
+abbrev pub block_body : ℕ → ℕ → List Body → Option BodyId
+block_body number id [] = None
+block_body number id (body ∷ bodies) =
+    if option_map_or (nat_eq number) body.block false then Some (record { 0 = id }) else block_body number (suc id) bodies
+
+-- what an exact function is: a name, or the block with its number
+abbrev pub target_of : Style → Function → Option Target
+target_of style (ByName name) = Some (Named name)
+target_of style (ByNumber number) = option_map Block (block_body number 0 style.bodies)
+
+-- what a symbol exactly is
+abbrev pub exact_target : Style → State → Sym → Option Target
+exact_target style state s = option_and_then (target_of style) (exact_function state.facts s.0)
+
+-- the test that a built-in function makes
+abbrev pub test_of : Builtin → Option Test
+test_of op.Empty = Some test.Empty
+test_of op.Missing = Some test.Missing
+test_of op.Equal = Some test.Equal
+test_of op.Less = Some test.Less
+test_of op.Greater = Some test.Greater
+test_of _ = None
+
+-- a built-in function that enters nothing
+abbrev pub entering_nothing : Scope → Builtin → Option Test → Place → State → Course → Walk
+entering_nothing scope op (Some asked) place state course = split scope asked place state course
+entering_nothing scope op None place state course = plain scope op place state course
+
+-- how a name is entered from a state
+abbrev pub Call : Type 0
+Call = NameId → Onward
+
+-- what `if$` enters in a case: the exact function, of which a name counts
+abbrev pub function_entered : Scope → Enter → Call → Place → Option Target → Onward
+function_entered scope enter call place None state course = refuses place reason.UnknownFunction
+function_entered scope enter call place (Some (Named name)) state course = call name state course
+function_entered scope enter call place (Some (Block body)) state course = entered scope place (Block body) (enter place body) state course
+
+-- the function of each case is entered, in order: the first function where the integer is above 0, else the second
+abbrev pub cases_entered : Scope → Enter → Call → Place → Three → List (Bool × State) → Course → Walk
+cases_entered scope enter call place three [] course = Ok course
+cases_entered scope enter call place three (case ∷ cases) course =
+    then_do (function_entered scope enter call place (exact_target scope.style case.1 (if case.0 then three.middle else three.top)) case.1 course)
+    (cases_entered scope enter call place three cases)
+
+-- `if$`: an integer and two functions, of which those are entered whose cases are kept
+abbrev pub choice : Scope → Enter → Call → Place → Three → Course → Walk
+choice scope enter call place three course =
+    then_do (placed place (above_of scope.cert.cond three.rest three.lowest course.hints)) (λ labelled.
+    cases_entered scope enter call place three labelled.cases (record course { hints = labelled.hints }))
+
+-- `if$` on the stack of a state, its top first
+abbrev pub chosen : Scope → Enter → Call → Place → List Sym → State → Course → Walk
+chosen scope enter call place stack state course =
+    then_do (placed place (three_by Int Func Func stack state)) (λ three. choice scope enter call place three course)
+
+-- a built-in function is called; no rule knows yet what `while$` and `call.type$` enter
+abbrev pub built_in : Scope → Onward → Builtin → Place → State → Course → Walk
+built_in scope if_else op.IfElse place state course = if_else state course
+built_in scope if_else op.WhileDo place state course = refuses place reason.UnknownFunction
+built_in scope if_else op.CallType place state course = refuses place reason.UnknownFunction
+built_in scope if_else op place state course = entering_nothing scope op (test_of op) place state course
+
+-- a name of a kind is called
+abbrev pub named : Scope → Enter → Onward → Option Kind → NameId → Place → State → Course → Walk
+named scope enter if_else (Some (kind.Builtin op)) name place state course = built_in scope if_else op place state course
+named scope enter if_else (Some (kind.Wizard body)) name place state course = entered scope place (Named name) (enter place body) state course
+named scope enter if_else _ name place state course = variable name place state course
+
+-- a function that the style defines
+abbrev pub is_wizard : Option Kind → Bool
+is_wizard (Some (kind.Wizard body)) = true
+is_wizard _ = false
+
+-- a name of a kind is entered: what isn't a function of the style takes the hint of a summary here, since its token takes none
+abbrev pub entering : Scope → Onward → Option Kind → NameId → Place → Onward
+entering scope call found name place state course =
+    if is_wizard found then call state course else entered scope place (Named name) call state course
+
+-- a name is entered that counts
+abbrev pub name_entered : Scope → Enter → Onward → Place → Call
+name_entered scope enter if_else place name state course =
+    let found = kind_of scope.style name in
+    then_do (counts 1 place course) (entering scope (named scope enter if_else found name place) found name place state)
+
+-- `if$` in a state whose stack this is, its top first: it takes three operands before it enters another
+abbrev pub if_else : Scope → Enter → Place → List Sym → Onward
+if_else scope enter place [] = chosen scope enter (λ n s c. Ok c) place []
+if_else scope enter place (c ∷ []) = chosen scope enter (λ n s c. Ok c) place (c ∷ [])
+if_else scope enter place (c ∷ (b ∷ [])) = chosen scope enter (λ n s c. Ok c) place (c ∷ (b ∷ []))
+if_else scope enter place (c ∷ (b ∷ (a ∷ rest))) =
+    chosen scope enter (name_entered scope enter (if_else scope enter place rest) place) place (c ∷ (b ∷ (a ∷ rest)))
+
+-- `if$` in a state
+abbrev pub chosen_in : Scope → Enter → Place → Onward
+chosen_in scope enter place state course = if_else scope enter place (reverse state.stack) state course
+
+-- the number of a body that is a block
+abbrev pub number_of : Style → BodyId → ℕ
+number_of style body = option_map_or (λ found. option_map_or (λ number. number) found 0) (block_of body style.bodies) 0
+
+-- the state after a literal of a token; a name is none
+abbrev pub literal_state : Style → Token → State → State
+literal_state style (token.Int n) state = literal Int (fact.Int (next_of state) n) state
+literal_state style (token.Str text) state = literal Str (fact.Text (next_of state) (text_of style text)) state
+literal_state style (token.Quote name) state = literal Func (fact.Call (next_of state) name) state
+literal_state style (token.Block body) state = literal Func (fact.Block (next_of state) (number_of style body)) state
+literal_state style (token.Call name) state = state
+
+-- what a token gives of a state
+abbrev pub token_taken : Scope → Enter → Token → Place → State → Course → Walk
+token_taken scope enter (token.Call name) place state course =
+    named scope enter (chosen_in scope enter place) (kind_of scope.style name) name place state course
+token_taken scope enter other place state course = gives place (literal_state scope.style other state) course
+
+-- a token is taken from a state: it counts
+abbrev pub taken : Scope → Enter → TokenAt → State → Course → Walk
+taken scope enter t state course = then_do (counts 1 t.place course) (token_taken scope enter t.token t.place state)
+
+-- a token is taken from states, one after the other
+abbrev pub taken_from : Scope → Enter → TokenAt → List State → Course → Walk
+taken_from scope enter t [] course = Ok course
+taken_from scope enter t (state ∷ states) course = then_do (taken scope enter t state course) (taken_from scope enter t states)
+
+-- the tokens of a body, each from the states that the one before it gave
+abbrev pub walked : Scope → Enter → List TokenAt → Course → Walk
+walked scope enter [] course = Ok course
+walked scope enter (t ∷ tokens) course =
+    then_do (taken_from scope enter t course.given (record course { given = [] })) (walked scope enter tokens)
+
+-- a body is walked that a token at a place enters, where so many more may be walked one in the other; the token gives the states
+-- at the body's end
+abbrev pub body_walked : Scope → ℕ → Enter
+body_walked scope zero place body state course = refuses place reason.WalkTooDeep
+body_walked scope (suc more) place body state course =
+    then_do (walked scope (body_walked scope more) (tokens_of scope.style body) (record course { given = state ∷ [] }))
+    (λ inner. gives_all place inner.given (record inner { given = course.given }))

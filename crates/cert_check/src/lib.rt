@@ -1,0 +1,11 @@
+//! The rules of the checker on units: summaries and calls.
+#![tactic(auto)]
+
+mod course;
+pub mod limits;
+mod literals;
+pub mod refusal;
+mod scope;
+mod targets;
+mod units;
+mod uses;
