@@ -48,10 +48,7 @@ fn literal(mut state: State, kind: Kinds, said: Fact) -> Result<State, NoMemory>
 fn text_fact(alloc: Global, style: &Style, sym: Sym, text: TextId) -> Result<Fact, NoMemory>
     ensures { IfOk result (λ said. said ≡ fact.Text sym (parts.text_of style.now text)) }
 {
-    Ok(Fact::Text(
-        sym,
-        Text::from_slice(alloc, text_of(style, text))?,
-    ))
+    Ok(Fact::Text(sym, Text::from_slice(alloc, text_of(style, text))?))
 }
 
 /// The number of a body that is a block.

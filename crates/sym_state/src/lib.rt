@@ -27,8 +27,8 @@ pub use crate::by_hints::shown_by;
 pub use crate::facts::subject;
 pub use crate::laws::{
     blank_as_the_machine_has_it, entailed_pieces_hold, frames_are_free, known_kinds_hold,
-    pushes_cover, pushes_keep, rows_move, shown_pieces_hold, shown_rows_hold, started_states_are_well_made,
-    started_states_stand, values_as_the_machine_reads_them,
+    pushes_cover, pushes_keep, rows_move, shown_pieces_hold, shown_rows_hold,
+    started_states_are_well_made, started_states_stand, values_as_the_machine_reads_them,
 };
 pub use crate::matching::Matching;
 pub use crate::raising::symbols_of;
