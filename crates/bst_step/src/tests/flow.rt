@@ -5,12 +5,7 @@ use std::test::Fail;
 
 /// Styles of one line, the fault that their runs come to, its place, the number and the key of its entry, and the lines that
 /// are written then.
-static FAULTS: Table = Table {
-    functions: "",
-    front: "",
-    back: "",
-    telling: Telling::State,
-    rows: r#"
+const FAULTS_ROWS: &str = r#"
 f{ #1 { "a" #1 + } { } if$ } READ EXECUTE f -> WrongKind 1:16
 g{ "a" chr.to.int$ "" chr.to.int$ } f{ #0 { } 'g if$ } READ ITERATE f -> NotOneByte 1:23 0 A1
 f{ #1 'pop$ 'skip$ if$ } READ ITERATE f -> EmptyPop 1:20 0 A1
@@ -40,10 +35,9 @@ f{ #1 } READ EXECUTE f -> StackLeft 1:14
 key{ title missing$ { "" } { title } if$ 'sort.key$ := } f{ #1 "a" + } READ ITERATE key SORT ITERATE f -> WrongKind 1:68 1 B2
 key{ title missing$ { "" } { title } if$ 'sort.key$ := } f{ #1 "a" + } READ ITERATE key SORT REVERSE f -> WrongKind 1:68 3 D4
 key{ cite$ 'sort.key$ := } f{ cite$ "D4" = { #128 int.to.chr$ } 'skip$ if$ } READ ITERATE key SORT REVERSE f -> NotAscii 1:51 3 D4
-"#,
-};
+"#;
 
 #[test]
 fn faults_stand_inside_what_is_entered(rt: HostRuntime) -> Result<(), Fail> {
-    expect(&rt, rt.alloc(), &FAULTS)
+    told!(rt, "", "", "", State, FAULTS_ROWS)
 }

@@ -9,12 +9,7 @@ use std::test::Fail;
 const BEFORE: &str = r#"d{ duplicate$ * } e{ d d d d d d d } book{ "called" top$ } f{"#;
 
 /// Built-in functions with fewer operands than they take, which are of a kind that few take.
-static SHORT: Table = Table {
-    functions: BEFORE,
-    front: "",
-    back: "} READ ITERATE f",
-    telling: Telling::Fault,
-    rows: r#"
+const SHORT_ROWS: &str = r#"
 = -> EmptyPop
 crossref = -> EmptyPop
 > -> EmptyPop
@@ -61,22 +56,16 @@ while$ -> EmptyPop
 crossref while$ -> EmptyPop
 width$ -> EmptyPop
 write$ -> EmptyPop
-"#,
-};
+"#;
 
 #[test]
 fn too_few_operands_come_before_their_kinds(rt: HostRuntime) -> Result<(), Fail> {
-    expect(&rt, rt.alloc(), &SHORT)
+    told!(rt, BEFORE, "", "} READ ITERATE f", Fault, SHORT_ROWS)
 }
 
 /// The built-in functions with `?` for one of their operands, and which it may be: `#` an integer, `"` a string, `m` a
 /// missing field, `'` a function.
-static KINDS: Table = Table {
-    functions: BEFORE,
-    front: "",
-    back: "} READ ITERATE f",
-    telling: Telling::Kinds,
-    rows: r#"
+const KINDS_ROWS: &str = r#"
 ? #1 = -> #
 #1 ? = -> #
 ? "t" = -> "
@@ -133,12 +122,11 @@ crossref ? := -> '
 { #0 } ? while$ -> '
 ? width$ -> "
 ? write$ -> "
-"#,
-};
+"#;
 
 #[test]
 fn operands_are_of_their_kinds(rt: HostRuntime) -> Result<(), Fail> {
-    expect(&rt, rt.alloc(), &KINDS)
+    told!(rt, BEFORE, "", "} READ ITERATE f", Kinds, KINDS_ROWS)
 }
 
 /// The kinds of operands, each with one of them.
@@ -196,12 +184,7 @@ fn add_fault_with(
 }
 
 /// The further faults, each of the last token.
-static FURTHER: Table = Table {
-    functions: BEFORE,
-    front: "",
-    back: "} READ ITERATE f",
-    telling: Telling::Fault,
-    rows: r#"
+const FURTHER_ROWS: &str = r#"
 % The order of the faults of an assignment.
 #1 'skip$ := -> NotVariable
 #1 'title := -> NotVariable
@@ -253,21 +236,15 @@ crossref crossref := -> WrongKind
 #0 #-2147483648 - -> IntRange
 "W" e e e width$ -> IntRange
 crossref #1 + -> WrongKind
-"#,
-};
+"#;
 
 #[test]
 fn built_ins_have_their_further_faults(rt: HostRuntime) -> Result<(), Fail> {
-    expect(&rt, rt.alloc(), &FURTHER)
+    told!(rt, BEFORE, "", "} READ ITERATE f", Fault, FURTHER_ROWS)
 }
 
 /// The faults of last tokens where no entry is visited.
-static WITHOUT_ENTRY: Table = Table {
-    functions: BEFORE,
-    front: "",
-    back: "} READ EXECUTE f",
-    telling: Telling::FaultWithoutEntry,
-    rows: r#"
+const WITHOUT_ENTRY_ROWS: &str = r#"
 % The order of the faults of an assignment.
 #1 'n := -> NoEntry
 "t" 's := -> NoEntry
@@ -283,21 +260,22 @@ sort.key$ -> NoEntry
 call.type$ -> NoEntry
 cite$ -> NoEntry
 type$ -> NoEntry
-"#,
-};
+"#;
 
 #[test]
 fn some_names_want_an_entry(rt: HostRuntime) -> Result<(), Fail> {
-    expect(&rt, rt.alloc(), &WITHOUT_ENTRY)
+    told!(
+        rt,
+        BEFORE,
+        "",
+        "} READ EXECUTE f",
+        FaultWithoutEntry,
+        WITHOUT_ENTRY_ROWS
+    )
 }
 
 /// What bodies log for the first entry.
-static LOGGED: Table = Table {
-    functions: BEFORE,
-    front: FIRST,
-    back: FIRST_END,
-    telling: Telling::Log,
-    rows: r#"
+const LOGGED_ROWS: &str = r#"
 #2 #2 = top$ -> 1|
 #2 #-2 = top$ -> 0|
 "a" "a" = top$ -> 1|
@@ -390,10 +368,9 @@ skip$ stack$ #3 top$ -> 3|
 #3 'i := { i } { i top$ i #1 - 'i := } while$ -> 3|2|1|
 #0 'i := { i } { i top$ } while$ "end" top$ -> end|
 #1 'i := 'i { i top$ #0 'i := } while$ i top$ -> 1|0|
-"#,
-};
+"#;
 
 #[test]
 fn built_ins_give_their_values(rt: HostRuntime) -> Result<(), Fail> {
-    expect(&rt, rt.alloc(), &LOGGED)
+    told!(rt, BEFORE, FIRST, FIRST_END, Log, LOGGED_ROWS)
 }

@@ -45,8 +45,8 @@ fn add_to_style(alloc: Global, style: &mut Style, words: &[Word<'_>]) -> Result<
 
 /// Defines the names that each style declares, and then those of the functions.
 fn add_names(names: &mut Names, words: &[Word<'_>]) -> Result<(), NoMemory> {
-    let declared: [(&[u8], Kind); 5] = [
-        (b"title", Kind::Field),
+    define(names, b"title", Kind::Field)?;
+    let declared: [(&[u8], Kind); 4] = [
         (b"n", Kind::IntEntry),
         (b"s", Kind::StrEntry),
         (b"i", Kind::IntGlobal),

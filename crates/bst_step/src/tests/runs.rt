@@ -46,31 +46,15 @@ const STEPS: &str = r#"
 "#;
 
 /// Numbers of steps, and what runs come to by them.
-static RUNS: Table = Table {
-    functions: "",
-    front: "",
-    back: "",
-    telling: Telling::Steps,
-    rows: STEPS,
-};
-
 #[test]
 fn runs_take_so_many_steps(rt: HostRuntime) -> Result<(), Fail> {
-    expect(&rt, rt.alloc(), &RUNS)
+    told!(rt, "", "", "", Steps, STEPS)
 }
 
 /// The same with one step at a time.
-static SINGLE_STEPS: Table = Table {
-    functions: "",
-    front: "",
-    back: "",
-    telling: Telling::StepByStep,
-    rows: STEPS,
-};
-
 #[test]
 fn single_steps_come_to_the_same(rt: HostRuntime) -> Result<(), Fail> {
-    expect(&rt, rt.alloc(), &SINGLE_STEPS)
+    told!(rt, "", "", "", StepByStep, STEPS)
 }
 
 /// So many steps, one by one.
@@ -130,12 +114,7 @@ const KEYS: &str =
     r#"title.key{ title missing$ { "" } { title } if$ 'sort.key$ := } no.key{ "" 'sort.key$ := } cite.key{ cite$ 'sort.key$ := } w{ cite$ write$ }"#;
 
 /// Commands, and the line of keys that they write.
-static ORDERS: Table = Table {
-    functions: KEYS,
-    front: "",
-    back: "EXECUTE newline$",
-    telling: Telling::Lines,
-    rows: r#"
+const ORDERS_ROWS: &str = r#"
 READ ITERATE w -> A1B2C3D4E5|
 READ REVERSE w -> E5D4C3B2A1|
 READ ITERATE w REVERSE w -> A1B2C3D4E5E5D4C3B2A1|
@@ -148,10 +127,9 @@ READ ITERATE title.key SORT SORT ITERATE w -> B2E5C3A1D4|
 % A second SORT sorts what the first has left.
 READ ITERATE title.key SORT ITERATE no.key SORT ITERATE w -> B2E5C3A1D4|
 READ ITERATE title.key SORT ITERATE cite.key SORT ITERATE w -> A1B2C3D4E5|
-"#,
-};
+"#;
 
 #[test]
 fn entries_are_visited_in_the_order_of_the_list(rt: HostRuntime) -> Result<(), Fail> {
-    expect(&rt, rt.alloc(), &ORDERS)
+    told!(rt, KEYS, "", "EXECUTE newline$", Lines, ORDERS_ROWS)
 }

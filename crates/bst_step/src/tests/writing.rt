@@ -10,12 +10,7 @@ const BEFORE: &str =
     r#"d{ duplicate$ * } e{ d d d d d d d } cut{ 'i := e e d #1 i substring$ } a{ 'i := "a" i cut } b{ 'i := "b" i cut } sp{ 'i := "_" i cut } f{"#;
 
 /// What is logged where strings of so many bytes are assigned, and then the length and the end of what the variable has.
-static ASSIGNED: Table = Table {
-    functions: BEFORE,
-    front: FIRST,
-    back: FIRST_END,
-    telling: Telling::Log,
-    rows: r#"
+const ASSIGNED_ROWS: &str = r#"
 #250 a 's := s text.length$ top$ -> 250|
 #251 a 's := s text.length$ top$ -> Warning--cut s to 250|250|
 #249 a "b" * "c" * 's := s #-1 #2 substring$ top$ -> Warning--cut s to 250|ab|
@@ -32,21 +27,15 @@ static ASSIGNED: Table = Table {
 #9 'global.max$ := #10 a 't := t text.length$ top$ -> 10|
 % A string that is cut twice is logged twice.
 #251 a 's := #252 a 's := -> Warning--cut s to 250|Warning--cut s to 250|
-"#,
-};
+"#;
 
 #[test]
 fn strings_are_cut_to_their_variables(rt: HostRuntime) -> Result<(), Fail> {
-    expect(&rt, rt.alloc(), &ASSIGNED)
+    told!(rt, BEFORE, FIRST, FIRST_END, Log, ASSIGNED_ROWS)
 }
 
 /// Lines that bodies write: each run of equal bytes as its length and the byte.
-static LINES: Table = Table {
-    functions: BEFORE,
-    front: "",
-    back: "} READ EXECUTE f",
-    telling: Telling::Lengths,
-    rows: r#"
+const LINES_ROWS: &str = r#"
 newline$ -> |
 "a" write$ ->
 "a" write$ newline$ newline$ "b" write$ -> 1a||
@@ -82,12 +71,11 @@ newline$ -> |
 #80 sp write$ newline$ ->
 #80 sp "b" * write$ newline$ -> |2 1b|
 #200 sp write$ "b" write$ newline$ -> |2 1b|
-"#,
-};
+"#;
 
 #[test]
 fn long_lines_are_broken_at_white_space(rt: HostRuntime) -> Result<(), Fail> {
-    expect(&rt, rt.alloc(), &LINES)
+    told!(rt, BEFORE, "", "} READ EXECUTE f", Lengths, LINES_ROWS)
 }
 
 /// Adds the runs of equal bytes of lines.
