@@ -140,7 +140,7 @@ named_word P text word value rest k e here next = by_test (same_name text word) 
     by_test true is f = subst P (sym (some_of value k f)) (here (same_bytes text word is))
     by_test false is f = next f
 
-word_said : (text : List ℕ) (k : PieceWord) → pieces.word_among text pieces.piece_words ≡ Some k → text ≡ word_text k
+word_said : (text : List ℕ) (k : PieceWord) → among text pieces.piece_words ≡ Some k → text ≡ word_text k
 word_said text k e =
     let P : PieceWord → Type 0 = λ w. text ≡ word_text w in
     named_word P text (codes "stack") Stack _ k e (λ s. s) (λ e1.
@@ -159,7 +159,7 @@ word_said text k e =
 -- the word of a line of a piece, and that the line may come
 pub due : (s : PieceStage) (text : List ℕ) (k : PieceWord) → pieces.piece_word s text ≡ Some k
     → (text ≡ word_text k) × (pieces.stage_rank s ≤ pieces.word_rank k)
-due s text k e = by_word (pieces.word_among text pieces.piece_words) refl e
+due s text k e = by_word (among text pieces.piece_words) refl e
   where
     in_order : (a b : ℕ) → nat_le a b ≡ true → a ≤ b
     in_order a b e = grind (arith, nat_tests)
@@ -174,7 +174,7 @@ due s text k e = by_word (pieces.word_among text pieces.piece_words) refl e
         (said, in_order (pieces.stage_rank s) (pieces.word_rank w) is)
     by_rank w false is said f = absurd (cc)
 
-    by_word : (o : Option PieceWord) → pieces.word_among text pieces.piece_words ≡ o → option_and_then (pieces.where_due s) o ≡ Some k
+    by_word : (o : Option PieceWord) → among text pieces.piece_words ≡ o → option_and_then (pieces.where_due s) o ≡ Some k
         → (text ≡ word_text k) × (pieces.stage_rank s ≤ pieces.word_rank k)
     by_word (Some w) is f = by_rank w (nat_le (pieces.stage_rank s) (pieces.word_rank w)) refl (word_said text w is) f
     by_word None is f = absurd (cc)

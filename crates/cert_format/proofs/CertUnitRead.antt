@@ -15,7 +15,7 @@ use Rattle.cert_format.specs.CertText.{AreWrites, IsHint, IsPiece, IsVariable, n
 use Rattle.cert_format.specs.CondText.{is_below, is_chain}
 use Rattle.cert_format.specs.HintSpelling.{hint_items}
 use Rattle.cert_format.specs.Hints.{hint_line}
-use Rattle.cert_format.specs.Items.{is_above, is_word, last_of}
+use Rattle.cert_format.specs.Items.{among, is_above, is_word, last_of}
 use Rattle.cert_format.specs.Lines.{Item, Line, with_item}
 use Rattle.cert_format.specs.PieceItems.{variable_above}
 use Rattle.cert_format.specs.PieceSpelling.{piece_lines}
@@ -671,7 +671,7 @@ named_mark P text word value rest k e here next = by_test (same_name text word) 
     by_test true is f = subst P (sym (some_of value k f)) (here (same_bytes text word is))
     by_test false is f = next f
 
-mark_said : (text : List ℕ) (k : Mark) → units.mark_among text units.mark_words ≡ Some k → text ≡ mark_text k
+mark_said : (text : List ℕ) (k : Mark) → among text units.mark_words ≡ Some k → text ≡ mark_text k
 mark_said text k e =
     let P : Mark → Type 0 = λ w. text ≡ mark_text w in
     named_mark P text (codes "pre") Pre _ k e (λ s. s) (λ e1.
@@ -684,7 +684,7 @@ mark_said text k e =
 
 -- a word before a piece, or `hints`
 marked_step : (style : Style) (u : UnitSoFar) (word : Item) (rest line : Line) (v : UnitSoFar) (o : Option Mark) → line ≡ with_item word rest
-    → UnitKept style u → rank u.stage < 4 → units.mark_among word.text units.mark_words ≡ o → units.marked_line o word rest u ≡ Ok v → UnitStep style u line v
+    → UnitKept style u → rank u.stage < 4 → among word.text units.mark_words ≡ o → units.marked_line o word rest u ≡ Ok v → UnitStep style u line v
 marked_step style u word rest line v None is kept low said e = hints_step style u word rest line v is kept low e
 marked_step style u word rest line v (Some mark) is kept low said e =
     let a = where_ok (units.may_follow u.kind u.last mark) _ _ _ e in
@@ -695,7 +695,7 @@ piece_step_at : (style : Style) (u : UnitSoFar) (word : Item) (rest line : Line)
     → line ≡ with_item word rest → UnitKept style u → rank u.stage < 4 → u.last ≡ last → units.open_word last u.piece word ≡ o
     → units.piece_or_mark style o word rest u ≡ Ok v → UnitStep style u line v
 piece_step_at style u word rest line v last None is kept low some open_at e =
-    marked_step style u word rest line v (units.mark_among word.text units.mark_words) is kept low refl e
+    marked_step style u word rest line v (among word.text units.mark_words) is kept low refl e
 piece_step_at style u word rest line v None (Some kind) is kept low some open_at e = absurd (cc)
 piece_step_at style u word rest line v (Some mark) (Some kind) is kept low some open_at e =
     line_step style u mark kind word rest line v is kept some (at_pieces u.stage refl) open_at e

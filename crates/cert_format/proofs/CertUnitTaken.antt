@@ -16,7 +16,7 @@ use Rattle.cert_format.specs.Certs as certs
 use Rattle.cert_format.specs.CondText.{ArePlain, is_below}
 use Rattle.cert_format.specs.HintSpelling.{hint_items, hints_lines}
 use Rattle.cert_format.specs.Hints.{hint_line}
-use Rattle.cert_format.specs.Items.{is_above, is_word, last_of}
+use Rattle.cert_format.specs.Items.{among, is_above, is_word, last_of}
 use Rattle.cert_format.specs.Lines.{Item, Line, next_item}
 use Rattle.cert_format.specs.PieceItems.{variable_above}
 use Rattle.cert_format.specs.PieceSpelling.{piece_lines}
@@ -220,8 +220,8 @@ record IsMark (mark : Mark) (left : ℕ) : Type 0 where
   pub entry : is_word (codes "entry") (worded (mark_text mark) left) ≡ false
   pub whole : is_word (codes "whole") (worded (mark_text mark) left) ≡ false
   pub writes : is_word (codes "writes") (worded (mark_text mark) left) ≡ false
-  pub piece : pieces.word_among (mark_text mark) pieces.piece_words ≡ None
-  pub among : units.mark_among (mark_text mark) units.mark_words ≡ Some mark
+  pub piece : among (mark_text mark) pieces.piece_words ≡ None
+  pub among : among (mark_text mark) units.mark_words ≡ Some mark
 
 is_mark : (mark : Mark) (left : ℕ) → IsMark mark left
 is_mark Pre left = record { entry = refl; whole = refl; writes = refl; piece = refl; among = refl }
@@ -232,7 +232,7 @@ is_mark After left = record { entry = refl; whole = refl; writes = refl; piece =
 is_mark Visit left = record { entry = refl; whole = refl; writes = refl; piece = refl; among = refl }
 is_mark Keeps left = record { entry = refl; whole = refl; writes = refl; piece = refl; among = refl }
 
-not_open : (last : Option Mark) (p : PieceSoFar) (text : List ℕ) (left : ℕ) → pieces.word_among text pieces.piece_words ≡ None
+not_open : (last : Option Mark) (p : PieceSoFar) (text : List ℕ) (left : ℕ) → among text pieces.piece_words ≡ None
     → units.open_word last p (worded text left) ≡ None
 not_open None p text left none = refl
 not_open (Some mark) p text left none = ap (option_and_then (pieces.where_due p.stage)) none
