@@ -12,6 +12,7 @@ use Rattle.sym_state.specs.declared.symbol.Bind.{Bind}
 use Rattle.sym_state.specs.declared.symbol.Sym.{Sym}
 use Rattle.sym_state.proofs.Consequences.{same_bytes}
 use Rattle.cert_format.specs.CertText.{are_placed, bound_symbols, next_behind}
+use Rattle.cert_format.specs.Items.{among}
 use Rattle.cert_format.specs.Lines.{Item, Line, line_end, next_item}
 use Rattle.cert_format.specs.PieceItems as items
 use Rattle.cert_format.specs.Pieces as pieces
