@@ -34,7 +34,7 @@ use Rattle.bst_meaning.specs.declared.value.Target.TheVariants.{Named, Block}
 use Rattle.bst_meaning.specs.declared.value.Value.{Value}
 use Rattle.bst_meaning.specs.declared.value.Value.TheVariants.{Int, Str, Func}
 use Rattle.bst_meaning.specs.Builtins.{built_in}
-use Rattle.bst_meaning.specs.Config.{Config, EntryState, Frame, Part, Testing, Turning, Variable, Visit, Whole, Stopped, opening}
+use Rattle.bst_meaning.specs.Config.{Config, EntryState, Frame, Part, Testing, Turning, Variable, Visit, Whole, Stopped, opening, opening_global, opening_variables}
 use Rattle.bst_meaning.specs.Effect.{Effect, Entered}
 use Rattle.bst_meaning.specs.Entries.{EntryFits, Fits}
 use Rattle.bst_meaning.specs.Invariant.{AreVariables, IsEntrySound, IsFrameSound, IsPartSound, IsWellFormed, names_of}
@@ -170,40 +170,24 @@ module _ (style : Style) where
     entered_sound (Named name) place h = (h, tt)
     entered_sound (Block body) place h = tokens_sound body
 
+    -- a configuration whose parts are well formed
+    of_parts : (c : Config) → c.preamble ≡ list.preamble → Each (λ at. IsCommandSound style.names at.command) c.commands
+        → AllByRecursion (IsFrameSound style) c.frames → AllByRecursion (IsValueOf style) c.stack
+        → AreVariables style (names_of (opening_variables opening_global 0 style.names)) c.globals → AllByRecursion (IsEntrySound style) c.entries
+        → IsPermutation (map placed (opening style list).entries) (map placed c.entries) → Formed c
+    of_parts c preamble commands frames stack globals entries order =
+        record { preamble = preamble; commands = commands; frames = frames; stack = stack; globals = globals; entries = entries; order = order }
+
     -- the parts of a step
     stopped_formed : (fault : Fault) (place : Place) (c : Config) → Formed c → Formed (stopped_by fault place c)
-    stopped_formed fault place c h = record {
-      preamble = h.preamble;
-      commands = h.commands;
-      frames = h.frames;
-      stack = h.stack;
-      globals = h.globals;
-      entries = h.entries;
-      order = h.order;
-    }
+    stopped_formed fault place c h = of_parts _ h.preamble h.commands h.frames h.stack h.globals h.entries h.order
 
     frame_formed : (tokens : List TokenAt) (place : Place) (part : Part) (c : Config) → AreTokens tokens → IsPartSound style part → Formed c
         → Formed (with_frame tokens place part c)
-    frame_formed tokens place part c each k h = record {
-      preamble = h.preamble;
-      commands = h.commands;
-      frames = (record { tokens = each; part = k }, h.frames);
-      stack = h.stack;
-      globals = h.globals;
-      entries = h.entries;
-      order = h.order;
-    }
+    frame_formed tokens place part c each k h = of_parts _ h.preamble h.commands (record { tokens = each; part = k }, h.frames) h.stack h.globals h.entries h.order
 
     stack_formed : (stack : List Value) (c : Config) → AllByRecursion (IsValueOf style) stack → Formed c → Formed (record c { stack = stack })
-    stack_formed stack c all h = record {
-      preamble = h.preamble;
-      commands = h.commands;
-      frames = h.frames;
-      stack = all;
-      globals = h.globals;
-      entries = h.entries;
-      order = h.order;
-    }
+    stack_formed stack c all h = of_parts _ h.preamble h.commands h.frames all h.globals h.entries h.order
 
     value_formed : (value : Value) (c : Config) → IsValueOf style value → Formed c → Formed (with_value value c)
     value_formed value c k h = stack_formed (value ∷ c.stack) c (k, h.stack) h
@@ -213,28 +197,11 @@ module _ (style : Style) where
     found_formed (Some value) place c k h = value_formed value c k h
 
     global_assigned : (new : Variable) (c : Config) → Has new → Formed c → Formed (record c { globals = with_variable new c.globals })
-    global_assigned new c k h = record {
-      preamble = h.preamble;
-      commands = h.commands;
-      frames = h.frames;
-      stack = h.stack;
-      globals = variables_kept new _ c.globals k h.globals;
-      entries = h.entries;
-      order = h.order;
-    }
+    global_assigned new c k h = of_parts _ h.preamble h.commands h.frames h.stack (variables_kept new _ c.globals k h.globals) h.entries h.order
 
     entry_assigned : (new : Variable) (c : Config) → Has new → Formed c
         → Formed (record c { entries = with_entry_variable new (visited_index c) c.entries })
-    entry_assigned new c k h = record {
-      preamble = h.preamble;
-      commands = h.commands;
-      frames = h.frames;
-      stack = h.stack;
-      globals = h.globals;
-      entries = entries_kept new (visited_index c) c.entries k h.entries;
-      order = subst (λ (l : List (Entry × ℕ)). IsPermutation (map placed (opening style list).entries) l)
-          (sym (entries_seen placed new (visited_index c) c.entries (λ e. refl))) h.order;
-    }
+    entry_assigned new c k h = of_parts _ h.preamble h.commands h.frames h.stack h.globals (entries_kept new (visited_index c) c.entries k h.entries) (subst (λ (l : List (Entry × ℕ)). IsPermutation (map placed (opening style list).entries) l) (sym (entries_seen placed new (visited_index c) c.entries (λ e. refl))) h.order)
 
     kind_assigned : (kind : Option Kind) (new : Variable) (c : Config) → Has new → Formed c → Formed (assigned_by kind new c)
     kind_assigned (Some IntEntry) new c k h = entry_assigned new c k h
@@ -254,15 +221,7 @@ module _ (style : Style) where
     effect_formed : (r : Result Effect Fault) (place : Place) (c : Config) → IfOk r (IsFine style) → Formed c → Formed (with_effect style r place c)
     effect_formed (Err fault) place c k h = stopped_formed fault place c h
     effect_formed (Ok effect) place c k h =
-        entered_formed effect.entered place _ k.entered (assigned_formed effect.assigned _ k.assigned (record {
-          preamble = h.preamble;
-          commands = h.commands;
-          frames = h.frames;
-          stack = k.stack;
-          globals = h.globals;
-          entries = h.entries;
-          order = h.order;
-        }))
+        entered_formed effect.entered place _ k.entered (assigned_formed effect.assigned _ k.assigned (of_parts _ h.preamble h.commands h.frames k.stack h.globals h.entries h.order))
 
     -- the visited entry
     visited_sound : (c : Config) → Formed c → IfSome (visited_entry c) (IsEntrySound style)
@@ -323,15 +282,7 @@ module _ (style : Style) where
         frame_formed (entered_tokens style test place) place (Testing test body) c (entered_sound test place k.0) k h
 
     frames_formed : (frames : List Frame) (c : Config) → AllByRecursion (IsFrameSound style) frames → Formed c → Formed (record c { frames = frames })
-    frames_formed frames c all h = record {
-      preamble = h.preamble;
-      commands = h.commands;
-      frames = all;
-      stack = h.stack;
-      globals = h.globals;
-      entries = h.entries;
-      order = h.order;
-    }
+    frames_formed frames c all h = of_parts _ h.preamble h.commands all h.stack h.globals h.entries h.order
 
     inner_formed : (frame : Frame) (frames : List Frame) (tokens : List TokenAt) (c : Config) → AreTokens tokens → IsPartSound style frame.part
         → AllByRecursion (IsFrameSound style) frames → Formed c → Formed (frame_step style frame frames tokens c)
@@ -342,30 +293,14 @@ module _ (style : Style) where
     -- commands
     begun_formed : (name : NameId) (place : Place) (c : Config) → name.0 < length style.names → Formed c → Formed (with_call name place c)
     begun_formed name place c k h =
-        frame_formed _ place Whole _ (k, tt) tt (record {
-          preamble = h.preamble;
-          commands = h.commands;
-          frames = h.frames;
-          stack = h.stack;
-          globals = h.globals;
-          entries = h.entries;
-          order = h.order;
-        })
+        frame_formed _ place Whole _ (k, tt) tt (of_parts _ h.preamble h.commands h.frames h.stack h.globals h.entries h.order)
 
     abbrev AreCommands : List CommandAt → Type 0
     AreCommands commands = Each (λ at. IsCommandSound style.names at.command) commands
 
     left_formed : (commands : List CommandAt) (running : Bool) (visit : Option Visit) (c : Config) → AreCommands commands → Formed c
         → Formed (record c { commands = commands; running = running; visit = visit })
-    left_formed commands running visit c left h = record {
-      preamble = h.preamble;
-      commands = left;
-      frames = h.frames;
-      stack = h.stack;
-      globals = h.globals;
-      entries = h.entries;
-      order = h.order;
-    }
+    left_formed commands running visit c left h = of_parts _ h.preamble left h.frames h.stack h.globals h.entries h.order
 
     visit_formed : (name : NameId) (place : Place) (commands : List CommandAt) (visit : Visit) (c : Config) → name.0 < length style.names
         → AreCommands commands → Formed c → Formed (visit_step name place commands visit c)
@@ -377,16 +312,7 @@ module _ (style : Style) where
 
     sorted_formed : (commands : List CommandAt) (c : Config) → AreCommands commands → Formed c
         → Formed (record c { commands = commands; entries = sorted c.entries })
-    sorted_formed commands c left h = record {
-      preamble = h.preamble;
-      commands = left;
-      frames = h.frames;
-      stack = h.stack;
-      globals = h.globals;
-      entries = sorted_all (IsEntrySound style) c.entries h.entries;
-      order = IsPermutation-trans _ (map placed c.entries) (map placed (sorted c.entries)) h.order
-          (IsPermutation-map placed c.entries (sorted c.entries) (sorted_permutes c.entries));
-    }
+    sorted_formed commands c left h = of_parts _ h.preamble left h.frames h.stack h.globals (sorted_all (IsEntrySound style) c.entries h.entries) (IsPermutation-trans _ (map placed c.entries) (map placed (sorted c.entries)) h.order (IsPermutation-map placed c.entries (sorted c.entries) (sorted_permutes c.entries)))
 
     command_formed : (command : Command) (place : Place) (commands : List CommandAt) (c : Config) → IsCommandSound style.names command
         → AreCommands commands → Formed c → Formed (command_step command place commands c)

@@ -34,23 +34,17 @@ module _ (Q : Value → Type 0) (P : Effect → Type 0) where
   pub of_string : (value : Value) (rule : List ℕ → Result Effect Fault) → Q value → ((bytes : List ℕ) → Q (Str bytes) → IfOk (rule bytes) P)
       → IfOk (as_string value rule) P
   of_string (Str bytes) rule q h = h bytes q
-  of_string (Int n) rule q h = tt
-  of_string (Missing name) rule q h = tt
-  of_string (Func target) rule q h = tt
+  of_string _ rule q h = tt
 
   pub of_integer : (value : Value) (rule : ℤ → Result Effect Fault) → Q value → ((n : ℤ) → Q (Int n) → IfOk (rule n) P)
       → IfOk (as_integer value rule) P
   of_integer (Int n) rule q h = h n q
-  of_integer (Str bytes) rule q h = tt
-  of_integer (Missing name) rule q h = tt
-  of_integer (Func target) rule q h = tt
+  of_integer _ rule q h = tt
 
   pub of_function : (value : Value) (rule : Target → Result Effect Fault) → Q value → ((target : Target) → Q (Func target) → IfOk (rule target) P)
       → IfOk (as_function value rule) P
   of_function (Func target) rule q h = h target q
-  of_function (Int n) rule q h = tt
-  of_function (Str bytes) rule q h = tt
-  of_function (Missing name) rule q h = tt
+  of_function _ rule q h = tt
 
   pub of_field : (value : Value) (rule : Option (List ℕ) → Result Effect Fault) → ((field : Option (List ℕ)) → IfOk (rule field) P)
       → IfOk (as_field value rule) P

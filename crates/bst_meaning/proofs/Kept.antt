@@ -13,7 +13,7 @@ use Rattle.bst_meaning.specs.declared.fault.Fault.{Fault}
 use Rattle.bst_meaning.specs.Builtins.{built_in}
 use Rattle.bst_meaning.specs.Config.{Config, EntryState, Variable}
 use Rattle.bst_meaning.specs.Effect.{Effect, Entered}
-use Rattle.bst_meaning.specs.Keeping.{IsConfined, IsKept, is_assign, is_plain, name_on_top, placed}
+use Rattle.bst_meaning.specs.Keeping.{IsConfined, IsKept, IsOther, is_assign, is_plain, name_on_top, placed}
 use Rattle.bst_meaning.specs.Machine.{assigned_by, context_of, value_at, visited_index, with_assigned, with_effect, with_entered, with_entry_variable, with_variable}
 use Rattle.bst_meaning.specs.StyleParts.{kind_of}
 use Rattle.bst_meaning.proofs.Confined.{confined}
@@ -44,23 +44,35 @@ entry_other new (Some at) entries j other =
       | None ↦ refl
     ]
 
+-- a configuration is kept, by the parts
+kept_parts : (o : Builtin) (before after : Config) → after.preamble ≡ before.preamble → after.commands ≡ before.commands
+    → after.running ≡ before.running → after.visit ≡ before.visit → (is_plain o ≡ true → after.frames ≡ before.frames)
+    → (is_assign o ≡ false → after.globals ≡ before.globals)
+    → ((id : ℕ) → IsOther id before.stack → value_at id after.globals ≡ value_at id before.globals)
+    → (is_assign o ≡ false → after.entries ≡ before.entries) → map placed after.entries ≡ map placed before.entries
+    → ((at : ℕ) → visited_index before ≢ Some at → slice_get after.entries at ≡ slice_get before.entries at)
+    → ((id : ℕ) → IsOther id before.stack → map (λ e. value_at id e.variables) after.entries ≡ map (λ e. value_at id e.variables) before.entries)
+    → IsKept o before after
+kept_parts o before after preamble commands running visit frames globals other_globals entries order other_entries other_variables =
+    record {
+      preamble = preamble;
+      commands = commands;
+      running = running;
+      visit = visit;
+      frames = frames;
+      globals = globals;
+      other_globals = other_globals;
+      entries = entries;
+      order = order;
+      other_entries = other_entries;
+      other_variables = other_variables;
+    }
+
 -- a configuration is kept by what leaves all of these alone
 same : (o : Builtin) (c after : Config) → after.preamble ≡ c.preamble → after.commands ≡ c.commands
     → after.running ≡ c.running → after.visit ≡ c.visit → after.frames ≡ c.frames → after.globals ≡ c.globals → after.entries ≡ c.entries
     → IsKept o c after
-same o c after preamble commands running visit frames globals entries = record {
-  preamble = preamble;
-  commands = commands;
-  running = running;
-  visit = visit;
-  frames = λ plain. frames;
-  globals = λ none. globals;
-  other_globals = λ id other. ap (λ (l : List Variable). value_at id l) globals;
-  entries = λ none. entries;
-  order = ap (λ (l : List EntryState). map placed l) entries;
-  other_entries = λ at other. ap (λ (l : List EntryState). slice_get l at) entries;
-  other_variables = λ id other. ap (λ (l : List EntryState). map (λ e. value_at id e.variables) l) entries;
-}
+same o c after preamble commands running visit frames globals entries = kept_parts o _ _ preamble commands running visit (λ plain. frames) (λ none. globals) (λ id other. ap (λ (l : List Variable). value_at id l) globals) (λ none. entries) (ap (λ (l : List EntryState). map placed l) entries) (λ at other. ap (λ (l : List EntryState). slice_get l at) entries) (λ id other. ap (λ (l : List EntryState). map (λ e. value_at id e.variables) l) entries)
 
 not_both : {X : Type 0} (t : Bool) → t ≡ true → t ≡ false → X
 not_both true e f = absurd (cc)
@@ -76,37 +88,11 @@ module _ (o : Builtin) (c : Config) where
   Assigns new = (is_assign o ≡ true) × (name_on_top c.stack ≡ Some new.name)
 
   globals_kept : (effect : Effect) (new : Variable) → Assigns new → IsKept o c (record (moved effect) { globals = with_variable new c.globals })
-  globals_kept effect new assigns = record {
-    preamble = refl;
-    commands = refl;
-    running = refl;
-    visit = refl;
-    frames = λ plain. refl;
-    globals = λ none. not_both (is_assign o) assigns.0 none;
-    other_globals = λ id other. variable_kept new id c.globals (other new.name assigns.1);
-    entries = λ none. refl;
-    order = refl;
-    other_entries = λ at other. refl;
-    other_variables = λ id other. refl;
-  }
+  globals_kept effect new assigns = kept_parts o _ _ refl refl refl refl (λ plain. refl) (λ none. not_both (is_assign o) assigns.0 none) (λ id other. variable_kept new id c.globals (other new.name assigns.1)) (λ none. refl) refl (λ at other. refl) (λ id other. refl)
 
   entries_kept : (effect : Effect) (new : Variable) → Assigns new
       → IsKept o c (record (moved effect) { entries = with_entry_variable new (visited_index c) c.entries })
-  entries_kept effect new assigns = record {
-    preamble = refl;
-    commands = refl;
-    running = refl;
-    visit = refl;
-    frames = λ plain. refl;
-    globals = λ none. refl;
-    other_globals = λ id other. refl;
-    entries = λ none. not_both (is_assign o) assigns.0 none;
-    order = entries_seen placed new (visited_index c) c.entries (λ e. refl);
-    other_entries = λ at other. entry_other new (visited_index c) c.entries at other;
-    other_variables = λ id other.
-        entries_seen (λ (e : EntryState). value_at id e.variables) new (visited_index c) c.entries
-        (λ e. variable_kept new id e.variables (other new.name assigns.1));
-  }
+  entries_kept effect new assigns = kept_parts o _ _ refl refl refl refl (λ plain. refl) (λ none. refl) (λ id other. refl) (λ none. not_both (is_assign o) assigns.0 none) (entries_seen placed new (visited_index c) c.entries (λ e. refl)) (λ at other. entry_other new (visited_index c) c.entries at other) (λ id other. entries_seen (λ (e : EntryState). value_at id e.variables) new (visited_index c) c.entries (λ e. variable_kept new id e.variables (other new.name assigns.1)))
 
   variable_assigned : (effect : Effect) (kind : Option Kind) (new : Variable) → Assigns new → IsKept o c (assigned_by kind new (moved effect))
   variable_assigned effect (Some IntEntry) new assigns = entries_kept effect new assigns
@@ -121,19 +107,7 @@ module _ (o : Builtin) (c : Config) where
   entered_kept : (style : Style) (entered : Option Entered) (place : Place) (after : Config) → (is_plain o ≡ true → entered ≡ None)
       → IsKept o c after → IsKept o c (with_entered style entered place after)
   entered_kept style None place after h k = k
-  entered_kept style (Some entered) place after h k = record {
-    preamble = k.preamble;
-    commands = k.commands;
-    running = k.running;
-    visit = k.visit;
-    frames = λ plain. let none : Some entered ≡ None = h plain in absurd (cc);
-    globals = k.globals;
-    other_globals = k.other_globals;
-    entries = k.entries;
-    order = k.order;
-    other_entries = k.other_entries;
-    other_variables = k.other_variables;
-  }
+  entered_kept style (Some entered) place after h k = kept_parts o _ _ k.preamble k.commands k.running k.visit (λ plain. let none : Some entered ≡ None = h plain in absurd (cc)) k.globals k.other_globals k.entries k.order k.other_entries k.other_variables
 
   effect_kept : (style : Style) (r : Result Effect Fault) (place : Place) → IfOk r (IsConfined o c.stack) → IsKept o c (with_effect style r place c)
   effect_kept style (Err fault) place h = same o c (with_effect style (Err fault) place c) refl refl refl refl refl refl refl

@@ -51,20 +51,12 @@ module _ (style : Style) where
   global_opens : Adds opening_global
   global_opens id IntGlobal later is all = (has id IntGlobal (Int (opening_integer id)) is (opening_small id), all)
   global_opens id StrGlobal later is all = (has id StrGlobal (Str []) is (tt, omega arith), all)
-  global_opens id IntEntry later is all = all
-  global_opens id StrEntry later is all = all
-  global_opens id Field later is all = all
-  global_opens id (BuiltinKind o) later is all = all
-  global_opens id (Wizard body) later is all = all
+  global_opens id _ later is all = all
 
   entry_variable_opens : Adds opening_entry_variable
   entry_variable_opens id IntEntry later is all = (has id IntEntry (Int (pos 0)) is refl, all)
   entry_variable_opens id StrEntry later is all = (has id StrEntry (Str []) is (tt, omega arith), all)
-  entry_variable_opens id IntGlobal later is all = all
-  entry_variable_opens id StrGlobal later is all = all
-  entry_variable_opens id Field later is all = all
-  entry_variable_opens id (BuiltinKind o) later is all = all
-  entry_variable_opens id (Wizard body) later is all = all
+  entry_variable_opens id _ later is all = all
 
   variables_open : (variable : ℕ → Kind → List Variable → List Variable) → Adds variable → (id : ℕ) (names : List (List ℕ × Kind))
       → ((k : ℕ) → slice_get style.names (id + k) ≡ slice_get names k) → AllByRecursion Has (opening_variables variable id names)

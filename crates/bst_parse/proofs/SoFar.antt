@@ -77,6 +77,25 @@ pub record SoFar (n : ℕ) (ns : List (List ℕ × Kind)) (cs : List CommandAt) 
   pub parts : PartsFine ps
   pub busy : IsBusy os ps
 
+-- what has been read so far, by its parts
+so_far : {n : ℕ} {ns : List (List ℕ × Kind)} {cs : List CommandAt} {bs : List Body} {ts : List (List ℕ)} {ps : List Part} {os : List BodyId}
+    → NamesFine ns → Each (λ entry. IsKindSoFar bs (coming ps) entry.1) ns → TokensFine ns bs ts bs → Each (λ at. IsCommandSound ns at.command) cs
+    → length cs ≤ n → AreNumbered 0 (map (λ body. body.block) bs) → length bs ≤ MOST_BODIES → Each TextFine ts → PartsFine ps → IsBusy os ps
+    → SoFar n ns cs bs ts ps os
+so_far names kinds tokens commands few_commands numbered few_bodies texts parts busy =
+    record {
+      names = names;
+      kinds = kinds;
+      tokens = tokens;
+      commands = commands;
+      few_commands = few_commands;
+      numbered = numbered;
+      few_bodies = few_bodies;
+      texts = texts;
+      parts = parts;
+      busy = busy;
+    }
+
 -- tokens stay sound where names, bodies and texts grow
 token_more : (names more : List (List ℕ × Kind)) (bodies grown : List Body) (texts longer : List (List ℕ))
     → length names ≤ length more → length texts ≤ length longer
@@ -279,66 +298,22 @@ module _ (n : ℕ) (names : List (List ℕ × Kind)) (commands : List CommandAt)
   pub commanded : (c : Command) (place : Place) → IsCommandSound names c
       → SoFar (suc n) names (commands ++ record { command = c; place = place } ∷ []) bodies texts parts opened
   commanded c place fine =
-      record {
-        names = s.names;
-        kinds = s.kinds;
-        tokens = s.tokens;
-        commands = each_push _ commands (record { command = c; place = place }) s.commands fine;
-        few_commands = omega (arith, s.few_commands, length-append {A = CommandAt});
-        numbered = s.numbered;
-        few_bodies = s.few_bodies;
-        texts = s.texts;
-        parts = s.parts;
-        busy = s.busy;
-      }
+      so_far s.names s.kinds s.tokens (each_push _ commands (record { command = c; place = place }) s.commands fine) (omega (arith, s.few_commands, length-append {A = CommandAt})) s.numbered s.few_bodies s.texts s.parts s.busy
 
   -- more lexemes are read
   pub later_on : SoFar (suc n) names commands bodies texts parts opened
   later_on =
-      record {
-        names = s.names;
-        kinds = s.kinds;
-        tokens = s.tokens;
-        commands = s.commands;
-        few_commands = omega (arith, s.few_commands);
-        numbered = s.numbered;
-        few_bodies = s.few_bodies;
-        texts = s.texts;
-        parts = s.parts;
-        busy = s.busy;
-      }
+      so_far s.names s.kinds s.tokens s.commands (omega (arith, s.few_commands)) s.numbered s.few_bodies s.texts s.parts s.busy
 
   -- a text is read
   pub worded : (text : List ℕ) → TextFine text → SoFar n names commands bodies (texts ++ text ∷ []) parts opened
   worded text fine =
-      record {
-        names = s.names;
-        kinds = s.kinds;
-        tokens = tokens_more names names bodies bodies texts (texts ++ text ∷ []) (omega arith) (omega (arith, length-append {A = List ℕ})) (λ id number h. h) bodies s.tokens;
-        commands = s.commands;
-        few_commands = s.few_commands;
-        numbered = s.numbered;
-        few_bodies = s.few_bodies;
-        texts = each_push _ texts text s.texts fine;
-        parts = s.parts;
-        busy = s.busy;
-      }
+      so_far s.names s.kinds (tokens_more names names bodies bodies texts (texts ++ text ∷ []) (omega arith) (omega (arith, length-append {A = List ℕ})) (λ id number h. h) bodies s.tokens) s.commands s.few_commands s.numbered s.few_bodies (each_push _ texts text s.texts fine) s.parts s.busy
 
   -- a body is closed
   pub left : SoFar n names commands bodies texts parts (drop 1 opened)
   left =
-      record {
-        names = s.names;
-        kinds = s.kinds;
-        tokens = s.tokens;
-        commands = s.commands;
-        few_commands = s.few_commands;
-        numbered = s.numbered;
-        few_bodies = s.few_bodies;
-        texts = s.texts;
-        parts = s.parts;
-        busy = less_busy opened parts s.busy;
-      }
+      so_far s.names s.kinds s.tokens s.commands s.few_commands s.numbered s.few_bodies s.texts s.parts (less_busy opened parts s.busy)
 
   -- a token is added
   pub token_put : (inside : BodyId) (token : Token) (place : Place) → IsTokenSound names bodies texts token
@@ -412,32 +387,10 @@ module _ (n : ℕ) (names : List (List ℕ × Kind)) (commands : List CommandAt)
   pub passed : (part : Part) (rest : List Part) → parts ≡ part ∷ rest → coming (part ∷ rest) ≡ coming rest
       → (PartsFine (part ∷ rest) → PartsFine rest) → opened ≡ [] → SoFar n names commands bodies texts rest opened
   passed part rest is same fine idle =
-      record {
-        names = s.names;
-        kinds = subst (λ (owed : ℕ). Each (λ (entry : List ℕ × Kind). IsKindSoFar bodies owed entry.1) names) (ap coming is ∙ same) s.kinds;
-        tokens = s.tokens;
-        commands = s.commands;
-        few_commands = s.few_commands;
-        numbered = s.numbered;
-        few_bodies = s.few_bodies;
-        texts = s.texts;
-        parts = fine (subst PartsFine is s.parts);
-        busy = subst (λ (o : List BodyId). IsBusy o rest) (sym idle) tt;
-      }
+      so_far s.names (subst (λ (owed : ℕ). Each (λ (entry : List ℕ × Kind). IsKindSoFar bodies owed entry.1) names) (ap coming is ∙ same) s.kinds) s.tokens s.commands s.few_commands s.numbered s.few_bodies s.texts (fine (subst PartsFine is s.parts)) (subst (λ (o : List BodyId). IsBusy o rest) (sym idle) tt)
 
   -- a command begins where no part is to come
   pub started : (next : List Part) → parts ≡ [] → opened ≡ [] → PartsFine next
       → SoFar n names commands bodies texts next opened
   started next none idle fine =
-      record {
-        names = s.names;
-        kinds = each_more _ _ (λ (entry : List ℕ × Kind). kind_owed bodies (coming next) entry.1) names (subst (λ (l : List Part). Each (λ (entry : List ℕ × Kind). IsKindSoFar bodies (coming l) entry.1) names) none s.kinds);
-        tokens = s.tokens;
-        commands = s.commands;
-        few_commands = s.few_commands;
-        numbered = s.numbered;
-        few_bodies = s.few_bodies;
-        texts = s.texts;
-        parts = fine;
-        busy = subst (λ (o : List BodyId). IsBusy o next) (sym idle) tt;
-      }
+      so_far s.names (each_more _ _ (λ (entry : List ℕ × Kind). kind_owed bodies (coming next) entry.1) names (subst (λ (l : List Part). Each (λ (entry : List ℕ × Kind). IsKindSoFar bodies (coming l) entry.1) names) none s.kinds)) s.tokens s.commands s.few_commands s.numbered s.few_bodies s.texts fine (subst (λ (o : List BodyId). IsBusy o next) (sym idle) tt)

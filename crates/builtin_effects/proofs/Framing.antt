@@ -113,6 +113,7 @@ assigns style state rest f below name kind symbol names left = inr (
       at_entry = left.extends.at_entry;
       fields = ap (λ (bs : List Bind). rebound name symbol bs) left.extends.fields ∙ fields_left style state name kind symbol names.made names.is names.variable;
       next = left.extends.next;
+      few = left.extends.few;
       facts = left.extends.facts;
       rows = left.extends.rows;
     };
@@ -133,7 +134,7 @@ string_framed : (style : Style) (admits : Cond) (state : State) (f : Sym) (below
 string_framed style admits state f below rest name kind most a names =
     let bound = assigns style state (without rest state) f below name kind a names (moved state (reverse rest)) in
     let cut = assigns style state _ f below name kind (record { 0 = state.next }) names
-    (added state (reverse rest) (state.next + 1) _ (at_most (Length state.next) (pos most) ∷ []) (omega arith)) in
+    (added state (reverse rest) (state.next + 1) _ (at_most (Length state.next) (pos most) ∷ []) (omega arith) (omega arith)) in
     elim (fits_exactly (exact_text state.facts a.0) most) as (λ (t : Bool). Frames style admits op.Assign state
     (cond t (Gives (with_bind name a (without rest state))) (Chooses true (at_most (Length a.0) (pos most)) (Gives (with_bind name a (without rest state))) (cut_bound name most (without rest state))))) [
       | true ↦ bound
@@ -164,13 +165,13 @@ assigned_to_framed style admits state f below rest None a made tops named = tt
 -- numbers
 summed_framed : (style : Style) (admits : Cond) (o : Builtin) (state : State) (sign : ℤ) (a b : Sym) (rest : List Sym) (found : Option ℤ)
     → Frames style admits o state (summed sign a b (without rest state) found)
-summed_framed style admits o state sign a b rest (Some n) = λ met. inl (added state _ _ _ _ (omega arith))
-summed_framed style admits o state sign a b rest None = λ low high. inl (added state _ _ _ _ (omega arith))
+summed_framed style admits o state sign a b rest (Some n) = λ met. inl (added state _ _ _ _ (omega arith) (omega arith))
+summed_framed style admits o state sign a b rest None = λ low high. inl (added state _ _ _ _ (omega arith) (omega arith))
 
 byte_framed : (style : Style) (admits : Cond) (o : Builtin) (state : State) (a : Sym) (rest : List Sym) (found : Option ℕ)
     → Frames style admits o state (byte_number a (without rest state) found)
-byte_framed style admits o state a rest (Some b) = inl (added state _ _ _ _ (omega arith))
-byte_framed style admits o state a rest None = λ low high. inl (added state _ _ _ _ (omega arith))
+byte_framed style admits o state a rest (Some b) = inl (added state _ _ _ _ (omega arith) (omega arith))
+byte_framed style admits o state a rest None = λ low high. inl (added state _ _ _ _ (omega arith) (omega arith))
 
 -- the rule of each built-in function
 rule_framed : (style : Style) (admits : Cond) (state : State) (o : Builtin) → WellMade style state → Frames style admits o state (rule_of style admits state o)
@@ -178,35 +179,35 @@ rule_framed style admits state op.Plus made = λ a b rest tops lower_met upper_m
     summed_framed style admits op.Plus state (pos 1) a b rest (exact_sum (exact_integer state.facts a.0) (exact_integer state.facts b.0) (λ x y. x +ℤ y))
 rule_framed style admits state op.Minus made = λ a b rest tops lower_met upper_met.
     summed_framed style admits op.Minus state (negsuc 0) a b rest (exact_sum (exact_integer state.facts a.0) (exact_integer state.facts b.0) (λ x y. x -ℤ y))
-rule_framed style admits state op.Join made = λ a b rest tops lower_met upper_met. inl (added state _ _ _ _ (omega arith))
+rule_framed style admits state op.Join made = λ a b rest tops lower_met upper_met. inl (added state _ _ _ _ (omega arith) (omega arith))
 rule_framed style admits state op.Assign made = λ a f rest tops lower_met upper_met.
     assigned_to_framed style admits state f (a ∷ rest) rest (exact_function state.facts f.0) a made tops refl
-rule_framed style admits state op.AddPeriod made = λ a rest tops met. inl (added state _ _ _ _ (omega arith))
-rule_framed style admits state op.ChangeCase made = λ a c rest tops lower_met upper_met mode. inl (added state _ _ _ _ (omega arith))
+rule_framed style admits state op.AddPeriod made = λ a rest tops met. inl (added state _ _ _ _ (omega arith) (omega arith))
+rule_framed style admits state op.ChangeCase made = λ a c rest tops lower_met upper_met mode. inl (added state _ _ _ _ (omega arith) (omega arith))
 rule_framed style admits state op.ChrToInt made = λ a rest tops met. byte_framed style admits op.ChrToInt state a rest (one_byte (exact_text state.facts a.0))
-rule_framed style admits state op.Cite made = λ met. inl (added state _ _ _ _ (omega arith))
+rule_framed style admits state op.Cite made = λ met. inl (added state _ _ _ _ (omega arith) (omega arith))
 rule_framed style admits state op.Duplicate made = λ a rest tops met. inl (moved state _)
 rule_framed style admits state op.FormatName made = λ s i p rest tops lowest_met middle_met top_met low high formed known.
-    inl (added state _ _ _ _ (omega arith))
-rule_framed style admits state op.IntToChr made = λ a rest tops met low high. inl (added state _ _ _ _ (omega arith))
-rule_framed style admits state op.IntToStr made = λ a rest tops met. inl (added state _ _ _ _ (omega arith))
+    inl (added state _ _ _ _ (omega arith) (omega arith))
+rule_framed style admits state op.IntToChr made = λ a rest tops met low high. inl (added state _ _ _ _ (omega arith) (omega arith))
+rule_framed style admits state op.IntToStr made = λ a rest tops met. inl (added state _ _ _ _ (omega arith) (omega arith))
 rule_framed style admits state op.Newline made = inl (moved state state.stack)
-rule_framed style admits state op.NumNames made = λ a rest tops met few. inl (added state _ _ _ _ (omega arith))
+rule_framed style admits state op.NumNames made = λ a rest tops met few. inl (added state _ _ _ _ (omega arith) (omega arith))
 rule_framed style admits state op.Pop made = λ a rest tops met. inl (moved state _)
-rule_framed style admits state op.Preamble made = inl (added state _ _ _ _ (omega arith))
-rule_framed style admits state op.Purify made = λ a rest tops met. inl (added state _ _ _ _ (omega arith))
-rule_framed style admits state op.Quote made = inl (added state _ _ _ _ (omega arith))
+rule_framed style admits state op.Preamble made = inl (added state _ _ _ _ (omega arith) (omega arith))
+rule_framed style admits state op.Purify made = λ a rest tops met. inl (added state _ _ _ _ (omega arith) (omega arith))
+rule_framed style admits state op.Quote made = inl (added state _ _ _ _ (omega arith) (omega arith))
 rule_framed style admits state op.Skip made = inl (moved state state.stack)
 rule_framed style admits state op.Stack made = λ whole. inl (moved state [])
 rule_framed style admits state op.Substring made = λ a b c rest tops lowest_met middle_met top_met.
-    (λ wanted shown. inl (added state _ _ _ _ (omega arith)), inl (added state _ _ _ _ (omega arith)))
+    (λ wanted shown. inl (added state _ _ _ _ (omega arith) (omega arith)), inl (added state _ _ _ _ (omega arith) (omega arith)))
 rule_framed style admits state op.Swap made = λ a b rest tops lower_met upper_met. inl (moved state _)
-rule_framed style admits state op.TextLength made = λ a rest tops met few. inl (added state _ _ _ _ (omega arith))
-rule_framed style admits state op.TextPrefix made = λ a n rest tops lower_met upper_met. inl (added state _ _ _ _ (omega arith))
+rule_framed style admits state op.TextLength made = λ a rest tops met few. inl (added state _ _ _ _ (omega arith) (omega arith))
+rule_framed style admits state op.TextPrefix made = λ a n rest tops lower_met upper_met. inl (added state _ _ _ _ (omega arith) (omega arith))
 rule_framed style admits state op.Top made = λ a rest tops met. inl (moved state _)
-rule_framed style admits state op.TypeName made = λ met. inl (added state _ _ _ _ (omega arith))
+rule_framed style admits state op.TypeName made = λ met. inl (added state _ _ _ _ (omega arith) (omega arith))
 rule_framed style admits state op.Warning made = λ a rest tops met. inl (moved state _)
-rule_framed style admits state op.Width made = λ a rest tops met few. inl (added state _ _ _ _ (omega arith))
+rule_framed style admits state op.Width made = λ a rest tops met few. inl (added state _ _ _ _ (omega arith) (omega arith))
 rule_framed style admits state op.Write made = λ a rest tops met. inl (moved state _)
 rule_framed style admits state _ made = tt
 

@@ -35,7 +35,8 @@ use Rattle.sym_state.proofs.Exact.{exact_bytes, exact_small}
 use Rattle.sym_state.proofs.Below.{one_below, three_below, two_below}
 use Rattle.sym_state.proofs.Ensured.{Ensures, ensured}
 use Rattle.sym_state.proofs.Pushing.{without}
-use Rattle.sym_state.proofs.Resulting.{Fits, RowFits, at_least_fits, at_most_fits, bind_made, both_fit, exceeds_fits, nothing_fits, one_fits, rest_made, result_made, row_fits, rows_fit, symbol_made, three_fits, top_made, two_fits}
+use Rattle.sym_state.specs.Fitting.{RowFits}
+use Rattle.sym_state.proofs.Resulting.{Fits, at_least_fits, at_most_fits, bind_made, both_fit, exceeds_fits, nothing_fits, one_fits, rest_made, result_made, row_fits, rows_fit, symbol_made, three_fits, top_made, two_fits}
 
 -- every state that a rule gives is well made
 abbrev Keeps : Style → Cond → State → Rule → Type 0

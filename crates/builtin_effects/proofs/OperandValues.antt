@@ -22,11 +22,8 @@ pub record IsText (s : Spot) (a : Sym) : Type 0 where
 
 pub text_met : (s : Spot) (a : Sym) → is_of_kind s.state Str a ≡ true → IsText s a
 text_met s a e =
-    let found = string_is (s.v.value a.0) (kind_met s Str a e) in record {
-      bytes = found.0;
-      is = found.1;
-      fine = subst (λ (x : Value). IsValue x) found.1 (s.stands.satisfied.values a.0);
-    }
+    let found = string_is (s.v.value a.0) (kind_met s Str a e) in
+    record { bytes = found.0; is = found.1; fine = subst (λ (x : Value). IsValue x) found.1 (s.stands.satisfied.values a.0) }
 
 pub record IsNumber (s : Spot) (a : Sym) : Type 0 where
   pub n : ℤ
@@ -35,11 +32,8 @@ pub record IsNumber (s : Spot) (a : Sym) : Type 0 where
 
 pub number_met : (s : Spot) (a : Sym) → is_of_kind s.state Int a ≡ true → IsNumber s a
 number_met s a e =
-    let found = integer_is (s.v.value a.0) (kind_met s Int a e) in record {
-      n = found.0;
-      is = found.1;
-      bits = subst (λ (x : Value). IsValue x) found.1 (s.stands.satisfied.values a.0);
-    }
+    let found = integer_is (s.v.value a.0) (kind_met s Int a e) in
+    record { n = found.0; is = found.1; bits = subst (λ (x : Value). IsValue x) found.1 (s.stands.satisfied.values a.0) }
 
 -- one string on top
 pub record TextTaken (s : Spot) (a : Sym) (rest : List Sym) : Type 0 where

@@ -8,7 +8,7 @@ ghost use Rattle.sym_state.specs.Demands.{Gives as Given, IsReady, without};
 ghost use Rattle.sym_state.specs.Effects as rule;
 ghost use Rattle.builtin_effects.specs.Given.{Gives, outcome_at};
 
-use crate::at::At;
+use crate::at::{At, Outcome};
 use crate::results::{Said, with_symbol};
 use crate::steps::choice;
 use bst_meaning::style_parts::kind_of;
@@ -20,11 +20,10 @@ use sym_state::demand::{DemandKind, EffectFault};
 use sym_state::hint::Hints;
 use sym_state::operands::{demand, of_kind, two};
 use sym_state::references::at_most;
-use sym_state::state::State;
 use sym_state::symbol::{Kinds, Sym};
 
 /// `:=`
-pub fn assign(style: &Style, at: &At<'_>, hints: &mut Hints<'_>) -> Result<State, EffectFault>
+pub fn assign(style: &Style, at: &At<'_>, hints: &mut Hints<'_>) -> Outcome
     requires { IsReady at.now.state.now hints.old }
     ensures { Gives result hints.new (outcome_at at.now (rule.assign style.now at.now.state.now) hints.old) }
 {
@@ -36,13 +35,7 @@ pub fn assign(style: &Style, at: &At<'_>, hints: &mut Hints<'_>) -> Result<State
 }
 
 /// A symbol is assigned to a name, by the kind of the name.
-fn assigned(
-    at: &At<'_>,
-    kind: Option<Kind>,
-    name: NameId,
-    a: Sym,
-    hints: &mut Hints<'_>,
-) -> Result<State, EffectFault>
+fn assigned(at: &At<'_>, kind: Option<Kind>, name: NameId, a: Sym, hints: &mut Hints<'_>) -> Outcome
     requires { IsReady at.now.state.now hints.old }
     ensures { Gives result hints.new (outcome_at at.now (rule.assigned at.now.state.now kind name a (without 2 at.now.state.now)) hints.old) }
 {
@@ -62,7 +55,7 @@ fn assigned(
 }
 
 /// An integer is assigned.
-fn integer_assigned(at: &At<'_>, name: NameId, a: Sym) -> Result<State, EffectFault>
+fn integer_assigned(at: &At<'_>, name: NameId, a: Sym) -> Outcome
     ensures { (hints : List Hint) → Gives result hints (outcome_at at.now (rule.of_kind at.now.state.now Int 2 a (Given (change.with_bind name a (without 2 at.now.state.now)))) hints) }
 {
     of_kind(at.state, Kinds::Int, 2, a)?;
@@ -70,13 +63,7 @@ fn integer_assigned(at: &At<'_>, name: NameId, a: Sym) -> Result<State, EffectFa
 }
 
 /// A string is assigned: one that may be longer than its variable is another one once it is cut.
-fn string_assigned(
-    at: &At<'_>,
-    name: NameId,
-    size: u32,
-    a: Sym,
-    hints: &mut Hints<'_>,
-) -> Result<State, EffectFault>
+fn string_assigned(at: &At<'_>, name: NameId, size: u32, a: Sym, hints: &mut Hints<'_>) -> Outcome
     requires { IsReady at.now.state.now hints.old }
     ensures { Gives result hints.new (outcome_at at.now
         (rule.of_kind at.now.state.now Str 2 a (rule.string_assigned at.now.state.now name size a (without 2 at.now.state.now))) hints.old) }
@@ -104,7 +91,7 @@ fn fits_exactly(text: Option<&[u8]>, size: u32) -> bool
 }
 
 /// The variable is bound to the symbol that is assigned.
-fn bound(at: &At<'_>, name: NameId, a: Sym) -> Result<State, EffectFault>
+fn bound(at: &At<'_>, name: NameId, a: Sym) -> Outcome
     ensures { (hints : List Hint) → Gives result hints (outcome_at at.now (Given (change.with_bind name a (without 2 at.now.state.now))) hints) }
 {
     let mut after = at.state.without(2)?;
@@ -113,7 +100,7 @@ fn bound(at: &At<'_>, name: NameId, a: Sym) -> Result<State, EffectFault>
 }
 
 /// The variable is bound to a new string, of which no more is known than that it is cut.
-fn cut_bound(at: &At<'_>, name: NameId, size: u32) -> Result<State, EffectFault>
+fn cut_bound(at: &At<'_>, name: NameId, size: u32) -> Outcome
     requires { at.now.state.now.next < 4294967295 }
     ensures { (hints : List Hint) → Gives result hints (outcome_at at.now (rule.cut_bound name size (without 2 at.now.state.now)) hints) }
 {

@@ -1,6 +1,7 @@
 //! Where an effect is asked for.
 
 use bst_meaning::condition::Cond;
+use sym_state::demand::EffectFault;
 use sym_state::state::State;
 
 /// The state that an effect is of, and the condition on entries.
@@ -9,3 +10,6 @@ pub struct At<'a> {
     pub state: &'a State,
     pub cond: &'a Cond,
 }
+
+/// What comes of an effect: the state after it, or why it can't be taken.
+pub type Outcome = Result<State, EffectFault>;

@@ -35,6 +35,7 @@ pub fn effect(
     ensures ok { IfOk result (λ after. effect_of style.now cond.now state.now op hints.old ≡ Ok (record { state = after; hints = hints.new })) }
     ensures fault { IfErr result (λ fault. fault ≢ WantOfMemory → effect_of style.now cond.now state.now op hints.old ≡ Err fault) }
     ensures cursor { OnErr result (hints.new ≡ hints.old) }
+    ensures few { All HasFewUses hints.new }
     ensures kept { IfOk result (λ after. WellMade style.now state.now → WellMade style.now after) }
 {
     // For the proof of `kept`, which has no range of a field behind a reference: nothing is done.

@@ -1,6 +1,6 @@
 //! What the effects of the built-in functions cover and keep.
 
-ghost use Rattle.std.specs.Prelude.{◌≡◌, List, Ok};
+ghost use Rattle.std.specs.Prelude.{◌≡◌, ℕ, List, Ok, drop};
 ghost use Rattle.bv_base.specs.declared.place.Place.{Place};
 ghost use Rattle.name_table.specs.declared.builtin.Builtin.{Builtin};
 ghost use Rattle.name_table.specs.declared.style.Style.{Style};
@@ -34,9 +34,16 @@ pub fn effects_keep()
 {}
 
 /// Where a built-in function has an effect on a well-made state, whether the whole stack is known, whether an entry is
-/// visited and the fields' symbols stay, no symbol is given back, and facts and rows are only added at the end. The
+/// visited and the fields' symbols stay, no symbol is given back and at most one is new, and facts and rows are only added
+/// at the end. The
 /// variables keep their symbols, but for the one that `:=` binds: a global one where the state isn't at an entry.
 pub fn effects_leave_the_rest()
     ensures { (style : Style) (admits : Cond) (state : State) (op : Builtin) (hints : List Hint) (after : After) → WellMade style state
         → effect_of style admits state op hints ≡ Ok after → EffectFrame style op state after.state }
+{}
+
+/// The hints that an effect leaves are those behind the ones that it took.
+pub fn effects_leave_the_last_hints()
+    ensures { (style : Style) (admits : Cond) (state : State) (op : Builtin) (hints : List Hint) (after : After)
+        → effect_of style admits state op hints ≡ Ok after → (taken : ℕ) × (after.hints ≡ drop taken hints) }
 {}

@@ -13,4 +13,6 @@ mod substring;
 mod surroundings;
 mod texts;
 
-pub use crate::laws::{effects_cover, effects_keep, effects_leave_the_rest};
+pub use crate::laws::{
+    effects_cover, effects_keep, effects_leave_the_last_hints, effects_leave_the_rest,
+};

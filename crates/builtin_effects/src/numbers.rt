@@ -14,7 +14,7 @@ ghost use Rattle.sym_state.specs.Results.{next_of};
 ghost use Rattle.sym_state.specs.WellMade.{IsBounded};
 ghost use Rattle.builtin_effects.specs.Given.{Gives, facts_of, outcome_at, rows_of};
 
-use crate::at::At;
+use crate::at::{At, Outcome};
 use crate::results::{Said, part, with_result};
 use crate::steps::{both_steps, step};
 use bv_base::limits::GREATEST_INTEGER;
@@ -30,7 +30,7 @@ use sym_state::symbol::{Fact, Kinds, Sym};
 use text_ops::width::WIDEST_BYTE;
 
 /// `+`
-pub fn plus(at: &At<'_>, hints: &mut Hints<'_>) -> Result<State, EffectFault>
+pub fn plus(at: &At<'_>, hints: &mut Hints<'_>) -> Outcome
     requires { IsReady at.now.state.now hints.old }
     ensures { Gives result hints.new (outcome_at at.now (rule.sum at.now.state.now (pos 1) (λ a b. a +ℤ b)) hints.old) }
 {
@@ -46,7 +46,7 @@ pub fn plus(at: &At<'_>, hints: &mut Hints<'_>) -> Result<State, EffectFault>
 }
 
 /// `-`
-pub fn minus(at: &At<'_>, hints: &mut Hints<'_>) -> Result<State, EffectFault>
+pub fn minus(at: &At<'_>, hints: &mut Hints<'_>) -> Outcome
     requires { IsReady at.now.state.now hints.old }
     ensures { Gives result hints.new (outcome_at at.now (rule.sum at.now.state.now (negsuc 0) (λ a b. a -ℤ b)) hints.old) }
 {
@@ -73,13 +73,7 @@ fn known(at: &At<'_>, taken: usize, n: i32) -> Result<State, NoMemory>
 
 /// A sum that isn't known is shown to have 32 bits. The second part is added, with its sign; the other has the opposite
 /// sign.
-fn unknown_sum(
-    at: &At<'_>,
-    a: Sym,
-    second: Part,
-    opposite: Part,
-    hints: &mut Hints<'_>,
-) -> Result<State, EffectFault>
+fn unknown_sum(at: &At<'_>, a: Sym, second: Part, opposite: Part, hints: &mut Hints<'_>) -> Outcome
     requires ready { IsReady at.now.state.now hints.old }
     requires second { IsWithin (2 ^ 40) second.coefficient }
     requires opposite { IsWithin (2 ^ 40) opposite.coefficient }
@@ -117,7 +111,7 @@ fn new_sum(at: &At<'_>, a: Sym, second: Part, opposite: Part) -> Result<State, N
 }
 
 /// `chr.to.int$`
-pub fn chr_to_int(at: &At<'_>, hints: &mut Hints<'_>) -> Result<State, EffectFault>
+pub fn chr_to_int(at: &At<'_>, hints: &mut Hints<'_>) -> Outcome
     requires { IsReady at.now.state.now hints.old }
     ensures { Gives result hints.new (outcome_at at.now (rule.chr_to_int at.now.state.now) hints.old) }
 {
@@ -139,7 +133,7 @@ fn one_byte(text: Option<&[u8]>) -> Option<u8>
 }
 
 /// A string that isn't known is shown to have one byte.
-fn unknown_byte(at: &At<'_>, a: Sym, hints: &mut Hints<'_>) -> Result<State, EffectFault>
+fn unknown_byte(at: &At<'_>, a: Sym, hints: &mut Hints<'_>) -> Outcome
     requires { IsReady at.now.state.now hints.old }
     ensures { Gives result hints.new (outcome_at at.now (rule.byte_number a (without 1 at.now.state.now) None) hints.old) }
 {
@@ -155,7 +149,7 @@ fn unknown_byte(at: &At<'_>, a: Sym, hints: &mut Hints<'_>) -> Result<State, Eff
 }
 
 /// `int.to.chr$`
-pub fn int_to_chr(at: &At<'_>, hints: &mut Hints<'_>) -> Result<State, EffectFault>
+pub fn int_to_chr(at: &At<'_>, hints: &mut Hints<'_>) -> Outcome
     requires { IsReady at.now.state.now hints.old }
     ensures { Gives result hints.new (outcome_at at.now rule.int_to_chr hints.old) }
 {
@@ -172,7 +166,7 @@ pub fn int_to_chr(at: &At<'_>, hints: &mut Hints<'_>) -> Result<State, EffectFau
 }
 
 /// `int.to.str$`
-pub fn int_to_str(at: &At<'_>) -> Result<State, EffectFault>
+pub fn int_to_str(at: &At<'_>) -> Outcome
     requires { at.now.state.now.next < 4294967295 }
     ensures { (hints : List Hint) → Gives result hints (outcome_at at.now rule.int_to_str hints) }
 {
@@ -188,7 +182,7 @@ pub fn int_to_str(at: &At<'_>) -> Result<State, EffectFault>
 }
 
 /// `num.names$`
-pub fn num_names(at: &At<'_>, hints: &mut Hints<'_>) -> Result<State, EffectFault>
+pub fn num_names(at: &At<'_>, hints: &mut Hints<'_>) -> Outcome
     requires { IsReady at.now.state.now hints.old }
     ensures { Gives result hints.new (outcome_at at.now rule.num_names hints.old) }
 {
@@ -202,7 +196,7 @@ pub fn num_names(at: &At<'_>, hints: &mut Hints<'_>) -> Result<State, EffectFaul
 }
 
 /// `text.length$`
-pub fn text_length(at: &At<'_>, hints: &mut Hints<'_>) -> Result<State, EffectFault>
+pub fn text_length(at: &At<'_>, hints: &mut Hints<'_>) -> Outcome
     requires { IsReady at.now.state.now hints.old }
     ensures { Gives result hints.new (outcome_at at.now rule.text_length hints.old) }
 {
@@ -216,7 +210,7 @@ pub fn text_length(at: &At<'_>, hints: &mut Hints<'_>) -> Result<State, EffectFa
 }
 
 /// `width$`
-pub fn width(at: &At<'_>, hints: &mut Hints<'_>) -> Result<State, EffectFault>
+pub fn width(at: &At<'_>, hints: &mut Hints<'_>) -> Outcome
     requires { IsReady at.now.state.now hints.old }
     ensures { Gives result hints.new (outcome_at at.now rule.width hints.old) }
 {
@@ -224,13 +218,18 @@ pub fn width(at: &At<'_>, hints: &mut Hints<'_>) -> Result<State, EffectFault>
     let length = Term::Length(a.0);
     let alloc = at.state.alloc();
     let r = Term::Value(at.state.next());
-    let high = sum_of_two(alloc, GREATEST_INTEGER as i64, part(-(WIDEST_BYTE as i64), length), part(0, length))?;
+    let high = sum_of_two(
+        alloc,
+        GREATEST_INTEGER as i64,
+        part(-(WIDEST_BYTE as i64), length),
+        part(0, length),
+    )?;
     let most = sum_of_two(alloc, 0, part(WIDEST_BYTE as i64, length), part(-1, r))?;
     counted(at, &high, Said::rows(at_least(alloc, r, 0)?, most), hints)
 }
 
 /// A number that is told of a string, which a step shows to have 32 bits.
-fn counted(at: &At<'_>, high: &Row, said: Said, hints: &mut Hints<'_>) -> Result<State, EffectFault>
+fn counted(at: &At<'_>, high: &Row, said: Said, hints: &mut Hints<'_>) -> Outcome
     requires ready { IsReady at.now.state.now hints.old }
     requires high { IsBounded high.now }
     ensures { Gives result hints.new (outcome_at at.now (Steps high.now (fails IntRange 0)

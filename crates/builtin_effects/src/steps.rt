@@ -42,8 +42,8 @@ pub fn step(
     fault: EffectFault,
     hints: &mut Hints<'_>,
 ) -> Result<(), EffectFault>
-    requires ready { IsReady at.now.state.now hints.old }
     requires row { IsBounded row.now }
+    requires ready { IsReady at.now.state.now hints.old }
     ensures ready { IsReady at.now.state.now hints.new }
     ensures taken { MatchResult result
         (λ _. (next : List Hint → Outcome) → rule.step at.now.cond.now at.now.state.now row.now fault hints.old next ≡ next hints.new)
@@ -97,8 +97,8 @@ pub fn choice(
     row: &Row,
     hints: &mut Hints<'_>,
 ) -> Result<bool, EffectFault>
-    requires ready { IsReady at.now.state.now hints.old }
     requires row { IsBounded row.now }
+    requires ready { IsReady at.now.state.now hints.old }
     ensures taken { MatchResult result
         (λ by_step. (first second : List Hint → Outcome) → rule.choice at.now.cond.now at.now.state.now wanted row.now hints.old first second
         ≡ (if by_step then first hints.new else second hints.new))

@@ -12,7 +12,7 @@ ghost use Rattle.sym_state.specs.Effects as rule;
 ghost use Rattle.sym_state.specs.Results as results;
 ghost use Rattle.builtin_effects.specs.Given.{Gives, outcome_at};
 
-use crate::at::At;
+use crate::at::{At, Outcome};
 use crate::results::{Said, part, with_result};
 use crate::steps::both_steps;
 use lin_facts::row::Term;
@@ -22,11 +22,10 @@ use sym_state::hint::Hints;
 use sym_state::operands::{demand, one, three, two};
 use sym_state::references::{at_least, exceeds};
 use sym_state::results::sum_of_three;
-use sym_state::state::State;
 use sym_state::symbol::{Fact, Kinds, Sym};
 
 /// `*`
-pub fn join(at: &At<'_>) -> Result<State, EffectFault>
+pub fn join(at: &At<'_>) -> Outcome
     requires { at.now.state.now.next < 4294967295 }
     ensures { (hints : List Hint) → Gives result hints (outcome_at at.now (rule.join at.now.state.now) hints) }
 {
@@ -44,7 +43,7 @@ pub fn join(at: &At<'_>) -> Result<State, EffectFault>
 }
 
 /// `add.period$`
-pub fn add_period(at: &At<'_>) -> Result<State, EffectFault>
+pub fn add_period(at: &At<'_>) -> Outcome
     requires { at.now.state.now.next < 4294967295 }
     ensures { (hints : List Hint) → Gives result hints (outcome_at at.now (rule.add_period at.now.state.now) hints) }
 {
@@ -69,7 +68,7 @@ fn nonblank_where(known: bool, s: Sym) -> Option<Fact>
 }
 
 /// `purify$`
-pub fn purify(at: &At<'_>) -> Result<State, EffectFault>
+pub fn purify(at: &At<'_>) -> Outcome
     requires { at.now.state.now.next < 4294967295 }
     ensures { (hints : List Hint) → Gives result hints (outcome_at at.now (OneOperand Str rule.no_longer) hints) }
 {
@@ -78,7 +77,7 @@ pub fn purify(at: &At<'_>) -> Result<State, EffectFault>
 }
 
 /// `change.case$`
-pub fn change_case(at: &At<'_>) -> Result<State, EffectFault>
+pub fn change_case(at: &At<'_>) -> Outcome
     requires { at.now.state.now.next < 4294967295 }
     ensures { (hints : List Hint) → Gives result hints (outcome_at at.now (rule.change_case at.now.state.now) hints) }
 {
@@ -99,7 +98,7 @@ fn is_mode(text: Option<&[u8]>) -> bool
 }
 
 /// A new string that is no longer than another.
-fn no_longer(at: &At<'_>, taken: usize, a: Sym) -> Result<State, EffectFault>
+fn no_longer(at: &At<'_>, taken: usize, a: Sym) -> Outcome
     requires { at.now.state.now.next < 4294967295 }
     ensures { (hints : List Hint) → Gives result hints (outcome_at at.now (rule.no_longer a (without taken at.now.state.now)) hints) }
 {
@@ -113,7 +112,7 @@ fn no_longer(at: &At<'_>, taken: usize, a: Sym) -> Result<State, EffectFault>
 }
 
 /// `text.prefix$`
-pub fn text_prefix(at: &At<'_>) -> Result<State, EffectFault>
+pub fn text_prefix(at: &At<'_>) -> Outcome
     requires { at.now.state.now.next < 4294967295 }
     ensures { (hints : List Hint) → Gives result hints (outcome_at at.now (TwoOperands Str Int (λ a n rest. Given (results.with_result Str [] [] rest))) hints) }
 {
@@ -122,7 +121,7 @@ pub fn text_prefix(at: &At<'_>) -> Result<State, EffectFault>
 }
 
 /// `format.name$`
-pub fn format_name(at: &At<'_>, hints: &mut Hints<'_>) -> Result<State, EffectFault>
+pub fn format_name(at: &At<'_>, hints: &mut Hints<'_>) -> Outcome
     requires { IsReady at.now.state.now hints.old }
     ensures { Gives result hints.new (outcome_at at.now (rule.format_name at.now.state.now) hints.old) }
 {
@@ -131,13 +130,7 @@ pub fn format_name(at: &At<'_>, hints: &mut Hints<'_>) -> Result<State, EffectFa
 }
 
 /// The name of a number by a pattern, where steps show that it is there.
-fn numbered(
-    at: &At<'_>,
-    s: Sym,
-    i: Sym,
-    p: Sym,
-    hints: &mut Hints<'_>,
-) -> Result<State, EffectFault>
+fn numbered(at: &At<'_>, s: Sym, i: Sym, p: Sym, hints: &mut Hints<'_>) -> Outcome
     requires { IsReady at.now.state.now hints.old }
     ensures { Gives result hints.new (outcome_at at.now
         (BothSteps (references.at_least (Value i.0) (pos 1)) (references.exceeds (Names s.0) (Value i.0) (pos 0)) (fails BadNameIndex 2)
@@ -153,7 +146,7 @@ fn numbered(
 }
 
 /// A name that is there is written, where it and its pattern are well formed.
-fn written(at: &At<'_>, s: Sym, p: Sym) -> Result<State, EffectFault>
+fn written(at: &At<'_>, s: Sym, p: Sym) -> Outcome
     requires { at.now.state.now.next < 4294967295 }
     ensures { (hints : List Hint) → Gives result hints (outcome_at at.now (rule.named at.now.state.now s p (without 3 at.now.state.now)) hints) }
 {

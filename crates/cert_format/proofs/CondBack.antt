@@ -1,5 +1,5 @@
 -- The text of a condition is read as that condition.
-use Rattle.std.proofs.Common.{◌≡◌, ℕ, ◌≤◌, Bool, true, false, not, List, [], ◌∷◌, ◌++◌, map, Ok, codes, refl, sym, ap, subst, ◌∙◌, append_assoc, arith}
+use Rattle.std.proofs.Common.{◌≡◌, ℕ, ◌≤◌, Bool, true, false, not, List, [], ◌∷◌, ◌++◌, map, Ok, codes, lit≤, refl, sym, ap, subst, ◌∙◌, append_assoc, arith}
 use Rattle.std.specs.Fmt.{decimal}
 use Rattle.std.specs.List.{list_all}
 use Rattle.std.specs.Cmp.Lexicographic.{slice_cmp}
@@ -21,13 +21,13 @@ use Rattle.cert_format.specs.Spelling.{choice_text, cond_end, cond_items, cond_l
 use Rattle.cert_format.specs.Texts.{cond_of, told}
 use Rattle.cert_format.specs.declared.cond_lines.CondSoFar.{CondSoFar}
 use Rattle.cert_format.specs.declared.cond_lines.Stage.TheVariants.{Key, Preamble, Length, Names, Done}
-use Rattle.cert_format.proofs.CondTaken.{at_stage, entries_taken, key_taken, length_taken, preamble_taken, then_go}
+use Rattle.cert_format.proofs.CondTaken.{at_stage, numbered, then_go}
 use Rattle.cert_format.proofs.CondWhole.{Goes, end_all, fits_names, names_all, nonblank_all, types_all, up_of}
 use Rattle.cert_format.proofs.NamesTaken.{field_solid, type_solid}
 use Rattle.cert_format.proofs.Numerals.{decimal_digits}
 use Rattle.cert_format.proofs.Spelt.{SolidLine, SolidLines, spelt}
 
-digits_black : (text : List ℕ) → list_all is_digit text ≡ true → list_all is_black text ≡ true
+pub digits_black : (text : List ℕ) → list_all is_digit text ≡ true → list_all is_black text ≡ true
 digits_black [] e = refl
 digits_black (b ∷ text) e =
     let both = and_parts (is_digit b) (list_all is_digit text) e in
@@ -41,7 +41,7 @@ decimal_type n small =
     let digits = decimal_digits n (omega (arith, small)) in
     and_from (not (is_empty (decimal n))) (list_all is_black (decimal n)) digits.1 (digits_black (decimal n) digits.0)
 
-solid_append : (a b : List (List (List ℕ))) → SolidLines a → SolidLines b → SolidLines (a ++ b)
+pub solid_append : (a b : List (List (List ℕ))) → SolidLines a → SolidLines b → SolidLines (a ++ b)
 solid_append [] b first second = second
 solid_append (line ∷ a) b first second = (first.0, solid_append a b first.1 second)
 
@@ -84,7 +84,7 @@ numbers_solid names c is =
     )
 
 -- the lines of a condition can be lines
-lines_solid : (names : List (List ℕ × Kind)) (c : Cond) → ArePlain names → IsCond names c → SolidLines (cond_items names c)
+pub lines_solid : (names : List (List ℕ × Kind)) (c : Cond) → ArePlain names → IsCond names c → SolidLines (cond_items names c)
 lines_solid names c plain is =
     solid_append (cond_numbers c) (cond_lists names c ++ cond_end c.other) (numbers_solid names c is)
     (solid_append (cond_lists names c) (cond_end c.other)
@@ -110,17 +110,17 @@ numbers_all names c more q is next (a ∷ (b ∷ (d ∷ (e ∷ lines)))) have =
     let c2 : Cond = record c1 { key = c.key } in
     let c3 : Cond = record c2 { preamble = c.preamble } in
     then_go (conditions.cond_line names a conditions.no_lines) (at_stage Key c1) (conditions.cond_lines names (b ∷ (d ∷ (e ∷ lines)))) (Ok q)
-    (entries_taken names a c0 c.entries is.entries have.0)
+    (numbered names a (codes "entries") 1000000 c.entries conditions.no_lines (at_stage Key c1) (λ number. Ok (at_stage Key (record c0 { entries = number }))) (lit≤ tt) is.entries have.0 (λ word rest. refl) refl)
     (then_go (conditions.cond_line names b (at_stage Key c1)) (at_stage Preamble c2) (conditions.cond_lines names (d ∷ (e ∷ lines))) (Ok q)
-    (key_taken names b c1 c.key is.key have.1.0)
+    (numbered names b (codes "key") 1073741824 c.key (at_stage Key c1) (at_stage Preamble c2) (λ number. Ok (at_stage Preamble (record c1 { key = number }))) (lit≤ tt) is.key have.1.0 (λ word rest. refl) refl)
     (then_go (conditions.cond_line names d (at_stage Preamble c2)) (at_stage Length c3) (conditions.cond_lines names (e ∷ lines)) (Ok q)
-    (preamble_taken names d c2 c.preamble is.preamble have.1.1.0)
+    (numbered names d (codes "preamble") 1073741824 c.preamble (at_stage Preamble c2) (at_stage Length c3) (λ number. Ok (at_stage Length (record c2 { preamble = number }))) (lit≤ tt) is.preamble have.1.1.0 (λ word rest. refl) refl)
     (then_go (conditions.cond_line names e (at_stage Length c3)) (at_stage Names (numbers_only c)) (conditions.cond_lines names lines) (Ok q)
-    (length_taken names e c3 c.length is.length have.1.1.1.0)
+    (numbered names e (codes "length") 1073741824 c.length (at_stage Length c3) (at_stage Names (numbers_only c)) (λ number. Ok (at_stage Names (record c3 { length = number }))) (lit≤ tt) is.length have.1.1.1.0 (λ word rest. refl) refl)
     (next lines have.1.1.1.1))))
 
 -- all lines of a condition
-all_lines : (names : List (List ℕ × Kind)) (c : Cond) → ArePlain names → IsCond names c
+pub all_lines : (names : List (List ℕ × Kind)) (c : Cond) → ArePlain names → IsCond names c
     → Goes names (cond_items names c) conditions.no_lines (at_stage Done c)
 all_lines names c plain is =
     let n = map (names_items names) c.names in

@@ -24,7 +24,7 @@ use Rattle.cert_format.proofs.CondSteps.{told_ok}
 use Rattle.cert_format.proofs.CondWhole.{fits_names}
 use Rattle.cert_format.proofs.Numerals.{natural_read}
 
-each_snoc : {A : Type 0} (P : A → Type 0) (xs : List A) (x : A) → Each P xs → P x → Each P (xs ++ x ∷ [])
+pub each_snoc : {A : Type 0} (P : A → Type 0) (xs : List A) (x : A) → Each P xs → P x → Each P (xs ++ x ∷ [])
 each_snoc P [] x each is = (is, tt)
 each_snoc P (y ∷ xs) x each is = (each.0, each_snoc P xs x each.1 is)
 
@@ -33,7 +33,7 @@ last_cons x y xs =
     let place : length (x ∷ (y ∷ xs)) - 1 ≡ suc (length (y ∷ xs) - 1) = omega arith in
     ap (λ (n : ℕ). slice_get (x ∷ (y ∷ xs)) n) place
 
-chain_snoc : {A : Type 0} (before : A → A → Bool) (fits : Option A → A → Bool) → ((a b : A) → fits (Some a) b ≡ true → before a b ≡ true)
+pub chain_snoc : {A : Type 0} (before : A → A → Bool) (fits : Option A → A → Bool) → ((a b : A) → fits (Some a) b ≡ true → before a b ≡ true)
     → (xs : List A) (x : A) → is_chain before xs ≡ true → fits (last_of xs) x ≡ true → is_chain before (xs ++ x ∷ []) ≡ true
 chain_snoc before fits same [] x chain fit = refl
 chain_snoc before fits same (y ∷ []) x chain fit = and_from (before y x) true (same y x fit) refl
@@ -55,7 +55,7 @@ field_kept last names item id e =
     (subst (IsField names) (sym (same ∙ other)) d.0, subst (λ (i : NameId). is_above last i ≡ true) (sym same) b.0)
 
 -- a number that is read is within its limit
-last_kept : (most : ℕ) (line : Line) (n : ℕ) → most ≤ 4294967295 → conditions.last_natural most line ≡ Ok n → n ≤ most
+pub last_kept : (most : ℕ) (line : Line) (n : ℕ) → most ≤ 4294967295 → conditions.last_natural most line ≡ Ok n → n ≤ most
 last_kept most line n bound e =
     let a = then_ok (next_item line) _ _ e in
     let b = then_ok (natural most a.0.0) _ _ a.2 in
@@ -69,6 +69,26 @@ number_kept text most word line n bound e = let a = then_ok (expected text word)
 abbrev Kept : List (List ℕ × Kind) → CondSoFar → Type 0
 Kept names q = IsCond names q.cond
 
+-- a condition whose numbers and lists keep them
+all_kept : (names : List (List ℕ × Kind)) (c : Cond) → c.entries ≤ 1000000 → c.key ≤ 1073741824 → c.preamble ≤ 1073741824 → c.length ≤ 1073741824
+    → Each (IsNamesLine names) c.names → is_chain (λ a b. is_below a.field b.field) c.names ≡ true
+    → Each (IsField names) c.nonblank → is_chain is_below c.nonblank ≡ true
+    → Each (λ name. is_type name ≡ true) c.types → is_chain (λ a b. is_lt (slice_cmp nat_cmp a b)) c.types ≡ true
+    → IsCond names c
+all_kept names c few keys preambles longs lines names_rise fields nonblank_rise types types_rise =
+    record {
+      entries = few;
+      key = keys;
+      preamble = preambles;
+      length = longs;
+      bounds = lines;
+      names_rise = names_rise;
+      fields = fields;
+      nonblank_rise = nonblank_rise;
+      types = types;
+      types_rise = types_rise;
+    }
+
 names_kept : (names : List (List ℕ × Kind)) (s : Stage) (c : Cond) (rest : Line) (q : CondSoFar) → IsCond names c
     → conditions.names_line names rest (record { stage = s; cond = c }) ≡ Ok q → Kept names q
 names_kept names s c rest q is e =
@@ -79,19 +99,7 @@ names_kept names s c rest q is e =
     let next : CondSoFar = record { stage = s; cond = record c { names = c.names ++ x ∷ [] } } in
     let field = field_kept (conditions.last_field c.names) names a.0.0 b.0 b.1 in
     let small = last_kept 1073741824 a.0.1 n.0 (lit≤ tt) n.1 in
-    let kept : Kept names next =
-    record {
-      entries = is.entries;
-      key = is.key;
-      preamble = is.preamble;
-      length = is.length;
-      bounds = each_snoc (IsNamesLine names) c.names x is.bounds (field.0, small);
-      names_rise = chain_snoc (λ a b. is_below a.field b.field) fits_names (λ a b f. f) c.names x is.names_rise field.1;
-      fields = is.fields;
-      nonblank_rise = is.nonblank_rise;
-      types = is.types;
-      types_rise = is.types_rise;
-    } in
+    let kept : Kept names next = all_kept names next.cond is.entries is.key is.preamble is.length (each_snoc (IsNamesLine names) c.names x is.bounds (field.0, small)) (chain_snoc (λ a b. is_below a.field b.field) fits_names (λ a b f. f) c.names x is.names_rise field.1) is.fields is.nonblank_rise is.types is.types_rise in
     subst (Kept names) (sym (ok_is next q n.2)) kept
 
 nonblank_kept : (names : List (List ℕ × Kind)) (s : Stage) (c : Cond) (rest : Line) (q : CondSoFar) → IsCond names c
@@ -102,19 +110,7 @@ nonblank_kept names s c rest q is e =
     let end = then_ok (line_end a.0.1) _ _ b.2 in
     let next : CondSoFar = record { stage = Nonblank; cond = record c { nonblank = c.nonblank ++ b.0 ∷ [] } } in
     let field = field_kept (last_of c.nonblank) names a.0.0 b.0 b.1 in
-    let kept : Kept names next =
-    record {
-      entries = is.entries;
-      key = is.key;
-      preamble = is.preamble;
-      length = is.length;
-      bounds = is.bounds;
-      names_rise = is.names_rise;
-      fields = each_snoc (IsField names) c.nonblank b.0 is.fields field.0;
-      nonblank_rise = chain_snoc is_below is_above (λ a b f. f) c.nonblank b.0 is.nonblank_rise field.1;
-      types = is.types;
-      types_rise = is.types_rise;
-    } in
+    let kept : Kept names next = all_kept names next.cond is.entries is.key is.preamble is.length is.bounds is.names_rise (each_snoc (IsField names) c.nonblank b.0 is.fields field.0) (chain_snoc is_below is_above (λ a b f. f) c.nonblank b.0 is.nonblank_rise field.1) is.types is.types_rise in
     subst (Kept names) (sym (ok_is next q end.2)) kept
 
 type_is : (last : Option (List ℕ)) (item : Item) (u : Unit {0}) → type_above last item ≡ Ok u → (is_type item.text ≡ true) × (is_behind last item.text ≡ true)
@@ -135,19 +131,7 @@ type_kept names s c rest q is e =
     let name = a.0.0.text in
     let next : CondSoFar = record { stage = Types; cond = record c { types = c.types ++ name ∷ [] } } in
     let both = type_is (last_of c.types) a.0.0 b.0 b.1 in
-    let kept : Kept names next =
-    record {
-      entries = is.entries;
-      key = is.key;
-      preamble = is.preamble;
-      length = is.length;
-      bounds = is.bounds;
-      names_rise = is.names_rise;
-      fields = is.fields;
-      nonblank_rise = is.nonblank_rise;
-      types = each_snoc (λ n. is_type n ≡ true) c.types name is.types both.0;
-      types_rise = chain_snoc (λ a b. is_lt (slice_cmp nat_cmp a b)) is_behind (λ a b f. f) c.types name is.types_rise both.1;
-    } in
+    let kept : Kept names next = all_kept names next.cond is.entries is.key is.preamble is.length is.bounds is.names_rise is.fields is.nonblank_rise (each_snoc (λ n. is_type n ≡ true) c.types name is.types both.0) (chain_snoc (λ a b. is_lt (slice_cmp nat_cmp a b)) is_behind (λ a b f. f) c.types name is.types_rise both.1) in
     subst (Kept names) (sym (ok_is next q end.2)) kept
 
 -- another choice or another stage changes no limit
@@ -155,19 +139,7 @@ same_lists : (names : List (List ℕ × Kind)) (s : Stage) (c : Cond) (other : B
     → q ≡ record { stage = s; cond = record c { other = other } } → Kept names q
 same_lists names s c other q is same =
     let next : CondSoFar = record { stage = s; cond = record c { other = other } } in
-    let kept : Kept names next =
-    record {
-      entries = is.entries;
-      key = is.key;
-      preamble = is.preamble;
-      length = is.length;
-      bounds = is.bounds;
-      names_rise = is.names_rise;
-      fields = is.fields;
-      nonblank_rise = is.nonblank_rise;
-      types = is.types;
-      types_rise = is.types_rise;
-    } in
+    let kept : Kept names next = all_kept names next.cond is.entries is.key is.preamble is.length is.bounds is.names_rise is.fields is.nonblank_rise is.types is.types_rise in
     subst (Kept names) (sym same) kept
 
 othertype_kept : (names : List (List ℕ × Kind)) (s : Stage) (c : Cond) (word : Item) (rest : Line) (q : CondSoFar) → IsCond names c
@@ -195,22 +167,10 @@ with_numbers : (names : List (List ℕ × Kind)) (s : Stage) (c : Cond) (q : Con
     → q ≡ record { stage = s; cond = record c { entries = entries; key = key; preamble = preamble; length = long } } → Kept names q
 with_numbers names s c q entries key preamble long is few keys preambles longs same =
     let next : CondSoFar = record { stage = s; cond = record c { entries = entries; key = key; preamble = preamble; length = long } } in
-    let kept : Kept names next =
-    record {
-      entries = few;
-      key = keys;
-      preamble = preambles;
-      length = longs;
-      bounds = is.bounds;
-      names_rise = is.names_rise;
-      fields = is.fields;
-      nonblank_rise = is.nonblank_rise;
-      types = is.types;
-      types_rise = is.types_rise;
-    } in
+    let kept : Kept names next = all_kept names next.cond few keys preambles longs is.bounds is.names_rise is.fields is.nonblank_rise is.types is.types_rise in
     subst (Kept names) (sym same) kept
 
-kept_at : (names : List (List ℕ × Kind)) (s : Stage) (c : Cond) (word : Item) (rest : Line) (q : CondSoFar) → IsCond names c
+pub kept_at : (names : List (List ℕ × Kind)) (s : Stage) (c : Cond) (word : Item) (rest : Line) (q : CondSoFar) → IsCond names c
     → conditions.worded_line names s word rest (record { stage = s; cond = c }) ≡ Ok q → Kept names q
 kept_at names Entries c word rest q is e =
     let a = then_ok (conditions.number_line (codes "entries") 1000000 word rest) _ _ e in
@@ -261,20 +221,8 @@ finished_cond Nonblank c condition e = absurd (cc)
 finished_cond Types c condition e = absurd (cc)
 finished_cond End c condition e = absurd (cc)
 
-none_kept : (names : List (List ℕ × Kind)) → Kept names conditions.no_lines
-none_kept names =
-    record {
-      entries = lit≤ tt;
-      key = lit≤ tt;
-      preamble = lit≤ tt;
-      length = lit≤ tt;
-      bounds = tt;
-      names_rise = refl;
-      fields = tt;
-      nonblank_rise = refl;
-      types = tt;
-      types_rise = refl;
-    }
+pub none_kept : (names : List (List ℕ × Kind)) → Kept names conditions.no_lines
+none_kept names = all_kept names conditions.no_lines.cond (lit≤ tt) (lit≤ tt) (lit≤ tt) (lit≤ tt) tt refl tt refl tt refl
 
 -- a condition that is read keeps the limits and the order
 pub cond_kept : (style : Style) (source : List ℕ) (condition : Cond) → cond_of style source ≡ Ok condition → IsCond style.names condition

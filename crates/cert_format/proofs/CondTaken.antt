@@ -14,7 +14,7 @@ use Rattle.cert_format.specs.Lines.{Item, Line, ended_by, line_end, next_item}
 use Rattle.cert_format.specs.Spelling.{name_text, names_items}
 use Rattle.cert_format.specs.declared.cond_lines.CondSoFar.{CondSoFar}
 use Rattle.cert_format.specs.declared.cond_lines.Stage.{Stage}
-use Rattle.cert_format.specs.declared.cond_lines.Stage.TheVariants.{Entries, Key, Preamble, Length, Names}
+use Rattle.cert_format.specs.declared.cond_lines.Stage.TheVariants.{Names}
 use Rattle.cert_format.specs.declared.stop.Stop.{Stop}
 use Rattle.cert_format.proofs.CondRead.{Has}
 use Rattle.cert_format.proofs.NamesTaken.{field_taken}
@@ -30,11 +30,11 @@ pub record Taken (line : Line) (text : List ℕ) (more : List (List ℕ)) : Type
   pub has : Has rest more
 
 -- the first of some texts, and those after it
-abbrev first_text : List (List ℕ) → List ℕ
+abbrev pub first_text : List (List ℕ) → List ℕ
 first_text [] = []
 first_text (text ∷ texts) = text
 
-abbrev other_texts : List (List ℕ) → List (List ℕ)
+abbrev pub other_texts : List (List ℕ) → List (List ℕ)
 other_texts [] = []
 other_texts (text ∷ texts) = texts
 
@@ -75,7 +75,7 @@ word_taken text item said = (bytes_decides item.text text).1 said
 pub expect_taken : (text : List ℕ) (item : Item) → item.text ≡ text → expected text item ≡ Ok tt
 expect_taken text item said = rw (word_taken text item said) refl
 
-number_taken : (most n : ℕ) (line : Line) → most ≤ 4294967295 → n ≤ most → Has line (decimal n ∷ []) → conditions.last_natural most line ≡ Ok n
+pub number_taken : (most n : ℕ) (line : Line) → most ≤ 4294967295 → n ≤ most → Has line (decimal n ∷ []) → conditions.last_natural most line ≡ Ok n
 number_taken most n line bound small has =
     let t = take_first line (decimal n) [] has in
     then_go (next_item line) (t.item, t.rest) _ _ t.gives
@@ -99,29 +99,15 @@ line_taken names line text more p q has next =
 abbrev pub at_stage : Stage → Cond → CondSoFar
 at_stage s c = record { stage = s; cond = c }
 
-pub entries_taken : (names : List (List ℕ × Kind)) (line : Line) (c : Cond) (n : ℕ) → n ≤ 1000000 → Has line (codes "entries" ∷ (decimal n ∷ []))
-    → conditions.cond_line names line (at_stage Entries c) ≡ Ok (at_stage Key (record c { entries = n }))
-entries_taken names line c n small has =
-    line_taken names line (codes "entries") (decimal n ∷ []) (at_stage Entries c) _ has (λ word rest said more.
-    then_go (conditions.number_line (codes "entries") 1000000 word rest) n _ _ (number_line_taken (codes "entries") 1000000 n word rest (lit≤ tt) small said more) refl)
-
-pub key_taken : (names : List (List ℕ × Kind)) (line : Line) (c : Cond) (n : ℕ) → n ≤ 1073741824 → Has line (codes "key" ∷ (decimal n ∷ []))
-    → conditions.cond_line names line (at_stage Key c) ≡ Ok (at_stage Preamble (record c { key = n }))
-key_taken names line c n small has =
-    line_taken names line (codes "key") (decimal n ∷ []) (at_stage Key c) _ has (λ word rest said more.
-    then_go (conditions.number_line (codes "key") 1073741824 word rest) n _ _ (number_line_taken (codes "key") 1073741824 n word rest (lit≤ tt) small said more) refl)
-
-pub preamble_taken : (names : List (List ℕ × Kind)) (line : Line) (c : Cond) (n : ℕ) → n ≤ 1073741824 → Has line (codes "preamble" ∷ (decimal n ∷ []))
-    → conditions.cond_line names line (at_stage Preamble c) ≡ Ok (at_stage Length (record c { preamble = n }))
-preamble_taken names line c n small has =
-    line_taken names line (codes "preamble") (decimal n ∷ []) (at_stage Preamble c) _ has (λ word rest said more.
-    then_go (conditions.number_line (codes "preamble") 1073741824 word rest) n _ _ (number_line_taken (codes "preamble") 1073741824 n word rest (lit≤ tt) small said more) refl)
-
-pub length_taken : (names : List (List ℕ × Kind)) (line : Line) (c : Cond) (n : ℕ) → n ≤ 1073741824 → Has line (codes "length" ∷ (decimal n ∷ []))
-    → conditions.cond_line names line (at_stage Length c) ≡ Ok (at_stage Names (record c { length = n }))
-length_taken names line c n small has =
-    line_taken names line (codes "length") (decimal n ∷ []) (at_stage Length c) _ has (λ word rest said more.
-    then_go (conditions.number_line (codes "length") 1073741824 word rest) n _ _ (number_line_taken (codes "length") 1073741824 n word rest (lit≤ tt) small said more) refl)
+-- a line of a word and a number, at the stage that takes it
+pub numbered : (names : List (List ℕ × Kind)) (line : Line) (text : List ℕ) (most n : ℕ) (p q : CondSoFar) (next : ℕ → Result CondSoFar Stop)
+    → most ≤ 4294967295 → n ≤ most → Has line (text ∷ (decimal n ∷ []))
+    → ((word : Item) (rest : Line) → conditions.worded_line names p.stage word rest p ≡ then_do (conditions.number_line text most word rest) next)
+    → next n ≡ Ok q → conditions.cond_line names line p ≡ Ok q
+numbered names line text most n p q next bound small has by goes =
+    line_taken names line text (decimal n ∷ []) p q has (λ word rest said more.
+    by word rest
+    ∙ then_go (conditions.number_line text most word rest) n next (Ok q) (number_line_taken text most n word rest bound small said more) goes)
 
 -- the test of another word
 pub other_word : (text word : List ℕ) (item : Item) → item.text ≡ text → is_word word (record { text = text; left = item.left }) ≡ false

@@ -17,7 +17,7 @@ use Rattle.cert_format.specs.Spelling.{name_text}
 use Rattle.cert_format.proofs.Spelt.{Solid}
 
 -- a field has a kind, so its id is that of a name
-abbrev HasKind : List (List ℕ × Kind) → NameId → Type 0
+abbrev pub HasKind : List (List ℕ × Kind) → NameId → Type 0
 HasKind names id = (kind : Kind) × (kind_at id names ≡ Some kind)
 
 field_kind : (k : Option Kind) → is_field k ≡ true → (kind : Kind) × (k ≡ Some kind)
@@ -34,7 +34,7 @@ other_name (name ∷ names) first zero each has = each.0
 other_name (name ∷ names) first (suc k) each has = other_name names first k each.1 has
 
 -- the name of an id is found under it
-found_at : (names : List (List ℕ × Kind)) (k : ℕ) → AreApart names → HasKind names (record { 0 = k })
+pub found_at : (names : List (List ℕ × Kind)) (k : ℕ) → AreApart names → HasKind names (record { 0 = k })
     → id_of (name_text names (record { 0 = k })) names ≡ Some (record { 0 = k })
 found_at [] k apart has = absurd (cc)
 found_at (name ∷ names) zero apart has = rw (same_itself name.0) refl
@@ -42,36 +42,34 @@ found_at (name ∷ names) (suc k) apart has =
     rw (other_name names name.0 k apart.0 has) (ap (option_map later) (found_at names k apart.1 has))
 
 -- the name of an id has bytes, none of them white space
-solid_at : (names : List (List ℕ × Kind)) (k : ℕ) → Each (λ entry. is_type entry.0 ≡ true) names → HasKind names (record { 0 = k })
+pub solid_at : (names : List (List ℕ × Kind)) (k : ℕ) → Each (λ entry. is_type entry.0 ≡ true) names → HasKind names (record { 0 = k })
     → is_type (name_text names (record { 0 = k })) ≡ true
 solid_at [] k each has = absurd (cc)
 solid_at (name ∷ names) zero each has = each.0
 solid_at (name ∷ names) (suc k) each has = solid_at names k each.1 has
 
-black_none : (text : List ℕ) → list_all is_black text ≡ true → NoneOf is_space text
-black_none [] e = tt
-black_none (b ∷ text) e = let both = and_parts (is_black b) (list_all is_black text) e in (no_space b both.0, black_none text both.1)
-  where
-    no_space : (b : ℕ) → is_black b ≡ true → is_space b ≡ false
-    no_space b e = grind (arith, nat_tests)
-
-black_line : (text : List ℕ) → list_all is_black text ≡ true → NoneOf is_newline text
-black_line [] e = tt
-black_line (b ∷ text) e = let both = and_parts (is_black b) (list_all is_black text) e in (no_newline b both.0, black_line text both.1)
-  where
-    no_newline : (b : ℕ) → is_black b ≡ true → is_newline b ≡ false
-    no_newline b e = grind (arith, nat_tests)
+-- among bytes that aren't white space none is white space of one kind
+black_none : (text : List ℕ) (is_one : ℕ → Bool) → ((b : ℕ) → is_black b ≡ true → is_one b ≡ false) → list_all is_black text ≡ true → NoneOf is_one text
+black_none [] is_one none e = tt
+black_none (b ∷ text) is_one none e =
+    let both = and_parts (is_black b) (list_all is_black text) e in (none b both.0, black_none text is_one none both.1)
 
 -- bytes without white space can be an item
 pub type_solid : (text : List ℕ) → is_type text ≡ true → Solid text
 type_solid text e =
     let both = and_parts (not (is_empty text)) (list_all is_black text) e in
-    record { space = black_none text both.1; newline = black_line text both.1 }
+    record { space = black_none text is_space no_space both.1; newline = black_none text is_newline no_newline both.1 }
+  where
+    no_space : (b : ℕ) → is_black b ≡ true → is_space b ≡ false
+    no_space b e = grind (arith, nat_tests)
+
+    no_newline : (b : ℕ) → is_black b ≡ true → is_newline b ≡ false
+    no_newline b e = grind (arith, nat_tests)
 
 pub field_solid : (names : List (List ℕ × Kind)) (id : NameId) → ArePlain names → IsField names id → is_type (name_text names id) ≡ true
 field_solid names id plain field = solid_at names id.0 plain.solid (field_kind (kind_at id names) field)
 
-not_empty : (text : List ℕ) → is_type text ≡ true → is_empty text ≡ false
+pub not_empty : (text : List ℕ) → is_type text ≡ true → is_empty text ≡ false
 not_empty text e = by_value (is_empty text) (and_parts (not (is_empty text)) (list_all is_black text) e).0
   where
     by_value : (b : Bool) → not b ≡ true → b ≡ false

@@ -176,16 +176,7 @@ summary_of entered u =
 -- a unit as a loop
 abbrev pub loop_of : Target → Target → UnitSoFar → Loop
 loop_of test repeated u =
-    record {
-      test = test;
-      body = repeated;
-      entry = u.entry;
-      whole = u.whole;
-      writes = u.writes;
-      cases = u.cases;
-      exits = u.later;
-      hints = u.hints;
-    }
+    record { test = test; body = repeated; entry = u.entry; whole = u.whole; writes = u.writes; cases = u.cases; exits = u.later; hints = u.hints }
 
 -- a unit as what belongs to a command
 abbrev pub command_of : ℕ → UnitSoFar → CommandPart

@@ -26,29 +26,25 @@ last_natural most line =
 abbrev pub number_line : List ℕ → ℕ → Item → Line → Result ℕ Stop
 number_line text most word line = then_do (expected text word) (λ _. last_natural most line)
 
+-- what has been read with the number of such a line, and the line that comes next
+abbrev numbered : List ℕ → ℕ → (ℕ → CondSoFar) → Item → Line → Result CondSoFar Stop
+numbered text most next word line = then_do (number_line text most word line) (λ number. Ok (next number))
+
 -- `entries` N
 abbrev pub entries_line : Item → Line → CondSoFar → Result CondSoFar Stop
-entries_line word line p =
-    then_do (number_line (codes "entries") MOST_ENTRIES word line) (λ number.
-    Ok (record { stage = Key; cond = record p.cond { entries = number } }))
+entries_line word line p = numbered (codes "entries") MOST_ENTRIES (λ number. record { stage = Key; cond = record p.cond { entries = number } }) word line
 
 -- `key` N
 abbrev pub key_line : Item → Line → CondSoFar → Result CondSoFar Stop
-key_line word line p =
-    then_do (number_line (codes "key") MOST word line) (λ number.
-    Ok (record { stage = Preamble; cond = record p.cond { key = number } }))
+key_line word line p = numbered (codes "key") MOST (λ number. record { stage = Preamble; cond = record p.cond { key = number } }) word line
 
 -- `preamble` N
 abbrev pub preamble_line : Item → Line → CondSoFar → Result CondSoFar Stop
-preamble_line word line p =
-    then_do (number_line (codes "preamble") MOST word line) (λ number.
-    Ok (record { stage = Length; cond = record p.cond { preamble = number } }))
+preamble_line word line p = numbered (codes "preamble") MOST (λ number. record { stage = Length; cond = record p.cond { preamble = number } }) word line
 
 -- `length` N
 abbrev pub length_line : Item → Line → CondSoFar → Result CondSoFar Stop
-length_line word line p =
-    then_do (number_line (codes "length") MOST word line) (λ number.
-    Ok (record { stage = Names; cond = record p.cond { length = number } }))
+length_line word line p = numbered (codes "length") MOST (λ number. record { stage = Names; cond = record p.cond { length = number } }) word line
 
 -- the field of the last of some lines on names
 abbrev pub last_field : List NamesLine → Option NameId

@@ -7,23 +7,22 @@ use Rattle.cert_format.specs.declared.fault.CertFault.TheVariants.{Syntax, Unkno
 use Rattle.cert_format.specs.declared.stop.Stop.{Stop}
 use Rattle.cert_format.specs.declared.stop.Stop.TheVariants.{Syntax as SyntaxBefore, UnknownName as UnknownNameBefore, OutOfRange as OutOfRangeBefore, NotCanonical as NotCanonicalBefore, TooMany as TooManyBefore, NoMemory as WantOfMemory}
 
+-- the name of a fault and where it stands; want of memory, which no answer tells, has the first place
+abbrev pub told_of : CertFault → List ℕ × Place
+told_of (Syntax place) = (codes "Syntax", place)
+told_of (UnknownName place) = (codes "UnknownName", place)
+told_of (OutOfRange place) = (codes "OutOfRange", place)
+told_of (NotCanonical place) = (codes "NotCanonical", place)
+told_of (TooMany place) = (codes "TooMany", place)
+told_of NoMemory = (codes "NoMemory", first_place)
+
 -- the name that a last line tells
 abbrev pub name_of : CertFault → List ℕ
-name_of (Syntax place) = codes "Syntax"
-name_of (UnknownName place) = codes "UnknownName"
-name_of (OutOfRange place) = codes "OutOfRange"
-name_of (NotCanonical place) = codes "NotCanonical"
-name_of (TooMany place) = codes "TooMany"
-name_of NoMemory = codes "NoMemory"
+name_of fault = (told_of fault).0
 
--- where a fault stands; want of memory, which no answer tells, has the first place
+-- where a fault stands
 abbrev pub place_of : CertFault → Place
-place_of (Syntax place) = place
-place_of (UnknownName place) = place
-place_of (OutOfRange place) = place
-place_of (NotCanonical place) = place
-place_of (TooMany place) = place
-place_of NoMemory = first_place
+place_of fault = (told_of fault).1
 
 -- the fault of a text for which the reader stops
 abbrev pub fault_of : List ℕ → Stop → CertFault

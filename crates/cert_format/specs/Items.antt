@@ -1,11 +1,11 @@
 -- What single items say (docs/CERTIFICATES.md, "Items").
-use Rattle.std.specs.Prelude.{ℕ, ◌-◌, Bool, true, false, ◌&&◌, not, nat_eq, nat_lt, if◌then◌else◌, List, ◌∷◌, length, codes, slice_get, Option, None, Some, Result, Ok, Err}
+use Rattle.std.specs.Prelude.{ℕ, ◌-◌, Bool, true, false, ◌&&◌, not, nat_eq, nat_lt, if◌then◌else◌, List, [], ◌∷◌, length, codes, slice_get, Option, None, Some, Result, Ok, Err}
 use Rattle.std.specs.List.{list_all}
 use Rattle.std.specs.Cmp.Lexicographic.{pointwise, slice_cmp}
 use Rattle.std.specs.Ordering.{is_lt, nat_cmp}
 use Rattle.bv_base.specs.Answers.{then_do}
 use Rattle.bv_base.specs.Runs.{is_black, is_digit, number_from}
-use Rattle.name_table.specs.Names.{id_of, kind_at}
+use Rattle.name_table.specs.Names.{id_of, kind_at, same_name}
 use Rattle.name_table.specs.declared.names.Kind.{Kind}
 use Rattle.name_table.specs.declared.names.Kind.TheVariants.{Field}
 use Rattle.name_table.specs.declared.names.NameId.{NameId}
@@ -98,3 +98,8 @@ type_above last item =
     if not (is_type item.text) then Err (Syntax item.left)
     else if is_behind last item.text then Ok tt
     else Err (NotCanonical item.left)
+
+-- what stands beside a text in a table
+abbrev pub among : {A : Type 0} → List ℕ → List (List ℕ × A) → Option A
+among text [] = None
+among text (first ∷ rest) = if same_name text first.0 then Some first.1 else among text rest

@@ -4,7 +4,6 @@ use Rattle.std.specs.Option.{option_map, option_and_then}
 use Rattle.bv_base.specs.Answers.{then_do}
 use Rattle.bv_base.specs.declared.limits.TheConstants.{GREATEST_INTEGER}
 use Rattle.lin_facts.specs.declared.row.Part.{Part}
-use Rattle.name_table.specs.Names.{same_name}
 use Rattle.name_table.specs.declared.names.Kind.{Kind}
 use Rattle.name_table.specs.declared.names.NameId.{NameId}
 use Rattle.name_table.specs.declared.style.Style.{Style}
@@ -12,7 +11,7 @@ use Rattle.sym_state.specs.declared.symbol.Bind.{Bind}
 use Rattle.sym_state.specs.declared.symbol.Fact.{Fact}
 use Rattle.sym_state.specs.declared.symbol.Fact.TheVariants as fact
 use Rattle.sym_state.specs.declared.symbol.Sym.{Sym}
-use Rattle.cert_format.specs.Items.{last_of, name_in}
+use Rattle.cert_format.specs.Items.{among, last_of, name_in}
 use Rattle.cert_format.specs.Lines.{Item, Line, line_end, next_item}
 use Rattle.cert_format.specs.PieceItems as items
 use Rattle.cert_format.specs.declared.piece_items.TheConstants.{ROW_SIZE}
@@ -158,24 +157,9 @@ row_line word line p =
 -- the words of the lines of a piece
 abbrev pub piece_words : List (List ℕ × PieceWord)
 piece_words =
-    (codes "stack", Stack)
-    ∷ (codes "var", Var)
-    ∷ (codes "field", Field)
-    ∷ (codes "is", Is)
-    ∷ (codes "int", Int)
-    ∷ (codes "text", Text)
-    ∷ (codes "call", Call)
-    ∷ (codes "block", Block)
-    ∷ (codes "blank", Blank)
-    ∷ (codes "nonblank", Nonblank)
-    ∷ (codes "wellformed", Wellformed)
-    ∷ (codes "row", Row)
-    ∷ []
-
--- the word among some
-abbrev pub word_among : List ℕ → List (List ℕ × PieceWord) → Option PieceWord
-word_among text [] = None
-word_among text (first ∷ rest) = if same_name text first.0 then Some first.1 else word_among text rest
+    (codes "stack", Stack) ∷ (codes "var", Var) ∷ (codes "field", Field)
+    ∷ (codes "is", Is) ∷ (codes "int", Int) ∷ (codes "text", Text) ∷ (codes "call", Call) ∷ (codes "block", Block)
+    ∷ (codes "blank", Blank) ∷ (codes "nonblank", Nonblank) ∷ (codes "wellformed", Wellformed) ∷ (codes "row", Row) ∷ []
 
 -- the order of the lines of a piece, by which a line may come
 abbrev pub stage_rank : PieceStage → ℕ
@@ -199,7 +183,7 @@ where_due s word = if nat_le (stage_rank s) (word_rank word) then Some word else
 
 -- the word of a line of a piece that may come
 abbrev pub piece_word : PieceStage → List ℕ → Option PieceWord
-piece_word s text = option_and_then (where_due s) (word_among text piece_words)
+piece_word s text = option_and_then (where_due s) (among text piece_words)
 
 -- a line of a piece, after its word
 abbrev pub piece_line : Style → PieceWord → Item → Line → PieceSoFar → Result PieceSoFar Stop

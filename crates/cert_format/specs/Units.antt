@@ -1,11 +1,10 @@
 -- How the lines of summaries, loops and commands are read (docs/CERTIFICATES.md, "Units").
 use Rattle.std.specs.Prelude.{ℕ, ◌+◌, Bool, true, false, ◌&&◌, nat_le, if◌then◌else◌, List, [], ◌∷◌, ◌++◌, codes, Option, None, Some, is_some, Result, Ok, Err}
 use Rattle.bv_base.specs.Answers.{then_do}
-use Rattle.name_table.specs.Names.{same_name}
 use Rattle.name_table.specs.declared.names.Kind.{Kind}
 use Rattle.name_table.specs.declared.style.Style.{Style}
 use Rattle.cert_format.specs.Hints.{hint_line}
-use Rattle.cert_format.specs.Items.{is_word, last_of}
+use Rattle.cert_format.specs.Items.{among, is_word, last_of}
 use Rattle.cert_format.specs.Lines.{Item, Line, next_item}
 use Rattle.cert_format.specs.PieceItems.{variable_above}
 use Rattle.cert_format.specs.Pieces.{at_end, no_piece, piece_line, piece_word}
@@ -63,19 +62,8 @@ placed_as (Some Keeps) next u = record u { keeps = Some u.piece.piece; piece = n
 -- the words before pieces
 abbrev pub mark_words : List (List ℕ × Mark)
 mark_words =
-    (codes "pre", Pre)
-    ∷ (codes "post", Post)
-    ∷ (codes "case", Case)
-    ∷ (codes "exit", Exit)
-    ∷ (codes "after", After)
-    ∷ (codes "visit", Visit)
-    ∷ (codes "keeps", Keeps)
-    ∷ []
-
--- the word among some
-abbrev pub mark_among : List ℕ → List (List ℕ × Mark) → Option Mark
-mark_among text [] = None
-mark_among text (first ∷ rest) = if same_name text first.0 then Some first.1 else mark_among text rest
+    (codes "pre", Pre) ∷ (codes "post", Post) ∷ (codes "case", Case)
+    ∷ (codes "exit", Exit) ∷ (codes "after", After) ∷ (codes "visit", Visit) ∷ (codes "keeps", Keeps) ∷ []
 
 -- a piece of a summary may come: its pre first, and then posts
 abbrev pub in_summary : Option Mark → Mark → Bool
@@ -165,7 +153,7 @@ open_word (Some _) piece word = piece_word piece.stage word.text
 abbrev pub piece_or_mark : Style → Option PieceWord → Item → Line → UnitSoFar → Result UnitSoFar Stop
 piece_or_mark style (Some kind) word line u =
     then_do (piece_line style kind word line u.piece) (λ piece. Ok (record u { piece = piece }))
-piece_or_mark style None word line u = marked_line (mark_among word.text mark_words) word line u
+piece_or_mark style None word line u = marked_line (among word.text mark_words) word line u
 
 -- `writes` V, after its word
 abbrev pub writes_line : List (List ℕ × Kind) → Line → UnitSoFar → Result UnitSoFar Stop

@@ -8,7 +8,7 @@ ghost use Rattle.cert_format.specs.declared.stop.Stop.TheVariants.{NoMemory as W
 use crate::cert::{Cert, CommandPart, Loop, Summary};
 use crate::cond_lines::{CondSoFar, MOST, Stage};
 use crate::items::{has_leading_zero, is_numeral};
-use crate::lines::{Item, Line};
+use crate::lines::{Item, Line, Worded};
 use crate::stop::Stop;
 use crate::styled::Styled;
 use crate::unit_lines::{UnitKind, UnitSoFar, UnitStage};
@@ -72,67 +72,69 @@ impl CertSoFar {
         &mut self,
         alloc: Global,
         style: &Styled<'_>,
-        line: &mut Line<'_>,
+        mut line: Line<'_>,
     ) -> Result<(), Stop>
-        ensures { Leaves WantOfMemory (certs.cert_line style.now line.old self.old) self.new result }
+        ensures { Leaves WantOfMemory (certs.cert_line style.now line.entry self.old) self.new result }
     {
         let word = line.item()?;
+        self.take_worded(
+            style,
+            &mut Worded {
+                alloc,
+                word,
+                rest: line,
+            },
+        )
+    }
+
+    /// Takes a line, after its first word.
+    fn take_worded(&mut self, style: &Styled<'_>, line: &mut Worded<'_>) -> Result<(), Stop>
+        ensures { Leaves WantOfMemory (certs.cert_staged style.now self.old.stage line.old.word line.old.rest self.old) self.new result }
+    {
         match self.stage {
-            CertStage::Header => self.take_header(&word, line),
-            CertStage::Cond => self.take_cond(alloc, style, &word, line),
-            CertStage::Units => self.take_between(alloc, style, &word, line),
-            CertStage::InUnit => self.take_in_unit(alloc, style, &word, line),
-            CertStage::Done => Err(Stop::Syntax(word.left())),
+            CertStage::Header => self.take_header(line),
+            CertStage::Cond => self.take_cond(style, line),
+            CertStage::Units => self.take_between(style, line),
+            CertStage::InUnit => self.take_in_unit(style, line),
+            CertStage::Done => Err(Stop::Syntax(line.word.left())),
         }
     }
 
     /// Takes the line of `bstcert`.
-    fn take_header(&mut self, word: &Item<'_>, line: &mut Line<'_>) -> Result<(), Stop>
-        ensures { Leaves WantOfMemory (certs.header_line word.now line.old self.old) self.new result }
+    fn take_header(&mut self, line: &mut Worded<'_>) -> Result<(), Stop>
+        ensures { Leaves WantOfMemory (certs.header_line line.old.word line.old.rest self.old) self.new result }
     {
-        word.expect(b"bstcert")?;
-        let list = line.item()?.list_number()?;
-        line.end()?;
+        line.word.expect(b"bstcert")?;
+        let list = line.rest.item()?.list_number()?;
+        line.rest.end()?;
         self.list = list;
         self.stage = CertStage::Cond;
         Ok(())
     }
 
     /// Takes a line of the condition.
-    fn take_cond(
-        &mut self,
-        alloc: Global,
-        style: &Styled<'_>,
-        word: &Item<'_>,
-        line: &mut Line<'_>,
-    ) -> Result<(), Stop>
-        ensures { Leaves WantOfMemory (certs.in_cond style.now word.now line.old self.old) self.new result }
+    fn take_cond(&mut self, style: &Styled<'_>, line: &mut Worded<'_>) -> Result<(), Stop>
+        ensures { Leaves WantOfMemory (certs.in_cond style.now line.old.word line.old.rest self.old) self.new result }
     {
-        self.cond.take_worded(alloc, style.names(), word, line)?;
+        self.cond.take_worded(style.names(), line)?;
         self.stage = after_cond(self.cond.stage);
         Ok(())
     }
 
     /// Takes the first line of a unit, or `done`.
-    fn take_between(
-        &mut self,
-        alloc: Global,
-        style: &Styled<'_>,
-        word: &Item<'_>,
-        line: &mut Line<'_>,
-    ) -> Result<(), Stop>
-        ensures { Leaves WantOfMemory (certs.between_units style.now word.now line.old self.old) self.new result }
+    fn take_between(&mut self, style: &Styled<'_>, line: &mut Worded<'_>) -> Result<(), Stop>
+        ensures { Leaves WantOfMemory (certs.between_units style.now line.old.word line.old.rest self.old) self.new result }
     {
-        if word.is_word(b"summary") && self.is_before_loops() {
-            return self.take_summary(alloc, style, word, line);
+        if line.word.is_word(b"summary") && self.is_before_loops() {
+            return self.take_summary(style, line);
         }
-        if word.is_word(b"loop") && self.commands.as_slice().is_empty() {
-            return self.take_loop(alloc, style, word, line);
+        if line.word.is_word(b"loop") && self.commands.as_slice().is_empty() {
+            return self.take_loop(style, line);
         }
-        if word.is_word(b"command") {
-            return self.take_command(alloc, style, line);
+        if line.word.is_word(b"command") {
+            return self.take_command(style, line);
         }
-        self.take_done(word, line)
+        self.take_done(line)
     }
 
     /// Whether a summary may come.
@@ -143,57 +145,40 @@ impl CertSoFar {
     }
 
     /// Takes the first line of a summary, after its word.
-    fn take_summary(
-        &mut self,
-        alloc: Global,
-        style: &Styled<'_>,
-        word: &Item<'_>,
-        line: &mut Line<'_>,
-    ) -> Result<(), Stop>
-        ensures { Leaves WantOfMemory (certs.summary_line style.now word.now line.old self.old) self.new result }
+    fn take_summary(&mut self, style: &Styled<'_>, line: &mut Worded<'_>) -> Result<(), Stop>
+        ensures { Leaves WantOfMemory (certs.summary_line style.now line.old.word line.old.rest self.old) self.new result }
     {
         if self.summaries.as_slice().len() >= MOST_UNITS {
-            return Err(Stop::TooMany(word.left()));
+            return Err(Stop::TooMany(line.word.left()));
         }
-        let body = line.item()?.body(style)?;
-        line.end()?;
-        self.begin(alloc, UnitKind::Summary(body));
+        let body = line.rest.item()?.body(style)?;
+        line.rest.end()?;
+        self.begin(line.alloc, UnitKind::Summary(body));
         Ok(())
     }
 
     /// Takes the first line of a loop, after its word.
-    fn take_loop(
-        &mut self,
-        alloc: Global,
-        style: &Styled<'_>,
-        word: &Item<'_>,
-        line: &mut Line<'_>,
-    ) -> Result<(), Stop>
-        ensures { Leaves WantOfMemory (certs.loop_line style.now word.now line.old self.old) self.new result }
+    fn take_loop(&mut self, style: &Styled<'_>, line: &mut Worded<'_>) -> Result<(), Stop>
+        ensures { Leaves WantOfMemory (certs.loop_line style.now line.old.word line.old.rest self.old) self.new result }
     {
         if self.loops.as_slice().len() >= MOST_UNITS {
-            return Err(Stop::TooMany(word.left()));
+            return Err(Stop::TooMany(line.word.left()));
         }
-        let test = line.item()?.body(style)?;
-        let body = line.item()?.body(style)?;
-        line.end()?;
-        self.begin(alloc, UnitKind::Loop(test, body));
+        let test = line.rest.item()?.body(style)?;
+        let body = line.rest.item()?.body(style)?;
+        line.rest.end()?;
+        self.begin(line.alloc, UnitKind::Loop(test, body));
         Ok(())
     }
 
     /// Takes the first line of a command, after its word.
-    fn take_command(
-        &mut self,
-        alloc: Global,
-        style: &Styled<'_>,
-        line: &mut Line<'_>,
-    ) -> Result<(), Stop>
-        ensures { Leaves WantOfMemory (certs.command_line style.now line.old self.old) self.new result }
+    fn take_command(&mut self, style: &Styled<'_>, line: &mut Worded<'_>) -> Result<(), Stop>
+        ensures { Leaves WantOfMemory (certs.command_line style.now line.old.rest self.old) self.new result }
     {
         let last = last_command(self.commands.as_slice());
-        let index = line.item()?.command_number(style.commands(), last)?;
-        line.end()?;
-        self.begin(alloc, UnitKind::Command(index));
+        let index = line.rest.item()?.command_number(style.commands(), last)?;
+        line.rest.end()?;
+        self.begin(line.alloc, UnitKind::Command(index));
         Ok(())
     }
 
@@ -206,28 +191,22 @@ impl CertSoFar {
     }
 
     /// Takes `done`.
-    fn take_done(&mut self, word: &Item<'_>, line: &mut Line<'_>) -> Result<(), Stop>
-        ensures { Leaves WantOfMemory (certs.done_line word.now line.old self.old) self.new result }
+    fn take_done(&mut self, line: &mut Worded<'_>) -> Result<(), Stop>
+        ensures { Leaves WantOfMemory (certs.done_line line.old.word line.old.rest self.old) self.new result }
     {
-        word.expect(b"done")?;
-        line.end()?;
+        line.word.expect(b"done")?;
+        line.rest.end()?;
         self.stage = CertStage::Done;
         Ok(())
     }
 
     /// Takes a line of a unit.
-    fn take_in_unit(
-        &mut self,
-        alloc: Global,
-        style: &Styled<'_>,
-        word: &Item<'_>,
-        line: &mut Line<'_>,
-    ) -> Result<(), Stop>
-        ensures { Leaves WantOfMemory (certs.in_unit style.now word.now line.old self.old) self.new result }
+    fn take_in_unit(&mut self, style: &Styled<'_>, line: &mut Worded<'_>) -> Result<(), Stop>
+        ensures { Leaves WantOfMemory (certs.in_unit style.now line.old.word line.old.rest self.old) self.new result }
     {
-        self.unit.take(alloc, style, word, line)?;
+        self.unit.take(style, line)?;
         if is_done(self.unit.stage) {
-            self.finish_unit(alloc)?;
+            self.finish_unit(line.alloc)?;
         }
         Ok(())
     }

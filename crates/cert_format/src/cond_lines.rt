@@ -6,7 +6,7 @@ ghost use Rattle.cert_format.specs.Conditions as conditions;
 ghost use Rattle.cert_format.specs.Items.{last_of};
 ghost use Rattle.cert_format.specs.declared.stop.Stop.TheVariants.{NoMemory as WantOfMemory};
 
-use crate::lines::{Item, Line};
+use crate::lines::{Line, Worded};
 use crate::stop::Stop;
 use bst_meaning::condition::{Cond, NamesLine};
 use bv_base::seq::Seq;
@@ -70,149 +70,144 @@ impl CondSoFar {
         &mut self,
         alloc: Global,
         names: &Names,
-        line: &mut Line<'_>,
+        mut line: Line<'_>,
     ) -> Result<(), Stop>
-        ensures { Leaves WantOfMemory (conditions.cond_line names.now line.old self.old) self.new result }
+        ensures { Leaves WantOfMemory (conditions.cond_line names.now line.entry self.old) self.new result }
     {
         let word = line.item()?;
-        self.take_worded(alloc, names, &word, line)
+        self.take_worded(
+            names,
+            &mut Worded {
+                alloc,
+                word,
+                rest: line,
+            },
+        )
     }
 
     /// Takes a line, after its first word.
-    pub(crate) fn take_worded(
-        &mut self,
-        alloc: Global,
-        names: &Names,
-        word: &Item<'_>,
-        line: &mut Line<'_>,
-    ) -> Result<(), Stop>
-        ensures { Leaves WantOfMemory (conditions.worded_line names.now self.old.stage word.now line.old self.old) self.new result }
+    pub(crate) fn take_worded(&mut self, names: &Names, line: &mut Worded<'_>) -> Result<(), Stop>
+        ensures { Leaves WantOfMemory (conditions.worded_line names.now self.old.stage line.old.word line.old.rest self.old) self.new result }
     {
         match self.stage {
-            Stage::Entries => self.take_entries(word, line),
-            Stage::Key => self.take_key(word, line),
-            Stage::Preamble => self.take_preamble(word, line),
-            Stage::Length => self.take_length(word, line),
-            Stage::Names | Stage::Nonblank | Stage::Types => self.take_listed(
-                alloc, names, word, line,
-            ),
-            Stage::End => self.take_end(word, line),
-            Stage::Done => Err(Stop::Syntax(word.left())),
+            Stage::Entries => self.take_entries(line),
+            Stage::Key => self.take_key(line),
+            Stage::Preamble => self.take_preamble(line),
+            Stage::Length => self.take_length(line),
+            Stage::Names | Stage::Nonblank | Stage::Types => self.take_listed(names, line),
+            Stage::End => self.take_end(line),
+            Stage::Done => Err(Stop::Syntax(line.word.left())),
         }
     }
 
     /// Takes the line of `entries`.
-    fn take_entries(&mut self, word: &Item<'_>, line: &mut Line<'_>) -> Result<(), Stop>
-        ensures { Leaves WantOfMemory (conditions.entries_line word.now line.old self.old) self.new result }
+    fn take_entries(&mut self, line: &mut Worded<'_>) -> Result<(), Stop>
+        ensures { Leaves WantOfMemory (conditions.entries_line line.old.word line.old.rest self.old) self.new result }
     {
-        self.cond.entries = number_line(b"entries", MOST_ENTRIES, word, line)?;
+        self.cond.entries = number_line(b"entries", MOST_ENTRIES, line)?;
         self.stage = Stage::Key;
         Ok(())
     }
 
     /// Takes the line of `key`.
-    fn take_key(&mut self, word: &Item<'_>, line: &mut Line<'_>) -> Result<(), Stop>
-        ensures { Leaves WantOfMemory (conditions.key_line word.now line.old self.old) self.new result }
+    fn take_key(&mut self, line: &mut Worded<'_>) -> Result<(), Stop>
+        ensures { Leaves WantOfMemory (conditions.key_line line.old.word line.old.rest self.old) self.new result }
     {
-        self.cond.key = number_line(b"key", MOST, word, line)?;
+        self.cond.key = number_line(b"key", MOST, line)?;
         self.stage = Stage::Preamble;
         Ok(())
     }
 
     /// Takes the line of `preamble`.
-    fn take_preamble(&mut self, word: &Item<'_>, line: &mut Line<'_>) -> Result<(), Stop>
-        ensures { Leaves WantOfMemory (conditions.preamble_line word.now line.old self.old) self.new result }
+    fn take_preamble(&mut self, line: &mut Worded<'_>) -> Result<(), Stop>
+        ensures { Leaves WantOfMemory (conditions.preamble_line line.old.word line.old.rest self.old) self.new result }
     {
-        self.cond.preamble = number_line(b"preamble", MOST, word, line)?;
+        self.cond.preamble = number_line(b"preamble", MOST, line)?;
         self.stage = Stage::Length;
         Ok(())
     }
 
     /// Takes the line of `length`.
-    fn take_length(&mut self, word: &Item<'_>, line: &mut Line<'_>) -> Result<(), Stop>
-        ensures { Leaves WantOfMemory (conditions.length_line word.now line.old self.old) self.new result }
+    fn take_length(&mut self, line: &mut Worded<'_>) -> Result<(), Stop>
+        ensures { Leaves WantOfMemory (conditions.length_line line.old.word line.old.rest self.old) self.new result }
     {
-        self.cond.length = number_line(b"length", MOST, word, line)?;
+        self.cond.length = number_line(b"length", MOST, line)?;
         self.stage = Stage::Names;
         Ok(())
     }
 
     /// Takes a line after the one of `length`.
-    fn take_listed(
-        &mut self,
-        alloc: Global,
-        names: &Names,
-        word: &Item<'_>,
-        line: &mut Line<'_>,
-    ) -> Result<(), Stop>
-        ensures { Leaves WantOfMemory (conditions.listed_line names.now word.now line.old self.old) self.new result }
+    fn take_listed(&mut self, names: &Names, line: &mut Worded<'_>) -> Result<(), Stop>
+        ensures { Leaves WantOfMemory (conditions.listed_line names.now line.old.word line.old.rest self.old) self.new result }
     {
-        if may_have_names(self.stage) && word.is_word(b"names") {
+        if may_have_names(self.stage) && line.word.is_word(b"names") {
             return self.take_names(names, line);
         }
-        if may_have_nonblank(self.stage) && word.is_word(b"nonblank") {
+        if may_have_nonblank(self.stage) && line.word.is_word(b"nonblank") {
             return self.take_nonblank(names, line);
         }
-        if word.is_word(b"type") {
-            return self.take_type(alloc, line);
+        if line.word.is_word(b"type") {
+            return self.take_type(line);
         }
-        self.take_othertype(word, line)
+        self.take_othertype(line)
     }
 
     /// Takes a line on names, after its word.
-    fn take_names(&mut self, names: &Names, line: &mut Line<'_>) -> Result<(), Stop>
-        ensures { Leaves WantOfMemory (conditions.names_line names.now line.old self.old) self.new result }
+    fn take_names(&mut self, names: &Names, line: &mut Worded<'_>) -> Result<(), Stop>
+        ensures { Leaves WantOfMemory (conditions.names_line names.now line.old.rest self.old) self.new result }
     {
-        let item = line.item()?;
+        let item = line.rest.item()?;
         let field = item.field_above(last_field(self.cond.names.as_slice()), names)?;
-        let most = last_natural(MOST, line)?;
+        let most = last_natural(MOST, &mut line.rest)?;
         self.cond.names.push(NamesLine { field, most })?;
         Ok(())
     }
 
     /// Takes a `nonblank` line, after its word.
-    fn take_nonblank(&mut self, names: &Names, line: &mut Line<'_>) -> Result<(), Stop>
-        ensures { Leaves WantOfMemory (conditions.nonblank_line names.now line.old self.old) self.new result }
+    fn take_nonblank(&mut self, names: &Names, line: &mut Worded<'_>) -> Result<(), Stop>
+        ensures { Leaves WantOfMemory (conditions.nonblank_line names.now line.old.rest self.old) self.new result }
     {
-        let item = line.item()?;
+        let item = line.rest.item()?;
         let field = item.field_above(last_id(self.cond.nonblank.as_slice()), names)?;
-        line.end()?;
+        line.rest.end()?;
         self.cond.nonblank.push(field)?;
         self.stage = Stage::Nonblank;
         Ok(())
     }
 
     /// Takes a `type` line, after its word.
-    fn take_type(&mut self, alloc: Global, line: &mut Line<'_>) -> Result<(), Stop>
-        ensures { Leaves WantOfMemory (conditions.type_line line.old self.old) self.new result }
+    fn take_type(&mut self, line: &mut Worded<'_>) -> Result<(), Stop>
+        ensures { Leaves WantOfMemory (conditions.type_line line.old.rest self.old) self.new result }
     {
-        let item = line.item()?;
+        let item = line.rest.item()?;
         item.type_above(self.cond.types.as_slice().last())?;
-        line.end()?;
-        self.cond.types.push(Text::from_slice(alloc, item.text())?)?;
+        line.rest.end()?;
+        self.cond
+            .types
+            .push(Text::from_slice(line.alloc, item.text())?)?;
         self.stage = Stage::Types;
         Ok(())
     }
 
     /// Takes the line of `othertype`.
-    fn take_othertype(&mut self, word: &Item<'_>, line: &mut Line<'_>) -> Result<(), Stop>
-        ensures { Leaves WantOfMemory (conditions.othertype_line word.now line.old self.old) self.new result }
+    fn take_othertype(&mut self, line: &mut Worded<'_>) -> Result<(), Stop>
+        ensures { Leaves WantOfMemory (conditions.othertype_line line.old.word line.old.rest self.old) self.new result }
     {
-        word.expect(b"othertype")?;
-        let item = line.item()?;
+        line.word.expect(b"othertype")?;
+        let item = line.rest.item()?;
         let other = item.choice()?;
-        line.end()?;
+        line.rest.end()?;
         self.cond.other = other;
         self.stage = Stage::End;
         Ok(())
     }
 
     /// Takes the line of `end`.
-    fn take_end(&mut self, word: &Item<'_>, line: &mut Line<'_>) -> Result<(), Stop>
-        ensures { Leaves WantOfMemory (conditions.end_line word.now line.old self.old) self.new result }
+    fn take_end(&mut self, line: &mut Worded<'_>) -> Result<(), Stop>
+        ensures { Leaves WantOfMemory (conditions.end_line line.old.word line.old.rest self.old) self.new result }
     {
-        word.expect(b"end")?;
-        line.end()?;
+        line.word.expect(b"end")?;
+        line.rest.end()?;
         self.stage = Stage::Done;
         Ok(())
     }
@@ -235,13 +230,6 @@ fn may_have_names(stage: Stage) -> bool
     matches!(stage, Stage::Names)
 }
 
-/// Whether a `nonblank` line may come.
-fn may_have_nonblank(stage: Stage) -> bool
-    ensures { result ≡ conditions.may_have_nonblank stage }
-{
-    matches!(stage, Stage::Names | Stage::Nonblank)
-}
-
 /// The field of the last of some lines on names.
 fn last_field(lines: &[NamesLine]) -> Option<NameId>
     ensures { result ≡ conditions.last_field lines.now }
@@ -250,6 +238,13 @@ fn last_field(lines: &[NamesLine]) -> Option<NameId>
         Some(line) => Some(line.field),
         None => None,
     }
+}
+
+/// Whether a `nonblank` line may come.
+fn may_have_nonblank(stage: Stage) -> bool
+    ensures { result ≡ conditions.may_have_nonblank stage }
+{
+    matches!(stage, Stage::Names | Stage::Nonblank)
 }
 
 /// The last of some ids.
@@ -263,11 +258,11 @@ pub(crate) fn last_id(ids: &[NameId]) -> Option<NameId>
 }
 
 /// A line of this word and a number.
-fn number_line(text: &[u8], most: u32, word: &Item<'_>, line: &mut Line<'_>) -> Result<u32, Stop>
-    ensures { Gives WantOfMemory (conditions.number_line text.now most word.now line.old) result }
+fn number_line(text: &[u8], most: u32, line: &mut Worded<'_>) -> Result<u32, Stop>
+    ensures { Gives WantOfMemory (conditions.number_line text.now most line.old.word line.old.rest) result }
 {
-    word.expect(text)?;
-    last_natural(most, line)
+    line.word.expect(text)?;
+    last_natural(most, &mut line.rest)
 }
 
 /// The last item of a line, as a number of at most so much.

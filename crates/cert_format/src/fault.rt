@@ -31,31 +31,32 @@ pub enum CertFault {
 }
 
 impl CertFault {
-    /// The name that a last line tells.
-    pub fn name(&self) -> &'static str
-        ensures { result.now ≡ name_of self.now }
-    {
-        match self {
-            CertFault::Syntax(_) => "Syntax",
-            CertFault::UnknownName(_) => "UnknownName",
-            CertFault::OutOfRange(_) => "OutOfRange",
-            CertFault::NotCanonical(_) => "NotCanonical",
-            CertFault::TooMany(_) => "TooMany",
-            CertFault::NoMemory => "NoMemory",
-        }
-    }
-
     /// The place of the fault. Want of memory, which no answer tells, has the first.
     pub fn place(&self) -> Place
         ensures { result ≡ place_of self.now }
     {
+        self.told().1
+    }
+
+    /// The name that a last line tells.
+    pub fn name(&self) -> &'static str
+        ensures { result.now ≡ name_of self.now }
+    {
+        self.told().0
+    }
+
+    /// The name and the place.
+    fn told(&self) -> (&'static str, Place)
+        ensures name { result.0.now ≡ name_of self.now }
+        ensures place { result.1 ≡ place_of self.now }
+    {
         match *self {
-            CertFault::Syntax(place)
-            | CertFault::UnknownName(place)
-            | CertFault::OutOfRange(place)
-            | CertFault::NotCanonical(place)
-            | CertFault::TooMany(place) => place,
-            CertFault::NoMemory => Place::START,
+            CertFault::Syntax(place) => ("Syntax", place),
+            CertFault::UnknownName(place) => ("UnknownName", place),
+            CertFault::OutOfRange(place) => ("OutOfRange", place),
+            CertFault::NotCanonical(place) => ("NotCanonical", place),
+            CertFault::TooMany(place) => ("TooMany", place),
+            CertFault::NoMemory => ("NoMemory", Place::START),
         }
     }
 }

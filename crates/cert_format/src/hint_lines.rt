@@ -8,7 +8,7 @@ ghost use Rattle.cert_format.specs.declared.stop.Stop.TheVariants.{NoMemory as W
 
 use crate::cond_lines::{MOST, last_natural};
 use crate::items::{has_leading_zero, is_numeral};
-use crate::lines::{Item, Line, after_first};
+use crate::lines::{Item, Line, Worded, after_first};
 use crate::piece_lines::MOST_ITEMS;
 use crate::stop::Stop;
 use bv_base::runs::{length_before, number};
@@ -19,44 +19,44 @@ use sym_state::proof::{Proof, Reference, Use};
 use sym_state::symbol::Sym;
 
 /// A hint by its first word.
-pub(crate) fn hint_line(alloc: Global, word: &Item<'_>, line: &mut Line<'_>) -> Result<Hint, Stop>
-    ensures { Gives WantOfMemory (hints.hint_line word.now line.old) result }
+pub(crate) fn hint_line(line: &mut Worded<'_>) -> Result<Hint, Stop>
+    ensures { Gives WantOfMemory (hints.hint_line line.old.word line.old.rest) result }
 {
-    if word.is_word(b"step") {
-        return Ok(Hint::Step(proof_line(alloc, line)?));
+    if line.word.is_word(b"step") {
+        return Ok(Hint::Step(proof_line(line.alloc, &mut line.rest)?));
     }
-    if word.is_word(b"case") {
-        return Ok(Hint::Case(last_natural(MOST, line)?));
+    if line.word.is_word(b"case") {
+        return Ok(Hint::Case(last_natural(MOST, &mut line.rest)?));
     }
-    if word.is_word(b"use") {
-        return Ok(Hint::Apply(last_natural(MOST, line)?));
+    if line.word.is_word(b"use") {
+        return Ok(Hint::Apply(last_natural(MOST, &mut line.rest)?));
     }
-    if word.is_word(b"loop") {
-        return Ok(Hint::Loop(last_natural(MOST, line)?));
+    if line.word.is_word(b"loop") {
+        return Ok(Hint::Loop(last_natural(MOST, &mut line.rest)?));
     }
-    if word.is_word(b"drop") {
-        return Ok(Hint::Drop(proof_line(alloc, line)?));
+    if line.word.is_word(b"drop") {
+        return Ok(Hint::Drop(proof_line(line.alloc, &mut line.rest)?));
     }
-    bare_hint(word, line)
+    bare_hint(line)
 }
 
 /// A hint without a number.
-fn bare_hint(word: &Item<'_>, line: &mut Line<'_>) -> Result<Hint, Stop>
-    ensures { Gives WantOfMemory (hints.bare_hint word.now line.old) result }
+fn bare_hint(line: &mut Worded<'_>) -> Result<Hint, Stop>
+    ensures { Gives WantOfMemory (hints.bare_hint line.old.word line.old.rest) result }
 {
-    if word.is_word(b"walk") {
-        line.end()?;
+    if line.word.is_word(b"walk") {
+        line.rest.end()?;
         return Ok(Hint::Walk);
     }
-    if word.is_word(b"plain") {
-        line.end()?;
+    if line.word.is_word(b"plain") {
+        line.rest.end()?;
         return Ok(Hint::Plain);
     }
-    if word.is_word(b"keep") {
-        line.end()?;
+    if line.word.is_word(b"keep") {
+        line.rest.end()?;
         return Ok(Hint::Keep);
     }
-    Err(Stop::Syntax(word.left()))
+    Err(Stop::Syntax(line.word.left()))
 }
 
 /// A proof, after the word of its line.
@@ -86,6 +86,14 @@ fn uses(alloc: Global, line: &mut Line<'_>) -> Result<Seq<Use>, Stop>
 }
 
 impl<'a> Item<'a> {
+    /// How often a row is taken, and the row.
+    fn use_item(&self) -> Result<Use, Stop>
+        ensures { Gives WantOfMemory (hints.use_item self.now) result }
+    {
+        let (times, rest) = self.text().split_at(colon_length(self.text()));
+        use_of(times, after_first(rest), self.left())
+    }
+
     /// A number from 1 on.
     fn positive(&self) -> Result<u32, Stop>
         ensures { Gives WantOfMemory (hints.positive self.now) result }
@@ -101,14 +109,6 @@ impl<'a> Item<'a> {
             return Err(Stop::NotCanonical(self.left()));
         }
         Ok(value as u32)
-    }
-
-    /// How often a row is taken, and the row.
-    fn use_item(&self) -> Result<Use, Stop>
-        ensures { Gives WantOfMemory (hints.use_item self.now) result }
-    {
-        let (times, rest) = self.text().split_at(colon_length(self.text()));
-        use_of(times, after_first(rest), self.left())
     }
 }
 

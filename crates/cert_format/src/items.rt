@@ -1,6 +1,6 @@
 //! What single items say.
 
-ghost use Rattle.std.specs.Prelude.{◌≡◌, option_copied};
+ghost use Rattle.std.specs.Prelude.{◌≡◌, map, option_copied};
 ghost use Rattle.std.specs.List.{list_all};
 ghost use Rattle.bv_base.specs.Answers.{Gives};
 ghost use Rattle.bv_base.specs.Runs.{is_black, is_digit as digit};
@@ -14,6 +14,9 @@ use bv_base::bytes::is_white;
 use bv_base::runs::{is_digit, number};
 use bv_base::text::Text;
 use name_table::names::{Kind, NameId, Names};
+
+/// A name of the style, or why the item is none that may stand here.
+pub(crate) type Named = Result<NameId, Stop>;
 
 impl<'a> Item<'a> {
     /// Whether the item is this word.
@@ -52,7 +55,7 @@ impl<'a> Item<'a> {
     }
 
     /// A name of the style.
-    pub(crate) fn name(&self, names: &Names) -> Result<NameId, Stop>
+    pub(crate) fn name(&self, names: &Names) -> Named
         ensures { Gives WantOfMemory (items.name_in names.now self.now) result }
     {
         if self.text().is_empty() {
@@ -65,7 +68,7 @@ impl<'a> Item<'a> {
     }
 
     /// A field of the style.
-    pub(crate) fn field(&self, names: &Names) -> Result<NameId, Stop>
+    pub(crate) fn field(&self, names: &Names) -> Named
         ensures { Gives WantOfMemory (items.field_in names.now self.now) result }
     {
         let id = self.name(names)?;
@@ -77,7 +80,7 @@ impl<'a> Item<'a> {
     }
 
     /// A field of the style, above the last one.
-    pub(crate) fn field_above(&self, last: Option<NameId>, names: &Names) -> Result<NameId, Stop>
+    pub(crate) fn field_above(&self, last: Option<NameId>, names: &Names) -> Named
         ensures { Gives WantOfMemory (items.field_above last names.now self.now) result }
     {
         let id = self.field(names)?;
@@ -179,4 +182,16 @@ fn is_behind(last: Option<&Text>, text: &[u8]) -> bool
         Some(last) => last.as_slice().cmp(text).is_lt(),
         None => true,
     }
+}
+
+/// What stands beside a text in a table.
+pub(crate) fn among<T: Copy>(text: &[u8], table: &[(&[u8], T)]) -> Option<T>
+    ensures { result ≡ items.among text.now (map (λ row. (row.0.now, row.1)) table.now) }
+{
+    for (known, item) in table {
+        if text == *known {
+            return Some(*item);
+        }
+    }
+    None
 }

@@ -8,7 +8,7 @@ ghost use Rattle.cert_format.specs.PieceItems as items;
 ghost use Rattle.cert_format.specs.declared.stop.Stop.TheVariants.{NoMemory as WantOfMemory};
 
 use crate::cond_lines::MOST;
-use crate::items::{has_leading_zero, is_above, is_numeral};
+use crate::items::{Named, has_leading_zero, is_above, is_numeral};
 use crate::lines::Item;
 use crate::stop::Stop;
 use crate::styled::Styled;
@@ -112,7 +112,7 @@ impl<'a> Item<'a> {
     }
 
     /// A variable of the style; one of entries stands at an entry alone.
-    pub(crate) fn variable(&self, at_entry: bool, names: &Names) -> Result<NameId, Stop>
+    pub(crate) fn variable(&self, at_entry: bool, names: &Names) -> Named
         ensures { Gives WantOfMemory (items.variable_in at_entry names.now self.now) result }
     {
         let id = self.name(names)?;
@@ -131,7 +131,7 @@ impl<'a> Item<'a> {
         at_entry: bool,
         last: Option<NameId>,
         names: &Names,
-    ) -> Result<NameId, Stop>
+    ) -> Named
         ensures { Gives WantOfMemory (items.variable_above at_entry last names.now self.now) result }
     {
         let id = self.variable(at_entry, names)?;
@@ -143,12 +143,7 @@ impl<'a> Item<'a> {
     }
 
     /// A field of the style, above the last one; it stands at an entry alone.
-    pub(crate) fn entry_field(
-        &self,
-        at_entry: bool,
-        last: Option<NameId>,
-        names: &Names,
-    ) -> Result<NameId, Stop>
+    pub(crate) fn entry_field(&self, at_entry: bool, last: Option<NameId>, names: &Names) -> Named
         ensures { Gives WantOfMemory (items.entry_field at_entry last names.now self.now) result }
     {
         let id = self.field(names)?;

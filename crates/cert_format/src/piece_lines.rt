@@ -1,13 +1,14 @@
 //! What has been read of a piece, line by line.
 
-ghost use Rattle.std.specs.Prelude.{◌≡◌, map, [], OnOk};
+ghost use Rattle.std.specs.Prelude.{◌≡◌, [], OnOk};
 ghost use Rattle.bv_base.specs.Answers.{Gives, GivesAndLeaves, Leaves};
 ghost use Rattle.cert_format.specs.Items.{last_of};
 ghost use Rattle.cert_format.specs.PieceItems as items;
 ghost use Rattle.cert_format.specs.Pieces as pieces;
 ghost use Rattle.cert_format.specs.declared.stop.Stop.TheVariants.{NoMemory as WantOfMemory};
 
-use crate::lines::{Item, Line};
+use crate::items::among;
+use crate::lines::{Item, Line, Worded};
 use crate::stop::Stop;
 use crate::styled::Styled;
 use bv_base::seq::Seq;
@@ -87,37 +88,35 @@ impl PieceSoFar {
     pub(crate) fn word(&self, text: &[u8]) -> Option<PieceWord>
         ensures { result ≡ pieces.piece_word self.now.stage text.now }
     {
-        where_due(self.stage, word_among(text, &WORDS)?)
+        where_due(self.stage, among(text, &WORDS)?)
     }
 
     /// Takes a line, after its word.
     pub(crate) fn take(
         &mut self,
-        alloc: Global,
         style: &Styled<'_>,
         kind: PieceWord,
-        word: &Item<'_>,
-        line: &mut Line<'_>,
+        line: &mut Worded<'_>,
     ) -> Result<(), Stop>
-        ensures { Leaves WantOfMemory (pieces.piece_line style.now kind word.now line.old self.old) self.new result }
+        ensures { Leaves WantOfMemory (pieces.piece_line style.now kind line.old.word line.old.rest self.old) self.new result }
     {
         match kind {
             PieceWord::Stack => self.take_stack(line),
             PieceWord::Var => self.take_var(style.names(), line),
             PieceWord::Field => self.take_field(style.names(), line),
-            PieceWord::Row => self.take_row(alloc, word, line),
-            _ => self.take_fact(alloc, style, kind, word, line),
+            PieceWord::Row => self.take_row(line),
+            _ => self.take_fact(kind, style, line),
         }
     }
 
     /// Takes the line of the stack, after its word.
-    fn take_stack(&mut self, line: &mut Line<'_>) -> Result<(), Stop>
-        ensures { Leaves WantOfMemory (pieces.stack_line line.old self.old) self.new result }
+    fn take_stack(&mut self, line: &mut Worded<'_>) -> Result<(), Stop>
+        ensures { Leaves WantOfMemory (pieces.stack_line line.old.rest self.old) self.new result }
     {
-        let item = line.item()?;
+        let item = line.rest.item()?;
         self.push_symbol(&item)?;
-        self.push_symbols(line)?;
-        line.end()
+        self.push_symbols(&mut line.rest)?;
+        line.rest.end()
     }
 
     /// Pushes symbols, one after the other.
@@ -146,16 +145,16 @@ impl PieceSoFar {
     }
 
     /// Takes the line of a variable, after its word.
-    fn take_var(&mut self, names: &Names, line: &mut Line<'_>) -> Result<(), Stop>
-        ensures { Leaves WantOfMemory (pieces.var_line names.now line.old self.old) self.new result }
+    fn take_var(&mut self, names: &Names, line: &mut Worded<'_>) -> Result<(), Stop>
+        ensures { Leaves WantOfMemory (pieces.var_line names.now line.old.rest self.old) self.new result }
     {
-        let item = line.item()?;
+        let item = line.rest.item()?;
         let name = item.variable_above(
             self.at_entry,
             last_bound(self.piece.vars.as_slice()),
             names,
         )?;
-        let bind = bound(self.next, name, line)?;
+        let bind = bound(self.next, name, &mut line.rest)?;
         self.piece.vars.push(bind)?;
         self.next = next_after(self.next, bind.sym);
         self.stage = PieceStage::Vars;
@@ -163,16 +162,16 @@ impl PieceSoFar {
     }
 
     /// Takes the line of a field, after its word.
-    fn take_field(&mut self, names: &Names, line: &mut Line<'_>) -> Result<(), Stop>
-        ensures { Leaves WantOfMemory (pieces.field_line names.now line.old self.old) self.new result }
+    fn take_field(&mut self, names: &Names, line: &mut Worded<'_>) -> Result<(), Stop>
+        ensures { Leaves WantOfMemory (pieces.field_line names.now line.old.rest self.old) self.new result }
     {
-        let item = line.item()?;
+        let item = line.rest.item()?;
         let name = item.entry_field(
             self.at_entry,
             last_bound(self.piece.fields.as_slice()),
             names,
         )?;
-        let bind = bound(self.next, name, line)?;
+        let bind = bound(self.next, name, &mut line.rest)?;
         self.piece.fields.push(bind)?;
         self.next = next_after(self.next, bind.sym);
         self.stage = PieceStage::Fields;
@@ -182,34 +181,32 @@ impl PieceSoFar {
     /// Takes a fact, after the word of its line.
     fn take_fact(
         &mut self,
-        alloc: Global,
-        style: &Styled<'_>,
         kind: PieceWord,
-        word: &Item<'_>,
-        line: &mut Line<'_>,
+        style: &Styled<'_>,
+        line: &mut Worded<'_>,
     ) -> Result<(), Stop>
-        ensures { Leaves WantOfMemory (pieces.fact_line style.now kind word.now line.old self.old) self.new result }
+        ensures { Leaves WantOfMemory (pieces.fact_line style.now kind line.old.word line.old.rest self.old) self.new result }
     {
         if self.piece.facts.as_slice().len() >= MOST_ITEMS {
-            return Err(Stop::TooMany(word.left()));
+            return Err(Stop::TooMany(line.word.left()));
         }
-        let sym = line.item()?.known(self.next)?;
-        let fact = fact_of(alloc, style, kind, sym, line)?;
+        let sym = line.rest.item()?.known(self.next)?;
+        let fact = fact_of(style, kind, sym, line)?;
         self.piece.facts.push(fact)?;
         self.stage = PieceStage::Facts;
         Ok(())
     }
 
     /// Takes a row, after the word of its line.
-    fn take_row(&mut self, alloc: Global, word: &Item<'_>, line: &mut Line<'_>) -> Result<(), Stop>
-        ensures { Leaves WantOfMemory (pieces.row_line word.now line.old self.old) self.new result }
+    fn take_row(&mut self, line: &mut Worded<'_>) -> Result<(), Stop>
+        ensures { Leaves WantOfMemory (pieces.row_line line.old.word line.old.rest self.old) self.new result }
     {
         if self.piece.rows.as_slice().len() >= MOST_ITEMS {
-            return Err(Stop::TooMany(word.left()));
+            return Err(Stop::TooMany(line.word.left()));
         }
-        let constant = line.item()?.row_number()?;
-        let parts = self.parts(alloc, line)?;
-        line.end()?;
+        let constant = line.rest.item()?.row_number()?;
+        let parts = self.parts(line.alloc, &mut line.rest)?;
+        line.rest.end()?;
         self.piece.rows.push(Row { constant, parts })?;
         self.stage = PieceStage::Rows;
         Ok(())
@@ -258,18 +255,6 @@ const WORDS: [(&[u8], PieceWord); 12] = [
     (b"wellformed", PieceWord::Wellformed),
     (b"row", PieceWord::Row),
 ];
-
-/// The word among some.
-fn word_among(text: &[u8], words: &[(&[u8], PieceWord)]) -> Option<PieceWord>
-    ensures { result ≡ pieces.word_among text.now (map (λ word. (word.0.now, word.1)) words.now) }
-{
-    for (known, word) in words {
-        if text == *known {
-            return Some(*word);
-        }
-    }
-    None
-}
 
 /// A word, where its line may come.
 fn where_due(stage: PieceStage, word: PieceWord) -> Option<PieceWord>
@@ -336,24 +321,23 @@ fn bound(next: u32, name: NameId, line: &mut Line<'_>) -> Result<Bind, Stop>
 
 /// A fact by the word of its line, after its symbol.
 fn fact_of(
-    alloc: Global,
     style: &Styled<'_>,
     kind: PieceWord,
     sym: Sym,
-    line: &mut Line<'_>,
+    line: &mut Worded<'_>,
 ) -> Result<Fact, Stop>
-    ensures { Gives WantOfMemory (pieces.fact_of style.now kind sym line.old) result }
+    ensures { Gives WantOfMemory (pieces.fact_of style.now kind sym line.old.rest) result }
 {
     let fact = match kind {
-        PieceWord::Is => Fact::Is(sym, line.item()?.kind()?),
-        PieceWord::Int => Fact::Int(sym, line.item()?.integer()?),
-        PieceWord::Text => Fact::Text(sym, line.item()?.hex(alloc)?),
-        PieceWord::Call => Fact::Call(sym, line.item()?.name(style.names())?),
-        PieceWord::Block => Fact::Block(sym, line.item()?.block_number(style)?),
+        PieceWord::Is => Fact::Is(sym, line.rest.item()?.kind()?),
+        PieceWord::Int => Fact::Int(sym, line.rest.item()?.integer()?),
+        PieceWord::Text => Fact::Text(sym, line.rest.item()?.hex(line.alloc)?),
+        PieceWord::Call => Fact::Call(sym, line.rest.item()?.name(style.names())?),
+        PieceWord::Block => Fact::Block(sym, line.rest.item()?.block_number(style)?),
         PieceWord::Blank => Fact::Blank(sym),
         PieceWord::Nonblank => Fact::Nonblank(sym),
         _ => Fact::Wellformed(sym),
     };
-    line.end()?;
+    line.rest.end()?;
     Ok(fact)
 }

@@ -13,8 +13,8 @@ use std::marker::Model;
 /// A text that is printed item by item. Contracts see its bytes.
 #[derive(Drop)]
 pub(crate) struct Printer {
-    alloc: Global,
     text: Vec<u8>,
+    alloc: Global,
 }
 
 impl Model for Printer {
@@ -31,8 +31,8 @@ impl Printer {
         ensures { result ≡ [] }
     {
         Printer {
-            alloc,
             text: Vec::new(alloc),
+            alloc,
         }
     }
 

@@ -20,16 +20,6 @@ pub(crate) fn put_hints(printer: &mut Printer, hints: &[Hint]) -> Result<(), NoM
     put_word(printer, b"end")
 }
 
-/// Puts hints.
-fn put_each(printer: &mut Printer, hints: &[Hint]) -> Result<(), NoMemory>
-    ensures { OnOk result (printer.new ≡ printer.old ++ text_of (map spelling.hint_items hints.now)) }
-{
-    for hint in hints {
-        put_hint(printer, hint)?;
-    }
-    Ok(())
-}
-
 /// Puts a hint.
 fn put_hint(printer: &mut Printer, hint: &Hint) -> Result<(), NoMemory>
     ensures { OnOk result (printer.new ≡ printer.old ++ line_text (spelling.hint_items hint.now)) }
@@ -44,6 +34,16 @@ fn put_hint(printer: &mut Printer, hint: &Hint) -> Result<(), NoMemory>
         Hint::Drop(proof) => put_proof(printer, b"drop", proof),
         Hint::Step(proof) => put_proof(printer, b"step", proof),
     }
+}
+
+/// Puts hints.
+fn put_each(printer: &mut Printer, hints: &[Hint]) -> Result<(), NoMemory>
+    ensures { OnOk result (printer.new ≡ printer.old ++ text_of (map spelling.hint_items hints.now)) }
+{
+    for hint in hints {
+        put_hint(printer, hint)?;
+    }
+    Ok(())
 }
 
 /// Puts a hint that has a proof.

@@ -95,6 +95,17 @@ fn put_fact(printer: &mut Printer, names: &Names, fact: &Fact) -> Result<(), NoM
     }
 }
 
+/// Puts the fact of an exact block.
+fn put_symbol_number(printer: &mut Printer, sym: Sym, number: u32) -> Result<(), NoMemory>
+    ensures { OnOk result (printer.new ≡ printer.old
+        ++ line_text (codes "block" ∷ (spelling.sym_text sym ∷ (decimal number ∷ [])))) }
+{
+    printer.word(b"block")?;
+    printer.number(sym.0)?;
+    printer.number(number)?;
+    printer.end()
+}
+
 /// Puts a line of a word and a symbol.
 fn put_symbol(printer: &mut Printer, word: &[u8], sym: Sym) -> Result<(), NoMemory>
     ensures { OnOk result (printer.new ≡ printer.old ++ line_text (word.now ∷ (spelling.sym_text sym ∷ []))) }
@@ -155,17 +166,6 @@ fn put_symbol_name(
     printer.word(b"call")?;
     printer.number(sym.0)?;
     printer.name(names, name)?;
-    printer.end()
-}
-
-/// Puts the fact of an exact block.
-fn put_symbol_number(printer: &mut Printer, sym: Sym, number: u32) -> Result<(), NoMemory>
-    ensures { OnOk result (printer.new ≡ printer.old
-        ++ line_text (codes "block" ∷ (spelling.sym_text sym ∷ (decimal number ∷ [])))) }
-{
-    printer.word(b"block")?;
-    printer.number(sym.0)?;
-    printer.number(number)?;
     printer.end()
 }
 

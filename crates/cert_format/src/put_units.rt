@@ -78,7 +78,7 @@ pub(crate) fn put_loops(
 fn put_loop(printer: &mut Printer, style: &Style, one: &Loop) -> Result<(), NoMemory>
     ensures { OnOk result (printer.new ≡ printer.old ++ text_of (spelling.loop_lines style.now one.now)) }
 {
-    put_loop_word(printer, style, one.test, one.body)?;
+    put_loop_word(printer, style, one)?;
     put_head(
         printer,
         &style.names,
@@ -92,18 +92,13 @@ fn put_loop(printer: &mut Printer, style: &Style, one: &Loop) -> Result<(), NoMe
 }
 
 /// Puts the first line of a loop.
-fn put_loop_word(
-    printer: &mut Printer,
-    style: &Style,
-    test: Target,
-    body: Target,
-) -> Result<(), NoMemory>
+fn put_loop_word(printer: &mut Printer, style: &Style, one: &Loop) -> Result<(), NoMemory>
     ensures { OnOk result (printer.new ≡ printer.old
-        ++ line_text (codes "loop" ∷ (spelling.body_text style.now test ∷ (spelling.body_text style.now body ∷ [])))) }
+        ++ line_text (codes "loop" ∷ (spelling.body_text style.now one.now.test ∷ (spelling.body_text style.now one.now.body ∷ [])))) }
 {
     printer.word(b"loop")?;
-    put_body(printer, style, test)?;
-    put_body(printer, style, body)?;
+    put_body(printer, style, one.test)?;
+    put_body(printer, style, one.body)?;
     printer.end()
 }
 

@@ -53,8 +53,8 @@ fn styled_lines(alloc: Global, source: &[u8], style: &Styled<'_>) -> Result<Cert
 {
     let mut lines = Lines::new(source);
     let mut cert = CertSoFar::new(alloc);
-    while let Some(mut line) = lines.next() {
-        cert.take(alloc, style, &mut line)?;
+    while let Some(line) = lines.next() {
+        cert.take(alloc, style, line)?;
     }
     cert.finish()
 }
@@ -79,8 +79,8 @@ fn cond_lines(alloc: Global, source: &[u8], names: &Names) -> Result<Cond, Stop>
 {
     let mut lines = Lines::new(source);
     let mut cond = CondSoFar::new(alloc);
-    while let Some(mut line) = lines.next() {
-        cond.take(alloc, names, &mut line)?;
+    while let Some(line) = lines.next() {
+        cond.take(alloc, names, line)?;
     }
     cond.finish()
 }

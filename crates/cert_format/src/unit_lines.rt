@@ -1,13 +1,15 @@
 //! What has been read of a summary, a loop or a command, line by line.
 
-ghost use Rattle.std.specs.Prelude.{◌≡◌, ◌<◌, Some, map, OnOk};
+ghost use Rattle.std.specs.Prelude.{◌≡◌, ◌<◌, Some, OnOk};
 ghost use Rattle.bv_base.specs.Answers.{Leaves};
+ghost use Rattle.cert_format.specs.Items as items;
 ghost use Rattle.cert_format.specs.Units as units;
 ghost use Rattle.cert_format.specs.declared.stop.Stop.TheVariants.{NoMemory as WantOfMemory};
 
 use crate::cond_lines::last_id;
 use crate::hint_lines::hint_line;
-use crate::lines::{Item, Line};
+use crate::items::among;
+use crate::lines::{Item, Worded};
 use crate::piece_lines::{PieceSoFar, PieceWord};
 use crate::stop::Stop;
 use crate::styled::Styled;
@@ -105,92 +107,74 @@ impl UnitSoFar {
     }
 
     /// Takes a line, after its first word.
-    pub(crate) fn take(
-        &mut self,
-        alloc: Global,
-        style: &Styled<'_>,
-        word: &Item<'_>,
-        line: &mut Line<'_>,
-    ) -> Result<(), Stop>
-        ensures { Leaves WantOfMemory (units.unit_line style.now word.now line.old self.old) self.new result }
+    pub(crate) fn take(&mut self, style: &Styled<'_>, line: &mut Worded<'_>) -> Result<(), Stop>
+        ensures { Leaves WantOfMemory (units.unit_line style.now line.old.word line.old.rest self.old) self.new result }
     {
         match self.stage {
-            UnitStage::Hints => self.take_hint(alloc, word, line),
-            UnitStage::Done => Err(Stop::Syntax(word.left())),
-            _ => self.take_body(alloc, style, word, line),
+            UnitStage::Hints => self.take_hint(line),
+            UnitStage::Done => Err(Stop::Syntax(line.word.left())),
+            _ => self.take_body(style, line),
         }
     }
 
     /// Takes a hint, or `end`.
-    fn take_hint(&mut self, alloc: Global, word: &Item<'_>, line: &mut Line<'_>) -> Result<(), Stop>
-        ensures { Leaves WantOfMemory (units.hint_or_end word.now line.old self.old) self.new result }
+    fn take_hint(&mut self, line: &mut Worded<'_>) -> Result<(), Stop>
+        ensures { Leaves WantOfMemory (units.hint_or_end line.old.word line.old.rest self.old) self.new result }
     {
-        if word.is_word(b"end") {
-            line.end()?;
+        if line.word.is_word(b"end") {
+            line.rest.end()?;
             self.stage = UnitStage::Done;
             return Ok(());
         }
-        let hint = hint_line(alloc, word, line)?;
+        let hint = hint_line(line)?;
         self.hints.push(hint)?;
         Ok(())
     }
 
     /// Takes a line before the hints.
-    fn take_body(
-        &mut self,
-        alloc: Global,
-        style: &Styled<'_>,
-        word: &Item<'_>,
-        line: &mut Line<'_>,
-    ) -> Result<(), Stop>
-        ensures { Leaves WantOfMemory (units.body_line style.now word.now line.old self.old) self.new result }
+    fn take_body(&mut self, style: &Styled<'_>, line: &mut Worded<'_>) -> Result<(), Stop>
+        ensures { Leaves WantOfMemory (units.body_line style.now line.old.word line.old.rest self.old) self.new result }
     {
-        if may_have_entry(self.stage) && word.is_word(b"entry") {
-            line.end()?;
+        if may_have_entry(self.stage) && line.word.is_word(b"entry") {
+            line.rest.end()?;
             self.entry = true;
             self.stage = UnitStage::Whole;
             return Ok(());
         }
-        if may_have_whole(self.stage) && word.is_word(b"whole") {
-            line.end()?;
+        if may_have_whole(self.stage) && line.word.is_word(b"whole") {
+            line.rest.end()?;
             self.whole = true;
             self.stage = UnitStage::Writes;
             return Ok(());
         }
-        if may_have_writes(self.stage) && word.is_word(b"writes") {
+        if may_have_writes(self.stage) && line.word.is_word(b"writes") {
             return self.take_writes(style.names(), line);
         }
-        self.take_piece(alloc, style, word, line)
+        self.take_piece(style, line)
     }
 
     /// Takes the line of a variable that may be written, after its word.
-    fn take_writes(&mut self, names: &Names, line: &mut Line<'_>) -> Result<(), Stop>
-        ensures { Leaves WantOfMemory (units.writes_line names.now line.old self.old) self.new result }
+    fn take_writes(&mut self, names: &Names, line: &mut Worded<'_>) -> Result<(), Stop>
+        ensures { Leaves WantOfMemory (units.writes_line names.now line.old.rest self.old) self.new result }
     {
-        let item = line.item()?;
+        let item = line.rest.item()?;
         let id = item.variable_above(self.entry, last_id(self.writes.as_slice()), names)?;
-        line.end()?;
+        line.rest.end()?;
         self.writes.push(id)?;
         self.stage = UnitStage::Writes;
         Ok(())
     }
 
     /// Takes a line of the open piece, or one that ends it.
-    fn take_piece(
-        &mut self,
-        alloc: Global,
-        style: &Styled<'_>,
-        word: &Item<'_>,
-        line: &mut Line<'_>,
-    ) -> Result<(), Stop>
+    fn take_piece(&mut self, style: &Styled<'_>, line: &mut Worded<'_>) -> Result<(), Stop>
         ensures { Leaves WantOfMemory
-            (units.piece_or_mark style.now (units.open_word self.old.last self.old.piece word.now) word.now line.old self.old)
+            (units.piece_or_mark style.now (units.open_word self.old.last self.old.piece line.old.word) line.old.word line.old.rest self.old)
             self.new
             result }
     {
-        match self.open_word(word) {
-            Some(kind) => self.piece.take(alloc, style, kind, word, line),
-            None => self.take_marked(alloc, word, line),
+        match self.open_word(&line.word) {
+            Some(kind) => self.piece.take(style, kind, line),
+            None => self.take_marked(line),
         }
     }
 
@@ -205,41 +189,30 @@ impl UnitSoFar {
     }
 
     /// Takes the line of a word before a piece, or `hints`.
-    fn take_marked(
-        &mut self,
-        alloc: Global,
-        word: &Item<'_>,
-        line: &mut Line<'_>,
-    ) -> Result<(), Stop>
+    fn take_marked(&mut self, line: &mut Worded<'_>) -> Result<(), Stop>
         ensures { Leaves WantOfMemory
-            (units.marked_line (units.mark_among word.now.text units.mark_words) word.now line.old self.old)
+            (units.marked_line (items.among line.old.word.text units.mark_words) line.old.word line.old.rest self.old)
             self.new
             result }
     {
-        match mark_of(word.text()) {
-            Some(mark) => self.take_mark(alloc, mark, word, line),
-            None => self.take_hints(alloc, word, line),
+        match mark_of(line.word.text()) {
+            Some(mark) => self.take_mark(mark, line),
+            None => self.take_hints(line),
         }
     }
 
     /// Takes the line of a word before a piece.
-    fn take_mark(
-        &mut self,
-        alloc: Global,
-        mark: Mark,
-        word: &Item<'_>,
-        line: &mut Line<'_>,
-    ) -> Result<(), Stop>
-        ensures { Leaves WantOfMemory (units.marked_line (Some mark) word.now line.old self.old) self.new result }
+    fn take_mark(&mut self, mark: Mark, line: &mut Worded<'_>) -> Result<(), Stop>
+        ensures { Leaves WantOfMemory (units.marked_line (Some mark) line.old.word line.old.rest self.old) self.new result }
     {
         if !may_follow(self.kind, self.last, mark) {
-            return Err(Stop::Syntax(word.left()));
+            return Err(Stop::Syntax(line.word.left()));
         }
         if self.count >= MOST_PIECES {
-            return Err(Stop::TooMany(word.left()));
+            return Err(Stop::TooMany(line.word.left()));
         }
-        line.end()?;
-        self.open(alloc, mark)?;
+        line.rest.end()?;
+        self.open(line.alloc, mark)?;
         Ok(())
     }
 
@@ -269,19 +242,14 @@ impl UnitSoFar {
     }
 
     /// Takes `hints`, after the last piece.
-    fn take_hints(
-        &mut self,
-        alloc: Global,
-        word: &Item<'_>,
-        line: &mut Line<'_>,
-    ) -> Result<(), Stop>
-        ensures { Leaves WantOfMemory (units.hints_line word.now line.old self.old) self.new result }
+    fn take_hints(&mut self, line: &mut Worded<'_>) -> Result<(), Stop>
+        ensures { Leaves WantOfMemory (units.hints_line line.old.word line.old.rest self.old) self.new result }
     {
-        if !(word.is_word(b"hints") && may_have_hints(self.kind, self.last)) {
-            return Err(Stop::Syntax(word.left()));
+        if !(line.word.is_word(b"hints") && may_have_hints(self.kind, self.last)) {
+            return Err(Stop::Syntax(line.word.left()));
         }
-        line.end()?;
-        self.place(PieceSoFar::new(alloc, false, false, 0))?;
+        line.rest.end()?;
+        self.place(PieceSoFar::new(line.alloc, false, false, 0))?;
         self.stage = UnitStage::Hints;
         self.last = None;
         Ok(())
@@ -335,21 +303,9 @@ const MARKS: [(&[u8], Mark); 7] = [
 
 /// The word before a piece.
 fn mark_of(text: &[u8]) -> Option<Mark>
-    ensures { result ≡ units.mark_among text.now units.mark_words }
+    ensures { result ≡ items.among text.now units.mark_words }
 {
-    mark_among(text, &MARKS)
-}
-
-/// The word among some.
-fn mark_among(text: &[u8], words: &[(&[u8], Mark)]) -> Option<Mark>
-    ensures { result ≡ units.mark_among text.now (map (λ word. (word.0.now, word.1)) words.now) }
-{
-    for (known, mark) in words {
-        if text == *known {
-            return Some(*mark);
-        }
-    }
-    None
+    among(text, &MARKS)
 }
 
 /// Whether a piece may come behind the last one.

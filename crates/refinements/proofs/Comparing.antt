@@ -1,6 +1,6 @@
 -- Of the cases of each test on two operands, one covers what the machine does.
 use Rattle.std.proofs.Common.{◌≡◌, ℕ, ◌<◌, ◌≤◌, ◌^◌, Bool, true, false, cond, List, [], ◌∷◌, reverse, Option, None, Some, Ok, Err, refl, sym, ap, subst, ◌∙◌, arith, nat_eq, nat_le, ◌&&◌}
-use Rattle.std.specs.Prelude.{ℤ, pos, negsuc, ◌-ℤ◌, ◌≤ℤ◌}
+use Rattle.std.specs.Prelude.{ℤ, pos, negsuc, ◌+ℤ◌, ◌-ℤ◌, ◌≤ℤ◌}
 use Rattle.std.specs.List.{AllByRecursion}
 use Rattle.std.specs.Cmp.Lexicographic.{pointwise}
 use Rattle.std.proofs.lemmas.Bool.{leb-true}
@@ -72,27 +72,27 @@ record Known (p : Spot) (a b : Sym) (x y : ℤ) : Type 0 where
   pub lower : p.v.value a.0 ≡ IntValue x
   pub upper : p.v.value b.0 ≡ IntValue y
 
+-- the first of two integers is so much greater than the second, and so are the values of the symbols
+exceeds_known : (p : Spot) (a b : Sym) (x y n : ℤ) → p.v.value a.0 ≡ IntValue x → p.v.value b.0 ≡ IntValue y → (y +ℤ n) ≤ℤ x
+    → Holds (numbers p.v) (exceeds (ValueOf a.0) (ValueOf b.0) n)
+exceeds_known p a b x y n first second h =
+    let xa : numbers p.v (ValueOf a.0) ≡ x = ap integer_of first in
+    let yb : numbers p.v (ValueOf b.0) ≡ y = ap integer_of second in
+    exceeds_holds (numbers p.v) (ValueOf a.0) (ValueOf b.0) n (omega (arith, ints))
+
 less_hold : (p : Spot) (a b : Sym) (x y : ℤ) → Known p a b x y → is_positive (y -ℤ x) ≡ true → AllByRecursion (Holds (numbers p.v)) (less_rows a b)
 less_hold p a b x y known e =
-    let xa : numbers p.v (ValueOf a.0) ≡ x = ap integer_of known.lower in
-    let yb : numbers p.v (ValueOf b.0) ≡ y = ap integer_of known.upper in
-    let h = above_zero (y -ℤ x) e in
-    (exceeds_holds (numbers p.v) (ValueOf b.0) (ValueOf a.0) (pos 1) (omega (arith, ints)), tt)
+    let h = above_zero (y -ℤ x) e in (exceeds_known p b a y x (pos 1) known.upper known.lower (omega (arith, ints)), tt)
 
 at_least_hold : (p : Spot) (a b : Sym) (x y : ℤ) → Known p a b x y → is_positive (y -ℤ x) ≡ false → AllByRecursion (Holds (numbers p.v)) (at_least_rows a b)
 at_least_hold p a b x y known e =
-    let xa : numbers p.v (ValueOf a.0) ≡ x = ap integer_of known.lower in
-    let yb : numbers p.v (ValueOf b.0) ≡ y = ap integer_of known.upper in
-    let h = not_above (y -ℤ x) e in
-    (exceeds_holds (numbers p.v) (ValueOf a.0) (ValueOf b.0) (pos 0) (omega (arith, ints)), tt)
+    let h = not_above (y -ℤ x) e in (exceeds_known p a b x y (pos 0) known.lower known.upper (omega (arith, ints)), tt)
 
 equal_hold : (p : Spot) (a b : Sym) (x y : ℤ) → Known p a b x y → is_zero (x -ℤ y) ≡ true → AllByRecursion (Holds (numbers p.v)) (equal_rows a b)
 equal_hold p a b x y known e =
-    let xa : numbers p.v (ValueOf a.0) ≡ x = ap integer_of known.lower in
-    let yb : numbers p.v (ValueOf b.0) ≡ y = ap integer_of known.upper in
     let h = zero_is (x -ℤ y) e in (
-      exceeds_holds (numbers p.v) (ValueOf a.0) (ValueOf b.0) (pos 0) (omega (arith, ints)),
-      (exceeds_holds (numbers p.v) (ValueOf b.0) (ValueOf a.0) (pos 0) (omega (arith, ints)), tt),
+      exceeds_known p a b x y (pos 0) known.lower known.upper (omega (arith, ints)),
+      (exceeds_known p b a y x (pos 0) known.upper known.lower (omega (arith, ints)), tt),
     )
 
 -- rows on two symbols fit
@@ -203,14 +203,12 @@ equal_integers_found : (p : Spot) (a b : Sym) (rest : List Sym) (hints : List Hi
     → Found p op.Equal cases
 equal_integers_found p a b rest hints cases tops lower_kind upper_kind e =
     let below = two_below p.style p.state a b rest p.made tops in
-    let lower = below.lower in
-    let upper = below.upper in
     let one = integer_is (p.v.value a.0) (of_kind_holds p.style p.v a.0 p.state.facts Int p.stands.satisfied.facts lower_kind) in
     let two = integer_is (p.v.value b.0) upper_kind in
     let known : Known p a b one.0 two.0 = record { lower = one.1; upper = two.1 } in
     integers_found p op.Equal rest is_equal true a b one.0 two.0 (equal_rows a b) [] hints cases known always_equal
     (at_two p op.Equal a b rest (IntValue one.0) (IntValue two.0) (is_equal one.0 two.0) tops one.1 two.1 refl)
-    (equal_fit p.style p.state.next a b lower upper) (nothing_fits p.style p.state.next)
+    (equal_fit p.style p.state.next a b below.lower below.upper) (nothing_fits p.style p.state.next)
     (equal_hold p a b one.0 two.0 known) (λ unequal. tt) e
 
 -- `=` of two strings

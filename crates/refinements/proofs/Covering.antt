@@ -2,6 +2,7 @@
 use Rattle.std.proofs.Common.{◌≡◌, ℕ, ◌<◌, ◌≤◌, ◌⊎◌, Bool, true, false, cond, List, [], ◌∷◌, ◌++◌, drop, length, Result, Ok, Err, refl, sym, ap, subst, ◌∙◌, inl, inr, arith}
 use Rattle.std.specs.List.{All, AllByRecursion}
 use Rattle.std.proofs.lemmas.Int.{ints}
+use Rattle.std.proofs.lemmas.List.Elements.{All-cons, All-nil, All-same}
 use Rattle.bv_base.specs.declared.place.Place.{Place}
 use Rattle.lin_facts.specs.Rows.{Holds}
 use Rattle.lin_facts.specs.declared.row.Row.{Row}
@@ -69,6 +70,16 @@ weighed_is admits state (Keep ∷ hints) cases e =
     record { there = omega arith; left = sym (ap (λ (c : Cases). c.hints) same); states = inl (sym (ap (λ (c : Cases). c.states) same)) }
 weighed_is admits state (Drop proof ∷ hints) cases e = dropped admits state proof hints cases (shows admits state proof absurdity) refl e
 weighed_is admits state _ cases e = absurd (cc)
+
+-- what holds of a state that is weighed holds of each case that is kept
+pub weighed_each : (P : State → Type 0) (admits : Cond) (state : State) (hints : List Hint) (cases : Cases) → P state
+    → weighed admits state hints ≡ Ok cases → All P cases.states
+weighed_each P admits state hints cases holds e =
+    let w = weighed_is admits state hints cases e in
+    elim w.states [
+      | inl is ↦ All-same P cases.states (state ∷ []) is (All-cons P state [] holds (All-nil P))
+      | inr none ↦ All-same P cases.states [] none.0 (All-nil P)
+    ]
 
 -- a case that is satisfied is kept, if it has a hint that is taken
 pub kept : (style : Style) (admits : Cond) (v : Valuation) (state : State) (hints : List Hint) (cases : Cases) → Satisfies style admits v state

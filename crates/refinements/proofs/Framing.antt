@@ -22,7 +22,7 @@ use Rattle.sym_state.specs.Frames.{LeavesVariables}
 use Rattle.sym_state.proofs.Ensured.{one_taken, two_taken}
 use Rattle.sym_state.proofs.Leaving.{added, left_twice, moved}
 use Rattle.sym_state.proofs.Pushing.{without}
-use Rattle.refinements.proofs.Covering.{both_weighed, weighed_is}
+use Rattle.refinements.proofs.Covering.{both_weighed, weighed_each}
 use Rattle.refinements.proofs.Labels.{labelled_all, labels_dropped, sign_cases}
 use Rattle.refinements.proofs.Taking.{taken_one, taken_two}
 
@@ -31,15 +31,15 @@ AreLeft state cases = All (LeavesVariables state) cases.states
 
 -- the state of a case, with a result on top and without
 case_left : (state : State) (facts : List Fact) (rows : List Row) → LeavesVariables state (with_case facts rows state)
-case_left state facts rows = added state state.stack state.next facts rows (omega arith)
+case_left state facts rows = added state state.stack state.next facts rows (omega arith) (omega arith)
 
 truth_left : (state : State) (rest : List Sym) (t : Bool) → LeavesVariables state (with_truth t (without rest state))
-truth_left state rest t = added state _ _ _ _ (omega arith)
+truth_left state rest t = added state _ _ _ _ (omega arith) (omega arith)
 
 truth_case_left : (state : State) (rest : List Sym) (t : Bool) (facts : List Fact) (rows : List Row)
     → LeavesVariables state (with_truth t (with_case facts rows (without rest state)))
 truth_case_left state rest t facts rows =
-    left_twice state (with_case facts rows state) (with_truth t (with_case facts rows (without rest state))) (case_left state facts rows)
+    left_twice state (with_case facts rows state) (with_truth t (with_case facts rows (without rest state))) (omega arith) (case_left state facts rows)
     (truth_left (with_case facts rows state) rest t)
 
 decided_left : (state : State) (rest : List Sym) (t : Bool) (hints : List Hint) (cases : Cases)
@@ -61,12 +61,7 @@ both_left state rest first second hints cases e =
 
 weighed_left : (admits : Cond) (state first : State) (hints : List Hint) (cases : Cases) → LeavesVariables state first
     → weighed admits first hints ≡ Ok cases → AreLeft state cases
-weighed_left admits state first hints cases left e =
-    let w = weighed_is admits first hints cases e in
-    elim w.states [
-      | inl is ↦ All-same (LeavesVariables state) cases.states (first ∷ []) is (All-cons (LeavesVariables state) first [] left (All-nil (LeavesVariables state)))
-      | inr none ↦ All-same (LeavesVariables state) cases.states [] none.0 (All-nil (LeavesVariables state))
-    ]
+weighed_left admits state first hints cases left e = weighed_each (LeavesVariables state) admits first hints cases left e
 
 weighed_both_left : (admits : Cond) (state first second : State) (hints : List Hint) (cases : Cases) → LeavesVariables state first
     → LeavesVariables state second → weighed_both admits first second hints ≡ Ok cases → AreLeft state cases

@@ -1,6 +1,8 @@
 -- A test that has cases takes as many hints as it needs.
-use Rattle.std.proofs.Common.{◌≡◌, ℕ, ◌≤◌, Bool, true, false, cond, List, [], ◌∷◌, Option, None, Some, Result, Ok, Err, length, length-drop, drop, drop-drop, reverse, refl, sym, ap, subst, ◌∙◌, arith}
+use Rattle.std.proofs.Common.{◌≡◌, ℕ, ◌≤◌, Bool, true, false, cond, List, [], ◌∷◌, Option, None, Some, Result, Ok, Err, length, length-drop, drop, drop-drop, map, reverse, refl, sym, ap, subst, ◌∙◌, arith}
 use Rattle.std.specs.Prelude.{ℤ}
+use Rattle.std.specs.List.{All}
+use Rattle.std.proofs.lemmas.List.Elements.{All-drop}
 use Rattle.lin_facts.specs.declared.row.Row.{Row}
 use Rattle.bst_meaning.specs.declared.condition.Cond.{Cond}
 use Rattle.sym_state.specs.declared.demand.DemandKind.TheVariants.{WrongKind}
@@ -12,7 +14,7 @@ use Rattle.sym_state.specs.declared.symbol.Kinds.TheVariants.{Any, Int, Missing,
 use Rattle.sym_state.specs.declared.symbol.Sym.{Sym}
 use Rattle.sym_state.specs.declared.test.Test.{Test}
 use Rattle.sym_state.specs.declared.test.Test.TheVariants.{Above, Empty, Equal, Greater, Less, Missing as IsMissing}
-use Rattle.sym_state.specs.Cases.{Cases, at_least_rows, empty_cases, equal_by, equal_decided, equal_rows, given, hints_of, hints_on, integer_cases, less_cases, less_decided, less_rows, missing_cases, needs_of, passed_both, split_of, text_cases, texts_decided, weighed_both}
+use Rattle.sym_state.specs.Cases.{Cases, Labelled, above_of, at_least_rows, empty_cases, equal_by, equal_decided, equal_rows, given, hints_of, hints_on, integer_cases, less_cases, less_decided, less_rows, missing_cases, needs_of, passed_both, split_of, text_cases, texts_decided, weighed_both, without_labels}
 use Rattle.sym_state.specs.Decided.{emptiness_said, exact_integer, first_said, includes, known_kind}
 use Rattle.sym_state.specs.declared.demand.EffectFault.{EffectFault}
 use Rattle.sym_state.specs.Demands.{One, Two, demand, fails, is_of_kind, two_by, two_of}
@@ -130,3 +132,15 @@ test_took admits state Greater hints cases e =
     (needed state (λ a b. less_decided state.facts b a) f.a f.b f.rest f.tops f.upper_met f.lower_met) f.given
 test_took admits state (Above s) hints cases e =
     above_took admits state s (exact_integer state.facts s.0) hints cases (sym (labels_dropped admits state s (exact_integer state.facts s.0) hints) ∙ e)
+
+-- what holds of all hints holds of those that are left
+pub hints_keep : (P : Hint → Type 0) (admits : Cond) (state : State) (test : Test) (hints : List Hint) (cases : Cases)
+    → split_of admits state test hints ≡ Ok cases → All P hints → All P cases.hints
+hints_keep P admits state test hints cases e all =
+    let took = test_took admits state test hints cases e in
+    subst (λ (l : List Hint). All P l) (sym took.left) (All-drop P (needs_of state test) hints all)
+
+pub labelled_hints_keep : (P : Hint → Type 0) (admits : Cond) (state : State) (s : Sym) (hints : List Hint) (all : Labelled)
+    → above_of admits state s hints ≡ Ok all → All P hints → All P all.hints
+labelled_hints_keep P admits state s hints all e fine =
+    hints_keep P admits state (Above s) hints (record { states = map (λ one. one.1) all.cases; hints = all.hints }) (ap without_labels e) fine

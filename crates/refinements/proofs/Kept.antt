@@ -27,7 +27,7 @@ use Rattle.sym_state.proofs.Ensured.{one_taken, two_taken}
 use Rattle.sym_state.proofs.Pushing.{without}
 use Rattle.sym_state.proofs.Resulting.{Fits, at_least_fits, at_most_fits, both_fit, nothing_fits, one_fits, row_fits}
 use Rattle.refinements.proofs.Comparing.{equal_fit, exceeding, passed_fits}
-use Rattle.refinements.proofs.Covering.{both_weighed, weighed_is}
+use Rattle.refinements.proofs.Covering.{both_weighed, weighed_each}
 use Rattle.refinements.proofs.Fitting.{case_made, truth_made}
 use Rattle.refinements.proofs.Labels.{labelled_all, labels_dropped, sign_cases}
 use Rattle.refinements.proofs.Taking.{taken_one, taken_two}
@@ -59,12 +59,7 @@ both_made style state rest first second hints cases made old fits others e =
 
 weighed_made : (style : Style) (admits : Cond) (state : State) (hints : List Hint) (cases : Cases) → WellMade style state
     → weighed admits state hints ≡ Ok cases → AreMade style cases
-weighed_made style admits state hints cases made e =
-    let w = weighed_is admits state hints cases e in
-    elim w.states [
-      | inl is ↦ All-same (WellMade style) cases.states (state ∷ []) is (All-cons (WellMade style) state [] made (All-nil (WellMade style)))
-      | inr none ↦ All-same (WellMade style) cases.states [] none.0 (All-nil (WellMade style))
-    ]
+weighed_made style admits state hints cases made e = weighed_each (WellMade style) admits state hints cases made e
 
 weighed_both_made : (style : Style) (admits : Cond) (first second : State) (hints : List Hint) (cases : Cases) → WellMade style first → WellMade style second
     → weighed_both admits first second hints ≡ Ok cases → AreMade style cases

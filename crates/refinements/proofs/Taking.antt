@@ -88,24 +88,24 @@ both_found p op rest false holds refuted hints cases at fits others granted deni
   covers = answer_covers p.style p.admits p.list p.v p.state p.c p.below p.place rest op false refuted [] at others (denied refl) tt;
 }
 
+-- the state of a case that is weighed
+abbrev weighed_state : Spot → List Sym → Bool → List Row → State
+weighed_state p rest t rows = with_truth t (with_case [] rows (without rest p.state))
+
 pub weighed_found : (p : Spot) (op : Builtin) (rest : List Sym) (t : Bool) (holds refuted : List Row) (hints : List Hint) (cases : Cases)
     → AtSpot p rest op t → Fits p.style p.state.next [] holds → Fits p.style p.state.next [] refuted
     → (t ≡ true → AllByRecursion (Holds (numbers p.v)) holds) → (t ≡ false → AllByRecursion (Holds (numbers p.v)) refuted)
-    → weighed_both p.admits (with_truth true (with_case [] holds (without rest p.state))) (with_truth false (with_case [] refuted (without rest p.state))) hints ≡ Ok cases
+    → weighed_both p.admits (weighed_state p rest true holds) (weighed_state p rest false refuted) hints ≡ Ok cases
     → Found p op cases
 weighed_found p op rest true holds refuted hints cases at fits others granted denied e =
-    let first = with_truth true (with_case [] holds (without rest p.state)) in
-    let second = with_truth false (with_case [] refuted (without rest p.state)) in
     let covers = answer_covers p.style p.admits p.list p.v p.state p.c p.below p.place rest op true [] holds at fits tt (granted refl) in record {
-      after = first;
-      among = first_kept p.style p.admits covers.assignment first second hints cases covers.stands.satisfied e;
+      after = weighed_state p rest true holds;
+      among = first_kept p.style p.admits covers.assignment (weighed_state p rest true holds) (weighed_state p rest false refuted) hints cases covers.stands.satisfied e;
       covers = covers;
     }
 weighed_found p op rest false holds refuted hints cases at fits others granted denied e =
-    let first = with_truth true (with_case [] holds (without rest p.state)) in
-    let second = with_truth false (with_case [] refuted (without rest p.state)) in
     let covers = answer_covers p.style p.admits p.list p.v p.state p.c p.below p.place rest op false [] refuted at others tt (denied refl) in record {
-      after = second;
-      among = second_kept p.style p.admits covers.assignment first second hints cases covers.stands.satisfied e;
+      after = weighed_state p rest false refuted;
+      among = second_kept p.style p.admits covers.assignment (weighed_state p rest true holds) (weighed_state p rest false refuted) hints cases covers.stands.satisfied e;
       covers = covers;
     }

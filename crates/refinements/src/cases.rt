@@ -5,8 +5,12 @@ ghost use Rattle.sym_state.specs.Cases as rule;
 ghost use Rattle.sym_state.specs.WellMade.{HasBounds};
 
 use bv_base::memory::NoMemory;
+use sym_state::demand::EffectFault;
 use sym_state::state::State;
 use sym_state::symbol::{Fact, Kinds};
+
+/// The states of the cases of a test, or why it can't be taken.
+pub type States = Result<Vec<State>, EffectFault>;
 
 /// The one case of a test that is decided.
 pub fn decided(answer: bool, rest: State) -> Result<Vec<State>, NoMemory>

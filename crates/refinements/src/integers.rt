@@ -8,7 +8,7 @@ ghost use Rattle.sym_state.specs.WellMade.{HasBounds, IsBounded};
 ghost use Rattle.sym_state.specs.Demands.{IsReady, without};
 ghost use Rattle.refinements.specs.Given.{Gives, GivesLabelled, GivesTwo};
 
-use crate::cases::{decided, with_truth};
+use crate::cases::{States, decided, with_truth};
 use crate::deciding::{equal_decided, less_decided};
 use crate::strings::equal_texts;
 use crate::weighing::{both_kept, weighed, weighed_both};
@@ -24,7 +24,7 @@ use sym_state::state::State;
 use sym_state::symbol::{Kinds, Sym};
 
 /// The cases of `<`.
-pub fn less(state: &State, cond: &Cond, hints: &mut Hints<'_>) -> Result<Vec<State>, EffectFault>
+pub fn less(state: &State, cond: &Cond, hints: &mut Hints<'_>) -> States
     requires { IsReady state.now hints.old }
     ensures { Gives result hints.new (rule.less cond.now state.now hints.old) }
 {
@@ -33,7 +33,7 @@ pub fn less(state: &State, cond: &Cond, hints: &mut Hints<'_>) -> Result<Vec<Sta
 }
 
 /// The cases of `>`.
-pub fn greater(state: &State, cond: &Cond, hints: &mut Hints<'_>) -> Result<Vec<State>, EffectFault>
+pub fn greater(state: &State, cond: &Cond, hints: &mut Hints<'_>) -> States
     requires { IsReady state.now hints.old }
     ensures { Gives result hints.new (rule.greater cond.now state.now hints.old) }
 {
@@ -42,13 +42,7 @@ pub fn greater(state: &State, cond: &Cond, hints: &mut Hints<'_>) -> Result<Vec<
 }
 
 /// The cases of whether the first of the two integers on top of the stack, in either order, is less than the second.
-fn ordered(
-    state: &State,
-    cond: &Cond,
-    a: Sym,
-    b: Sym,
-    hints: &mut Hints<'_>,
-) -> Result<Vec<State>, EffectFault>
+fn ordered(state: &State, cond: &Cond, a: Sym, b: Sym, hints: &mut Hints<'_>) -> States
     requires { IsReady state.now hints.old }
     ensures { Gives result hints.new (rule.less_cases cond.now state.now.facts a b (without 2 state.now) hints.old) }
 {
@@ -60,13 +54,7 @@ fn ordered(
 }
 
 /// The cases of an undecided test on integers: the first is less than the second, or it is at least that.
-fn less_or_not(
-    cond: &Cond,
-    a: Sym,
-    b: Sym,
-    rest: State,
-    hints: &mut Hints<'_>,
-) -> Result<Vec<State>, EffectFault>
+fn less_or_not(cond: &Cond, a: Sym, b: Sym, rest: State, hints: &mut Hints<'_>) -> States
     requires { IsReady rest hints.old }
     ensures { Gives result hints.new (rule.integer_cases cond.now None (rule.less_rows a b) (rule.at_least_rows a b) rest hints.old) }
 {
@@ -89,7 +77,7 @@ fn truths(
     fails: Vec<Row>,
     rest: State,
     hints: &mut Hints<'_>,
-) -> Result<Vec<State>, EffectFault>
+) -> States
     requires ready { IsReady rest hints.old }
     requires holds { All IsBounded holds.items }
     requires fails { All IsBounded fails.items }
@@ -123,7 +111,7 @@ fn one_row(row: Row, alloc: Global) -> Result<Vec<Row>, NoMemory>
 }
 
 /// The cases of `=`, which compares two integers or two strings.
-pub fn equal(state: &State, cond: &Cond, hints: &mut Hints<'_>) -> Result<Vec<State>, EffectFault>
+pub fn equal(state: &State, cond: &Cond, hints: &mut Hints<'_>) -> States
     requires { IsReady state.now hints.old }
     ensures { Gives result hints.new (rule.equal cond.now state.now hints.old) }
 {
@@ -154,7 +142,7 @@ fn equal_integers(
     b: Sym,
     rest: State,
     hints: &mut Hints<'_>,
-) -> Result<Vec<State>, EffectFault>
+) -> States
     requires { IsReady rest hints.old }
     ensures { Gives result hints.new (rule.integer_cases cond.now (rule.equal_decided state.now.facts a b) (rule.equal_rows a b) [] rest hints.old) }
 {
@@ -179,12 +167,7 @@ fn equal_rows(alloc: Global, a: Sym, b: Sym) -> Result<Vec<Row>, NoMemory>
 }
 
 /// The cases of whether an integer is above 0, without their labels.
-pub fn above(
-    state: &State,
-    cond: &Cond,
-    sym: Sym,
-    hints: &mut Hints<'_>,
-) -> Result<Vec<State>, EffectFault>
+pub fn above(state: &State, cond: &Cond, sym: Sym, hints: &mut Hints<'_>) -> States
     requires { IsReady state.now hints.old }
     ensures { Gives result hints.new (rule.without_labels (rule.above_of cond.now state.now sym hints.old)) }
 {
@@ -193,13 +176,11 @@ pub fn above(
     Ok(both_kept(alloc, positive, other)?)
 }
 
+/// The states of the cases with their labels, or why the test can't be taken.
+pub type Labelled = Result<Vec<(bool, State)>, EffectFault>;
+
 /// The cases of whether an integer is above 0, each with its label.
-pub fn labelled(
-    state: &State,
-    cond: &Cond,
-    sym: Sym,
-    hints: &mut Hints<'_>,
-) -> Result<Vec<(bool, State)>, EffectFault>
+pub fn labelled(state: &State, cond: &Cond, sym: Sym, hints: &mut Hints<'_>) -> Labelled
     requires { IsReady state.now hints.old }
     ensures { GivesLabelled result hints.new (rule.above_of cond.now state.now sym hints.old) }
 {
@@ -227,13 +208,11 @@ fn with_labels(
     Ok(cases)
 }
 
+/// The state of an integer above 0 and that of another, where they are there, or why the test can't be taken.
+type Signs = Result<(Option<State>, Option<State>), EffectFault>;
+
 /// The case of an integer above 0, and that of another: one where the integer is known, and else those that are kept.
-fn signs(
-    state: &State,
-    cond: &Cond,
-    sym: Sym,
-    hints: &mut Hints<'_>,
-) -> Result<(Option<State>, Option<State>), EffectFault>
+fn signs(state: &State, cond: &Cond, sym: Sym, hints: &mut Hints<'_>) -> Signs
     requires { IsReady state.now hints.old }
     ensures { GivesTwo result hints.new (rule.above_of cond.now state.now sym hints.old) }
 {
@@ -245,12 +224,7 @@ fn signs(
 }
 
 /// The same of an integer that isn't known.
-fn unknown_signs(
-    state: &State,
-    cond: &Cond,
-    sym: Sym,
-    hints: &mut Hints<'_>,
-) -> Result<(Option<State>, Option<State>), EffectFault>
+fn unknown_signs(state: &State, cond: &Cond, sym: Sym, hints: &mut Hints<'_>) -> Signs
     requires { IsReady state.now hints.old }
     ensures { GivesTwo result hints.new (rule.above_cases cond.now state.now sym None hints.old) }
 {

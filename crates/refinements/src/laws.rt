@@ -66,7 +66,7 @@ pub fn cases_are_well_made()
 {}
 
 /// The cases of a test keep the symbols of variables and fields, whether the whole stack is known and whether an entry is
-/// visited; no symbol is given back, and facts and rows are only added at the end.
+/// visited; no symbol is given back and at most one is new, and facts and rows are only added at the end.
 pub fn cases_leave_the_rest()
     ensures split { (admits : Cond) (state : State) (test : Test) (hints : List Hint) (cases : Cases)
         → split_of admits state test hints ≡ Ok cases → All (LeavesVariables state) cases.states }

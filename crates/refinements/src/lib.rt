@@ -47,6 +47,7 @@ pub fn split(
     ensures ok { IfOk result (λ states. rule.split_of cond.now state.now test hints.old ≡ Ok (record { states = states.items; hints = hints.new })) }
     ensures fault { IfErr result (λ fault. fault ≢ WantOfMemory → rule.split_of cond.now state.now test hints.old ≡ Err fault) }
     ensures cursor { OnErr result (hints.new ≡ hints.old) }
+    ensures few { All rule.HasFewUses hints.new }
     ensures kept { IfOk result (λ states. (style : Style) → WellMade style state.now → rule.IsTestOf state.now test → All (WellMade style) states.items) }
 {
     let mut cursor = Hints::new(hints.rest());
@@ -69,6 +70,7 @@ pub fn above(
     ensures ok { IfOk result (λ cases. rule.above_of cond.now state.now sym hints.old ≡ Ok (record { cases = cases.items; hints = hints.new })) }
     ensures fault { IfErr result (λ fault. fault ≢ WantOfMemory → rule.above_of cond.now state.now sym hints.old ≡ Err fault) }
     ensures cursor { OnErr result (hints.new ≡ hints.old) }
+    ensures few { All rule.HasFewUses hints.new }
     ensures kept { IfOk result (λ cases. (style : Style) → WellMade style state.now → sym.0 < state.now.next → All (λ one. WellMade style one.1) cases.items) }
 {
     let mut cursor = Hints::new(hints.rest());

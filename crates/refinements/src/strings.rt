@@ -60,8 +60,7 @@ pub fn missing(state: &State, hints: &Hints<'_>) -> Result<Vec<State>, EffectFau
 {
     let operand = field_of(state)?;
     let rest = state.without(1)?;
-    let known = state.known_kind(operand);
-    Ok(missing_cases(known, operand, rest)?)
+    Ok(missing_cases(state.known_kind(operand), operand, rest)?)
 }
 
 /// The cases of `missing$` of an operand, by its kind.

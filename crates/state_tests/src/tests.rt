@@ -19,3 +19,4 @@ mod outcomes;
 mod reading;
 mod rows;
 mod states;
+mod walk;

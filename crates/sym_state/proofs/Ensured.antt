@@ -1,5 +1,5 @@
 -- What holds where operands are taken and where a rule gives a state: what every state that it may give has.
-use Rattle.std.proofs.Common.{◌≡◌, ℕ, Bool, true, false, cond, List, [], ◌∷◌, reverse, Result, Ok, Err, refl, subst}
+use Rattle.std.proofs.Common.{◌≡◌, ℕ, suc, Bool, true, false, cond, List, [], ◌∷◌, drop, reverse, Result, Ok, Err, refl, sym, ap, ◌∙◌, subst}
 use Rattle.bv_base.specs.Answers.{then_do}
 use Rattle.lin_facts.specs.declared.row.Row.{Row}
 use Rattle.bst_meaning.specs.declared.condition.Cond.{Cond}
@@ -96,18 +96,20 @@ abbrev pub IsShown : Cond → State → Row → Type 0
 IsShown admits state row = (proof : Proof) × (shows admits state proof row ≡ true)
 
 -- a step that is taken shows its row
-record Stepped (admits : Cond) (state : State) (row : Row) (next : List Hint → Outcome) (after : After) : Type 0 where
+record Stepped (admits : Cond) (state : State) (row : Row) (hints : List Hint) (next : List Hint → Outcome) (after : After) : Type 0 where
+  pub hint : Hint
   pub left : List Hint
+  pub first : hints ≡ hint ∷ left
   pub shown : IsShown admits state row
   pub given : next left ≡ Ok after
 
 shown_then : (admits : Cond) (state : State) (row : Row) (fault : EffectFault) (proof : Proof) (hints : List Hint) (next : List Hint → Outcome) (after : After)
-    (t : Bool) → shows admits state proof row ≡ t → cond t (next hints) (Err fault) ≡ Ok after → Stepped admits state row next after
-shown_then admits state row fault proof hints next after true is e = record { left = hints; shown = (proof, is); given = e }
+    (t : Bool) → shows admits state proof row ≡ t → cond t (next hints) (Err fault) ≡ Ok after → Stepped admits state row (Step proof ∷ hints) next after
+shown_then admits state row fault proof hints next after true is e = record { hint = Step proof; left = hints; first = refl; shown = (proof, is); given = e }
 shown_then admits state row fault proof hints next after false is e = absurd (cc)
 
 stepped : (admits : Cond) (state : State) (row : Row) (fault : EffectFault) (hints : List Hint) (next : List Hint → Outcome) (after : After)
-    → step admits state row fault hints next ≡ Ok after → Stepped admits state row next after
+    → step admits state row fault hints next ≡ Ok after → Stepped admits state row hints next after
 stepped admits state row fault (Step proof ∷ hints) next after e =
     shown_then admits state row fault proof hints next after (shows admits state proof row) refl e
 stepped admits state row fault _ next after e = absurd (cc)
@@ -160,3 +162,44 @@ ensured admits state P (Chooses true row by_step by_rule) (Step proof ∷ hints)
     ensured admits state P by_step t.left after (h.0 refl t.shown) t.given
 ensured admits state P (Chooses wanted row by_step by_rule) (Plain ∷ hints) after h e = ensured admits state P by_rule hints after h.1 e
 ensured admits state P (Chooses wanted row by_step by_rule) _ after h e = absurd (cc)
+
+-- the hints that are left are those behind the ones that were taken
+pub record AreLeft (hints left : List Hint) : Type 0 where
+  pub taken : ℕ
+  pub are : left ≡ drop taken hints
+
+behind : (hint : Hint) (hints rest left : List Hint) → hints ≡ hint ∷ rest → AreLeft rest left → AreLeft hints left
+behind hint hints rest left e h = record { taken = suc h.taken; are = h.are ∙ ap (λ (all : List Hint). drop (suc h.taken) all) (sym e) }
+
+pub hints_left : (admits : Cond) (state : State) (rule : Rule) (hints : List Hint) (after : After) → outcome admits state rule hints ≡ Ok after
+    → AreLeft hints after.hints
+hints_left admits state (Gives given) hints after e =
+    let same : record { state = given; hints = hints } ≡ after = cc in
+    subst (λ (a : After). AreLeft hints a.hints) same (record { taken = 0; are = refl })
+hints_left admits state (Refuses kind operand) hints after e = absurd (cc)
+hints_left admits state (Demands true kind operand next) hints after e = hints_left admits state next hints after e
+hints_left admits state (Demands false kind operand next) hints after e = absurd (cc)
+hints_left admits state (OneOperand kind next) hints after e =
+    let t = one_taken kind state (λ taken. outcome admits state (next taken.operand taken.rest) hints) after e in
+    hints_left admits state (next t.a (without t.rest state)) hints after t.given
+hints_left admits state (TwoOperands lower upper next) hints after e =
+    let t = two_taken lower upper state (λ taken. outcome admits state (next taken.lower taken.upper taken.rest) hints) after e in
+    hints_left admits state (next t.a t.b (without t.rest state)) hints after t.given
+hints_left admits state (ThreeOperands lowest middle top next) hints after e =
+    let t = three_from lowest middle top state (λ taken. outcome admits state (next taken.lowest taken.middle taken.top taken.rest) hints) after
+    (reverse state.stack) refl e in
+    hints_left admits state (next t.a t.b t.c (without t.rest state)) hints after t.given
+hints_left admits state (Steps row fault next) hints after e =
+    let t = stepped admits state row fault hints (λ left. outcome admits state next left) after e in
+    behind t.hint hints t.left after.hints t.first (hints_left admits state next t.left after t.given)
+hints_left admits state (BothSteps first second fault next) hints after e =
+    let t = stepped admits state first fault hints (λ more. step admits state second fault more (λ left. outcome admits state next left)) after e in
+    let u = stepped admits state second fault t.left (λ left. outcome admits state next left) after t.given in
+    behind t.hint hints t.left after.hints t.first
+    (behind u.hint t.left u.left after.hints u.first (hints_left admits state next u.left after u.given))
+hints_left admits state (Chooses true row by_step by_rule) (Step proof ∷ hints) after e =
+    let t = shown_then admits state row (NotEntailed 0) proof hints (λ left. outcome admits state by_step left) after (shows admits state proof row) refl e in
+    behind t.hint (Step proof ∷ hints) t.left after.hints t.first (hints_left admits state by_step t.left after t.given)
+hints_left admits state (Chooses wanted row by_step by_rule) (Plain ∷ hints) after e =
+    behind Plain (Plain ∷ hints) hints after.hints refl (hints_left admits state by_rule hints after e)
+hints_left admits state (Chooses wanted row by_step by_rule) _ after e = absurd (cc)

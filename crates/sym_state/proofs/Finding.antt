@@ -1,5 +1,5 @@
 -- What facts decide, by the first that decides it.
-use Rattle.std.proofs.Common.{◌≡◌, ℕ, Bool, true, false, cond, ◌&&◌, ◌||◌, nat_eq, refl, ap, ◌∙◌, List, [], ◌∷◌, Option, None, Some, is_some, option_map}
+use Rattle.std.proofs.Common.{◌≡◌, ℕ, Bool, true, false, cond, ◌&&◌, ◌||◌, nat_eq, refl, ap, sym, ◌∙◌, List, [], ◌∷◌, Option, None, Some, is_some, option_map}
 use Rattle.std.specs.List.{find, list_any}
 use Rattle.std.specs.Option.{option_and_then, option_or}
 use Rattle.sym_state.specs.declared.symbol.Fact.{Fact}
@@ -29,6 +29,11 @@ found_said {B} {X} now said s facts found e = through found ∙ ap (option_and_t
     through : (o : Option B) → option_and_then (λ b. said (now b)) o ≡ option_and_then said (option_map now o)
     through (Some b) = refl
     through None = refl
+
+-- the same of what a call has found
+pub said_of : {B X : Type 0} (now : B → Fact) (said : Fact → Option X) (s : ℕ) (facts : List Fact) (found : Option B) (known : Option B) → found ≡ known
+    → option_map now found ≡ find (decides said s) facts → option_and_then (λ b. said (now b)) known ≡ first_said said s facts
+said_of now said s facts found known is e = ap (option_and_then (λ b. said (now b))) (sym is) ∙ found_said now said s facts found e
 
 -- an item passes a test where one is found
 any_found : {X : Type 0} (test : X → Bool) (xs : List X) → is_some (find test xs) ≡ list_any test xs

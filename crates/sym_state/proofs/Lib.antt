@@ -27,5 +27,6 @@ pub mod Fronts
 pub mod Keeping
 pub mod KnownKinds
 pub mod Leaving
+pub mod Pushes
 pub mod Pushing
 pub mod Resulting

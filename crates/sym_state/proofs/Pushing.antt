@@ -9,7 +9,7 @@ use Rattle.name_table.specs.declared.style.Style.{Style}
 use Rattle.bst_meaning.specs.declared.condition.Cond.{Cond}
 use Rattle.bst_meaning.specs.declared.entry.EntryList.{EntryList}
 use Rattle.bst_meaning.specs.declared.value.Value.{Value}
-use Rattle.bst_meaning.specs.Config.{Config, Event}
+use Rattle.bst_meaning.specs.Config.{Config, Event, Frame}
 use Rattle.sym_state.specs.declared.symbol.Sym.{Sym}
 use Rattle.sym_state.specs.declared.symbol.Fact.{Fact}
 use Rattle.sym_state.specs.declared.symbol.Kinds.{Kinds}
@@ -72,6 +72,21 @@ moved style admits list v state c below tops stack events log h e = record {
   vars = h.vars;
   fields = h.fields;
 }
+
+-- other frames
+pub stands_framed : (style : Style) (admits : Cond) (list : EntryList) (v : Valuation) (state : State) (c : Config) (below : List Value)
+    (frames : List Frame) → Stands style admits list v state c below → Stands style admits list v state (record c { frames = frames }) below
+stands_framed style admits list v state c below frames h =
+    let l = h.has_list in record {
+      satisfied = h.satisfied;
+      has_list = record { fits = l.fits; meets = l.meets; preamble = l.preamble; entries = l.entries; count = l.count };
+      visiting = λ entered. let i = h.visiting entered in
+          record { entry = i.entry; is_visited = i.is_visited; visit = i.visit; goes_on = i.goes_on; before = i.before };
+      stack = h.stack;
+      whole = h.whole;
+      vars = h.vars;
+      fields = h.fields;
+    }
 
 kind_fact : (style : Style) (kind : Kinds) (s : Sym) (value : Value) (w : Valuation) → w.value s.0 ≡ value → has_kind kind value ≡ true
     → AllByRecursion (FactHolds style w) (kind_facts s kind)

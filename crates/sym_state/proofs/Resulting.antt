@@ -22,6 +22,7 @@ use Rattle.sym_state.specs.declared.symbol.Kinds.TheVariants.{Int, Str, Missing,
 use Rattle.sym_state.specs.declared.symbol.Sym.{Sym}
 use Rattle.sym_state.specs.Changes.{kind_facts, rebound, with_bind, with_fresh}
 use Rattle.sym_state.specs.Facts.{subject}
+use Rattle.sym_state.specs.Fitting.{FactFits, RowFits}
 use Rattle.sym_state.specs.References.{at_least, at_most, exceeds}
 use Rattle.sym_state.specs.Results.{and_part, kept_part, next_of, part, sum_of_three, sum_of_two, with_result, with_symbol, with_top}
 use Rattle.sym_state.specs.WellMade.{HasBounds, HasByteText, HasShortText, HasSmallInteger, IsBounded, IsOfStyle, IsTermBelow, WellMade, size}
@@ -31,19 +32,6 @@ use Rattle.sym_state.proofs.Making.{RowBelow}
 use Rattle.sym_state.proofs.Frames.{all_reversed}
 use Rattle.sym_state.proofs.Pushing.{without}
 use Rattle.sym_state.proofs.Sums.{three_bounded, two_bounded}
-
--- a fact on a symbol below a number, which says what can be said of a value, within the bounds of facts
-pub record FactFits (style : Style) (next : ℕ) (fact : Fact) : Type 0 where
-  pub below : subject fact < next
-  pub of_style : IsOfStyle style fact
-  pub integer : HasSmallInteger fact
-  pub bytes : HasByteText fact
-  pub short : HasShortText fact
-
--- a row on symbols below it, within the bounds of rows
-pub record RowFits (next : ℕ) (row : Row) : Type 0 where
-  pub below : RowBelow next row
-  pub bounded : IsBounded row
 
 -- facts and rows that fit
 pub record Fits (style : Style) (next : ℕ) (more : List Fact) (shown : List Row) : Type 0 where
@@ -274,3 +262,25 @@ three_fits next constant l r m s n t new first second bound one two three = reco
   bounded = three_bounded constant l r m s n t (within_size (2 ^ 45) constant bound)
       (within_size (2 ^ 40) l one) (within_size (2 ^ 40) m two) (within_size (2 ^ 40) n three);
 }
+
+-- a fact or a row is added, or none is
+pub fact_made : {E : Type 0} (style : Style) (state : State) (fact : Fact) (facts : List Fact) (given : Result (Unit {0}) E)
+    → OnOk given (facts ≡ state.facts ++ fact ∷ []) → OnErr given (facts ≡ state.facts) → WellMade style state → FactFits style state.next fact
+    → WellMade style (record state { facts = facts })
+fact_made style state fact facts (Ok _) added same made fits =
+    let fit : Fits style state.next (fact ∷ []) [] = record { facts = All-cons (FactFits style state.next) fact [] fits (All-nil (FactFits style state.next)); rows = All-nil (RowFits state.next) } in
+    subst (λ (all : List Fact). WellMade style (record state { facts = all })) (sym added)
+    (subst (λ (rows : List Row). WellMade style (record state { facts = state.facts ++ fact ∷ []; rows = rows })) (append-nil state.rows)
+    (more_made style state state.next (fact ∷ []) [] made (omega arith) fit))
+fact_made style state fact facts (Err _) added same made fits =
+    subst (λ (all : List Fact). WellMade style (record state { facts = all })) (sym same) made
+
+pub row_made : {E : Type 0} (style : Style) (state : State) (row : Row) (rows : List Row) (given : Result (Unit {0}) E)
+    → OnOk given (rows ≡ state.rows ++ row ∷ []) → OnErr given (rows ≡ state.rows) → WellMade style state → RowFits state.next row
+    → WellMade style (record state { rows = rows })
+row_made style state row rows (Ok _) added same made fits =
+    subst (λ (all : List Row). WellMade style (record state { rows = all })) (sym added)
+    (subst (λ (facts : List Fact). WellMade style (record state { facts = facts; rows = state.rows ++ row ∷ [] })) (append-nil state.facts)
+    (more_made style state state.next [] (row ∷ []) made (omega arith) (row_fits style state.next row fits)))
+row_made style state row rows (Err _) added same made fits =
+    subst (λ (all : List Row). WellMade style (record state { rows = all })) (sym same) made

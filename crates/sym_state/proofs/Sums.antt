@@ -19,7 +19,7 @@ size_within bound (negsuc n) h = omega (arith, ints, h.low, h.high)
 within_sum : (a b : ℕ) (m n : ℤ) → IsWithin a m → IsWithin b n → IsWithin (a + b) (m +ℤ n)
 within_sum a b m n h k = record { low = omega (arith, ints, h.low, k.low); high = omega (arith, ints, h.high, k.high) }
 
-size_sum : (m n : ℤ) → size (m +ℤ n) ≤ size m + size n
+pub size_sum : (m n : ℤ) → size (m +ℤ n) ≤ size m + size n
 size_sum m n =
     size_within (size m + size n) (m +ℤ n)
     (within_sum (size m) (size n) m n (within_size (size m) m (omega arith)) (within_size (size n) n (omega arith)))
@@ -27,7 +27,7 @@ size_sum m n =
 abbrev pub sizes : List Part → ℕ
 sizes parts = sum_by (λ (p : Part). size p.coefficient) parts
 
-sizes-cons : (p : Part) (parts : List Part) → sizes (p ∷ parts) ≡ size p.coefficient + sizes parts
+pub sizes-cons : (p : Part) (parts : List Part) → sizes (p ∷ parts) ≡ size p.coefficient + sizes parts
 sizes-cons p parts = sum_by-cons (λ (q : Part). size q.coefficient) p parts
 
 -- a part that is kept before others adds its size, and is one more

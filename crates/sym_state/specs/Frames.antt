@@ -1,5 +1,5 @@
 -- What effects and cases leave of a state as it was (docs/EFFECTS.md, "What stays").
-use Rattle.std.specs.Prelude.{◌≡◌, ◌≢◌, ◌≤◌, ◌⊎◌, true, false, List, ◌∷◌, ◌++◌, reverse, Some}
+use Rattle.std.specs.Prelude.{◌≡◌, ◌≢◌, ◌+◌, ◌≤◌, ◌⊎◌, true, false, List, ◌∷◌, ◌++◌, reverse, Some}
 use Rattle.std.specs.Option.{option_map_or}
 use Rattle.lin_facts.specs.declared.row.Row.{Row}
 use Rattle.name_table.specs.declared.builtin.Builtin.{Builtin}
@@ -15,12 +15,13 @@ use Rattle.sym_state.specs.Decided.{ByName, exact_function}
 use Rattle.sym_state.specs.WellMade.{is_variable}
 
 -- whether the whole stack is known and whether an entry is visited stay, and the fields keep their symbols; no symbol is given
--- back, and facts and rows are only added at the end
+-- back and at most one is new, and facts and rows are only added at the end
 pub record Extends (old new : State) : Type 0 where
   pub whole : new.whole ≡ old.whole
   pub at_entry : new.at_entry ≡ old.at_entry
   pub fields : new.fields ≡ old.fields
   pub next : old.next ≤ new.next
+  pub few : new.next ≤ old.next + 1
   pub facts : (more : List Fact) × (new.facts ≡ old.facts ++ more)
   pub rows : (more : List Row) × (new.rows ≡ old.rows ++ more)
 

@@ -6,6 +6,7 @@ pub mod Stands
 pub mod References
 pub mod Changes
 pub mod WellMade
+pub mod Fitting
 pub mod Renaming
 pub mod SharedLists
 pub mod Starting
@@ -20,3 +21,4 @@ pub mod Cases
 pub mod Covers
 pub mod Frames
 pub mod Positions
+pub mod Pushes

@@ -1,11 +1,13 @@
 -- Rows where a command begins, comes to its next entry and ends (docs/STATES.md, "Positions"): what stands for `pos` in them.
 use Rattle.std.specs.Prelude.{ℕ, suc, ℤ, pos, ◌+ℤ◌, List, [], ◌∷◌}
+use Rattle.std.specs.List.{sum_by}
 use Rattle.lin_facts.specs.declared.row.Part.{Part}
 use Rattle.lin_facts.specs.declared.row.Row.{Row}
 use Rattle.lin_facts.specs.declared.row.Term.{Term}
 use Rattle.lin_facts.specs.declared.row.Term.TheVariants.{Pos, Count}
 use Rattle.sym_state.specs.Results.{and_part}
 use Rattle.sym_state.specs.Symbols.{Valuation}
+use Rattle.sym_state.specs.WellMade.{size}
 
 -- what stands for `pos`: 0 where a command begins, `pos` + 1 where it comes to its next entry, and `count` where it ends
 pub data Position : Type 0 where
@@ -57,3 +59,12 @@ parts_add p (part ∷ parts) = term_adds p part.coefficient part.term +ℤ parts
 -- a row with that in place of `pos`
 abbrev pub row_moved : Position → Row → Row
 row_moved p row = record { constant = row.constant +ℤ parts_add p row.parts; parts = parts_moved p [] row.parts }
+
+-- how great the coefficient of a term is, where it is `pos`
+abbrev pub position_size : ℤ → Term → ℕ
+position_size n Pos = size n
+position_size n t = 0
+
+-- how great those of a row's parts are together
+abbrev pub position_sizes : List Part → ℕ
+position_sizes parts = sum_by (λ part. position_size part.coefficient part.term) parts

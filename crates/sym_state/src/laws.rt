@@ -1,10 +1,10 @@
 //! What the definitions of states give, in the machine's words.
 
-ghost use Rattle.std.specs.Prelude.{◌≡◌, ◌↔◌, ℕ, ◌∷◌, ◌++◌, Bool, true, List, None, Some, Ok, Err};
+ghost use Rattle.std.specs.Prelude.{◌≡◌, ◌↔◌, ℕ, ◌+◌, ◌≤◌, ◌^◌, ◌∷◌, ◌++◌, Bool, true, List, None, Some, Ok, Err};
 ghost use Rattle.std.specs.List.{All, AllByRecursion};
 ghost use Rattle.std.specs.Option.{option_map_or};
 ghost use Rattle.bst_meaning.specs.Builtins.{Context, built_in};
-ghost use Rattle.bst_meaning.specs.Config.{Config};
+ghost use Rattle.bst_meaning.specs.Config.{Config, Frame};
 ghost use Rattle.bst_meaning.specs.Effect.{pushed};
 ghost use Rattle.bst_meaning.specs.Machine.{call_step, visited_entry, with_found};
 ghost use Rattle.bst_meaning.specs.Operands.{truth};
@@ -19,11 +19,16 @@ ghost use Rattle.name_table.specs.declared.builtin.Builtin.TheVariants.{Empty};
 ghost use Rattle.name_table.specs.declared.names.Kind.{Kind};
 ghost use Rattle.name_table.specs.declared.names.NameId.{NameId};
 ghost use Rattle.name_table.specs.declared.style.Style.{Style};
+ghost use Rattle.name_table.specs.declared.style.Token.{Token};
+ghost use Rattle.name_table.specs.Sound.{IsSound, IsTokenSound};
+ghost use Rattle.sym_state.specs.Covers.{CoversPush};
 ghost use Rattle.sym_state.specs.Decided.{known_kind};
 ghost use Rattle.sym_state.specs.Facts.{FactHolds, emptiness, has_kind};
 ghost use Rattle.sym_state.specs.Entailing.{first_unentailed, match_of, under};
+ghost use Rattle.sym_state.specs.Frames.{LeavesVariables};
 ghost use Rattle.sym_state.specs.Opening.{CanStart, StandsOpen};
-ghost use Rattle.sym_state.specs.Positions.{Position, moved_to, row_moved};
+ghost use Rattle.sym_state.specs.Positions.{Position, moved_to, position_sizes, row_moved};
+ghost use Rattle.sym_state.specs.Pushes.{pushed_by};
 ghost use Rattle.sym_state.specs.References.{shows};
 ghost use Rattle.sym_state.specs.Renaming.{through};
 ghost use Rattle.sym_state.specs.Showing.{piece_by};
@@ -31,7 +36,7 @@ ghost use Rattle.sym_state.specs.Stands.{PieceHolds, Satisfies, Stands, value_by
 ghost use Rattle.sym_state.specs.Starting.{IsFit, IsNumbered, all_symbols, started};
 ghost use Rattle.sym_state.specs.State.{State};
 ghost use Rattle.sym_state.specs.Symbols.{Valuation, numbers};
-ghost use Rattle.sym_state.specs.WellMade.{HasSmallFields, WellMade, takes_part};
+ghost use Rattle.sym_state.specs.WellMade.{HasSmallFields, IsBounded, WellMade, size, takes_part};
 ghost use Rattle.sym_state.specs.declared.hint.Hint.{Hint};
 ghost use Rattle.sym_state.specs.declared.piece.Piece.{Piece};
 ghost use Rattle.sym_state.specs.declared.proof.Proof.{Proof};
@@ -92,7 +97,35 @@ pub fn shown_pieces_hold()
 {}
 
 /// A row that is moved to another position holds by an assignment exactly where the row holds by the assignment with that
-/// position in place of its own.
+/// position in place of its own. It is within the bounds of rows where the row is, and where its constant and the
+/// coefficients of `pos`, which `pos` + 1 adds to it, are together: 2^41 at most in a certificate, which has `pos` once.
 pub fn rows_move()
-    ensures { (p : Position) (v : Valuation) (row : Row) → Holds (numbers v) (row_moved p row) ↔ Holds (numbers (moved_to p v)) row }
+    ensures holds { (p : Position) (v : Valuation) (row : Row) → Holds (numbers v) (row_moved p row) ↔ Holds (numbers (moved_to p v)) row }
+    ensures bounds { (p : Position) (row : Row) → IsBounded row → size row.constant + position_sizes row.parts ≤ 2 ^ 45
+        → IsBounded (row_moved p row) }
+{}
+
+/// Where a well-made state stands for a configuration and a token pushes on it, the machine pushes one value, and the state
+/// after the token stands for the configuration after it.
+pub fn pushes_cover()
+    ensures { (style : Style) (admits : Cond) (list : EntryList) (v : Valuation) (state : State) (c : Config) (below : List Value) (place : Place)
+        (token : Token) (after : State) → IsSound style → IsTokenSound style.names style.bodies style.texts token → WellMade style state
+        → Stands style admits list v state c below → pushed_by style token state ≡ Some after
+        → CoversPush style admits list v state c below place token after }
+{}
+
+/// After such a token a well-made state is well made, and it keeps what every state keeps: the symbols of variables and
+/// fields, whether the whole stack is known and whether an entry is visited; facts are only added at the end.
+pub fn pushes_keep()
+    ensures made { (style : Style) (state : State) (token : Token) (after : State) → IsSound style
+        → IsTokenSound style.names style.bodies style.texts token → WellMade style state → pushed_by style token state ≡ Some after
+        → WellMade style after }
+    ensures leaves { (style : Style) (state : State) (token : Token) (after : State) → pushed_by style token state ≡ Some after
+        → LeavesVariables state after }
+{}
+
+/// What a state stands for doesn't depend on the frames of a configuration, so it stands when the machine takes a token.
+pub fn frames_are_free()
+    ensures { (style : Style) (admits : Cond) (list : EntryList) (v : Valuation) (state : State) (c : Config) (below : List Value)
+        (frames : List Frame) → Stands style admits list v state c below → Stands style admits list v state (record c { frames = frames }) below }
 {}

@@ -6,14 +6,14 @@ mod bindings;
 mod by_hints;
 pub mod demand;
 pub mod entails;
-pub mod facts;
+mod facts;
 pub mod hint;
-pub mod laws;
-pub mod matching;
+mod laws;
+mod matching;
 pub mod operands;
 pub mod piece;
 pub mod proof;
-pub mod raising;
+mod raising;
 pub mod references;
 pub mod results;
 mod shared_list;
@@ -24,5 +24,11 @@ pub mod symbol;
 pub mod test;
 
 pub use crate::by_hints::shown_by;
+pub use crate::facts::subject;
+pub use crate::laws::{
+    blank_as_the_machine_has_it, entailed_pieces_hold, frames_are_free, known_kinds_hold,
+    pushes_cover, pushes_keep, rows_move, shown_pieces_hold, shown_rows_hold, started_states_are_well_made,
+    started_states_stand, values_as_the_machine_reads_them,
+};
 pub use crate::matching::Matching;
 pub use crate::raising::symbols_of;

@@ -19,7 +19,7 @@ use lin_facts::row::{Part, Row, Term};
 use std::alloc::Global;
 
 /// The row that a reference says, where it is there.
-pub fn row_said(
+pub(crate) fn row_said(
     alloc: Global,
     state: &State,
     cond: &Cond,

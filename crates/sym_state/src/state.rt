@@ -1,6 +1,7 @@
 //! Symbolic states.
 
 ghost use Rattle.std.specs.Prelude.{◌≡◌, ◌+◌, ◌<◌, ◌≤◌, ◌^◌, ◌++◌, [], ◌∷◌, length, slice_get, reverse, drop, option_map, OnOk, OnErr, IfOk, IfSome, MatchOption};
+ghost use Rattle.std.specs.Global.{Global as Allocator};
 ghost use Rattle.std.specs.List.{All};
 ghost use Rattle.std.specs.Option.{option_and_then};
 ghost use Rattle.name_table.specs.declared.style.Style.{Style};
@@ -8,6 +9,7 @@ ghost use Rattle.sym_state.specs.Cases.{with_case};
 ghost use Rattle.sym_state.specs.Changes as change;
 ghost use Rattle.sym_state.specs.Decided as decided;
 ghost use Rattle.sym_state.specs.Demands.{without};
+ghost use Rattle.sym_state.specs.Fitting.{FactFits, RowFits};
 ghost use Rattle.sym_state.specs.WellMade.{HasBounds, HasShortText, IsBounded, WellMade};
 
 use crate::bindings::Bindings;
@@ -109,8 +111,10 @@ impl State {
         })
     }
 
-    /// Where the state takes its memory.
-    pub fn alloc(&self) -> Global {
+    /// Where the state takes its memory: there is one allocator.
+    pub fn alloc(&self) -> Global
+        ensures { (other : Allocator) → result ≡ other }
+    {
         self.alloc
     }
 
@@ -327,6 +331,7 @@ impl State {
     pub fn add_fact(&mut self, fact: Fact) -> Result<(), NoMemory>
         ensures ok { OnOk result (self.new ≡ record self.old { facts = self.old.facts ++ fact ∷ [] }) }
         ensures err { OnErr result (self.new ≡ self.old) }
+        ensures kept { (style : Style) → WellMade style self.old → FactFits style self.old.next fact → WellMade style self.new }
     {
         self.facts.push(fact)
     }
@@ -336,6 +341,7 @@ impl State {
         ensures ok { OnOk result (self.new ≡ record self.old { rows = self.old.rows ++ row ∷ [] }) }
         ensures err { OnErr result (self.new ≡ self.old) }
         ensures bounds { IsBounded row → HasBounds self.old → OnOk result (HasBounds self.new) }
+        ensures kept { (style : Style) → WellMade style self.old → RowFits self.old.next row → WellMade style self.new }
     {
         self.rows.push(row)
     }

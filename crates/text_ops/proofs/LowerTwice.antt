@@ -3,6 +3,7 @@ use Rattle.std.proofs.Common.{◌≡◌, ◌∙◌, ℕ, inl, inr, List, [], ◌
 use Rattle.std.specs.Prelude.{◌&&◌, not, if◌then◌else◌}
 use Rattle.std.specs.List.{flat_map, list_all}
 use Rattle.std.proofs.Math.Seq.{drop-append_seam}
+use Rattle.std.proofs.lemmas.Bool.{and_parts}
 use Rattle.std.proofs.lemmas.List.{append-nil}
 use Rattle.std.proofs.lemmas.Bool.Decides.{nat_tests}
 use Rattle.bv_base.specs.Bytes.{is_white, lower}
@@ -104,23 +105,22 @@ word_of_letters bs =
 
 -- ---- what a special character begins with
 
-no_letter_first : (inner : List ℕ) → run is_ascii_letter inner ≡ [] → run is_ascii_letter (lowered_special inner) ≡ []
-no_letter_first [] h = refl
-no_letter_first (b ∷ bs) h =
-    let M : Bool → Type 0 = λ v. nat_eq b 92 ≡ v → run is_ascii_letter (lowered_special (b ∷ bs)) ≡ [] in
+-- none of the bytes that it begins with passes a test that small letters don't pass either
+none_first : (test : ℕ → Bool) → ((b : ℕ) → test b ≡ false → test (lower b) ≡ false) → (inner : List ℕ) → run test inner ≡ []
+    → test 92 ≡ false → run test (lowered_special inner) ≡ []
+none_first test stays [] h mark = refl
+none_first test stays (b ∷ bs) h mark =
+    let M : Bool → Type 0 = λ v. nat_eq b 92 ≡ v → run test (lowered_special (b ∷ bs)) ≡ [] in
     (elim (nat_eq b 92) as M [
-      | true ↦ λ e. rw e refl
-      | false ↦ λ e. rw (e, lower_other b (run_none is_ascii_letter b bs h)) refl
+      | true ↦ λ e. rw (e, mark) refl
+      | false ↦ λ e. rw (e, stays b (run_none test b bs h)) refl
     ]) refl
 
+no_letter_first : (inner : List ℕ) → run is_ascii_letter inner ≡ [] → run is_ascii_letter (lowered_special inner) ≡ []
+no_letter_first inner h = none_first is_ascii_letter lower_other inner h refl
+
 no_white_first : (inner : List ℕ) → run is_white inner ≡ [] → run is_white (lowered_special inner) ≡ []
-no_white_first [] h = refl
-no_white_first (b ∷ bs) h =
-    let M : Bool → Type 0 = λ v. nat_eq b 92 ≡ v → run is_white (lowered_special (b ∷ bs)) ≡ [] in
-    (elim (nat_eq b 92) as M [
-      | true ↦ λ e. rw e refl
-      | false ↦ λ e. rw (e, lower_white b (run_none is_white b bs h)) refl
-    ]) refl
+no_white_first inner h = none_first is_white lower_white inner h refl
 
 -- ---- a control word in small letters is cut where it was
 
@@ -216,23 +216,19 @@ module _ (level : ℕ) (ys : List ℕ) where
         | false ↦ λ e. absurd (let rest : (is_flat x && list_all is_flat xs) ≡ true = h in cc (rw e at rest))
       ]) refl
 
-  closing_flat : (xs : List ℕ) → list_all is_flat xs ≡ true → closing level (xs ++ ys) ≡ closing level ys
-  closing_flat [] h = refl
-  closing_flat (x ∷ xs) h =
-      let M : Bool → Type 0 = λ v. is_flat x ≡ v → closing level ((x ∷ xs) ++ ys) ≡ closing level ys in
-      (elim (is_flat x) as M [
-        | true ↦ λ e. rw (no_brace_closing level x (flat_byte x e), no_brace_level level x (flat_byte x e)) (closing_flat xs (let rest : (is_flat x && list_all is_flat xs) ≡ true = h in rw e at rest))
-        | false ↦ λ e. absurd (let rest : (is_flat x && list_all is_flat xs) ≡ true = h in cc (rw e at rest))
-      ]) refl
+-- what a byte that is no brace leaves alone, bytes without a brace do
+flat_passed : {X : Type 0} (f : ℕ → List ℕ → X) → ((level b : ℕ) (bs : List ℕ) → is_brace b ≡ false → f level (b ∷ bs) ≡ f level bs)
+    → (level : ℕ) (ys xs : List ℕ) → list_all is_flat xs ≡ true → f level (xs ++ ys) ≡ f level ys
+flat_passed f same level ys [] h = refl
+flat_passed f same level ys (x ∷ xs) h =
+    let both = and_parts (is_flat x) (list_all is_flat xs) h in
+    same level x (xs ++ ys) (flat_byte x both.0) ∙ flat_passed f same level ys xs both.1
 
-  level_flat : (xs : List ℕ) → list_all is_flat xs ≡ true → level_after level (xs ++ ys) ≡ level_after level ys
-  level_flat [] h = refl
-  level_flat (x ∷ xs) h =
-      let M : Bool → Type 0 = λ v. is_flat x ≡ v → level_after level ((x ∷ xs) ++ ys) ≡ level_after level ys in
-      (elim (is_flat x) as M [
-        | true ↦ λ e. ap (λ l. level_after l (xs ++ ys)) (no_brace_level level x (flat_byte x e)) ∙ level_flat xs (let rest : (is_flat x && list_all is_flat xs) ≡ true = h in rw e at rest)
-        | false ↦ λ e. absurd (let rest : (is_flat x && list_all is_flat xs) ≡ true = h in cc (rw e at rest))
-      ]) refl
+closing_flat : (level : ℕ) (ys xs : List ℕ) → list_all is_flat xs ≡ true → closing level (xs ++ ys) ≡ closing level ys
+closing_flat = flat_passed closing (λ level b bs e. rw (no_brace_closing level b e, no_brace_level level b e) refl)
+
+level_flat : (level : ℕ) (ys xs : List ℕ) → list_all is_flat xs ≡ true → level_after level (xs ++ ys) ≡ level_after level ys
+level_flat = flat_passed level_after (λ level b bs e. ap (λ l. level_after l bs) (no_brace_level level b e))
 
 pub stays_open : (level b : ℕ) (bs : List ℕ) → closing level (b ∷ bs) ≡ [] → is_closing level b ≡ false
 stays_open level b bs h =

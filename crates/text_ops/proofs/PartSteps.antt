@@ -39,23 +39,19 @@ module _ (test : ℕ → Bool) (no_brace : (b : ℕ) → test b ≡ true → is_
         | false ↦ λ e. rw e refl
       ]) refl
 
+  -- what a byte that is no brace leaves alone, a run of such bytes does
+  run_passed : {X : Type 0} (f : ℕ → List ℕ → X) → ((level b : ℕ) (bs : List ℕ) → test b ≡ true → f level (b ∷ bs) ≡ f level bs)
+      → (level : ℕ) (bs : List ℕ) → f level (drop (length (run test bs)) bs) ≡ f level bs
+  run_passed f same level [] = refl
+  run_passed f same level (b ∷ bs) =
+      let M : Bool → Type 0 = λ v. test b ≡ v → f level (drop (length (run test (b ∷ bs))) (b ∷ bs)) ≡ f level (b ∷ bs) in
+      (elim (test b) as M [ true ↦ λ e. rw (e, same level b bs e) (run_passed f same level bs) | false ↦ λ e. rw e refl ]) refl
+
   pub beyond_run : (level : ℕ) (bs : List ℕ) → beyond level (drop (length (run test bs)) bs) ≡ beyond level bs
-  beyond_run level [] = refl
-  beyond_run level (b ∷ bs) =
-      let M : Bool → Type 0 = λ v. test b ≡ v → beyond level (drop (length (run test (b ∷ bs))) (b ∷ bs)) ≡ beyond level (b ∷ bs) in
-      (elim (test b) as M [
-        | true ↦ λ e. rw (e, no_brace_closing level b (no_brace b e), no_brace_level level b (no_brace b e)) (beyond_run level bs)
-        | false ↦ λ e. rw e refl
-      ]) refl
+  beyond_run = run_passed beyond (λ level b bs e. rw (no_brace_closing level b (no_brace b e), no_brace_level level b (no_brace b e)) refl)
 
   pub closing_run : (level : ℕ) (bs : List ℕ) → closing level (drop (length (run test bs)) bs) ≡ closing level bs
-  closing_run level [] = refl
-  closing_run level (b ∷ bs) =
-      let M : Bool → Type 0 = λ v. test b ≡ v → closing level (drop (length (run test (b ∷ bs))) (b ∷ bs)) ≡ closing level (b ∷ bs) in
-      (elim (test b) as M [
-        | true ↦ λ e. rw (e, no_brace_closing level b (no_brace b e), no_brace_level level b (no_brace b e)) (closing_run level bs)
-        | false ↦ λ e. rw e refl
-      ]) refl
+  closing_run = run_passed closing (λ level b bs e. rw (no_brace_closing level b (no_brace b e), no_brace_level level b (no_brace b e)) refl)
 
 pub by_drop : (own space : List ℕ → List ℕ) (n : ℕ) (bs : List ℕ) → parts_by own space n bs ≡ parts_by own space 0 (drop n bs)
 by_drop own space zero bs = refl

@@ -22,6 +22,7 @@ pub fn one_period_is_enough()
 {}
 
 /// `substring$` gives bytes of the text that stand together, and no more than were asked for.
+#[tactic(auto, using(crate::proofs::LawsOfSubstring::is_none))]
 pub fn a_substring_is_a_part()
     ensures part { (text : List ℕ) → (start count : ℤ) → IsPartOf text (substring_of text start count) }
     ensures short { (text : List ℕ) → (start : ℤ) → (count : ℕ) → length (substring_of text start (pos count)) ≤ count }

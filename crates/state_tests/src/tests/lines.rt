@@ -8,8 +8,8 @@ use std::alloc::Global;
 use std::fmt::Debug;
 use std::process::Abort;
 use sym_state::demand::EffectFault;
-use sym_state::facts::subject;
 use sym_state::state::State;
+use sym_state::subject;
 use sym_state::symbol::Fact;
 
 /// What has an answer to what is given.

@@ -17,7 +17,7 @@ macro_rules! bind {
 
 mod changes;
 mod claims;
-mod example;
+pub mod example;
 mod greatest;
 mod places;
 mod references;
@@ -131,7 +131,7 @@ fn add_known(line: &mut String, state: &State, given: &'static str) -> Result<()
 }
 
 /// Adds the first line of a piece that fails.
-fn add_failing(
+pub fn add_failing(
     line: &mut String,
     state: &State,
     piece: &Piece,

@@ -1,9 +1,10 @@
 -- The choice of `substring$`.
-use Rattle.std.proofs.Common.{◌≡◌, ◌+◌, ◌-◌, Bool, ◌&&◌, cond, List, Option, subst, sym, ap, ◌∙◌}
+use Rattle.std.proofs.Common.{◌≡◌, ◌+◌, ◌-◌, Bool, true, false, ◌&&◌, cond, List, Option, Result, subst, sym, ap, ◌∙◌}
 use Rattle.std.specs.Prelude.{ℤ, pos}
 use Rattle.lin_facts.specs.declared.row.Row.{Row}
 use Rattle.lin_facts.specs.declared.row.Term.TheVariants.{Length}
 use Rattle.bst_meaning.specs.declared.condition.Cond.{Cond}
+use Rattle.sym_state.specs.declared.demand.EffectFault.{EffectFault}
 use Rattle.sym_state.specs.declared.hint.Hint.{Hint}
 use Rattle.sym_state.specs.State.{State}
 use Rattle.sym_state.specs.declared.symbol.Sym.{Sym}
@@ -26,20 +27,24 @@ chosen admits state a start len rest hints left wanted by_step t row w r is h =
     (subst (λ (y : Row). choice admits state wanted y hints first second ≡ cond t (first left) (second left)) r
     (h first second ∙ ap (λ (b : Bool). cond b (first left) (second left)) is))
 
+-- what is given by the choice is what `substring$` gives
+chosen_gives : (admits : Cond) (state : State) (a : Sym) (start len : Option ℤ) (rest : State) (hints left : List Hint) (wanted by_step t : Bool) (row : Row)
+    (result : Result State EffectFault) → wanted ≡ (is_start start && is_length len)
+    → row ≡ at_least (Length a.0) (pos (known_size start + known_size len - 1)) → by_step ≡ t
+    → ((first second : List Hint → Outcome) → choice admits state wanted row hints first second ≡ cond by_step (first left) (second left))
+    → Gives result left (cond t (outcome admits state (of_length (known_size len) rest) left) (outcome admits state (shorter a len rest) left))
+    → Gives result left (outcome admits state (substring_of a start len rest) hints)
+chosen_gives admits state a start len rest hints left wanted by_step t row result w r is h given =
+    subst (λ (o : Outcome). Gives result left o) (sym (chosen admits state a start len rest hints left wanted by_step t row w r is h)) given
+
 pub returns-then-branch : goal.returns-then-branch
 returns-then-branch c =
-    let by_choice =
-    chosen c.args.at.now.cond.now c.args.at.now.state.now c.args.a c.args.start c.args.len (without 3 c.args.at.now.state.now) c.args.hints.now c.choice.new.hints
-    c.is_wanted-wanted.result c.in_ok-choice.field-0 _ c.in_ok-row.row c.is_wanted-wanted.ensures c.in_ok-row.ensures.said c.if-branch.true
-    c.in_ok-choice.ensures.taken in
-    subst (λ (o : Outcome). Gives c.long_enough.result c.choice.new.hints o)
-    (sym by_choice) (c.long_enough.ensures c.choice.new.hints)
+    chosen_gives c.args.at.now.cond.now c.args.at.now.state.now c.args.a c.args.start c.args.len (without 3 c.args.at.now.state.now) c.args.hints.now c.choice.new.hints
+    c.is_wanted-wanted.result c.in_ok-choice.field-0 true c.in_ok-row.row c.long_enough.result c.is_wanted-wanted.ensures c.in_ok-row.ensures.said c.if-branch.true
+    c.in_ok-choice.ensures.taken (c.long_enough.ensures c.choice.new.hints)
 
 pub returns : goal.returns
 returns c =
-    let by_choice =
-    chosen c.args.at.now.cond.now c.args.at.now.state.now c.args.a c.args.start c.args.len (without 3 c.args.at.now.state.now) c.args.hints.now c.choice.new.hints
-    c.is_wanted-wanted.result c.in_ok-choice.field-0 _ c.in_ok-row.row c.is_wanted-wanted.ensures c.in_ok-row.ensures.said c.if-branch.false
-    c.in_ok-choice.ensures.taken in
-    subst (λ (o : Outcome). Gives c.no_longer.result c.choice.new.hints o)
-    (sym by_choice) (c.no_longer.ensures c.choice.new.hints)
+    chosen_gives c.args.at.now.cond.now c.args.at.now.state.now c.args.a c.args.start c.args.len (without 3 c.args.at.now.state.now) c.args.hints.now c.choice.new.hints
+    c.is_wanted-wanted.result c.in_ok-choice.field-0 false c.in_ok-row.row c.no_longer.result c.is_wanted-wanted.ensures c.in_ok-row.ensures.said c.if-branch.false
+    c.in_ok-choice.ensures.taken (c.no_longer.ensures c.choice.new.hints)

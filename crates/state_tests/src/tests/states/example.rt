@@ -22,7 +22,7 @@ use sym_state::state::State;
 use sym_state::symbol::{Bind, Fact, Sym};
 
 /// A global integer and a global string.
-static NAMES: [Named; 2] = [
+pub static NAMES: [Named; 2] = [
     Named {
         name: b"n",
         kind: Kind::IntGlobal,

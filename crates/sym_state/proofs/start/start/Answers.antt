@@ -29,24 +29,16 @@ seats-requires c =
     omega (arith, few, names, c.in_ok-from.ensures.next, c.requires.few)
 
 pub add_own_facts-requires : goal.add_own_facts-requires
-add_own_facts-requires c =
-    seen_within (length c.args.style.now.names) c.in_ok-binds.binds.items c.as_slice-3.result.now c.as_slice-2.result.now c.in_ok-names.names.items
-    c.as_slice-3.ensures.value c.in_ok-binds.ensures.names c.as_slice-2.ensures.value c.in_ok-names.ensures.within
+add_own_facts-requires c = seen_within _ _ _ _ _ c.as_slice-3.ensures.value c.in_ok-binds.ensures.names c.as_slice-2.ensures.value c.in_ok-names.ensures.within
 
 pub add_own_rows-requires : goal.add_own_rows-requires
-add_own_rows-requires c =
-    seen_within (length c.args.style.now.names) c.in_ok-binds.binds.items c.as_slice-4.result.now c.as_slice-2.result.now c.in_ok-names.names.items
-    c.as_slice-4.ensures.value c.in_ok-binds.ensures.names c.as_slice-2.ensures.value c.in_ok-names.ensures.within
+add_own_rows-requires c = seen_within _ _ _ _ _ c.as_slice-4.ensures.value c.in_ok-binds.ensures.names c.as_slice-2.ensures.value c.in_ok-names.ensures.within
 
 pub variables-requires : goal.variables-requires
-variables-requires c =
-    seen_within (length c.args.style.now.names) c.in_ok-binds.binds.items c.as_slice-5.result.now c.as_slice-2.result.now c.in_ok-names.names.items
-    c.as_slice-5.ensures.value c.in_ok-binds.ensures.names c.as_slice-2.ensures.value c.in_ok-names.ensures.within
+variables-requires c = seen_within _ _ _ _ _ c.as_slice-5.ensures.value c.in_ok-binds.ensures.names c.as_slice-2.ensures.value c.in_ok-names.ensures.within
 
 pub fields-requires : goal.fields-requires
-fields-requires c =
-    seen_within (length c.args.style.now.names) c.in_ok-binds.binds.items c.as_slice-6.result.now c.as_slice-2.result.now c.in_ok-names.names.items
-    c.as_slice-6.ensures.value c.in_ok-binds.ensures.names c.as_slice-2.ensures.value c.in_ok-names.ensures.within
+fields-requires c = seen_within _ _ _ _ _ c.as_slice-6.ensures.value c.in_ok-binds.ensures.names c.as_slice-2.ensures.value c.in_ok-names.ensures.within
 
 pub returns-clause-started : goal.returns-clause-started
 returns-clause-started c = IfOk-weaker c.from_parts.result _ _ (λ state is. is ∙ (
