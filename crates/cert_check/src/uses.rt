@@ -12,6 +12,7 @@ ghost use Rattle.sym_state.specs.Renaming.{bind_renamed, fact_renamed, row_renam
 ghost use Rattle.sym_state.specs.Showing.{CanShow};
 ghost use Rattle.sym_state.specs.Starting.{symbols_of as count_of};
 
+use crate::scope::is_among;
 use bst_meaning::condition::Cond;
 use bv_base::memory::NoMemory;
 use lin_facts::row::Row;
@@ -195,13 +196,6 @@ fn unwritten(unit: &Passage<'_>, state: &State, name: NameId) -> Option<Sym>
     } else {
         state.bound(name)
     }
-}
-
-/// Whether a name is among these.
-pub(crate) fn is_among(names: &[NameId], name: NameId) -> bool
-    ensures { result ≡ rule.is_among names.now name }
-{
-    names.iter().any(|other| other.0 == name.0)
 }
 
 /// The name at a symbol's first place in a piece, which is none where that is on the stack.
