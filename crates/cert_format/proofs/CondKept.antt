@@ -24,7 +24,7 @@ use Rattle.cert_format.proofs.CondSteps.{told_ok}
 use Rattle.cert_format.proofs.CondWhole.{fits_names}
 use Rattle.cert_format.proofs.Numerals.{natural_read}
 
-each_snoc : {A : Type 0} (P : A → Type 0) (xs : List A) (x : A) → Each P xs → P x → Each P (xs ++ x ∷ [])
+pub each_snoc : {A : Type 0} (P : A → Type 0) (xs : List A) (x : A) → Each P xs → P x → Each P (xs ++ x ∷ [])
 each_snoc P [] x each is = (is, tt)
 each_snoc P (y ∷ xs) x each is = (each.0, each_snoc P xs x each.1 is)
 
@@ -33,7 +33,7 @@ last_cons x y xs =
     let place : length (x ∷ (y ∷ xs)) - 1 ≡ suc (length (y ∷ xs) - 1) = omega arith in
     ap (λ (n : ℕ). slice_get (x ∷ (y ∷ xs)) n) place
 
-chain_snoc : {A : Type 0} (before : A → A → Bool) (fits : Option A → A → Bool) → ((a b : A) → fits (Some a) b ≡ true → before a b ≡ true)
+pub chain_snoc : {A : Type 0} (before : A → A → Bool) (fits : Option A → A → Bool) → ((a b : A) → fits (Some a) b ≡ true → before a b ≡ true)
     → (xs : List A) (x : A) → is_chain before xs ≡ true → fits (last_of xs) x ≡ true → is_chain before (xs ++ x ∷ []) ≡ true
 chain_snoc before fits same [] x chain fit = refl
 chain_snoc before fits same (y ∷ []) x chain fit = and_from (before y x) true (same y x fit) refl

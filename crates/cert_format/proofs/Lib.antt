@@ -1,4 +1,10 @@
 pub mod Blocks
+pub mod CertItems
+pub mod CertKept
+pub mod CertSteps
+pub mod CertUses
+pub mod CertNames
+pub mod CertWords
 pub mod CondBack
 pub mod CondKept
 pub mod CondRead

@@ -29,7 +29,7 @@ named name (first ∷ rest) id e = by_name (same_name name first.0) refl (id_of 
         same_bytes name first.0 same ∙ ap (name_text (first ∷ rest)) (sym (some_is zeroth id e))
     by_name false same r all e = by_rest r all e
 
-found_is : (left : ℕ) (r : Option NameId) (id : NameId) → found left r ≡ Ok id → r ≡ Some id
+pub found_is : (left : ℕ) (r : Option NameId) (id : NameId) → found left r ≡ Ok id → r ≡ Some id
 found_is left (Some k) id e = ap Some (sym (ok_is k id e))
 found_is left None id e = absurd (cc)
 

@@ -17,7 +17,7 @@ use Rattle.cert_format.specs.Spelling.{name_text}
 use Rattle.cert_format.proofs.Spelt.{Solid}
 
 -- a field has a kind, so its id is that of a name
-abbrev HasKind : List (List ℕ × Kind) → NameId → Type 0
+abbrev pub HasKind : List (List ℕ × Kind) → NameId → Type 0
 HasKind names id = (kind : Kind) × (kind_at id names ≡ Some kind)
 
 field_kind : (k : Option Kind) → is_field k ≡ true → (kind : Kind) × (k ≡ Some kind)
@@ -34,7 +34,7 @@ other_name (name ∷ names) first zero each has = each.0
 other_name (name ∷ names) first (suc k) each has = other_name names first k each.1 has
 
 -- the name of an id is found under it
-found_at : (names : List (List ℕ × Kind)) (k : ℕ) → AreApart names → HasKind names (record { 0 = k })
+pub found_at : (names : List (List ℕ × Kind)) (k : ℕ) → AreApart names → HasKind names (record { 0 = k })
     → id_of (name_text names (record { 0 = k })) names ≡ Some (record { 0 = k })
 found_at [] k apart has = absurd (cc)
 found_at (name ∷ names) zero apart has = rw (same_itself name.0) refl
@@ -42,7 +42,7 @@ found_at (name ∷ names) (suc k) apart has =
     rw (other_name names name.0 k apart.0 has) (ap (option_map later) (found_at names k apart.1 has))
 
 -- the name of an id has bytes, none of them white space
-solid_at : (names : List (List ℕ × Kind)) (k : ℕ) → Each (λ entry. is_type entry.0 ≡ true) names → HasKind names (record { 0 = k })
+pub solid_at : (names : List (List ℕ × Kind)) (k : ℕ) → Each (λ entry. is_type entry.0 ≡ true) names → HasKind names (record { 0 = k })
     → is_type (name_text names (record { 0 = k })) ≡ true
 solid_at [] k each has = absurd (cc)
 solid_at (name ∷ names) zero each has = each.0
@@ -71,7 +71,7 @@ type_solid text e =
 pub field_solid : (names : List (List ℕ × Kind)) (id : NameId) → ArePlain names → IsField names id → is_type (name_text names id) ≡ true
 field_solid names id plain field = solid_at names id.0 plain.solid (field_kind (kind_at id names) field)
 
-not_empty : (text : List ℕ) → is_type text ≡ true → is_empty text ≡ false
+pub not_empty : (text : List ℕ) → is_type text ≡ true → is_empty text ≡ false
 not_empty text e = by_value (is_empty text) (and_parts (not (is_empty text)) (list_all is_black text) e).0
   where
     by_value : (b : Bool) → not b ≡ true → b ≡ false

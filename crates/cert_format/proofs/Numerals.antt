@@ -88,3 +88,23 @@ natural_taken most item n bound small said =
 -- a number is spelled by digits, at least one
 pub decimal_digits : (n : ℕ) → n < 2 ^ 64 → (list_all is_digit (decimal n) ≡ true) × (not (is_empty (decimal n)) ≡ true)
 decimal_digits n fits = (digits_decimal own n fits, some_bytes (decimal n) (decimal_nonempty n fits))
+
+-- what the digits of a number are
+pub record Numeral (text : List ℕ) (n : ℕ) : Type 0 where
+  pub digits : is_numeral text ≡ true
+  pub value : number_from 0 text ≡ n
+  pub plain : has_leading_zero text ≡ false
+
+-- the digits that spell a number
+pub numeral_of : (n : ℕ) → n < 2 ^ 64 → Numeral (decimal n) n
+numeral_of n fits =
+    record {
+      digits = and_from (not (is_empty (decimal n))) (list_all is_digit (decimal n)) (some_bytes (decimal n) (decimal_nonempty n fits)) (digits_decimal own n fits);
+      value = digits_value-decimal own n fits;
+      plain = plain_lead n fits;
+    }
+
+-- digits without a leading zero spell their number
+pub numeral_text : (text : List ℕ) (n : ℕ) → not (is_numeral text) ≡ false → has_leading_zero text ≡ false → n ≡ number_from 0 text
+    → number_from 0 text < 2 ^ 64 → text ≡ decimal n
+numeral_text text n is lead same small = spelled_number text (numeral text is) lead small ∙ ap decimal (sym same)

@@ -1,3 +1,4 @@
+pub mod CertText
 pub mod Certs
 pub mod CondText
 pub mod Conditions
