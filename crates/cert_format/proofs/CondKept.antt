@@ -55,7 +55,7 @@ field_kept last names item id e =
     (subst (IsField names) (sym (same ∙ other)) d.0, subst (λ (i : NameId). is_above last i ≡ true) (sym same) b.0)
 
 -- a number that is read is within its limit
-last_kept : (most : ℕ) (line : Line) (n : ℕ) → most ≤ 4294967295 → conditions.last_natural most line ≡ Ok n → n ≤ most
+pub last_kept : (most : ℕ) (line : Line) (n : ℕ) → most ≤ 4294967295 → conditions.last_natural most line ≡ Ok n → n ≤ most
 last_kept most line n bound e =
     let a = then_ok (next_item line) _ _ e in
     let b = then_ok (natural most a.0.0) _ _ a.2 in

@@ -30,11 +30,11 @@ pub record Taken (line : Line) (text : List ℕ) (more : List (List ℕ)) : Type
   pub has : Has rest more
 
 -- the first of some texts, and those after it
-abbrev first_text : List (List ℕ) → List ℕ
+abbrev pub first_text : List (List ℕ) → List ℕ
 first_text [] = []
 first_text (text ∷ texts) = text
 
-abbrev other_texts : List (List ℕ) → List (List ℕ)
+abbrev pub other_texts : List (List ℕ) → List (List ℕ)
 other_texts [] = []
 other_texts (text ∷ texts) = texts
 
@@ -75,7 +75,7 @@ word_taken text item said = (bytes_decides item.text text).1 said
 pub expect_taken : (text : List ℕ) (item : Item) → item.text ≡ text → expected text item ≡ Ok tt
 expect_taken text item said = rw (word_taken text item said) refl
 
-number_taken : (most n : ℕ) (line : Line) → most ≤ 4294967295 → n ≤ most → Has line (decimal n ∷ []) → conditions.last_natural most line ≡ Ok n
+pub number_taken : (most n : ℕ) (line : Line) → most ≤ 4294967295 → n ≤ most → Has line (decimal n ∷ []) → conditions.last_natural most line ≡ Ok n
 number_taken most n line bound small has =
     let t = take_first line (decimal n) [] has in
     then_go (next_item line) (t.item, t.rest) _ _ t.gives

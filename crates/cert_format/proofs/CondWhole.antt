@@ -119,7 +119,7 @@ pub up_of : {A : Type 0} (before : A → A → Bool) (fits : Option A → A → 
 up_of before fits same first [] e = tt
 up_of before fits same first (x ∷ xs) e = (first x, up_from before fits same x xs e)
 
-last_snoc : {A : Type 0} (xs : List A) (x : A) → last_of (xs ++ x ∷ []) ≡ Some x
+pub last_snoc : {A : Type 0} (xs : List A) (x : A) → last_of (xs ++ x ∷ []) ≡ Some x
 last_snoc [] x = refl
 last_snoc {A} (y ∷ xs) x =
     let l : List A = xs ++ x ∷ [] in

@@ -1,7 +1,9 @@
 pub mod Blocks
+pub mod CertHints
 pub mod CertItems
 pub mod CertKept
 pub mod CertSteps
+pub mod CertTaken
 pub mod CertUses
 pub mod CertNames
 pub mod CertWords
