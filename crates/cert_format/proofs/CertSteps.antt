@@ -79,7 +79,7 @@ piece_step style start p line q next texts_here is goes has fits kept entry pos 
     subst (λ (r : PieceSoFar). PieceStep style start p line r) (sym is) step
 
 -- what stands behind other items
-in_back : {A : Type 0} (a m n : List A) (x : A) → n ≡ m ++ x ∷ [] → a ++ n ≡ (a ++ m) ++ x ∷ []
+pub in_back : {A : Type 0} (a m n : List A) (x : A) → n ≡ m ++ x ∷ [] → a ++ n ≡ (a ++ m) ++ x ∷ []
 in_back a m n x e = ap (λ l. a ++ l) e ∙ sym (append_assoc a m (x ∷ []))
 
 -- one more symbol at a place

@@ -1,9 +1,11 @@
 pub mod Blocks
+pub mod CertBodies
 pub mod CertHints
 pub mod CertItems
 pub mod CertKept
 pub mod CertSteps
 pub mod CertTaken
+pub mod CertUnits
 pub mod CertUses
 pub mod CertNames
 pub mod CertWords

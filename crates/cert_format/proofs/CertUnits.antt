@@ -1,0 +1,166 @@
+-- What has been read of a unit: its spelling, and what it keeps.
+use Rattle.std.proofs.Common.{◌≡◌, ℕ, suc, ◌+◌, ◌<◌, ◌≤◌, Bool, true, false, ◌&&◌, cond, nat_le, List, [], ◌∷◌, ◌++◌, length, length-append, map, Option, Some, None, IfSome, is_some, Result, Ok, Err, codes, lit≤, refl, sym, ap, subst, ◌∙◌, append_assoc, arith}
+use Rattle.std.specs.Fmt.{decimal}
+use Rattle.std.proofs.lemmas.List.{append-nil}
+use Rattle.name_table.specs.Sound.{Each}
+use Rattle.name_table.specs.declared.names.Kind.{Kind}
+use Rattle.name_table.specs.declared.style.Style.{Style}
+use Rattle.sym_state.specs.declared.hint.Hint.{Hint}
+use Rattle.sym_state.specs.declared.piece.Piece.{Piece}
+use Rattle.cert_format.specs.CertText.{AreWrites, IsHint, IsPiece, next_behind, places_of}
+use Rattle.cert_format.specs.HintSpelling.{hint_items}
+use Rattle.cert_format.specs.PieceSpelling.{piece_lines}
+use Rattle.cert_format.specs.Pieces as pieces
+use Rattle.cert_format.specs.UnitSpelling.{all_marked, body_text, each_lines, head_lines, marked_lines, maybe_marked, word_lines, writes_items}
+use Rattle.cert_format.specs.Units as units
+use Rattle.cert_format.specs.declared.piece_lines.PieceSoFar.{PieceSoFar}
+use Rattle.cert_format.specs.declared.unit_lines.Mark.{Mark}
+use Rattle.cert_format.specs.declared.unit_lines.Mark.TheVariants.{Pre, Post, Case, Exit, After, Visit, Keeps}
+use Rattle.cert_format.specs.declared.unit_lines.UnitKind.{UnitKind}
+use Rattle.cert_format.specs.declared.unit_lines.UnitKind.TheVariants as unit
+use Rattle.cert_format.specs.declared.unit_lines.UnitSoFar.{UnitSoFar}
+use Rattle.cert_format.specs.declared.unit_lines.UnitStage.{UnitStage}
+use Rattle.cert_format.specs.declared.unit_lines.UnitStage.TheVariants as stage
+use Rattle.cert_format.proofs.CertKept.{each_none}
+use Rattle.cert_format.proofs.CertSteps.{Fits, Kept}
+use Rattle.cert_format.proofs.CondKept.{each_snoc}
+
+-- the lines of a text
+abbrev pub Lines : Type 0
+Lines = List (List (List ℕ))
+
+-- the first line of a unit
+abbrev pub first_items : Style → UnitKind → List (List ℕ)
+first_items style (unit.Summary entered) = codes "summary" ∷ (body_text style entered ∷ [])
+first_items style (unit.Loop test repeated) = codes "loop" ∷ (body_text style test ∷ (body_text style repeated ∷ []))
+first_items style (unit.Command index) = codes "command" ∷ (decimal index ∷ [])
+
+-- the pieces of a unit, each behind its word
+abbrev pub body_lines : List (List ℕ × Kind) → UnitKind → UnitSoFar → Lines
+body_lines names (unit.Summary entered) u = maybe_marked (codes "pre") names u.pre ++ all_marked (codes "post") names u.later
+body_lines names (unit.Loop test repeated) u = all_marked (codes "case") names u.cases ++ all_marked (codes "exit") names u.later
+body_lines names (unit.Command index) u =
+    maybe_marked (codes "after") names u.after ++ (maybe_marked (codes "visit") names u.visit ++ maybe_marked (codes "keeps") names u.keeps)
+
+-- the hints that have been read
+abbrev pub hints_at : UnitStage → List Hint → Lines
+hints_at stage.Hints hints = (codes "hints" ∷ []) ∷ map hint_items hints
+hints_at stage.Done hints = (codes "hints" ∷ []) ∷ (map hint_items hints ++ (codes "end" ∷ []) ∷ [])
+hints_at _ hints = []
+
+-- a unit with its open piece in its place
+abbrev pub closed : UnitSoFar → UnitSoFar
+closed u = units.placed_as u.last u.piece u
+
+-- the lines of a unit behind its pieces' head
+abbrev pub tail_lines : Style → UnitSoFar → Lines
+tail_lines style u = body_lines style.names u.kind (closed u) ++ hints_at u.stage u.hints
+
+-- the lines that have been read of a unit
+abbrev pub unit_spelled : Style → UnitSoFar → Lines
+unit_spelled style u = first_items style u.kind ∷ (head_lines style.names u.entry u.whole u.writes ++ tail_lines style u)
+
+-- the order of the lines of a unit
+abbrev pub rank : UnitStage → ℕ
+rank stage.Entry = 0
+rank stage.Whole = 1
+rank stage.Writes = 2
+rank stage.Pieces = 3
+rank stage.Hints = 4
+rank stage.Done = 5
+
+-- a piece of this mark may be opened: nothing stands behind it
+abbrev pub Ready : UnitKind → Mark → UnitSoFar → Type 0
+Ready (unit.Summary entered) Pre u = (u.pre ≡ None) × (u.later ≡ [])
+Ready (unit.Summary entered) Post u = (piece : Piece) × (u.pre ≡ Some piece)
+Ready (unit.Loop test repeated) Case u = u.later ≡ []
+Ready (unit.Loop test repeated) Exit u = 1 ≤ length u.cases
+Ready (unit.Command index) After u = (u.after ≡ None) × (u.visit ≡ None) × (u.keeps ≡ None)
+Ready (unit.Command index) Visit u = (u.visit ≡ None) × (u.keeps ≡ None)
+Ready (unit.Command index) Keeps u = u.keeps ≡ None
+Ready _ _ u = ⊥
+
+-- no piece has come
+abbrev pub Bare : UnitKind → UnitSoFar → Type 0
+Bare (unit.Summary entered) u = (u.pre ≡ None) × (u.later ≡ []) × (u.symbols ≡ 0) × (u.count ≡ 0)
+Bare (unit.Loop test repeated) u = (u.cases ≡ []) × (u.later ≡ []) × (u.count ≡ 0)
+Bare (unit.Command index) u = (u.after ≡ None) × (u.visit ≡ None) × (u.keeps ≡ None)
+
+-- the pieces that a unit must have are there
+abbrev pub Full : UnitKind → UnitSoFar → Type 0
+Full (unit.Summary entered) u = (piece : Piece) × (u.pre ≡ Some piece)
+Full (unit.Loop test repeated) u = 1 ≤ length u.cases
+Full (unit.Command index) u = Unit {0}
+
+-- what stands of the pieces of a unit: they are open, or all are closed
+abbrev pub Shape : UnitStage → Option Mark → UnitKind → UnitSoFar → Type 0
+Shape stage.Hints last kind u = Full kind u × (last ≡ None)
+Shape stage.Done last kind u = Full kind u × (last ≡ None)
+Shape s None kind u = Bare kind u
+Shape s (Some mark) kind u = Ready kind mark u
+
+-- the number of the first new symbol of a post
+abbrev pub first_post : Option Piece → ℕ
+first_post None = 0
+first_post (Some pre) = next_behind 0 (places_of pre)
+
+-- the closed pieces of a unit keep their limits
+abbrev pub Good : Style → UnitKind → Bool → UnitSoFar → Type 0
+Good style (unit.Summary entered) entry u =
+    IfSome u.pre (IsPiece style entry entry 0) × Each (IsPiece style entry entry (first_post u.pre)) u.later × (u.symbols ≡ first_post u.pre)
+Good style (unit.Loop test repeated) entry u = Each (IsPiece style entry entry 0) u.cases × Each (IsPiece style entry entry 0) u.later
+Good style (unit.Command index) entry u =
+    IfSome u.after (IsPiece style true false 0) × IfSome u.visit (IsPiece style true true 0) × IfSome u.keeps (IsPiece style true false 0)
+
+-- one where a piece is there
+abbrev pub one_if : Option Piece → ℕ
+one_if None = 0
+one_if (Some piece) = 1
+
+-- how many pieces are closed
+abbrev pub Counted : UnitKind → ℕ → UnitSoFar → Type 0
+Counted (unit.Summary entered) n u = n ≡ one_if u.pre + length u.later
+Counted (unit.Loop test repeated) n u = n ≡ length u.cases + length u.later
+Counted (unit.Command index) n u = Unit {0}
+
+-- the open piece keeps its limits
+pub record Open (style : Style) (mark : Mark) (u : UnitSoFar) : Type 0 where
+  pub kept : Kept style (units.first_symbol mark u.symbols) u.piece
+  pub fits : Fits (pieces.stage_rank u.piece.stage) u.piece.piece
+  pub entry : u.piece.at_entry ≡ units.is_at_entry u.kind u.entry
+  pub pos : u.piece.has_pos ≡ units.may_have_pos u.kind u.entry mark
+
+-- what is open, where something is
+abbrev pub OpenAt : Style → Option Mark → UnitSoFar → Type 0
+OpenAt style None u = Unit {0}
+OpenAt style (Some mark) u = Open style mark u
+
+-- how many pieces have come
+abbrev pub CountAt : Option Mark → UnitKind → ℕ → UnitSoFar → Type 0
+CountAt None kind n u = Counted kind n u
+CountAt (Some mark) kind n u = (before : ℕ) × (n ≡ before + 1) × Counted kind before u
+
+-- what has been read of a unit keeps the limits, and what hasn't come is missing
+pub record UnitKept (style : Style) (u : UnitSoFar) : Type 0 where
+  pub no_entry : rank u.stage < 1 → u.entry ≡ false
+  pub no_whole : rank u.stage < 2 → u.whole ≡ false
+  pub no_writes : rank u.stage < 2 → u.writes ≡ []
+  pub no_piece : rank u.stage < 3 → u.last ≡ None
+  pub no_hints : rank u.stage < 4 → u.hints ≡ []
+  pub writes : AreWrites u.entry style.names u.writes
+  pub shape : Shape u.stage u.last u.kind u
+  pub good : Good style u.kind u.entry u
+  pub open_piece : OpenAt style u.last u
+  pub count : CountAt u.last u.kind u.count u
+  pub few : u.count ≤ 64
+  pub hints : Each IsHint u.hints
+
+-- the word before a piece
+abbrev pub mark_text : Mark → List ℕ
+mark_text Pre = codes "pre"
+mark_text Post = codes "post"
+mark_text Case = codes "case"
+mark_text Exit = codes "exit"
+mark_text After = codes "after"
+mark_text Visit = codes "visit"
+mark_text Keeps = codes "keeps"
