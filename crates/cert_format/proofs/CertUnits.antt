@@ -35,12 +35,37 @@ first_items style (unit.Summary entered) = codes "summary" ∷ (body_text style 
 first_items style (unit.Loop test repeated) = codes "loop" ∷ (body_text style test ∷ (body_text style repeated ∷ []))
 first_items style (unit.Command index) = codes "command" ∷ (decimal index ∷ [])
 
+-- the closed pieces of a unit
+pub record Closed : Type 0 where
+  pub pre : Option Piece
+  pub cases : List Piece
+  pub later : List Piece
+  pub after : Option Piece
+  pub visit : Option Piece
+  pub keeps : Option Piece
+  pub symbols : ℕ
+
+abbrev pub closed_of : UnitSoFar → Closed
+closed_of u =
+    record {
+      pre = u.pre;
+      cases = u.cases;
+      later = u.later;
+      after = u.after;
+      visit = u.visit;
+      keeps = u.keeps;
+      symbols = u.symbols;
+    }
+
 -- the pieces of a unit, each behind its word
-abbrev pub body_lines : List (List ℕ × Kind) → UnitKind → UnitSoFar → Lines
-body_lines names (unit.Summary entered) u = maybe_marked (codes "pre") names u.pre ++ all_marked (codes "post") names u.later
-body_lines names (unit.Loop test repeated) u = all_marked (codes "case") names u.cases ++ all_marked (codes "exit") names u.later
-body_lines names (unit.Command index) u =
+abbrev pub body_of : List (List ℕ × Kind) → UnitKind → Closed → Lines
+body_of names (unit.Summary entered) u = maybe_marked (codes "pre") names u.pre ++ all_marked (codes "post") names u.later
+body_of names (unit.Loop test repeated) u = all_marked (codes "case") names u.cases ++ all_marked (codes "exit") names u.later
+body_of names (unit.Command index) u =
     maybe_marked (codes "after") names u.after ++ (maybe_marked (codes "visit") names u.visit ++ maybe_marked (codes "keeps") names u.keeps)
+
+abbrev pub body_lines : List (List ℕ × Kind) → UnitKind → UnitSoFar → Lines
+body_lines names kind u = body_of names kind (closed_of u)
 
 -- the hints that have been read
 abbrev pub hints_at : UnitStage → List Hint → Lines
@@ -70,34 +95,46 @@ rank stage.Hints = 4
 rank stage.Done = 5
 
 -- a piece of this mark may be opened: nothing stands behind it
+abbrev pub ReadyOf : UnitKind → Mark → Closed → Type 0
+ReadyOf (unit.Summary entered) Pre u = (u.pre ≡ None) × (u.later ≡ [])
+ReadyOf (unit.Summary entered) Post u = (piece : Piece) × (u.pre ≡ Some piece)
+ReadyOf (unit.Loop test repeated) Case u = u.later ≡ []
+ReadyOf (unit.Loop test repeated) Exit u = 1 ≤ length u.cases
+ReadyOf (unit.Command index) After u = (u.after ≡ None) × (u.visit ≡ None) × (u.keeps ≡ None)
+ReadyOf (unit.Command index) Visit u = (u.visit ≡ None) × (u.keeps ≡ None)
+ReadyOf (unit.Command index) Keeps u = u.keeps ≡ None
+ReadyOf _ _ u = ⊥
+
 abbrev pub Ready : UnitKind → Mark → UnitSoFar → Type 0
-Ready (unit.Summary entered) Pre u = (u.pre ≡ None) × (u.later ≡ [])
-Ready (unit.Summary entered) Post u = (piece : Piece) × (u.pre ≡ Some piece)
-Ready (unit.Loop test repeated) Case u = u.later ≡ []
-Ready (unit.Loop test repeated) Exit u = 1 ≤ length u.cases
-Ready (unit.Command index) After u = (u.after ≡ None) × (u.visit ≡ None) × (u.keeps ≡ None)
-Ready (unit.Command index) Visit u = (u.visit ≡ None) × (u.keeps ≡ None)
-Ready (unit.Command index) Keeps u = u.keeps ≡ None
-Ready _ _ u = ⊥
+Ready kind mark u = ReadyOf kind mark (closed_of u)
 
 -- no piece has come
+abbrev pub BareOf : UnitKind → Closed → Type 0
+BareOf (unit.Summary entered) u = (u.pre ≡ None) × (u.later ≡ []) × (u.symbols ≡ 0)
+BareOf (unit.Loop test repeated) u = (u.cases ≡ []) × (u.later ≡ [])
+BareOf (unit.Command index) u = (u.after ≡ None) × (u.visit ≡ None) × (u.keeps ≡ None)
+
 abbrev pub Bare : UnitKind → UnitSoFar → Type 0
-Bare (unit.Summary entered) u = (u.pre ≡ None) × (u.later ≡ []) × (u.symbols ≡ 0) × (u.count ≡ 0)
-Bare (unit.Loop test repeated) u = (u.cases ≡ []) × (u.later ≡ []) × (u.count ≡ 0)
-Bare (unit.Command index) u = (u.after ≡ None) × (u.visit ≡ None) × (u.keeps ≡ None)
+Bare kind u = BareOf kind (closed_of u)
 
 -- the pieces that a unit must have are there
+abbrev pub FullOf : UnitKind → Closed → Type 0
+FullOf (unit.Summary entered) u = (piece : Piece) × (u.pre ≡ Some piece)
+FullOf (unit.Loop test repeated) u = 1 ≤ length u.cases
+FullOf (unit.Command index) u = Unit {0}
+
 abbrev pub Full : UnitKind → UnitSoFar → Type 0
-Full (unit.Summary entered) u = (piece : Piece) × (u.pre ≡ Some piece)
-Full (unit.Loop test repeated) u = 1 ≤ length u.cases
-Full (unit.Command index) u = Unit {0}
+Full kind u = FullOf kind (closed_of u)
 
 -- what stands of the pieces of a unit: they are open, or all are closed
+abbrev pub ShapeOf : UnitStage → Option Mark → UnitKind → Closed → Type 0
+ShapeOf stage.Hints last kind u = FullOf kind u × (last ≡ None)
+ShapeOf stage.Done last kind u = FullOf kind u × (last ≡ None)
+ShapeOf s None kind u = BareOf kind u
+ShapeOf s (Some mark) kind u = ReadyOf kind mark u
+
 abbrev pub Shape : UnitStage → Option Mark → UnitKind → UnitSoFar → Type 0
-Shape stage.Hints last kind u = Full kind u × (last ≡ None)
-Shape stage.Done last kind u = Full kind u × (last ≡ None)
-Shape s None kind u = Bare kind u
-Shape s (Some mark) kind u = Ready kind mark u
+Shape s last kind u = ShapeOf s last kind (closed_of u)
 
 -- the number of the first new symbol of a post
 abbrev pub first_post : Option Piece → ℕ
@@ -105,12 +142,15 @@ first_post None = 0
 first_post (Some pre) = next_behind 0 (places_of pre)
 
 -- the closed pieces of a unit keep their limits
-abbrev pub Good : Style → UnitKind → Bool → UnitSoFar → Type 0
-Good style (unit.Summary entered) entry u =
+abbrev pub GoodOf : Style → UnitKind → Bool → Closed → Type 0
+GoodOf style (unit.Summary entered) entry u =
     IfSome u.pre (IsPiece style entry entry 0) × Each (IsPiece style entry entry (first_post u.pre)) u.later × (u.symbols ≡ first_post u.pre)
-Good style (unit.Loop test repeated) entry u = Each (IsPiece style entry entry 0) u.cases × Each (IsPiece style entry entry 0) u.later
-Good style (unit.Command index) entry u =
+GoodOf style (unit.Loop test repeated) entry u = Each (IsPiece style entry entry 0) u.cases × Each (IsPiece style entry entry 0) u.later
+GoodOf style (unit.Command index) entry u =
     IfSome u.after (IsPiece style true false 0) × IfSome u.visit (IsPiece style true true 0) × IfSome u.keeps (IsPiece style true false 0)
+
+abbrev pub Good : Style → UnitKind → Bool → UnitSoFar → Type 0
+Good style kind entry u = GoodOf style kind entry (closed_of u)
 
 -- one where a piece is there
 abbrev pub one_if : Option Piece → ℕ
@@ -118,10 +158,13 @@ one_if None = 0
 one_if (Some piece) = 1
 
 -- how many pieces are closed
+abbrev pub CountedOf : UnitKind → ℕ → Closed → Type 0
+CountedOf (unit.Summary entered) n u = n ≡ one_if u.pre + length u.later
+CountedOf (unit.Loop test repeated) n u = n ≡ length u.cases + length u.later
+CountedOf (unit.Command index) n u = Unit {0}
+
 abbrev pub Counted : UnitKind → ℕ → UnitSoFar → Type 0
-Counted (unit.Summary entered) n u = n ≡ one_if u.pre + length u.later
-Counted (unit.Loop test repeated) n u = n ≡ length u.cases + length u.later
-Counted (unit.Command index) n u = Unit {0}
+Counted kind n u = CountedOf kind n (closed_of u)
 
 -- the open piece keeps its limits
 pub record Open (style : Style) (mark : Mark) (u : UnitSoFar) : Type 0 where
@@ -136,9 +179,12 @@ OpenAt style None u = Unit {0}
 OpenAt style (Some mark) u = Open style mark u
 
 -- how many pieces have come
+abbrev pub CountAtOf : Option Mark → UnitKind → ℕ → Closed → Type 0
+CountAtOf None kind n u = CountedOf kind n u
+CountAtOf (Some mark) kind n u = (before : ℕ) × (n ≡ before + 1) × CountedOf kind before u
+
 abbrev pub CountAt : Option Mark → UnitKind → ℕ → UnitSoFar → Type 0
-CountAt None kind n u = Counted kind n u
-CountAt (Some mark) kind n u = (before : ℕ) × (n ≡ before + 1) × Counted kind before u
+CountAt last kind n u = CountAtOf last kind n (closed_of u)
 
 -- what has been read of a unit keeps the limits, and what hasn't come is missing
 pub record UnitKept (style : Style) (u : UnitSoFar) : Type 0 where

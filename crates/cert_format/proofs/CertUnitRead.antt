@@ -1,0 +1,753 @@
+-- Each line of a unit that is read is spelled by what has been read after it, and that keeps the limits.
+use Rattle.std.proofs.Common.{◌≡◌, ℕ, suc, ◌+◌, ◌<◌, ◌≤◌, Bool, true, false, ◌&&◌, not, cond, nat_le, List, [], ◌∷◌, ◌++◌, length, map, Option, Some, None, IfSome, is_some, Result, Ok, Err, codes, lit≤, refl, sym, ap, subst, ◌∙◌, append_assoc, arith}
+use Rattle.std.proofs.lemmas.Bool.{and_parts}
+use Rattle.std.proofs.lemmas.Bool.Decides.{nat_tests}
+use Rattle.bv_base.specs.Answers.{then_do}
+use Rattle.bv_base.proofs.ThenLemmas.{ok, ok_is, then_ok, unless_ok, where_ok}
+use Rattle.name_table.specs.Names.{same_name}
+use Rattle.name_table.specs.Sound.{Each}
+use Rattle.name_table.specs.declared.names.Kind.{Kind}
+use Rattle.name_table.specs.declared.names.NameId.{NameId}
+use Rattle.name_table.specs.declared.style.Style.{Style}
+use Rattle.sym_state.specs.declared.hint.Hint.{Hint}
+use Rattle.sym_state.proofs.Consequences.{same_bytes}
+use Rattle.cert_format.specs.CertText.{AreWrites, IsHint, IsPiece, IsVariable, next_behind, places_of}
+use Rattle.cert_format.specs.CondText.{is_below, is_chain}
+use Rattle.cert_format.specs.HintSpelling.{hint_items}
+use Rattle.cert_format.specs.Hints.{hint_line}
+use Rattle.cert_format.specs.Items.{is_above, is_word, last_of}
+use Rattle.cert_format.specs.Lines.{Item, Line, with_item}
+use Rattle.cert_format.specs.PieceItems.{variable_above}
+use Rattle.cert_format.specs.PieceSpelling.{piece_lines}
+use Rattle.cert_format.specs.Pieces as pieces
+use Rattle.cert_format.specs.Spelling.{name_text}
+use Rattle.cert_format.specs.UnitSpelling.{head_lines, word_lines, writes_items}
+use Rattle.cert_format.specs.Units as units
+use Rattle.cert_format.specs.declared.piece_lines.PieceSoFar.{PieceSoFar}
+use Rattle.cert_format.specs.declared.piece_lines.PieceWord.{PieceWord}
+use Rattle.cert_format.specs.declared.stop.Stop.{Stop}
+use Rattle.cert_format.specs.declared.unit_lines.Mark.{Mark}
+use Rattle.cert_format.specs.declared.unit_lines.Mark.TheVariants.{Pre, Post, Case, Exit, After, Visit, Keeps}
+use Rattle.cert_format.specs.declared.unit_lines.UnitKind.{UnitKind}
+use Rattle.cert_format.specs.declared.unit_lines.UnitKind.TheVariants as unit
+use Rattle.cert_format.specs.declared.unit_lines.UnitSoFar.{UnitSoFar}
+use Rattle.cert_format.specs.declared.unit_lines.UnitStage.{UnitStage}
+use Rattle.cert_format.specs.declared.unit_lines.UnitStage.TheVariants as stage
+use Rattle.cert_format.proofs.CertBodies.{bare_body, bare_good, bare_ready, close_good, count_more, front_behind, full_last, mark_body, new_front, piece_body, ready_next, start_small}
+use Rattle.cert_format.proofs.CertHints.{hint_read}
+use Rattle.cert_format.proofs.CertKept.{ended_read, last_read, map_snoc}
+use Rattle.cert_format.proofs.CertNames.{variable_read}
+use Rattle.cert_format.proofs.CertSteps.{Fits, Kept, in_back, piece_read}
+use Rattle.cert_format.proofs.CertUnits.{Bare, CountAt, Counted, Full, Good, Lines, Open, OpenAt, Ready, Shape, UnitKept, body_lines, closed, first_items, hints_at, mark_text, rank, tail_lines, unit_spelled}
+use Rattle.cert_format.proofs.CondKept.{chain_snoc, each_snoc}
+use Rattle.cert_format.proofs.CondRead.{Has, item_before}
+use Rattle.cert_format.proofs.Split.{Ended, texts}
+
+-- a line that is read is spelled behind those before it
+pub record UnitStep (style : Style) (u : UnitSoFar) (line : Line) (v : UnitSoFar) : Type 0 where
+  pub goes : unit_spelled style v ≡ unit_spelled style u ++ texts line ∷ []
+  pub ends : Ended line
+  pub kept : UnitKept style v
+  pub kind : v.kind ≡ u.kind
+
+unit_step : (style : Style) (u : UnitSoFar) (line : Line) (v next : UnitSoFar) (here : List (List ℕ)) → v ≡ next
+    → unit_spelled style next ≡ unit_spelled style u ++ here ∷ [] → Has line here → UnitKept style next → next.kind ≡ u.kind → UnitStep style u line v
+unit_step style u line v next here is goes has kept kind =
+    let step : UnitStep style u line next =
+    record {
+      goes = goes ∙ ap (λ (i : List (List ℕ)). unit_spelled style u ++ i ∷ []) (sym has.items);
+      ends = has.ends;
+      kept = kept;
+      kind = kind;
+    } in
+    subst (λ (r : UnitSoFar). UnitStep style u line r) (sym is) step
+
+-- no piece has come before the stage of pieces
+shape_bare : (s : UnitStage) (last : Option Mark) (kind : UnitKind) (u : UnitSoFar) → rank s < 4 → last ≡ None → Shape s last kind u → Bare kind u
+shape_bare stage.Entry last kind u low none shape = subst (λ (l : Option Mark). Shape stage.Entry l kind u) none shape
+shape_bare stage.Whole last kind u low none shape = subst (λ (l : Option Mark). Shape stage.Whole l kind u) none shape
+shape_bare stage.Writes last kind u low none shape = subst (λ (l : Option Mark). Shape stage.Writes l kind u) none shape
+shape_bare stage.Pieces last kind u low none shape = subst (λ (l : Option Mark). Shape stage.Pieces l kind u) none shape
+shape_bare stage.Hints last kind u low none shape = absurd (omega (arith, low))
+shape_bare stage.Done last kind u low none shape = absurd (omega (arith, low))
+
+no_hint_lines : (s : UnitStage) (hints : List Hint) → rank s < 4 → hints_at s hints ≡ []
+no_hint_lines stage.Entry hints low = refl
+no_hint_lines stage.Whole hints low = refl
+no_hint_lines stage.Writes hints low = refl
+no_hint_lines stage.Pieces hints low = refl
+no_hint_lines stage.Hints hints low = absurd (omega (arith, low))
+no_hint_lines stage.Done hints low = absurd (omega (arith, low))
+
+-- nothing is spelled behind the head before the stage of pieces
+tail_none : (style : Style) (u : UnitSoFar) → rank u.stage < 3 → u.last ≡ None → Bare u.kind u → tail_lines style u ≡ []
+tail_none style u low none bare =
+    ap (λ (l : Option Mark). body_lines style.names u.kind (units.placed_as l u.piece u) ++ hints_at u.stage u.hints) none
+    ∙ ap (λ (b : Lines). b ++ hints_at u.stage u.hints) (bare_body style.names u.kind u bare)
+    ∙ no_hint_lines u.stage u.hints (omega (arith, low))
+
+-- one more line of the head
+head_step : (first : List (List ℕ)) (head more tail after : Lines) (x : List (List ℕ)) → more ≡ head ++ x ∷ [] → tail ≡ [] → after ≡ []
+    → first ∷ (more ++ after) ≡ (first ∷ (head ++ tail)) ++ x ∷ []
+head_step first head more tail after x e none also =
+    ap (λ (l : Lines). first ∷ (more ++ l)) also
+    ∙ ap (λ (l : Lines). first ∷ (l ++ [])) e
+    ∙ ap (λ (l : Lines). first ∷ l) (append_nil (head ++ x ∷ []) ∙ ap (λ (l : Lines). l ++ x ∷ []) (sym (append_nil head)))
+    ∙ ap (λ (l : Lines). first ∷ ((head ++ l) ++ x ∷ [])) (sym none)
+  where
+    append_nil : (l : Lines) → l ++ [] ≡ l
+    append_nil [] = refl
+    append_nil (y ∷ l) = ap (λ (r : Lines). y ∷ r) (append_nil l)
+
+low_rank : (s t : UnitStage) → s ≡ t → rank s ≡ rank t
+low_rank s t e = ap rank e
+
+count_bare : (kind : UnitKind) (n : ℕ) (last : Option Mark) (u : UnitSoFar) → last ≡ None → CountAt last kind n u → CountAt None kind n u
+count_bare kind n last u none count = subst (λ (l : Option Mark). CountAt l kind n u) none count
+
+open_none : (style : Style) (last : Option Mark) (u : UnitSoFar) → last ≡ None → OpenAt style last u
+open_none style last u none = subst (λ (l : Option Mark). OpenAt style l u) (sym none) tt
+
+-- `entry`
+entry_step : (style : Style) (u : UnitSoFar) (word : Item) (rest line : Line) (v : UnitSoFar) → line ≡ with_item word rest → UnitKept style u
+    → u.stage ≡ stage.Entry → word.text ≡ codes "entry" → pieces.at_end rest (record u { stage = stage.Whole; entry = true }) ≡ Ok v
+    → UnitStep style u line v
+entry_step style u word rest line v is kept at said e =
+    let names = style.names in
+    let low = low_rank u.stage stage.Entry at in
+    let next : UnitSoFar = record u { stage = stage.Whole; entry = true } in
+    let r = ended_read rest next v e in
+    let none = kept.no_piece (omega (arith, low)) in
+    let bare = shape_bare u.stage u.last u.kind u (omega (arith, low)) none kept.shape in
+    let no_entry = kept.no_entry (omega (arith, low)) in
+    let no_whole = kept.no_whole (omega (arith, low)) in
+    let no_writes = kept.no_writes (omega (arith, low)) in
+    let x : List (List ℕ) = codes "entry" ∷ [] in
+    let behind = word_lines (codes "whole") u.whole ++ map (writes_items names) u.writes in
+    let nothing : behind ≡ [] =
+    ap (λ (b : Bool). word_lines (codes "whole") b ++ map (writes_items names) u.writes) no_whole ∙ ap (λ (l : List NameId). map (writes_items names) l) no_writes in
+    let head : head_lines names true u.whole u.writes ≡ head_lines names u.entry u.whole u.writes ++ x ∷ [] =
+    new_front (word_lines (codes "entry") u.entry) (word_lines (codes "entry") true) behind x (ap (word_lines (codes "entry")) no_entry) refl nothing in
+    let good : UnitKept style next =
+    record {
+      no_entry = λ h. absurd (omega (arith, h));
+      no_whole = λ h. no_whole;
+      no_writes = λ h. no_writes;
+      no_piece = λ h. none;
+      no_hints = λ h. kept.no_hints (omega (arith, low));
+      writes = subst (λ (l : List NameId). AreWrites true names l) (sym no_writes) (tt, refl);
+      shape = subst (λ (l : Option Mark). Shape stage.Whole l u.kind next) (sym none) bare;
+      good = bare_good style u.kind true next bare;
+      open_piece = open_none style u.last next none;
+      count = kept.count;
+      few = kept.few;
+      hints = kept.hints;
+    } in
+    unit_step style u line v next x r.0
+    (head_step (first_items style u.kind) (head_lines names u.entry u.whole u.writes) (head_lines names true u.whole u.writes) (tail_lines style u)
+    (tail_lines style next) x head (tail_none style u (omega (arith, low)) none bare) (tail_none style next (lit≤ tt) none bare))
+    (item_before line word rest (codes "entry") [] is said r.1) good refl
+
+-- `whole`
+whole_step : (style : Style) (u : UnitSoFar) (word : Item) (rest line : Line) (v : UnitSoFar) → line ≡ with_item word rest → UnitKept style u
+    → rank u.stage < 2 → word.text ≡ codes "whole" → pieces.at_end rest (record u { stage = stage.Writes; whole = true }) ≡ Ok v
+    → UnitStep style u line v
+whole_step style u word rest line v is kept low said e =
+    let names = style.names in
+    let next : UnitSoFar = record u { stage = stage.Writes; whole = true } in
+    let r = ended_read rest next v e in
+    let none = kept.no_piece (omega (arith, low)) in
+    let bare = shape_bare u.stage u.last u.kind u (omega (arith, low)) none kept.shape in
+    let no_whole = kept.no_whole low in
+    let no_writes = kept.no_writes low in
+    let x : List (List ℕ) = codes "whole" ∷ [] in
+    let writes = map (writes_items names) u.writes in
+    let head : head_lines names u.entry true u.writes ≡ head_lines names u.entry u.whole u.writes ++ x ∷ [] =
+    in_back (word_lines (codes "entry") u.entry) (word_lines (codes "whole") u.whole ++ writes) (word_lines (codes "whole") true ++ writes) x
+    (new_front (word_lines (codes "whole") u.whole) (word_lines (codes "whole") true) writes x (ap (word_lines (codes "whole")) no_whole) refl
+    (ap (λ (l : List NameId). map (writes_items names) l) no_writes)) in
+    let good : UnitKept style next =
+    record {
+      no_entry = λ h. absurd (omega (arith, h));
+      no_whole = λ h. absurd (omega (arith, h));
+      no_writes = λ h. absurd (omega (arith, h));
+      no_piece = λ h. none;
+      no_hints = λ h. kept.no_hints (omega (arith, low));
+      writes = kept.writes;
+      shape = subst (λ (l : Option Mark). Shape stage.Writes l u.kind next) (sym none) bare;
+      good = kept.good;
+      open_piece = open_none style u.last next none;
+      count = kept.count;
+      few = kept.few;
+      hints = kept.hints;
+    } in
+    unit_step style u line v next x r.0
+    (head_step (first_items style u.kind) (head_lines names u.entry u.whole u.writes) (head_lines names u.entry true u.writes) (tail_lines style u)
+    (tail_lines style next) x head (tail_none style u (omega (arith, low)) none bare) (tail_none style next (lit≤ tt) none bare))
+    (item_before line word rest (codes "whole") [] is said r.1) good refl
+
+-- `writes` V
+writes_step : (style : Style) (u : UnitSoFar) (word : Item) (rest line : Line) (v : UnitSoFar) → line ≡ with_item word rest → UnitKept style u
+    → rank u.stage < 3 → word.text ≡ codes "writes" → units.writes_line style.names rest u ≡ Ok v → UnitStep style u line v
+writes_step style u word rest line v is kept low said e =
+    let names = style.names in
+    let make : NameId → UnitSoFar = λ id. record u { stage = stage.Writes; writes = u.writes ++ id ∷ [] } in
+    let l = last_read (variable_above u.entry (last_of u.writes) names) make rest v e in
+    let w = variable_read u.entry (last_of u.writes) names l.item l.value l.got in
+    let id : NameId = l.value in
+    let next : UnitSoFar = make id in
+    let none = kept.no_piece (omega (arith, low)) in
+    let bare = shape_bare u.stage u.last u.kind u (omega (arith, low)) none kept.shape in
+    let x : List (List ℕ) = writes_items names id in
+    let whole = word_lines (codes "whole") u.whole in
+    let head : head_lines names u.entry u.whole next.writes ≡ head_lines names u.entry u.whole u.writes ++ x ∷ [] =
+    in_back (word_lines (codes "entry") u.entry) (whole ++ map (writes_items names) u.writes) (whole ++ map (writes_items names) next.writes) x
+    (in_back whole (map (writes_items names) u.writes) (map (writes_items names) next.writes) x (map_snoc (writes_items names) u.writes id)) in
+    let good : UnitKept style next =
+    record {
+      no_entry = λ h. absurd (omega (arith, h));
+      no_whole = λ h. absurd (omega (arith, h));
+      no_writes = λ h. absurd (omega (arith, h));
+      no_piece = λ h. none;
+      no_hints = λ h. kept.no_hints (omega (arith, low));
+      writes = (each_snoc (IsVariable u.entry names) u.writes id kept.writes.0 w.is, chain_snoc is_below is_above (λ a b f. f) u.writes id kept.writes.1 w.above);
+      shape = subst (λ (m : Option Mark). Shape stage.Writes m u.kind next) (sym none) bare;
+      good = kept.good;
+      open_piece = open_none style u.last next none;
+      count = kept.count;
+      few = kept.few;
+      hints = kept.hints;
+    } in
+    unit_step style u line v next x l.is
+    (head_step (first_items style u.kind) (head_lines names u.entry u.whole u.writes) (head_lines names u.entry u.whole next.writes) (tail_lines style u)
+    (tail_lines style next) x head (tail_none style u (omega (arith, low)) none bare) (tail_none style next (lit≤ tt) none bare))
+    (item_before line word rest (codes "writes") (name_text names id ∷ []) is said (l.has (name_text names id) w.said)) good refl
+
+-- one more line behind the head
+tail_step : (first : List (List ℕ)) (head tail after : Lines) (x : List (List ℕ)) → after ≡ tail ++ x ∷ []
+    → first ∷ (head ++ after) ≡ (first ∷ (head ++ tail)) ++ x ∷ []
+tail_step first head tail after x e = ap (λ (l : Lines). first ∷ l) (in_back head tail after x e)
+
+-- a unit with another open piece
+abbrev with_piece : PieceSoFar → UnitSoFar → UnitSoFar
+with_piece q u = record u { piece = q }
+
+-- a line of the open piece
+line_step : (style : Style) (u : UnitSoFar) (mark : Mark) (kind : PieceWord) (word : Item) (rest line : Line) (v : UnitSoFar) → line ≡ with_item word rest
+    → UnitKept style u → u.last ≡ Some mark → u.stage ≡ stage.Pieces → pieces.piece_word u.piece.stage word.text ≡ Some kind
+    → then_do (pieces.piece_line style kind word rest u.piece) (λ piece. ok {E = Stop} (with_piece piece u)) ≡ Ok v → UnitStep style u line v
+line_step style u mark kind word rest line v is kept some at due e =
+    let names = style.names in
+    let a = then_ok (pieces.piece_line style kind word rest u.piece) _ _ e in
+    let q : PieceSoFar = a.0 in
+    let next : UnitSoFar = with_piece q u in
+    let low = low_rank u.stage stage.Pieces at in
+    let o : Open style mark u = subst (λ (l : Option Mark). OpenAt style l u) some kept.open_piece in
+    let start = units.first_symbol mark u.symbols in
+    let s = piece_read style start kind u.piece word rest line q is o.kept o.fits due a.1 in
+    let ready : Ready u.kind mark u =
+    subst (λ (l : Option Mark). Shape stage.Pieces l u.kind u) some (subst (λ (t : UnitStage). Shape t u.last u.kind u) at kept.shape) in
+    let x = texts line in
+    let body : body_lines names u.kind (units.placed_as (Some mark) q next) ≡ body_lines names u.kind (units.placed_as (Some mark) u.piece u) ++ x ∷ [] =
+    piece_body names u.kind mark u q x ready s.goes in
+    let placed : body_lines names u.kind (closed next) ≡ body_lines names u.kind (closed u) ++ x ∷ [] =
+    ap (λ (l : Option Mark). body_lines names u.kind (units.placed_as l q next)) some ∙ body
+    ∙ ap (λ (l : Option Mark). body_lines names u.kind (units.placed_as l u.piece u) ++ x ∷ []) (sym some) in
+    let opened : Open style mark next = record { kept = s.kept; fits = s.fits; entry = s.entry ∙ o.entry; pos = s.pos ∙ o.pos } in
+    let good : UnitKept style next =
+    record {
+      no_entry = λ h. absurd (omega (arith, h, low));
+      no_whole = λ h. absurd (omega (arith, h, low));
+      no_writes = λ h. absurd (omega (arith, h, low));
+      no_piece = λ h. absurd (omega (arith, h, low));
+      no_hints = λ h. kept.no_hints h;
+      writes = kept.writes;
+      shape = kept.shape;
+      good = kept.good;
+      open_piece = subst (λ (l : Option Mark). OpenAt style l next) (sym some) opened;
+      count = kept.count;
+      few = kept.few;
+      hints = kept.hints;
+    } in
+    unit_step style u line v next x (ok_is next v a.2)
+    (tail_step (first_items style u.kind) (head_lines names u.entry u.whole u.writes) (tail_lines style u) (tail_lines style next) x
+    (front_behind (body_lines names u.kind (closed u)) (body_lines names u.kind (closed next)) (hints_at u.stage u.hints) x placed
+    (no_hint_lines u.stage u.hints (omega (arith, low)))))
+    (record { items = refl; ends = s.ends }) good refl
+
+-- what a unit is with its pieces closed
+record AllClosed (style : Style) (u : UnitSoFar) (last : Option Mark) (v : UnitSoFar) : Type 0 where
+  pub good : Good style u.kind u.entry v
+  pub count : Counted u.kind u.count v
+
+-- the pieces that have been read are closed
+closed_kept : (style : Style) (u : UnitSoFar) (next : PieceSoFar) (last : Option Mark) → rank u.stage < 4 → UnitKept style u → u.last ≡ last
+    → AllClosed style u last (units.placed_as last next u)
+closed_kept style u next None low kept some =
+    record { good = kept.good; count = subst (λ (l : Option Mark). CountAt l u.kind u.count u) some kept.count }
+closed_kept style u next (Some mark) low kept some =
+    let o : Open style mark u = subst (λ (l : Option Mark). OpenAt style l u) some kept.open_piece in
+    let start = units.first_symbol mark u.symbols in
+    let ready : Ready u.kind mark u = ready_of u.stage low (subst (λ (l : Option Mark). Shape u.stage l u.kind u) some kept.shape) in
+    let count : CountAt (Some mark) u.kind u.count u = subst (λ (l : Option Mark). CountAt l u.kind u.count u) some kept.count in
+    let here : IsPiece style (units.is_at_entry u.kind u.entry) u.piece.has_pos start u.piece.piece =
+    subst (λ (b : Bool). IsPiece style b u.piece.has_pos start u.piece.piece) o.entry o.kept.is in
+    let is : IsPiece style (units.is_at_entry u.kind u.entry) (units.may_have_pos u.kind u.entry mark) start u.piece.piece =
+    subst (λ (b : Bool). IsPiece style (units.is_at_entry u.kind u.entry) b start u.piece.piece) o.pos here in
+    record {
+      good = close_good style u.kind mark u next ready kept.good is o.kept.next;
+      count = subst (λ (n : ℕ). Counted u.kind n (units.placed_as (Some mark) next u)) (sym count.1) (count_more u.kind mark u next count.0 ready count.2);
+    }
+  where
+    ready_of : (s : UnitStage) → rank s < 4 → Shape s (Some mark) u.kind u → Ready u.kind mark u
+    ready_of stage.Entry low shape = shape
+    ready_of stage.Whole low shape = shape
+    ready_of stage.Writes low shape = shape
+    ready_of stage.Pieces low shape = shape
+    ready_of stage.Hints low shape = absurd (omega (arith, low))
+    ready_of stage.Done low shape = absurd (omega (arith, low))
+
+-- a piece may be opened behind what has been read
+next_ready : (style : Style) (u : UnitSoFar) (next : PieceSoFar) (last : Option Mark) (mark : Mark) → rank u.stage < 4 → UnitKept style u → u.last ≡ last
+    → units.may_follow u.kind last mark ≡ true → Ready u.kind mark (units.placed_as last next u)
+next_ready style u next None mark low kept some follows =
+    bare_ready u.kind mark (record u { piece = next }) (shape_bare u.stage u.last u.kind u low some kept.shape) follows
+next_ready style u next (Some last) mark low kept some follows =
+    ready_next u.kind last mark u next (ready_of u.stage low (subst (λ (l : Option Mark). Shape u.stage l u.kind u) some kept.shape)) follows
+  where
+    ready_of : (s : UnitStage) → rank s < 4 → Shape s (Some last) u.kind u → Ready u.kind last u
+    ready_of stage.Entry low shape = shape
+    ready_of stage.Whole low shape = shape
+    ready_of stage.Writes low shape = shape
+    ready_of stage.Pieces low shape = shape
+    ready_of stage.Hints low shape = absurd (omega (arith, low))
+    ready_of stage.Done low shape = absurd (omega (arith, low))
+
+-- what a piece is before its first line
+empty_kept : (style : Style) (at_entry has_pos : Bool) (start : ℕ) → start ≤ 4294967295 → Kept style start (pieces.no_piece at_entry has_pos start)
+empty_kept style at_entry has_pos start small =
+    let none : IsPiece style at_entry has_pos start (pieces.no_piece at_entry has_pos start).piece =
+    record {
+      placed = refl;
+      few_symbols = lit≤ tt;
+      vars = tt;
+      vars_rise = refl;
+      fields = tt;
+      fields_rise = refl;
+      facts = tt;
+      few_facts = lit≤ tt;
+      rows = tt;
+      few_rows = lit≤ tt;
+    } in
+    record { is = none; next = refl; small = small }
+
+empty_fits : (n : ℕ) (at_entry has_pos : Bool) (start : ℕ) → Fits n (pieces.no_piece at_entry has_pos start).piece
+empty_fits n at_entry has_pos start =
+    record { stack = λ h. refl; vars = λ h. refl; fields = λ h. refl; facts = λ h. refl; rows = λ h. refl }
+
+-- closing a piece changes none of these
+same_kind : (last : Option Mark) (next : PieceSoFar) (u : UnitSoFar) → (units.placed_as last next u).kind ≡ u.kind
+same_kind None next u = refl
+same_kind (Some Pre) next u = refl
+same_kind (Some Post) next u = refl
+same_kind (Some Case) next u = refl
+same_kind (Some Exit) next u = refl
+same_kind (Some After) next u = refl
+same_kind (Some Visit) next u = refl
+same_kind (Some Keeps) next u = refl
+
+same_entry : (last : Option Mark) (next : PieceSoFar) (u : UnitSoFar) → (units.placed_as last next u).entry ≡ u.entry
+same_entry None next u = refl
+same_entry (Some Pre) next u = refl
+same_entry (Some Post) next u = refl
+same_entry (Some Case) next u = refl
+same_entry (Some Exit) next u = refl
+same_entry (Some After) next u = refl
+same_entry (Some Visit) next u = refl
+same_entry (Some Keeps) next u = refl
+
+piece_placed : (last : Option Mark) (next : PieceSoFar) (u : UnitSoFar) → (units.placed_as last next u).piece ≡ next
+piece_placed None next u = refl
+piece_placed (Some Pre) next u = refl
+piece_placed (Some Post) next u = refl
+piece_placed (Some Case) next u = refl
+piece_placed (Some Exit) next u = refl
+piece_placed (Some After) next u = refl
+piece_placed (Some Visit) next u = refl
+piece_placed (Some Keeps) next u = refl
+
+symbols_placed : (last : Option Mark) (next : PieceSoFar) (u : UnitSoFar) → (units.placed_as last next u).symbols ≡ units.symbols_of last u
+symbols_placed None next u = refl
+symbols_placed (Some Pre) next u = refl
+symbols_placed (Some Post) next u = refl
+symbols_placed (Some Case) next u = refl
+symbols_placed (Some Exit) next u = refl
+symbols_placed (Some After) next u = refl
+symbols_placed (Some Visit) next u = refl
+symbols_placed (Some Keeps) next u = refl
+
+same_body : (names : List (List ℕ × Kind)) (kind : UnitKind) (last : Option Mark) (next : PieceSoFar) (u : UnitSoFar)
+    → body_lines names kind (units.placed_as last u.piece u) ≡ body_lines names kind (units.placed_as last next u)
+same_body names kind None next u = refl
+same_body names kind (Some Pre) next u = refl
+same_body names kind (Some Post) next u = refl
+same_body names kind (Some Case) next u = refl
+same_body names kind (Some Exit) next u = refl
+same_body names kind (Some After) next u = refl
+same_body names kind (Some Visit) next u = refl
+same_body names kind (Some Keeps) next u = refl
+
+nil_end : (l : Lines) → l ++ [] ≡ l
+nil_end [] = refl
+nil_end (y ∷ l) = ap (λ (r : Lines). y ∷ r) (nil_end l)
+
+-- a unit whose pieces are closed
+record Settled (style : Style) (u w : UnitSoFar) : Type 0 where
+  pub writes : AreWrites w.entry style.names w.writes
+  pub hints : w.hints ≡ []
+  pub good : Good style w.kind w.entry w
+  pub count : Counted w.kind w.count w
+  pub few : w.count ≡ u.count
+  pub spelled : unit_spelled style u ≡ first_items style w.kind ∷ (head_lines style.names w.entry w.whole w.writes ++ body_lines style.names w.kind w)
+
+spelled_at : (style : Style) (u : UnitSoFar) (next : PieceSoFar) (last : Option Mark) → rank u.stage < 4 → u.last ≡ last
+    → unit_spelled style u ≡ first_items style u.kind ∷ (head_lines style.names u.entry u.whole u.writes ++ body_lines style.names u.kind (units.placed_as last next u))
+spelled_at style u next last low some =
+    let names = style.names in
+    let front : Lines → Lines = λ l. first_items style u.kind ∷ (head_lines names u.entry u.whole u.writes ++ l) in
+    ap front
+    (ap (λ (h : Lines). body_lines names u.kind (closed u) ++ h) (no_hint_lines u.stage u.hints low)
+    ∙ nil_end (body_lines names u.kind (closed u))
+    ∙ ap (λ (l : Option Mark). body_lines names u.kind (units.placed_as l u.piece u)) some
+    ∙ same_body names u.kind last next u)
+
+settled : (style : Style) (u : UnitSoFar) (next : PieceSoFar) (last : Option Mark) → rank u.stage < 4 → UnitKept style u → u.last ≡ last
+    → Settled style u (units.placed_as last next u)
+settled style u next None low kept some =
+    let c = closed_kept style u next None low kept some in
+    record { writes = kept.writes; hints = kept.no_hints low; good = c.good; count = c.count; few = refl; spelled = spelled_at style u next None low some }
+settled style u next (Some Pre) low kept some =
+    let c = closed_kept style u next (Some Pre) low kept some in
+    record { writes = kept.writes; hints = kept.no_hints low; good = c.good; count = c.count; few = refl; spelled = spelled_at style u next (Some Pre) low some }
+settled style u next (Some Post) low kept some =
+    let c = closed_kept style u next (Some Post) low kept some in
+    record { writes = kept.writes; hints = kept.no_hints low; good = c.good; count = c.count; few = refl; spelled = spelled_at style u next (Some Post) low some }
+settled style u next (Some Case) low kept some =
+    let c = closed_kept style u next (Some Case) low kept some in
+    record { writes = kept.writes; hints = kept.no_hints low; good = c.good; count = c.count; few = refl; spelled = spelled_at style u next (Some Case) low some }
+settled style u next (Some Exit) low kept some =
+    let c = closed_kept style u next (Some Exit) low kept some in
+    record { writes = kept.writes; hints = kept.no_hints low; good = c.good; count = c.count; few = refl; spelled = spelled_at style u next (Some Exit) low some }
+settled style u next (Some After) low kept some =
+    let c = closed_kept style u next (Some After) low kept some in
+    record { writes = kept.writes; hints = kept.no_hints low; good = c.good; count = c.count; few = refl; spelled = spelled_at style u next (Some After) low some }
+settled style u next (Some Visit) low kept some =
+    let c = closed_kept style u next (Some Visit) low kept some in
+    record { writes = kept.writes; hints = kept.no_hints low; good = c.good; count = c.count; few = refl; spelled = spelled_at style u next (Some Visit) low some }
+settled style u next (Some Keeps) low kept some =
+    let c = closed_kept style u next (Some Keeps) low kept some in
+    record { writes = kept.writes; hints = kept.no_hints low; good = c.good; count = c.count; few = refl; spelled = spelled_at style u next (Some Keeps) low some }
+
+under : (most n : ℕ) → nat_le most n ≡ false → n < most
+under most n e = grind (arith, nat_tests)
+
+-- a word before a piece
+mark_step : (style : Style) (u : UnitSoFar) (mark : Mark) (word : Item) (rest line : Line) (v : UnitSoFar) → line ≡ with_item word rest
+    → UnitKept style u → rank u.stage < 4 → word.text ≡ mark_text mark → units.may_follow u.kind u.last mark ≡ true
+    → units.mark_line mark word rest u ≡ Ok v → UnitStep style u line v
+mark_step style u mark word rest line v is kept low said follows e =
+    let names = style.names in
+    let entry = units.is_at_entry u.kind u.entry in
+    let pos = units.may_have_pos u.kind u.entry mark in
+    let start = units.first_symbol mark (units.symbols_of u.last u) in
+    let fresh : PieceSoFar = pieces.no_piece entry pos start in
+    let w : UnitSoFar = units.placed_as u.last fresh u in
+    let next : UnitSoFar = record w { stage = stage.Pieces; last = Some mark; count = u.count + 1 } in
+    let room = unless_ok (nat_le 64 u.count) _ _ _ e in
+    let r = ended_read rest next v room.1 in
+    let s = settled style u fresh u.last low kept refl in
+    let kind = same_kind u.last fresh u in
+    let ready : Ready w.kind mark w = subst (λ (k : UnitKind). Ready k mark w) (sym kind) (next_ready style u fresh u.last mark low kept refl follows) in
+    let piece : w.piece ≡ fresh = piece_placed u.last fresh u in
+    let symbols : units.first_symbol mark w.symbols ≡ start = ap (units.first_symbol mark) (symbols_placed u.last fresh u) in
+    let small : start ≤ 4294967295 = subst (λ (n : ℕ). n ≤ 4294967295) symbols (start_small style w.kind mark w ready s.good) in
+    let first : Kept style (units.first_symbol mark w.symbols) w.piece =
+    subst (λ (n : ℕ). Kept style n w.piece) (sym symbols) (subst (λ (p : PieceSoFar). Kept style start p) (sym piece) (empty_kept style entry pos start small)) in
+    let same_flag = same_entry u.last fresh u in
+    let opened : Open style mark next =
+    record {
+      kept = first;
+      fits = subst (λ (p : PieceSoFar). Fits (pieces.stage_rank p.stage) p.piece) (sym piece) (empty_fits (pieces.stage_rank fresh.stage) entry pos start);
+      entry = ap (λ (p : PieceSoFar). p.at_entry) piece ∙ ap (λ (k : UnitKind). units.is_at_entry k u.entry) (sym kind) ∙ ap (units.is_at_entry w.kind) (sym same_flag);
+      pos = ap (λ (p : PieceSoFar). p.has_pos) piece ∙ ap (λ (k : UnitKind). units.may_have_pos k u.entry mark) (sym kind)
+          ∙ ap (λ (b : Bool). units.may_have_pos w.kind b mark) (sym same_flag);
+    } in
+    let lines_none : piece_lines names w.piece.piece ≡ [] = ap (λ (p : PieceSoFar). piece_lines names p.piece) piece in
+    let x : List (List ℕ) = mark_text mark ∷ [] in
+    let body : body_lines names w.kind (closed next) ≡ body_lines names w.kind w ++ x ∷ [] = mark_body names w.kind mark next ready lines_none in
+    let good : UnitKept style next =
+    record {
+      no_entry = λ h. absurd (omega (arith, h));
+      no_whole = λ h. absurd (omega (arith, h));
+      no_writes = λ h. absurd (omega (arith, h));
+      no_piece = λ h. absurd (omega (arith, h));
+      no_hints = λ h. s.hints;
+      writes = s.writes;
+      shape = ready;
+      good = s.good;
+      open_piece = opened;
+      count = (u.count, refl, subst (λ (n : ℕ). Counted w.kind n w) s.few s.count);
+      few = omega (arith, under 64 u.count room.0);
+      hints = subst (λ (l : List Hint). Each IsHint l) (sym s.hints) tt;
+    } in
+    unit_step style u line v next x r.0
+    (ap (λ (l : Lines). first_items style w.kind ∷ (head_lines names w.entry w.whole w.writes ++ l)) (nil_end (body_lines names w.kind (closed next)) ∙ body)
+    ∙ tail_step (first_items style w.kind) (head_lines names w.entry w.whole w.writes) (body_lines names w.kind w) (body_lines names w.kind w ++ x ∷ []) x refl
+    ∙ ap (λ (l : Lines). l ++ x ∷ []) (sym s.spelled))
+    (item_before line word rest (mark_text mark) [] is said r.1) good kind
+
+-- `hints`
+hints_step : (style : Style) (u : UnitSoFar) (word : Item) (rest line : Line) (v : UnitSoFar) → line ≡ with_item word rest → UnitKept style u
+    → rank u.stage < 4 → units.hints_line word rest u ≡ Ok v → UnitStep style u line v
+hints_step style u word rest line v is kept low e =
+    let names = style.names in
+    let fresh : PieceSoFar = pieces.no_piece false false 0 in
+    let w : UnitSoFar = units.placed_as u.last fresh u in
+    let next : UnitSoFar = record w { stage = stage.Hints; last = None } in
+    let a = where_ok (is_word (codes "hints") word && units.may_have_hints u.kind u.last) _ _ _ e in
+    let both = and_parts (is_word (codes "hints") word) (units.may_have_hints u.kind u.last) a.0 in
+    let r = ended_read rest next v a.1 in
+    let s = settled style u fresh u.last low kept refl in
+    let kind = same_kind u.last fresh u in
+    let whole : Full w.kind w = subst (λ (k : UnitKind). Full k w) (sym kind) (full_at u.last refl both.1) in
+    let x : List (List ℕ) = codes "hints" ∷ [] in
+    let none : hints_at stage.Hints w.hints ≡ x ∷ [] = ap (λ (l : List Hint). x ∷ map hint_items l) s.hints in
+    let good : UnitKept style next =
+    record {
+      no_entry = λ h. absurd (omega (arith, h));
+      no_whole = λ h. absurd (omega (arith, h));
+      no_writes = λ h. absurd (omega (arith, h));
+      no_piece = λ h. refl;
+      no_hints = λ h. absurd (omega (arith, h));
+      writes = s.writes;
+      shape = (whole, refl);
+      good = s.good;
+      open_piece = tt;
+      count = s.count;
+      few = subst (λ (n : ℕ). n ≤ 64) (sym s.few) kept.few;
+      hints = subst (λ (l : List Hint). Each IsHint l) (sym s.hints) tt;
+    } in
+    unit_step style u line v next x r.0
+    (ap (λ (l : Lines). first_items style w.kind ∷ (head_lines names w.entry w.whole w.writes ++ (body_lines names w.kind w ++ l))) none
+    ∙ tail_step (first_items style w.kind) (head_lines names w.entry w.whole w.writes) (body_lines names w.kind w) (body_lines names w.kind w ++ x ∷ []) x refl
+    ∙ ap (λ (l : Lines). l ++ x ∷ []) (sym s.spelled))
+    (item_before line word rest (codes "hints") [] is (same_bytes word.text (codes "hints") both.0) r.1) good kind
+  where
+    ready_of : (s : UnitStage) (mark : Mark) → rank s < 4 → Shape s (Some mark) u.kind u → Ready u.kind mark u
+    ready_of stage.Entry mark low shape = shape
+    ready_of stage.Whole mark low shape = shape
+    ready_of stage.Writes mark low shape = shape
+    ready_of stage.Pieces mark low shape = shape
+    ready_of stage.Hints mark low shape = absurd (omega (arith, low))
+    ready_of stage.Done mark low shape = absurd (omega (arith, low))
+
+    full_none : (k : UnitKind) → units.may_have_hints k None ≡ true → Full k (units.placed_as None (pieces.no_piece false false 0) u)
+    full_none (unit.Summary entered) f = absurd (cc)
+    full_none (unit.Loop test repeated) f = absurd (cc)
+    full_none (unit.Command index) f = tt
+
+    full_at : (last : Option Mark) → u.last ≡ last → units.may_have_hints u.kind last ≡ true
+        → Full u.kind (units.placed_as last (pieces.no_piece false false 0) u)
+    full_at None some f = full_none u.kind f
+    full_at (Some mark) some f =
+        full_last u.kind mark u (pieces.no_piece false false 0)
+        (ready_of u.stage mark low (subst (λ (l : Option Mark). Shape u.stage l u.kind u) some kept.shape))
+
+-- a hint
+hint_step : (style : Style) (u : UnitSoFar) (word : Item) (rest line : Line) (v : UnitSoFar) → line ≡ with_item word rest → UnitKept style u
+    → u.stage ≡ stage.Hints → then_do (hint_line word rest) (λ hint. ok {E = Stop} (record u { hints = u.hints ++ hint ∷ [] })) ≡ Ok v
+    → UnitStep style u line v
+hint_step style u word rest line v is kept at e =
+    let names = style.names in
+    let low = low_rank u.stage stage.Hints at in
+    let a = then_ok (hint_line word rest) _ _ e in
+    let h = hint_read word rest line a.0 is a.1 in
+    let next : UnitSoFar = record u { hints = u.hints ++ a.0 ∷ [] } in
+    let x = hint_items a.0 in
+    let shape : Full u.kind u × (u.last ≡ None) = subst (λ (t : UnitStage). Shape t u.last u.kind u) at kept.shape in
+    let body : (n : UnitSoFar) → n.last ≡ None → body_lines names n.kind (closed n) ≡ body_lines names n.kind n =
+    λ n none. ap (λ (l : Option Mark). body_lines names n.kind (units.placed_as l n.piece n)) none in
+    let hints : hints_at u.stage next.hints ≡ hints_at u.stage u.hints ++ x ∷ [] =
+    ap (λ (t : UnitStage). hints_at t next.hints) at
+    ∙ ap (λ (l : Lines). (codes "hints" ∷ []) ∷ l) (map_snoc hint_items u.hints a.0)
+    ∙ ap (λ (t : UnitStage). hints_at t u.hints ++ x ∷ []) (sym at) in
+    let good : UnitKept style next =
+    record {
+      no_entry = λ g. absurd (omega (arith, g, low));
+      no_whole = λ g. absurd (omega (arith, g, low));
+      no_writes = λ g. absurd (omega (arith, g, low));
+      no_piece = λ g. absurd (omega (arith, g, low));
+      no_hints = λ g. absurd (omega (arith, g, low));
+      writes = kept.writes;
+      shape = kept.shape;
+      good = kept.good;
+      open_piece = open_none style u.last next shape.1;
+      count = kept.count;
+      few = kept.few;
+      hints = each_snoc IsHint u.hints a.0 kept.hints h.1;
+    } in
+    let tail : tail_lines style next ≡ tail_lines style u ++ x ∷ [] =
+    ap (λ (b : Lines). b ++ hints_at u.stage next.hints) (body next shape.1 ∙ sym (body u shape.1))
+    ∙ in_back (body_lines names u.kind (closed u)) (hints_at u.stage u.hints) (hints_at u.stage next.hints) x hints in
+    unit_step style u line v next x (ok_is next v a.2)
+    (tail_step (first_items style u.kind) (head_lines names u.entry u.whole u.writes) (tail_lines style u) (tail_lines style next) x tail) h.0 good refl
+
+-- `end`
+end_step : (style : Style) (u : UnitSoFar) (word : Item) (rest line : Line) (v : UnitSoFar) → line ≡ with_item word rest → UnitKept style u
+    → u.stage ≡ stage.Hints → word.text ≡ codes "end" → pieces.at_end rest (record u { stage = stage.Done }) ≡ Ok v → UnitStep style u line v
+end_step style u word rest line v is kept at said e =
+    let names = style.names in
+    let low = low_rank u.stage stage.Hints at in
+    let next : UnitSoFar = record u { stage = stage.Done } in
+    let r = ended_read rest next v e in
+    let x : List (List ℕ) = codes "end" ∷ [] in
+    let shape : Full u.kind u × (u.last ≡ None) = subst (λ (t : UnitStage). Shape t u.last u.kind u) at kept.shape in
+    let body : (n : UnitSoFar) → n.last ≡ None → body_lines names n.kind (closed n) ≡ body_lines names n.kind n =
+    λ n none. ap (λ (l : Option Mark). body_lines names n.kind (units.placed_as l n.piece n)) none in
+    let good : UnitKept style next =
+    record {
+      no_entry = λ g. absurd (omega (arith, g));
+      no_whole = λ g. absurd (omega (arith, g));
+      no_writes = λ g. absurd (omega (arith, g));
+      no_piece = λ g. absurd (omega (arith, g));
+      no_hints = λ g. absurd (omega (arith, g));
+      writes = kept.writes;
+      shape = shape;
+      good = kept.good;
+      open_piece = open_none style u.last next shape.1;
+      count = kept.count;
+      few = kept.few;
+      hints = kept.hints;
+    } in
+    let tail : tail_lines style next ≡ tail_lines style u ++ x ∷ [] =
+    ap (λ (b : Lines). b ++ hints_at stage.Done u.hints) (body next shape.1 ∙ sym (body u shape.1))
+    ∙ in_back (body_lines names u.kind (closed u)) (hints_at stage.Hints u.hints) (hints_at stage.Done u.hints) x refl
+    ∙ ap (λ (t : UnitStage). (body_lines names u.kind (closed u) ++ hints_at t u.hints) ++ x ∷ []) (sym at) in
+    unit_step style u line v next x r.0
+    (tail_step (first_items style u.kind) (head_lines names u.entry u.whole u.writes) (tail_lines style u) (tail_lines style next) x tail)
+    (item_before line word rest (codes "end") [] is said r.1) good refl
+
+-- the words before pieces
+named_mark : (P : Mark → Type 0) (text word : List ℕ) (value : Mark) (rest : Option Mark) (k : Mark)
+    → cond (same_name text word) (Some value) rest ≡ Some k → (text ≡ word → P value) → (rest ≡ Some k → P k) → P k
+named_mark P text word value rest k e here next = by_test (same_name text word) refl e
+  where
+    some_of : (x y : Mark) → Some x ≡ Some y → y ≡ x
+    some_of x y e = cc
+
+    by_test : (t : Bool) → same_name text word ≡ t → cond t (Some value) rest ≡ Some k → P k
+    by_test true is f = subst P (sym (some_of value k f)) (here (same_bytes text word is))
+    by_test false is f = next f
+
+mark_said : (text : List ℕ) (k : Mark) → units.mark_among text units.mark_words ≡ Some k → text ≡ mark_text k
+mark_said text k e =
+    let P : Mark → Type 0 = λ w. text ≡ mark_text w in
+    named_mark P text (codes "pre") Pre _ k e (λ s. s) (λ e1.
+    named_mark P text (codes "post") Post _ k e1 (λ s. s) (λ e2.
+    named_mark P text (codes "case") Case _ k e2 (λ s. s) (λ e3.
+    named_mark P text (codes "exit") Exit _ k e3 (λ s. s) (λ e4.
+    named_mark P text (codes "after") After _ k e4 (λ s. s) (λ e5.
+    named_mark P text (codes "visit") Visit _ k e5 (λ s. s) (λ e6.
+    named_mark P text (codes "keeps") Keeps _ k e6 (λ s. s) (λ e7. absurd (cc))))))))
+
+-- a word before a piece, or `hints`
+marked_step : (style : Style) (u : UnitSoFar) (word : Item) (rest line : Line) (v : UnitSoFar) (o : Option Mark) → line ≡ with_item word rest
+    → UnitKept style u → rank u.stage < 4 → units.mark_among word.text units.mark_words ≡ o → units.marked_line o word rest u ≡ Ok v → UnitStep style u line v
+marked_step style u word rest line v None is kept low said e = hints_step style u word rest line v is kept low e
+marked_step style u word rest line v (Some mark) is kept low said e =
+    let a = where_ok (units.may_follow u.kind u.last mark) _ _ _ e in
+    mark_step style u mark word rest line v is kept low (mark_said word.text mark said) a.0 a.1
+
+-- a line of the open piece, or one that ends it
+piece_step_at : (style : Style) (u : UnitSoFar) (word : Item) (rest line : Line) (v : UnitSoFar) (last : Option Mark) (o : Option PieceWord)
+    → line ≡ with_item word rest → UnitKept style u → rank u.stage < 4 → u.last ≡ last → units.open_word last u.piece word ≡ o
+    → units.piece_or_mark style o word rest u ≡ Ok v → UnitStep style u line v
+piece_step_at style u word rest line v last None is kept low some open_at e =
+    marked_step style u word rest line v (units.mark_among word.text units.mark_words) is kept low refl e
+piece_step_at style u word rest line v None (Some kind) is kept low some open_at e = absurd (cc)
+piece_step_at style u word rest line v (Some mark) (Some kind) is kept low some open_at e =
+    line_step style u mark kind word rest line v is kept some (at_pieces u.stage refl) open_at e
+  where
+    none_some : None ≡ Some mark → ⊥
+    none_some e = absurd (cc)
+
+    at_pieces : (s : UnitStage) → u.stage ≡ s → s ≡ stage.Pieces
+    at_pieces stage.Pieces at = refl
+    at_pieces stage.Entry at = absurd (none_some (sym (kept.no_piece (subst (λ (t : UnitStage). rank t < 3) (sym at) (lit≤ tt))) ∙ some))
+    at_pieces stage.Whole at = absurd (none_some (sym (kept.no_piece (subst (λ (t : UnitStage). rank t < 3) (sym at) (lit≤ tt))) ∙ some))
+    at_pieces stage.Writes at = absurd (none_some (sym (kept.no_piece (subst (λ (t : UnitStage). rank t < 3) (sym at) (lit≤ tt))) ∙ some))
+    at_pieces stage.Hints at = absurd (omega (arith, low, ap rank at))
+    at_pieces stage.Done at = absurd (omega (arith, low, ap rank at))
+
+-- a line before the hints
+body_step : (style : Style) (u : UnitSoFar) (word : Item) (rest line : Line) (v : UnitSoFar) (a b c : Bool) → line ≡ with_item word rest
+    → UnitKept style u → rank u.stage < 4 → units.may_have_entry u.stage && is_word (codes "entry") word ≡ a
+    → units.may_have_whole u.stage && is_word (codes "whole") word ≡ b → units.may_have_writes u.stage && is_word (codes "writes") word ≡ c
+    → cond a (pieces.at_end rest (record u { stage = stage.Whole; entry = true }))
+    (cond b (pieces.at_end rest (record u { stage = stage.Writes; whole = true }))
+    (cond c (units.writes_line style.names rest u) (units.piece_or_mark style (units.open_word u.last u.piece word) word rest u))) ≡ Ok v
+    → UnitStep style u line v
+body_step style u word rest line v true b c is kept low first second third e =
+    let both = and_parts (units.may_have_entry u.stage) (is_word (codes "entry") word) first in
+    entry_step style u word rest line v is kept (at_entry u.stage both.0) (same_bytes word.text (codes "entry") both.1) e
+  where
+    at_entry : (s : UnitStage) → units.may_have_entry s ≡ true → s ≡ stage.Entry
+    at_entry stage.Entry f = refl
+    at_entry _ f = absurd (cc)
+body_step style u word rest line v false true c is kept low first second third e =
+    let both = and_parts (units.may_have_whole u.stage) (is_word (codes "whole") word) second in
+    whole_step style u word rest line v is kept (early u.stage both.0) (same_bytes word.text (codes "whole") both.1) e
+  where
+    early : (s : UnitStage) → units.may_have_whole s ≡ true → rank s < 2
+    early stage.Entry f = lit≤ tt
+    early stage.Whole f = lit≤ tt
+    early _ f = absurd (cc)
+body_step style u word rest line v false false true is kept low first second third e =
+    let both = and_parts (units.may_have_writes u.stage) (is_word (codes "writes") word) third in
+    writes_step style u word rest line v is kept (early u.stage both.0) (same_bytes word.text (codes "writes") both.1) e
+  where
+    early : (s : UnitStage) → units.may_have_writes s ≡ true → rank s < 3
+    early stage.Entry f = lit≤ tt
+    early stage.Whole f = lit≤ tt
+    early stage.Writes f = lit≤ tt
+    early _ f = absurd (cc)
+body_step style u word rest line v false false false is kept low first second third e =
+    piece_step_at style u word rest line v u.last (units.open_word u.last u.piece word) is kept low refl refl e
+
+-- a line of a unit that is read
+pub unit_read : (style : Style) (u : UnitSoFar) (word : Item) (rest line : Line) (v : UnitSoFar) → line ≡ with_item word rest → UnitKept style u
+    → units.unit_line style word rest u ≡ Ok v → UnitStep style u line v
+unit_read style u word rest line v is kept e = by_stage u.stage refl e
+  where
+    before_hints : rank u.stage < 4 → units.body_line style word rest u ≡ Ok v → UnitStep style u line v
+    before_hints low f = body_step style u word rest line v _ _ _ is kept low refl refl refl f
+
+    at_hints : u.stage ≡ stage.Hints → units.hint_or_end word rest u ≡ Ok v → UnitStep style u line v
+    at_hints at f = by_end (is_word (codes "end") word) refl f
+      where
+        by_end : (t : Bool) → is_word (codes "end") word ≡ t
+            → cond t (pieces.at_end rest (record u { stage = stage.Done })) (then_do (hint_line word rest) (λ hint. ok {E = Stop} (record u { hints = u.hints ++ hint ∷ [] }))) ≡ Ok v
+            → UnitStep style u line v
+        by_end true said g = end_step style u word rest line v is kept at (same_bytes word.text (codes "end") said) g
+        by_end false said g = hint_step style u word rest line v is kept at g
+
+    low_at : (s : UnitStage) → u.stage ≡ s → rank s < 4 → rank u.stage < 4
+    low_at s at low = subst (λ (t : UnitStage). rank t < 4) (sym at) low
+
+    by_stage : (s : UnitStage) → u.stage ≡ s → units.staged_line style s word rest u ≡ Ok v → UnitStep style u line v
+    by_stage stage.Entry at f = before_hints (low_at stage.Entry at (lit≤ tt)) f
+    by_stage stage.Whole at f = before_hints (low_at stage.Whole at (lit≤ tt)) f
+    by_stage stage.Writes at f = before_hints (low_at stage.Writes at (lit≤ tt)) f
+    by_stage stage.Pieces at f = before_hints (low_at stage.Pieces at (lit≤ tt)) f
+    by_stage stage.Hints at f = at_hints at f
+    by_stage stage.Done at f = absurd (cc)
