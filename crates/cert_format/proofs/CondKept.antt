@@ -210,7 +210,7 @@ with_numbers names s c q entries key preamble long is few keys preambles longs s
     } in
     subst (Kept names) (sym same) kept
 
-kept_at : (names : List (List ℕ × Kind)) (s : Stage) (c : Cond) (word : Item) (rest : Line) (q : CondSoFar) → IsCond names c
+pub kept_at : (names : List (List ℕ × Kind)) (s : Stage) (c : Cond) (word : Item) (rest : Line) (q : CondSoFar) → IsCond names c
     → conditions.worded_line names s word rest (record { stage = s; cond = c }) ≡ Ok q → Kept names q
 kept_at names Entries c word rest q is e =
     let a = then_ok (conditions.number_line (codes "entries") 1000000 word rest) _ _ e in
@@ -261,7 +261,7 @@ finished_cond Nonblank c condition e = absurd (cc)
 finished_cond Types c condition e = absurd (cc)
 finished_cond End c condition e = absurd (cc)
 
-none_kept : (names : List (List ℕ × Kind)) → Kept names conditions.no_lines
+pub none_kept : (names : List (List ℕ × Kind)) → Kept names conditions.no_lines
 none_kept names =
     record {
       entries = lit≤ tt;

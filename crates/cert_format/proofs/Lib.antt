@@ -5,6 +5,7 @@ pub mod CertItems
 pub mod CertKept
 pub mod CertSteps
 pub mod CertTaken
+pub mod CertTargets
 pub mod CertUnitRead
 pub mod CertUnits
 pub mod CertUses

@@ -43,11 +43,11 @@ all_declared : (declared : List (List ℕ × Kind)) → Each (λ entry. IsDeclar
 all_declared [] each = tt
 all_declared (entry ∷ declared) each = (declared_type entry.0 each.0.definable, all_declared declared each.1)
 
-each_append : {A : Type 0} (P : A → Type 0) (xs ys : List A) → Each P xs → Each P ys → Each P (xs ++ ys)
+pub each_append : {A : Type 0} (P : A → Type 0) (xs ys : List A) → Each P xs → Each P ys → Each P (xs ++ ys)
 each_append P [] ys first second = second
 each_append P (x ∷ xs) ys first second = (first.0, each_append P xs ys first.1 second)
 
-each_of : {A : Type 0} (test : A → Bool) (xs : List A) → list_all test xs ≡ true → Each (λ x. test x ≡ true) xs
+pub each_of : {A : Type 0} (test : A → Bool) (xs : List A) → list_all test xs ≡ true → Each (λ x. test x ≡ true) xs
 each_of test [] e = tt
 each_of test (x ∷ xs) e = let both = and_parts (test x) (list_all test xs) e in (both.0, each_of test xs both.1)
 
