@@ -38,7 +38,7 @@ use Rattle.cert_format.proofs.CertHints.{hint_read}
 use Rattle.cert_format.proofs.CertKept.{ended_read, last_read, map_snoc}
 use Rattle.cert_format.proofs.CertNames.{variable_read}
 use Rattle.cert_format.proofs.CertSteps.{Fits, Kept, in_back, piece_read}
-use Rattle.cert_format.proofs.CertUnits.{Bare, CountAt, Counted, Full, Good, Lines, Open, OpenAt, Ready, Shape, UnitKept, body_lines, closed, first_items, hints_at, mark_text, rank, tail_lines, unit_spelled}
+use Rattle.cert_format.proofs.CertUnits.{Bare, CountAt, Counted, Full, Good, Headless, Lines, Open, OpenAt, Ready, Shape, UnitKept, body_lines, closed, first_items, hints_at, mark_text, rank, tail_lines, unit_spelled}
 use Rattle.cert_format.proofs.CondKept.{chain_snoc, each_snoc}
 use Rattle.cert_format.proofs.CondRead.{Has, item_before}
 use Rattle.cert_format.proofs.Split.{Ended, texts}
@@ -108,6 +108,19 @@ count_bare kind n last u none count = subst (λ (l : Option Mark). CountAt l kin
 open_none : (style : Style) (last : Option Mark) (u : UnitSoFar) → last ≡ None → OpenAt style last u
 open_none style last u none = subst (λ (l : Option Mark). OpenAt style l u) (sym none) tt
 
+-- a unit with a head is no command
+with_head : (kind : UnitKind) (s t : UnitStage) (entry whole other also : Bool) (writes more : List NameId) → rank s < 3
+    → Headless kind s entry whole writes → Headless kind t other also more
+with_head (unit.Summary entered) s t entry whole other also writes more low h = tt
+with_head (unit.Loop test repeated) s t entry whole other also writes more low h = tt
+with_head (unit.Command index) s t entry whole other also writes more low h = absurd (omega (arith, low, h.0))
+
+still_headless : (kind : UnitKind) (s t : UnitStage) (entry whole : Bool) (writes : List NameId) → 3 ≤ rank t → Headless kind s entry whole writes
+    → Headless kind t entry whole writes
+still_headless (unit.Summary entered) s t entry whole writes late h = tt
+still_headless (unit.Loop test repeated) s t entry whole writes late h = tt
+still_headless (unit.Command index) s t entry whole writes late h = (late, h.1, h.2, h.3)
+
 -- `entry`
 entry_step : (style : Style) (u : UnitSoFar) (word : Item) (rest line : Line) (v : UnitSoFar) → line ≡ with_item word rest → UnitKept style u
     → u.stage ≡ stage.Entry → word.text ≡ codes "entry" → pieces.at_end rest (record u { stage = stage.Whole; entry = true }) ≡ Ok v
@@ -142,6 +155,7 @@ entry_step style u word rest line v is kept at said e =
       count = kept.count;
       few = kept.few;
       hints = kept.hints;
+      headless = with_head u.kind u.stage stage.Whole u.entry u.whole true u.whole u.writes u.writes (omega (arith, low)) kept.headless;
     } in
     unit_step style u line v next x r.0
     (head_step (first_items style u.kind) (head_lines names u.entry u.whole u.writes) (head_lines names true u.whole u.writes) (tail_lines style u)
@@ -180,6 +194,7 @@ whole_step style u word rest line v is kept low said e =
       count = kept.count;
       few = kept.few;
       hints = kept.hints;
+      headless = with_head u.kind u.stage stage.Writes u.entry u.whole u.entry true u.writes u.writes (omega (arith, low)) kept.headless;
     } in
     unit_step style u line v next x r.0
     (head_step (first_items style u.kind) (head_lines names u.entry u.whole u.writes) (head_lines names u.entry true u.writes) (tail_lines style u)
@@ -217,6 +232,7 @@ writes_step style u word rest line v is kept low said e =
       count = kept.count;
       few = kept.few;
       hints = kept.hints;
+      headless = with_head u.kind u.stage stage.Writes u.entry u.whole u.entry u.whole u.writes next.writes low kept.headless;
     } in
     unit_step style u line v next x l.is
     (head_step (first_items style u.kind) (head_lines names u.entry u.whole u.writes) (head_lines names u.entry u.whole next.writes) (tail_lines style u)
@@ -268,6 +284,7 @@ line_step style u mark kind word rest line v is kept some at due e =
       count = kept.count;
       few = kept.few;
       hints = kept.hints;
+      headless = kept.headless;
     } in
     unit_step style u line v next x (ok_is next v a.2)
     (tail_step (first_items style u.kind) (head_lines names u.entry u.whole u.writes) (tail_lines style u) (tail_lines style next) x
@@ -408,6 +425,7 @@ record Settled (style : Style) (u w : UnitSoFar) : Type 0 where
   pub good : Good style w.kind w.entry w
   pub count : Counted w.kind w.count w
   pub few : w.count ≡ u.count
+  pub headless : Headless w.kind u.stage w.entry w.whole w.writes
   pub spelled : unit_spelled style u ≡ first_items style w.kind ∷ (head_lines style.names w.entry w.whole w.writes ++ body_lines style.names w.kind w)
 
 spelled_at : (style : Style) (u : UnitSoFar) (next : PieceSoFar) (last : Option Mark) → rank u.stage < 4 → u.last ≡ last
@@ -425,28 +443,28 @@ settled : (style : Style) (u : UnitSoFar) (next : PieceSoFar) (last : Option Mar
     → Settled style u (units.placed_as last next u)
 settled style u next None low kept some =
     let c = closed_kept style u next None low kept some in
-    record { writes = kept.writes; hints = kept.no_hints low; good = c.good; count = c.count; few = refl; spelled = spelled_at style u next None low some }
+    record { writes = kept.writes; hints = kept.no_hints low; good = c.good; count = c.count; few = refl; headless = kept.headless; spelled = spelled_at style u next None low some }
 settled style u next (Some Pre) low kept some =
     let c = closed_kept style u next (Some Pre) low kept some in
-    record { writes = kept.writes; hints = kept.no_hints low; good = c.good; count = c.count; few = refl; spelled = spelled_at style u next (Some Pre) low some }
+    record { writes = kept.writes; hints = kept.no_hints low; good = c.good; count = c.count; few = refl; headless = kept.headless; spelled = spelled_at style u next (Some Pre) low some }
 settled style u next (Some Post) low kept some =
     let c = closed_kept style u next (Some Post) low kept some in
-    record { writes = kept.writes; hints = kept.no_hints low; good = c.good; count = c.count; few = refl; spelled = spelled_at style u next (Some Post) low some }
+    record { writes = kept.writes; hints = kept.no_hints low; good = c.good; count = c.count; few = refl; headless = kept.headless; spelled = spelled_at style u next (Some Post) low some }
 settled style u next (Some Case) low kept some =
     let c = closed_kept style u next (Some Case) low kept some in
-    record { writes = kept.writes; hints = kept.no_hints low; good = c.good; count = c.count; few = refl; spelled = spelled_at style u next (Some Case) low some }
+    record { writes = kept.writes; hints = kept.no_hints low; good = c.good; count = c.count; few = refl; headless = kept.headless; spelled = spelled_at style u next (Some Case) low some }
 settled style u next (Some Exit) low kept some =
     let c = closed_kept style u next (Some Exit) low kept some in
-    record { writes = kept.writes; hints = kept.no_hints low; good = c.good; count = c.count; few = refl; spelled = spelled_at style u next (Some Exit) low some }
+    record { writes = kept.writes; hints = kept.no_hints low; good = c.good; count = c.count; few = refl; headless = kept.headless; spelled = spelled_at style u next (Some Exit) low some }
 settled style u next (Some After) low kept some =
     let c = closed_kept style u next (Some After) low kept some in
-    record { writes = kept.writes; hints = kept.no_hints low; good = c.good; count = c.count; few = refl; spelled = spelled_at style u next (Some After) low some }
+    record { writes = kept.writes; hints = kept.no_hints low; good = c.good; count = c.count; few = refl; headless = kept.headless; spelled = spelled_at style u next (Some After) low some }
 settled style u next (Some Visit) low kept some =
     let c = closed_kept style u next (Some Visit) low kept some in
-    record { writes = kept.writes; hints = kept.no_hints low; good = c.good; count = c.count; few = refl; spelled = spelled_at style u next (Some Visit) low some }
+    record { writes = kept.writes; hints = kept.no_hints low; good = c.good; count = c.count; few = refl; headless = kept.headless; spelled = spelled_at style u next (Some Visit) low some }
 settled style u next (Some Keeps) low kept some =
     let c = closed_kept style u next (Some Keeps) low kept some in
-    record { writes = kept.writes; hints = kept.no_hints low; good = c.good; count = c.count; few = refl; spelled = spelled_at style u next (Some Keeps) low some }
+    record { writes = kept.writes; hints = kept.no_hints low; good = c.good; count = c.count; few = refl; headless = kept.headless; spelled = spelled_at style u next (Some Keeps) low some }
 
 under : (most n : ℕ) → nat_le most n ≡ false → n < most
 under most n e = grind (arith, nat_tests)
@@ -499,6 +517,7 @@ mark_step style u mark word rest line v is kept low said follows e =
       count = (u.count, refl, subst (λ (n : ℕ). Counted w.kind n w) s.few s.count);
       few = omega (arith, under 64 u.count room.0);
       hints = subst (λ (l : List Hint). Each IsHint l) (sym s.hints) tt;
+      headless = still_headless w.kind u.stage stage.Pieces w.entry w.whole w.writes (lit≤ tt) s.headless;
     } in
     unit_step style u line v next x r.0
     (ap (λ (l : Lines). first_items style w.kind ∷ (head_lines names w.entry w.whole w.writes ++ l)) (nil_end (body_lines names w.kind (closed next)) ∙ body)
@@ -536,6 +555,7 @@ hints_step style u word rest line v is kept low e =
       count = s.count;
       few = subst (λ (n : ℕ). n ≤ 64) (sym s.few) kept.few;
       hints = subst (λ (l : List Hint). Each IsHint l) (sym s.hints) tt;
+      headless = still_headless w.kind u.stage stage.Hints w.entry w.whole w.writes (lit≤ tt) s.headless;
     } in
     unit_step style u line v next x r.0
     (ap (λ (l : Lines). first_items style w.kind ∷ (head_lines names w.entry w.whole w.writes ++ (body_lines names w.kind w ++ l))) none
@@ -595,6 +615,7 @@ hint_step style u word rest line v is kept at e =
       count = kept.count;
       few = kept.few;
       hints = each_snoc IsHint u.hints a.0 kept.hints h.1;
+      headless = kept.headless;
     } in
     let tail : tail_lines style next ≡ tail_lines style u ++ x ∷ [] =
     ap (λ (b : Lines). b ++ hints_at u.stage next.hints) (body next shape.1 ∙ sym (body u shape.1))
@@ -628,6 +649,7 @@ end_step style u word rest line v is kept at said e =
       count = kept.count;
       few = kept.few;
       hints = kept.hints;
+      headless = still_headless u.kind u.stage stage.Done u.entry u.whole u.writes (lit≤ tt) kept.headless;
     } in
     let tail : tail_lines style next ≡ tail_lines style u ++ x ∷ [] =
     ap (λ (b : Lines). b ++ hints_at stage.Done u.hints) (body next shape.1 ∙ sym (body u shape.1))

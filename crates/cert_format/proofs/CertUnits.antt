@@ -4,6 +4,7 @@ use Rattle.std.specs.Fmt.{decimal}
 use Rattle.std.proofs.lemmas.List.{append-nil}
 use Rattle.name_table.specs.Sound.{Each}
 use Rattle.name_table.specs.declared.names.Kind.{Kind}
+use Rattle.name_table.specs.declared.names.NameId.{NameId}
 use Rattle.name_table.specs.declared.style.Style.{Style}
 use Rattle.sym_state.specs.declared.hint.Hint.{Hint}
 use Rattle.sym_state.specs.declared.piece.Piece.{Piece}
@@ -186,6 +187,11 @@ CountAtOf (Some mark) kind n u = (before : ℕ) × (n ≡ before + 1) × Counted
 abbrev pub CountAt : Option Mark → UnitKind → ℕ → UnitSoFar → Type 0
 CountAt last kind n u = CountAtOf last kind n (closed_of u)
 
+-- a command has no head
+abbrev pub Headless : UnitKind → UnitStage → Bool → Bool → List NameId → Type 0
+Headless (unit.Command index) s entry whole writes = (3 ≤ rank s) × (entry ≡ false) × (whole ≡ false) × (writes ≡ [])
+Headless _ s entry whole writes = Unit {0}
+
 -- what has been read of a unit keeps the limits, and what hasn't come is missing
 pub record UnitKept (style : Style) (u : UnitSoFar) : Type 0 where
   pub no_entry : rank u.stage < 1 → u.entry ≡ false
@@ -200,6 +206,7 @@ pub record UnitKept (style : Style) (u : UnitSoFar) : Type 0 where
   pub count : CountAt u.last u.kind u.count u
   pub few : u.count ≤ 64
   pub hints : Each IsHint u.hints
+  pub headless : Headless u.kind u.stage u.entry u.whole u.writes
 
 -- the word before a piece
 abbrev pub mark_text : Mark → List ℕ

@@ -3,6 +3,7 @@ pub mod CertBodies
 pub mod CertHints
 pub mod CertItems
 pub mod CertKept
+pub mod CertRead
 pub mod CertSteps
 pub mod CertTaken
 pub mod CertTargets
