@@ -27,7 +27,7 @@ use Rattle.cert_format.proofs.NamesTaken.{field_solid, type_solid}
 use Rattle.cert_format.proofs.Numerals.{decimal_digits}
 use Rattle.cert_format.proofs.Spelt.{SolidLine, SolidLines, spelt}
 
-digits_black : (text : List ℕ) → list_all is_digit text ≡ true → list_all is_black text ≡ true
+pub digits_black : (text : List ℕ) → list_all is_digit text ≡ true → list_all is_black text ≡ true
 digits_black [] e = refl
 digits_black (b ∷ text) e =
     let both = and_parts (is_digit b) (list_all is_digit text) e in
@@ -41,7 +41,7 @@ decimal_type n small =
     let digits = decimal_digits n (omega (arith, small)) in
     and_from (not (is_empty (decimal n))) (list_all is_black (decimal n)) digits.1 (digits_black (decimal n) digits.0)
 
-solid_append : (a b : List (List (List ℕ))) → SolidLines a → SolidLines b → SolidLines (a ++ b)
+pub solid_append : (a b : List (List (List ℕ))) → SolidLines a → SolidLines b → SolidLines (a ++ b)
 solid_append [] b first second = second
 solid_append (line ∷ a) b first second = (first.0, solid_append a b first.1 second)
 
@@ -84,7 +84,7 @@ numbers_solid names c is =
     )
 
 -- the lines of a condition can be lines
-lines_solid : (names : List (List ℕ × Kind)) (c : Cond) → ArePlain names → IsCond names c → SolidLines (cond_items names c)
+pub lines_solid : (names : List (List ℕ × Kind)) (c : Cond) → ArePlain names → IsCond names c → SolidLines (cond_items names c)
 lines_solid names c plain is =
     solid_append (cond_numbers c) (cond_lists names c ++ cond_end c.other) (numbers_solid names c is)
     (solid_append (cond_lists names c) (cond_end c.other)
@@ -120,7 +120,7 @@ numbers_all names c more q is next (a ∷ (b ∷ (d ∷ (e ∷ lines)))) have =
     (next lines have.1.1.1.1))))
 
 -- all lines of a condition
-all_lines : (names : List (List ℕ × Kind)) (c : Cond) → ArePlain names → IsCond names c
+pub all_lines : (names : List (List ℕ × Kind)) (c : Cond) → ArePlain names → IsCond names c
     → Goes names (cond_items names c) conditions.no_lines (at_stage Done c)
 all_lines names c plain is =
     let n = map (names_items names) c.names in

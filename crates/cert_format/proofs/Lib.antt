@@ -4,10 +4,12 @@ pub mod CertHints
 pub mod CertItems
 pub mod CertKept
 pub mod CertRead
+pub mod CertSolid
 pub mod CertSteps
 pub mod CertTaken
 pub mod CertTargets
 pub mod CertUnitRead
+pub mod CertUnitTaken
 pub mod CertUnits
 pub mod CertUses
 pub mod CertNames
