@@ -1,4 +1,5 @@
 pub mod Blocks
+pub mod CertBack
 pub mod CertBodies
 pub mod CertHints
 pub mod CertItems
