@@ -1,17 +1,16 @@
 -- Places, chains and lines of one more item, for what pieces keep.
-use Rattle.std.proofs.Common.{◌≡◌, ℕ, suc, ◌+◌, ◌-◌, ◌<◌, ◌≤◌, Bool, true, false, ◌&&◌, cond, nat_le, List, [], ◌∷◌, ◌++◌, length, length-append, map, Option, Some, None, Result, Ok, Err, codes, refl, sym, ap, subst, ◌∙◌, append_assoc, arith}
+use Rattle.std.proofs.Common.{◌≡◌, ℕ, ◌+◌, ◌<◌, ◌≤◌, Bool, true, false, cond, nat_le, List, [], ◌∷◌, ◌++◌, length, length-append, map, Option, Some, None, Result, Ok, codes, refl, sym, ap, subst, ◌∙◌, arith}
 use Rattle.std.specs.Option.{option_and_then}
 use Rattle.std.proofs.lemmas.Bool.{and_from, and_parts}
 use Rattle.std.proofs.lemmas.Bool.Decides.{nat_tests}
 use Rattle.std.proofs.lemmas.List.{append-nil}
 use Rattle.bv_base.specs.Answers.{then_do}
-use Rattle.bv_base.proofs.ThenLemmas.{ok, ok_is, then_ok}
+use Rattle.bv_base.proofs.ThenLemmas.{ok_is, then_ok}
 use Rattle.name_table.specs.Names.{same_name}
 use Rattle.name_table.specs.Sound.{Each}
-use Rattle.sym_state.specs.declared.symbol.Bind.{Bind}
 use Rattle.sym_state.specs.declared.symbol.Sym.{Sym}
 use Rattle.sym_state.proofs.Consequences.{same_bytes}
-use Rattle.cert_format.specs.CertText.{are_placed, bound_symbols, next_behind}
+use Rattle.cert_format.specs.CertText.{are_placed, next_behind}
 use Rattle.cert_format.specs.Lines.{Item, Line, line_end, next_item}
 use Rattle.cert_format.specs.PieceItems as items
 use Rattle.cert_format.specs.Pieces as pieces
@@ -21,7 +20,7 @@ use Rattle.cert_format.specs.declared.piece_lines.PieceWord.TheVariants.{Stack, 
 use Rattle.cert_format.specs.declared.stop.Stop.{Stop}
 use Rattle.cert_format.proofs.CondRead.{Has, at_end, item_before, next_is, none_left}
 use Rattle.cert_format.proofs.CondTaken.{take_end, take_first, then_go}
-use Rattle.cert_format.proofs.Split.{Ended, texts, texts_of}
+use Rattle.cert_format.proofs.Split.{Ended}
 
 -- an item that ends its line
 pub record Last {A B : Type 0} (f : Item → Result A Stop) (make : A → B) (line : Line) (b : B) : Type 0 where

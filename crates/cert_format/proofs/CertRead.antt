@@ -1,5 +1,5 @@
 -- A certificate that is read spells the text, and keeps the limits.
-use Rattle.std.proofs.Common.{◌≡◌, ℕ, suc, ◌+◌, ◌<◌, ◌≤◌, Bool, true, false, ◌&&◌, not, cond, nat_eq, nat_lt, nat_le, List, [], ◌∷◌, ◌++◌, length, length-append, map, Option, Some, None, IfSome, Result, Ok, Err, codes, lit≤, refl, sym, ap, subst, ◌∙◌, append_assoc, arith}
+use Rattle.std.proofs.Common.{◌≡◌, ℕ, ◌+◌, ◌<◌, ◌≤◌, Bool, true, false, ◌&&◌, cond, nat_eq, nat_lt, nat_le, List, [], ◌∷◌, ◌++◌, length, length-append, map, Option, Some, None, IfSome, Ok, codes, lit≤, refl, sym, ap, subst, ◌∙◌, append_assoc, arith}
 use Rattle.std.specs.Fmt.{decimal}
 use Rattle.std.specs.Option.{option_map}
 use Rattle.std.proofs.lemmas.Bool.{and_parts}
@@ -7,8 +7,7 @@ use Rattle.std.proofs.lemmas.Bool.Decides.{nat_tests}
 use Rattle.std.proofs.lemmas.List.{append-nil}
 use Rattle.bst_meaning.specs.declared.condition.Cond.{Cond}
 use Rattle.bst_meaning.specs.declared.value.Target.{Target}
-use Rattle.bv_base.specs.Answers.{then_do}
-use Rattle.bv_base.proofs.ThenLemmas.{ok, ok_is, then_ok, unless_ok}
+use Rattle.bv_base.proofs.ThenLemmas.{ok_is, then_ok, unless_ok}
 use Rattle.name_table.specs.Sound.{Each}
 use Rattle.name_table.specs.declared.style.Style.{Style}
 use Rattle.sym_state.specs.declared.piece.Piece.{Piece}
@@ -18,24 +17,20 @@ use Rattle.cert_format.specs.Certs as certs
 use Rattle.cert_format.specs.CondText.{IsCond, is_chain}
 use Rattle.cert_format.specs.Conditions as conditions
 use Rattle.cert_format.specs.HintSpelling.{hints_lines}
-use Rattle.cert_format.specs.Items.{expected, is_word, last_of}
+use Rattle.cert_format.specs.Items.{expected, is_word}
 use Rattle.cert_format.specs.Lines.{Item, Line, lines_of, next_item, with_item}
-use Rattle.cert_format.specs.Pieces as pieces
 use Rattle.cert_format.specs.Spelling.{cond_items, text_of}
 use Rattle.cert_format.specs.Texts.{cert_of}
 use Rattle.cert_format.specs.UnitSpelling.{all_marked, body_text, cert_lines, command_lines, each_lines, head_lines, loop_lines, marked_lines, maybe_marked, summary_lines}
 use Rattle.cert_format.specs.Units as units
 use Rattle.cert_format.specs.declared.cert.Cert.{Cert}
 use Rattle.cert_format.specs.declared.cert.CommandPart.{CommandPart}
-use Rattle.cert_format.specs.declared.cert.Loop.{Loop}
-use Rattle.cert_format.specs.declared.cert.Summary.{Summary}
 use Rattle.cert_format.specs.declared.cert_lines.CertSoFar.{CertSoFar}
 use Rattle.cert_format.specs.declared.cert_lines.CertStage.{CertStage}
 use Rattle.cert_format.specs.declared.cert_lines.CertStage.TheVariants as stage
 use Rattle.cert_format.specs.declared.cond_lines.CondSoFar.{CondSoFar}
 use Rattle.cert_format.specs.declared.cond_lines.Stage.{Stage}
 use Rattle.cert_format.specs.declared.cond_lines.Stage.TheVariants as part
-use Rattle.cert_format.specs.declared.stop.Stop.{Stop}
 use Rattle.cert_format.specs.declared.unit_lines.UnitKind.{UnitKind}
 use Rattle.cert_format.specs.declared.unit_lines.UnitKind.TheVariants as unit
 use Rattle.cert_format.specs.declared.unit_lines.UnitSoFar.{UnitSoFar}
@@ -49,7 +44,7 @@ use Rattle.cert_format.proofs.CertUnitRead.{unit_read}
 use Rattle.cert_format.proofs.CertUnits.{CountAt, Full, Good, Headless, Lines, Shape, UnitKept, body_of, closed, closed_of, first_items, first_post, hints_at, one_if, unit_spelled}
 use Rattle.cert_format.proofs.CondKept.{chain_snoc, each_snoc, kept_at, none_kept}
 use Rattle.cert_format.proofs.CondRead.{Has, item_before, next_is, word_is}
-use Rattle.cert_format.proofs.CondSteps.{Fits, Stepped, spelled, step_at, told_ok}
+use Rattle.cert_format.proofs.CondSteps.{Fits, spelled, step_at, told_ok}
 use Rattle.cert_format.proofs.Split.{AllEnded, Ended, split_text, texts}
 
 -- the first line

@@ -1,5 +1,5 @@
 -- Each line of a unit that is read is spelled by what has been read after it, and that keeps the limits.
-use Rattle.std.proofs.Common.{◌≡◌, ℕ, suc, ◌+◌, ◌<◌, ◌≤◌, Bool, true, false, ◌&&◌, not, cond, nat_le, List, [], ◌∷◌, ◌++◌, length, map, Option, Some, None, IfSome, is_some, Result, Ok, Err, codes, lit≤, refl, sym, ap, subst, ◌∙◌, append_assoc, arith}
+use Rattle.std.proofs.Common.{◌≡◌, ℕ, ◌+◌, ◌<◌, ◌≤◌, Bool, true, false, ◌&&◌, cond, nat_le, List, [], ◌∷◌, ◌++◌, map, Option, Some, None, Ok, codes, lit≤, refl, sym, ap, subst, ◌∙◌, arith}
 use Rattle.std.proofs.lemmas.Bool.{and_parts}
 use Rattle.std.proofs.lemmas.Bool.Decides.{nat_tests}
 use Rattle.bv_base.specs.Answers.{then_do}
@@ -11,8 +11,8 @@ use Rattle.name_table.specs.declared.names.NameId.{NameId}
 use Rattle.name_table.specs.declared.style.Style.{Style}
 use Rattle.sym_state.specs.declared.hint.Hint.{Hint}
 use Rattle.sym_state.proofs.Consequences.{same_bytes}
-use Rattle.cert_format.specs.CertText.{AreWrites, IsHint, IsPiece, IsVariable, next_behind, places_of}
-use Rattle.cert_format.specs.CondText.{is_below, is_chain}
+use Rattle.cert_format.specs.CertText.{AreWrites, IsHint, IsPiece, IsVariable}
+use Rattle.cert_format.specs.CondText.{is_below}
 use Rattle.cert_format.specs.HintSpelling.{hint_items}
 use Rattle.cert_format.specs.Hints.{hint_line}
 use Rattle.cert_format.specs.Items.{is_above, is_word, last_of}
