@@ -14,11 +14,12 @@ use Rattle.cert_format.specs.declared.unit_lines.Mark.TheVariants.{Pre, Post, Ca
 use Rattle.cert_format.specs.declared.unit_lines.UnitKind.{UnitKind}
 use Rattle.cert_format.specs.declared.unit_lines.UnitKind.TheVariants as unit
 use Rattle.cert_format.specs.declared.unit_lines.UnitSoFar.{UnitSoFar}
-use Rattle.cert_format.proofs.CertKept.{each_none, snoc_left}
+use Rattle.cert_format.proofs.CertKept.{each_none}
 use Rattle.cert_format.proofs.CertSteps.{in_back}
 use Rattle.cert_format.proofs.CertTaken.{behind_small}
 use Rattle.cert_format.proofs.CertUnits.{Bare, Counted, Full, Good, Lines, Ready, body_lines, first_post, mark_text, one_if}
 use Rattle.cert_format.proofs.CondKept.{each_snoc}
+use Rattle.cert_format.proofs.CondSteps.{snoc_left}
 
 pub front_behind : (a b m : Lines) (x : List (List ℕ)) → b ≡ a ++ x ∷ [] → m ≡ [] → b ++ m ≡ (a ++ m) ++ x ∷ []
 front_behind a b m x e none = ap (λ (l : Lines). l ++ m) e ∙ snoc_left a x m none

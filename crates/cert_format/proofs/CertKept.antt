@@ -3,7 +3,6 @@ use Rattle.std.proofs.Common.{◌≡◌, ℕ, ◌+◌, ◌<◌, ◌≤◌, Bool,
 use Rattle.std.specs.Option.{option_and_then}
 use Rattle.std.proofs.lemmas.Bool.{and_from, and_parts}
 use Rattle.std.proofs.lemmas.Bool.Decides.{nat_tests}
-use Rattle.std.proofs.lemmas.List.{append-nil}
 use Rattle.bv_base.specs.Answers.{then_do}
 use Rattle.bv_base.proofs.ThenLemmas.{ok_is, then_ok}
 use Rattle.name_table.specs.Names.{same_name}
@@ -75,15 +74,6 @@ all_taken line read a ends e =
     then_go (read line.items) a _ _ e (ended_taken (record { items = []; end = line.end }) a (record { items = refl; ends = ends }))
 
 -- lists with one more item
-pub map_snoc : {A B : Type 0} (f : A → B) (xs : List A) (x : A) → map f (xs ++ x ∷ []) ≡ map f xs ++ f x ∷ []
-map_snoc f [] x = refl
-map_snoc f (y ∷ xs) x = ap (λ l. f y ∷ l) (map_snoc f xs x)
-
-pub snoc_left : {A : Type 0} (a : List A) (x : A) (m : List A) → m ≡ [] → (a ++ x ∷ []) ++ m ≡ (a ++ m) ++ x ∷ []
-snoc_left a x m e =
-    ap (λ l. (a ++ x ∷ []) ++ l) e ∙ append-nil (a ++ x ∷ [])
-    ∙ sym (ap (λ l. (a ++ l) ++ x ∷ []) e ∙ ap (λ l. l ++ x ∷ []) (append-nil a))
-
 pub each_none : {A : Type 0} (P : A → Type 0) (xs : List A) → xs ≡ [] → Each P xs
 each_none P xs none = subst (λ l. Each P l) (sym none) tt
 

@@ -30,11 +30,12 @@ use Rattle.cert_format.specs.declared.piece_lines.PieceStage.TheVariants as stag
 use Rattle.cert_format.specs.declared.piece_lines.PieceWord.{PieceWord}
 use Rattle.cert_format.specs.declared.piece_lines.PieceWord.TheVariants.{Stack, Var, Field, Is, Int, Text, Call, Block, Blank, Nonblank, Wellformed, Row}
 use Rattle.cert_format.proofs.CertItems.{block_read, integer_read, known_read, placed_read}
-use Rattle.cert_format.proofs.CertKept.{all_read, behind_snoc, due, each_none, ended_read, last_read, map_snoc, more_few, next_small, placed_snoc, snoc_left, word_text}
+use Rattle.cert_format.proofs.CertKept.{all_read, behind_snoc, due, each_none, ended_read, last_read, more_few, next_small, placed_snoc, word_text}
 use Rattle.cert_format.proofs.CertNames.{entry_field_read, known_name, variable_read}
 use Rattle.cert_format.proofs.CertWords.{kind_read, term_read, text_read}
 use Rattle.cert_format.proofs.CondKept.{chain_snoc, each_snoc}
 use Rattle.cert_format.proofs.CondRead.{Has, item_before, next_is}
+use Rattle.cert_format.proofs.CondSteps.{map_snoc, snoc_left}
 use Rattle.cert_format.proofs.Split.{Ended, texts, texts_of}
 
 -- what has been read of a piece keeps the limits, and the next new symbol is known
