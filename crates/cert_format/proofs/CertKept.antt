@@ -118,11 +118,12 @@ word_text Nonblank = codes "nonblank"
 word_text Wellformed = codes "wellformed"
 word_text Row = codes "row"
 
-named_word : (P : PieceWord → Type 0) (text word : List ℕ) (value : PieceWord) (rest : Option PieceWord) (k : PieceWord)
+-- the first of some words, or what comes for another one
+pub named_word : {A : Type 0} (P : A → Type 0) (text word : List ℕ) (value : A) (rest : Option A) (k : A)
     → cond (same_name text word) (Some value) rest ≡ Some k → (text ≡ word → P value) → (rest ≡ Some k → P k) → P k
-named_word P text word value rest k e here next = by_test (same_name text word) refl e
+named_word {A} P text word value rest k e here next = by_test (same_name text word) refl e
   where
-    some_of : (x y : PieceWord) → Some x ≡ Some y → y ≡ x
+    some_of : (x y : A) → Some x ≡ Some y → y ≡ x
     some_of x y e = cc
 
     by_test : (t : Bool) → same_name text word ≡ t → cond t (Some value) rest ≡ Some k → P k

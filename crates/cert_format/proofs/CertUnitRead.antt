@@ -4,7 +4,6 @@ use Rattle.std.proofs.lemmas.Bool.{and_parts}
 use Rattle.std.proofs.lemmas.Bool.Decides.{nat_tests}
 use Rattle.bv_base.specs.Answers.{then_do}
 use Rattle.bv_base.proofs.ThenLemmas.{ok, ok_is, then_ok, unless_ok, where_ok}
-use Rattle.name_table.specs.Names.{same_name}
 use Rattle.name_table.specs.Sound.{Each}
 use Rattle.name_table.specs.declared.names.Kind.{Kind}
 use Rattle.name_table.specs.declared.names.NameId.{NameId}
@@ -35,7 +34,7 @@ use Rattle.cert_format.specs.declared.unit_lines.UnitStage.{UnitStage}
 use Rattle.cert_format.specs.declared.unit_lines.UnitStage.TheVariants as stage
 use Rattle.cert_format.proofs.CertBodies.{bare_body, bare_good, bare_ready, close_good, count_more, front_behind, full_last, mark_body, new_front, piece_body, ready_next, start_small}
 use Rattle.cert_format.proofs.CertHints.{hint_read}
-use Rattle.cert_format.proofs.CertKept.{ended_read, last_read}
+use Rattle.cert_format.proofs.CertKept.{ended_read, last_read, named_word}
 use Rattle.cert_format.proofs.CertNames.{variable_read}
 use Rattle.cert_format.proofs.CertSteps.{Fits, Kept, in_back, piece_read}
 use Rattle.cert_format.proofs.CertUnits.{Bare, CountAt, Counted, Full, Good, Headless, Lines, Open, OpenAt, Ready, Shape, UnitKept, body_lines, closed, first_items, hints_at, mark_text, rank, tail_lines, unit_spelled}
@@ -630,27 +629,16 @@ end_step style u word rest line v is kept at said e =
     (item_before line word rest (codes "end") [] is said r.1) good refl
 
 -- the words before pieces
-named_mark : (P : Mark → Type 0) (text word : List ℕ) (value : Mark) (rest : Option Mark) (k : Mark)
-    → cond (same_name text word) (Some value) rest ≡ Some k → (text ≡ word → P value) → (rest ≡ Some k → P k) → P k
-named_mark P text word value rest k e here next = by_test (same_name text word) refl e
-  where
-    some_of : (x y : Mark) → Some x ≡ Some y → y ≡ x
-    some_of x y e = cc
-
-    by_test : (t : Bool) → same_name text word ≡ t → cond t (Some value) rest ≡ Some k → P k
-    by_test true is f = subst P (sym (some_of value k f)) (here (same_bytes text word is))
-    by_test false is f = next f
-
 mark_said : (text : List ℕ) (k : Mark) → units.mark_among text units.mark_words ≡ Some k → text ≡ mark_text k
 mark_said text k e =
     let P : Mark → Type 0 = λ w. text ≡ mark_text w in
-    named_mark P text (codes "pre") Pre _ k e (λ s. s) (λ e1.
-    named_mark P text (codes "post") Post _ k e1 (λ s. s) (λ e2.
-    named_mark P text (codes "case") Case _ k e2 (λ s. s) (λ e3.
-    named_mark P text (codes "exit") Exit _ k e3 (λ s. s) (λ e4.
-    named_mark P text (codes "after") After _ k e4 (λ s. s) (λ e5.
-    named_mark P text (codes "visit") Visit _ k e5 (λ s. s) (λ e6.
-    named_mark P text (codes "keeps") Keeps _ k e6 (λ s. s) (λ e7. absurd (cc))))))))
+    named_word P text (codes "pre") Pre _ k e (λ s. s) (λ e1.
+    named_word P text (codes "post") Post _ k e1 (λ s. s) (λ e2.
+    named_word P text (codes "case") Case _ k e2 (λ s. s) (λ e3.
+    named_word P text (codes "exit") Exit _ k e3 (λ s. s) (λ e4.
+    named_word P text (codes "after") After _ k e4 (λ s. s) (λ e5.
+    named_word P text (codes "visit") Visit _ k e5 (λ s. s) (λ e6.
+    named_word P text (codes "keeps") Keeps _ k e6 (λ s. s) (λ e7. absurd (cc))))))))
 
 -- a word before a piece, or `hints`
 marked_step : (style : Style) (u : UnitSoFar) (word : Item) (rest line : Line) (v : UnitSoFar) (o : Option Mark) → line ≡ with_item word rest
