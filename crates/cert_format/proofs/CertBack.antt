@@ -1,5 +1,5 @@
 -- The text of a certificate is read as that certificate.
-use Rattle.std.proofs.Common.{◌≡◌, ℕ, suc, ◌+◌, ◌<◌, ◌≤◌, Bool, true, false, ◌&&◌, cond, nat_lt, nat_le, List, [], ◌∷◌, ◌++◌, length, length-append, map, Option, Some, None, IfSome, Result, Ok, Err, codes, lit≤, refl, sym, ap, subst, ◌∙◌, append_assoc, arith}
+use Rattle.std.proofs.Common.{◌≡◌, ℕ, suc, ◌+◌, ◌<◌, ◌≤◌, Bool, true, false, ◌&&◌, cond, nat_lt, nat_le, List, [], ◌∷◌, ◌++◌, length, length-append, map, Option, Some, None, IfSome, Ok, codes, lit≤, refl, sym, ap, subst, ◌∙◌, append_assoc, arith}
 use Rattle.std.specs.Fmt.{decimal}
 use Rattle.std.proofs.lemmas.Bool.Decides.{nat_tests}
 use Rattle.std.proofs.lemmas.List.{append-nil}
@@ -14,10 +14,10 @@ use Rattle.sym_state.specs.declared.hint.Hint.{Hint}
 use Rattle.sym_state.specs.declared.piece.Piece.{Piece}
 use Rattle.cert_format.specs.CertText.{IsCert, IsCommandPart, IsHint, IsLoop, IsPiece, IsSummary, next_behind, places_of}
 use Rattle.cert_format.specs.Certs as certs
-use Rattle.cert_format.specs.CondText.{ArePlain, is_chain}
+use Rattle.cert_format.specs.CondText.{ArePlain}
 use Rattle.cert_format.specs.Conditions as conditions
 use Rattle.cert_format.specs.HintSpelling.{hints_lines}
-use Rattle.cert_format.specs.Items.{expected, is_word, last_of}
+use Rattle.cert_format.specs.Items.{expected, last_of}
 use Rattle.cert_format.specs.Lines.{Item, Line, lines_of, next_item}
 use Rattle.cert_format.specs.Pieces as pieces
 use Rattle.cert_format.specs.Spelling.{cond_items, text_of}
@@ -36,22 +36,19 @@ use Rattle.cert_format.specs.declared.cond_lines.Stage.TheVariants as part
 use Rattle.cert_format.specs.declared.piece_lines.PieceSoFar.{PieceSoFar}
 use Rattle.cert_format.specs.declared.piece_lines.PieceStage.{PieceStage}
 use Rattle.cert_format.specs.declared.stop.Stop.{Stop}
-use Rattle.cert_format.specs.declared.stop.Stop.TheVariants.{TooMany}
-use Rattle.cert_format.specs.declared.unit_lines.Mark.{Mark}
 use Rattle.cert_format.specs.declared.unit_lines.Mark.TheVariants.{Pre, Post, Case, Exit, After, Visit, Keeps}
 use Rattle.cert_format.specs.declared.unit_lines.UnitKind.TheVariants as unit
 use Rattle.cert_format.specs.declared.unit_lines.UnitSoFar.{UnitSoFar}
 use Rattle.cert_format.specs.declared.unit_lines.UnitStage.{UnitStage}
 use Rattle.cert_format.specs.declared.unit_lines.UnitStage.TheVariants as ustage
 use Rattle.cert_format.proofs.CertKept.{ended_taken, last_taken}
-use Rattle.cert_format.proofs.CertRead.{fits_command, header}
+use Rattle.cert_format.proofs.CertRead.{fits_command}
 use Rattle.cert_format.proofs.CertSolid.{cert_solid}
 use Rattle.cert_format.proofs.CertTaken.{behind_small, read_at}
 use Rattle.cert_format.proofs.CertTargets.{NoSigns, command_taken, list_taken, plain_signs, target_taken}
 use Rattle.cert_format.proofs.CertUnitTaken.{Goes, goes_line, head_go, hinted, hints_go, inside, list_go, marked_go, state}
-use Rattle.cert_format.proofs.CertUnits.{Closed, Lines, mark_text, rank}
+use Rattle.cert_format.proofs.CertUnits.{Closed, Lines, rank}
 use Rattle.cert_format.proofs.CondBack.{all_lines}
-use Rattle.cert_format.proofs.CondRead.{Has}
 use Rattle.cert_format.proofs.CondTaken.{expect_taken, other_word, take_first, then_go, word_taken}
 use Rattle.cert_format.proofs.CondWhole.{Up, last_snoc, up_of}
 use Rattle.cert_format.proofs.Plain.{plain_names}

@@ -1,10 +1,8 @@
 -- The pieces of a unit: how one more line or one more piece is spelled, and what is kept.
-use Rattle.std.proofs.Common.{◌≡◌, ℕ, suc, ◌+◌, ◌<◌, ◌≤◌, Bool, true, false, List, [], ◌∷◌, ◌++◌, length, length-append, map, Option, Some, None, IfSome, codes, lit≤, refl, sym, ap, subst, ◌∙◌, append_assoc, arith}
+use Rattle.std.proofs.Common.{◌≡◌, ℕ, ◌+◌, ◌≤◌, Bool, true, false, List, [], ◌∷◌, ◌++◌, length, length-append, Option, Some, None, IfSome, codes, lit≤, refl, sym, ap, subst, ◌∙◌, append_assoc, arith}
 use Rattle.std.proofs.lemmas.List.{append-nil}
-use Rattle.name_table.specs.Sound.{Each}
 use Rattle.name_table.specs.declared.names.Kind.{Kind}
 use Rattle.name_table.specs.declared.style.Style.{Style}
-use Rattle.sym_state.specs.declared.hint.Hint.{Hint}
 use Rattle.sym_state.specs.declared.piece.Piece.{Piece}
 use Rattle.cert_format.specs.CertText.{IsPiece, next_behind, places_of}
 use Rattle.cert_format.specs.PieceSpelling.{piece_lines}
@@ -16,13 +14,12 @@ use Rattle.cert_format.specs.declared.unit_lines.Mark.TheVariants.{Pre, Post, Ca
 use Rattle.cert_format.specs.declared.unit_lines.UnitKind.{UnitKind}
 use Rattle.cert_format.specs.declared.unit_lines.UnitKind.TheVariants as unit
 use Rattle.cert_format.specs.declared.unit_lines.UnitSoFar.{UnitSoFar}
-use Rattle.cert_format.specs.declared.unit_lines.UnitStage.{UnitStage}
-use Rattle.cert_format.specs.declared.unit_lines.UnitStage.TheVariants as stage
-use Rattle.cert_format.proofs.CertKept.{each_none, snoc_left}
+use Rattle.cert_format.proofs.CertKept.{each_none}
 use Rattle.cert_format.proofs.CertSteps.{in_back}
 use Rattle.cert_format.proofs.CertTaken.{behind_small}
-use Rattle.cert_format.proofs.CertUnits.{Bare, Counted, Full, Good, Lines, Ready, Shape, body_lines, first_post, hints_at, mark_text, one_if, rank}
+use Rattle.cert_format.proofs.CertUnits.{Bare, Counted, Full, Good, Lines, Ready, body_lines, first_post, mark_text, one_if}
 use Rattle.cert_format.proofs.CondKept.{each_snoc}
+use Rattle.cert_format.proofs.CondSteps.{snoc_left}
 
 pub front_behind : (a b m : Lines) (x : List (List ℕ)) → b ≡ a ++ x ∷ [] → m ≡ [] → b ++ m ≡ (a ++ m) ++ x ∷ []
 front_behind a b m x e none = ap (λ (l : Lines). l ++ m) e ∙ snoc_left a x m none
@@ -169,20 +166,18 @@ if_none o P none = subst (λ x. IfSome x P) (sym none) tt
 
 -- nothing is beyond a limit where no piece has come
 pub bare_good : (style : Style) (kind : UnitKind) (entry : Bool) (u : UnitSoFar) → Bare kind u → Good style kind entry u
-bare_good style (unit.Summary entered) entry u bare =
-    (
-      if_none u.pre (IsPiece style entry entry 0) bare.0,
-      each_none (IsPiece style entry entry (first_post u.pre)) u.later bare.1,
-      bare.2 ∙ sym (ap first_post bare.0),
-    )
+bare_good style (unit.Summary entered) entry u bare = (
+  if_none u.pre (IsPiece style entry entry 0) bare.0,
+  each_none (IsPiece style entry entry (first_post u.pre)) u.later bare.1,
+  bare.2 ∙ sym (ap first_post bare.0),
+)
 bare_good style (unit.Loop test repeated) entry u bare =
     (each_none (IsPiece style entry entry 0) u.cases bare.0, each_none (IsPiece style entry entry 0) u.later bare.1)
-bare_good style (unit.Command index) entry u bare =
-    (
-      if_none u.after (IsPiece style true false 0) bare.0,
-      if_none u.visit (IsPiece style true true 0) bare.1,
-      if_none u.keeps (IsPiece style true false 0) bare.2,
-    )
+bare_good style (unit.Command index) entry u bare = (
+  if_none u.after (IsPiece style true false 0) bare.0,
+  if_none u.visit (IsPiece style true true 0) bare.1,
+  if_none u.keeps (IsPiece style true false 0) bare.2,
+)
 
 -- the first piece of a unit
 pub bare_ready : (kind : UnitKind) (mark : Mark) (u : UnitSoFar) → Bare kind u → units.may_follow kind None mark ≡ true → Ready kind mark u
@@ -280,13 +275,12 @@ pub close_good : (style : Style) (kind : UnitKind) (mark : Mark) (u : UnitSoFar)
     → Good style kind u.entry (units.placed_as (Some mark) next u)
 close_good style (unit.Summary entered) Pre u next ready good is place =
     (is, each_none (IsPiece style u.entry u.entry (first_post (Some u.piece.piece))) u.later ready.1, place)
-close_good style (unit.Summary entered) Post u next ready good is place =
-    (
-      good.0,
-      each_snoc (IsPiece style u.entry u.entry (first_post u.pre)) u.later u.piece.piece good.1
-        (subst (λ (n : ℕ). IsPiece style u.entry u.entry n u.piece.piece) good.2 is),
-      good.2,
-    )
+close_good style (unit.Summary entered) Post u next ready good is place = (
+  good.0,
+  each_snoc (IsPiece style u.entry u.entry (first_post u.pre)) u.later u.piece.piece good.1
+      (subst (λ (n : ℕ). IsPiece style u.entry u.entry n u.piece.piece) good.2 is),
+  good.2,
+)
 close_good style (unit.Loop test repeated) Case u next ready good is place =
     (each_snoc (IsPiece style u.entry u.entry 0) u.cases u.piece.piece good.0 is, good.1)
 close_good style (unit.Loop test repeated) Exit u next ready good is place =

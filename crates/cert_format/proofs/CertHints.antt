@@ -1,10 +1,10 @@
 -- Hints: what is read is what they spell within their limits, and what is spelled is read.
-use Rattle.std.proofs.Common.{◌≡◌, ℕ, suc, ◌+◌, ◌<◌, ◌≤◌, Bool, true, false, cond, nat_le, List, [], ◌∷◌, ◌++◌, length, length-append, map, Result, Ok, Err, codes, lit≤, refl, sym, ap, subst, ◌∙◌, append_assoc, arith}
+use Rattle.std.proofs.Common.{◌≡◌, ℕ, ◌+◌, ◌<◌, ◌≤◌, Bool, true, false, cond, nat_le, List, [], ◌∷◌, ◌++◌, length, length-append, map, Result, Ok, codes, lit≤, refl, sym, ap, subst, ◌∙◌, append_assoc, arith}
 use Rattle.std.specs.Fmt.{decimal}
 use Rattle.std.proofs.lemmas.Bool.Decides.{nat_tests}
 use Rattle.std.proofs.lemmas.List.{append-nil}
 use Rattle.bv_base.specs.Answers.{then_do}
-use Rattle.bv_base.proofs.ThenLemmas.{ok, ok_is, then_ok, unless_ok, where_ok}
+use Rattle.bv_base.proofs.ThenLemmas.{ok, ok_is, then_ok, unless_ok}
 use Rattle.name_table.specs.Sound.{Each}
 use Rattle.sym_state.specs.declared.hint.Hint.{Hint}
 use Rattle.sym_state.specs.declared.hint.Hint.TheVariants as hint
@@ -14,19 +14,18 @@ use Rattle.sym_state.proofs.Consequences.{same_bytes}
 use Rattle.cert_format.specs.CertText.{IsHint, IsProof, IsUse}
 use Rattle.cert_format.specs.Conditions.{last_natural}
 use Rattle.cert_format.specs.HintSpelling.{hint_items, proof_items, use_text}
-use Rattle.cert_format.specs.Hints.{add_uses, bare_hint, hint_line, positive, proof_line, use_item}
+use Rattle.cert_format.specs.Hints.{add_uses, hint_line, positive, proof_line, use_item}
 use Rattle.cert_format.specs.Items.{is_word}
 use Rattle.cert_format.specs.Lines.{Item, Line, next_item, with_item}
 use Rattle.cert_format.specs.Pieces as pieces
 use Rattle.cert_format.specs.declared.stop.Stop.{Stop}
-use Rattle.cert_format.specs.declared.stop.Stop.TheVariants.{Syntax}
 use Rattle.cert_format.proofs.CertItems.{positive_read, positive_taken}
 use Rattle.cert_format.proofs.CertKept.{all_read, all_taken, ended_read, ended_taken, more_few}
 use Rattle.cert_format.proofs.CertUses.{use_read, use_taken}
 use Rattle.cert_format.proofs.CondKept.{each_snoc, last_kept}
 use Rattle.cert_format.proofs.CondRead.{Has, item_before, next_is, number_read}
-use Rattle.cert_format.proofs.CondTaken.{first_text, number_taken, other_texts, other_word, take_first, then_go, word_taken}
-use Rattle.cert_format.proofs.Split.{texts, texts_of}
+use Rattle.cert_format.proofs.CondTaken.{first_text, number_taken, other_texts, take_first, then_go}
+use Rattle.cert_format.proofs.Split.{texts_of}
 
 -- uses that are read behind others
 record Added (before all : List Use) (texts_here : List (List ℕ)) : Type 0 where

@@ -1,17 +1,15 @@
 -- Places, chains and lines of one more item, for what pieces keep.
-use Rattle.std.proofs.Common.{◌≡◌, ℕ, suc, ◌+◌, ◌-◌, ◌<◌, ◌≤◌, Bool, true, false, ◌&&◌, cond, nat_le, List, [], ◌∷◌, ◌++◌, length, length-append, map, Option, Some, None, Result, Ok, Err, codes, refl, sym, ap, subst, ◌∙◌, append_assoc, arith}
+use Rattle.std.proofs.Common.{◌≡◌, ℕ, ◌+◌, ◌<◌, ◌≤◌, Bool, true, false, cond, nat_le, List, [], ◌∷◌, ◌++◌, length, length-append, Option, Some, None, Result, Ok, codes, refl, sym, ap, subst, ◌∙◌, arith}
 use Rattle.std.specs.Option.{option_and_then}
 use Rattle.std.proofs.lemmas.Bool.{and_from, and_parts}
 use Rattle.std.proofs.lemmas.Bool.Decides.{nat_tests}
-use Rattle.std.proofs.lemmas.List.{append-nil}
 use Rattle.bv_base.specs.Answers.{then_do}
-use Rattle.bv_base.proofs.ThenLemmas.{ok, ok_is, then_ok}
+use Rattle.bv_base.proofs.ThenLemmas.{ok_is, then_ok}
 use Rattle.name_table.specs.Names.{same_name}
 use Rattle.name_table.specs.Sound.{Each}
-use Rattle.sym_state.specs.declared.symbol.Bind.{Bind}
 use Rattle.sym_state.specs.declared.symbol.Sym.{Sym}
 use Rattle.sym_state.proofs.Consequences.{same_bytes}
-use Rattle.cert_format.specs.CertText.{are_placed, bound_symbols, next_behind}
+use Rattle.cert_format.specs.CertText.{are_placed, next_behind}
 use Rattle.cert_format.specs.Items.{among}
 use Rattle.cert_format.specs.Lines.{Item, Line, line_end, next_item}
 use Rattle.cert_format.specs.PieceItems as items
@@ -22,7 +20,7 @@ use Rattle.cert_format.specs.declared.piece_lines.PieceWord.TheVariants.{Stack, 
 use Rattle.cert_format.specs.declared.stop.Stop.{Stop}
 use Rattle.cert_format.proofs.CondRead.{Has, at_end, item_before, next_is, none_left}
 use Rattle.cert_format.proofs.CondTaken.{take_end, take_first, then_go}
-use Rattle.cert_format.proofs.Split.{Ended, texts, texts_of}
+use Rattle.cert_format.proofs.Split.{Ended}
 
 -- an item that ends its line
 pub record Last {A B : Type 0} (f : Item → Result A Stop) (make : A → B) (line : Line) (b : B) : Type 0 where
@@ -77,15 +75,6 @@ all_taken line read a ends e =
     then_go (read line.items) a _ _ e (ended_taken (record { items = []; end = line.end }) a (record { items = refl; ends = ends }))
 
 -- lists with one more item
-pub map_snoc : {A B : Type 0} (f : A → B) (xs : List A) (x : A) → map f (xs ++ x ∷ []) ≡ map f xs ++ f x ∷ []
-map_snoc f [] x = refl
-map_snoc f (y ∷ xs) x = ap (λ l. f y ∷ l) (map_snoc f xs x)
-
-pub snoc_left : {A : Type 0} (a : List A) (x : A) (m : List A) → m ≡ [] → (a ++ x ∷ []) ++ m ≡ (a ++ m) ++ x ∷ []
-snoc_left a x m e =
-    ap (λ l. (a ++ x ∷ []) ++ l) e ∙ append-nil (a ++ x ∷ [])
-    ∙ sym (ap (λ l. (a ++ l) ++ x ∷ []) e ∙ ap (λ l. l ++ x ∷ []) (append-nil a))
-
 pub each_none : {A : Type 0} (P : A → Type 0) (xs : List A) → xs ≡ [] → Each P xs
 each_none P xs none = subst (λ l. Each P l) (sym none) tt
 
@@ -130,11 +119,12 @@ word_text Nonblank = codes "nonblank"
 word_text Wellformed = codes "wellformed"
 word_text Row = codes "row"
 
-named_word : (P : PieceWord → Type 0) (text word : List ℕ) (value : PieceWord) (rest : Option PieceWord) (k : PieceWord)
+-- the first of some words, or what comes for another one
+pub named_word : {A : Type 0} (P : A → Type 0) (text word : List ℕ) (value : A) (rest : Option A) (k : A)
     → cond (same_name text word) (Some value) rest ≡ Some k → (text ≡ word → P value) → (rest ≡ Some k → P k) → P k
-named_word P text word value rest k e here next = by_test (same_name text word) refl e
+named_word {A} P text word value rest k e here next = by_test (same_name text word) refl e
   where
-    some_of : (x y : PieceWord) → Some x ≡ Some y → y ≡ x
+    some_of : (x y : A) → Some x ≡ Some y → y ≡ x
     some_of x y e = cc
 
     by_test : (t : Bool) → same_name text word ≡ t → cond t (Some value) rest ≡ Some k → P k

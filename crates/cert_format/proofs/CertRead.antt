@@ -1,5 +1,5 @@
 -- A certificate that is read spells the text, and keeps the limits.
-use Rattle.std.proofs.Common.{◌≡◌, ℕ, suc, ◌+◌, ◌<◌, ◌≤◌, Bool, true, false, ◌&&◌, not, cond, nat_eq, nat_lt, nat_le, List, [], ◌∷◌, ◌++◌, length, length-append, map, Option, Some, None, IfSome, Result, Ok, Err, codes, lit≤, refl, sym, ap, subst, ◌∙◌, append_assoc, arith}
+use Rattle.std.proofs.Common.{◌≡◌, ℕ, ◌+◌, ◌<◌, ◌≤◌, Bool, true, false, ◌&&◌, cond, nat_eq, nat_lt, nat_le, List, [], ◌∷◌, ◌++◌, length, length-append, map, Option, Some, None, IfSome, Ok, codes, lit≤, refl, sym, ap, subst, ◌∙◌, append_assoc, arith}
 use Rattle.std.specs.Fmt.{decimal}
 use Rattle.std.specs.Option.{option_map}
 use Rattle.std.proofs.lemmas.Bool.{and_parts}
@@ -7,8 +7,7 @@ use Rattle.std.proofs.lemmas.Bool.Decides.{nat_tests}
 use Rattle.std.proofs.lemmas.List.{append-nil}
 use Rattle.bst_meaning.specs.declared.condition.Cond.{Cond}
 use Rattle.bst_meaning.specs.declared.value.Target.{Target}
-use Rattle.bv_base.specs.Answers.{then_do}
-use Rattle.bv_base.proofs.ThenLemmas.{ok, ok_is, then_ok, unless_ok}
+use Rattle.bv_base.proofs.ThenLemmas.{ok_is, then_ok, unless_ok}
 use Rattle.name_table.specs.Sound.{Each}
 use Rattle.name_table.specs.declared.style.Style.{Style}
 use Rattle.sym_state.specs.declared.piece.Piece.{Piece}
@@ -18,24 +17,20 @@ use Rattle.cert_format.specs.Certs as certs
 use Rattle.cert_format.specs.CondText.{IsCond, is_chain}
 use Rattle.cert_format.specs.Conditions as conditions
 use Rattle.cert_format.specs.HintSpelling.{hints_lines}
-use Rattle.cert_format.specs.Items.{expected, is_word, last_of}
+use Rattle.cert_format.specs.Items.{expected, is_word}
 use Rattle.cert_format.specs.Lines.{Item, Line, lines_of, next_item, with_item}
-use Rattle.cert_format.specs.Pieces as pieces
 use Rattle.cert_format.specs.Spelling.{cond_items, text_of}
 use Rattle.cert_format.specs.Texts.{cert_of}
 use Rattle.cert_format.specs.UnitSpelling.{all_marked, body_text, cert_lines, command_lines, each_lines, head_lines, loop_lines, marked_lines, maybe_marked, summary_lines}
 use Rattle.cert_format.specs.Units as units
 use Rattle.cert_format.specs.declared.cert.Cert.{Cert}
 use Rattle.cert_format.specs.declared.cert.CommandPart.{CommandPart}
-use Rattle.cert_format.specs.declared.cert.Loop.{Loop}
-use Rattle.cert_format.specs.declared.cert.Summary.{Summary}
 use Rattle.cert_format.specs.declared.cert_lines.CertSoFar.{CertSoFar}
 use Rattle.cert_format.specs.declared.cert_lines.CertStage.{CertStage}
 use Rattle.cert_format.specs.declared.cert_lines.CertStage.TheVariants as stage
 use Rattle.cert_format.specs.declared.cond_lines.CondSoFar.{CondSoFar}
 use Rattle.cert_format.specs.declared.cond_lines.Stage.{Stage}
 use Rattle.cert_format.specs.declared.cond_lines.Stage.TheVariants as part
-use Rattle.cert_format.specs.declared.stop.Stop.{Stop}
 use Rattle.cert_format.specs.declared.unit_lines.UnitKind.{UnitKind}
 use Rattle.cert_format.specs.declared.unit_lines.UnitKind.TheVariants as unit
 use Rattle.cert_format.specs.declared.unit_lines.UnitSoFar.{UnitSoFar}
@@ -49,7 +44,7 @@ use Rattle.cert_format.proofs.CertUnitRead.{unit_read}
 use Rattle.cert_format.proofs.CertUnits.{CountAt, Full, Good, Headless, Lines, Shape, UnitKept, body_of, closed, closed_of, first_items, first_post, hints_at, one_if, unit_spelled}
 use Rattle.cert_format.proofs.CondKept.{chain_snoc, each_snoc, kept_at, none_kept}
 use Rattle.cert_format.proofs.CondRead.{Has, item_before, next_is, word_is}
-use Rattle.cert_format.proofs.CondSteps.{Fits, Stepped, spelled, step_at, told_ok}
+use Rattle.cert_format.proofs.CondSteps.{Fits, spelled, step_at, told_ok}
 use Rattle.cert_format.proofs.Split.{AllEnded, Ended, split_text, texts}
 
 -- the first line
@@ -204,8 +199,9 @@ cond_step style p word rest line q is kept e =
     (record { items = refl; ends = s.ends }) (cond_kept_at style a.0.stage a.0.cond p kept.1 now)
 
 -- a unit of which the first line has been read
-summary_opened : (style : Style) (entered : Target) → UnitKept style (units.no_unit (unit.Summary entered))
-summary_opened style entered =
+opened : (style : Style) (kind : UnitKind) → Shape (units.first_stage kind) None kind (units.no_unit kind) → Good style kind false (units.no_unit kind)
+    → CountAt None kind 0 (units.no_unit kind) → Headless kind (units.first_stage kind) false false [] → UnitKept style (units.no_unit kind)
+opened style kind shape good count headless =
     record {
       no_entry = λ h. refl;
       no_whole = λ h. refl;
@@ -213,49 +209,13 @@ summary_opened style entered =
       no_piece = λ h. refl;
       no_hints = λ h. refl;
       writes = (tt, refl);
-      shape = (refl, refl, refl);
-      good = (tt, tt, refl);
+      shape = shape;
+      good = good;
       open_piece = tt;
-      count = refl;
+      count = count;
       few = lit≤ tt;
       hints = tt;
-      headless = tt;
-    }
-
-loop_opened : (style : Style) (test repeated : Target) → UnitKept style (units.no_unit (unit.Loop test repeated))
-loop_opened style test repeated =
-    record {
-      no_entry = λ h. refl;
-      no_whole = λ h. refl;
-      no_writes = λ h. refl;
-      no_piece = λ h. refl;
-      no_hints = λ h. refl;
-      writes = (tt, refl);
-      shape = (refl, refl);
-      good = (tt, tt);
-      open_piece = tt;
-      count = refl;
-      few = lit≤ tt;
-      hints = tt;
-      headless = tt;
-    }
-
-command_opened : (style : Style) (index : ℕ) → UnitKept style (units.no_unit (unit.Command index))
-command_opened style index =
-    record {
-      no_entry = λ h. refl;
-      no_whole = λ h. refl;
-      no_writes = λ h. refl;
-      no_piece = λ h. refl;
-      no_hints = λ h. refl;
-      writes = (tt, refl);
-      shape = (refl, refl, refl);
-      good = (tt, tt, tt);
-      open_piece = tt;
-      count = tt;
-      few = lit≤ tt;
-      hints = tt;
-      headless = (lit≤ tt, refl, refl, refl);
+      headless = headless;
     }
 
 under : (most n : ℕ) → nat_le most n ≡ false → n < most
@@ -280,7 +240,7 @@ summary_step style p word rest line q is kept said early e =
     let both = and_parts (certs.has_none p.loops) (certs.has_none p.commands) early in
     cert_step style stage.Units p line q (make l.value) (first_items style (unit.Summary l.value)) l.is refl
     (item_before line word rest (codes "summary") (body_text style l.value ∷ []) is said (l.has (body_text style l.value) r.0))
-    (kept, summary_opened style l.value, (r.1, none_of p.loops both.0, none_of p.commands both.1, under 65536 (length p.summaries) few.0))
+    (kept, opened style (unit.Summary l.value) (refl, refl, refl) (tt, tt, refl) refl tt, (r.1, none_of p.loops both.0, none_of p.commands both.1, under 65536 (length p.summaries) few.0))
 
 -- `loop` BODY BODY
 loop_step : (style : Style) (p : CertSoFar) (word : Item) (rest line : Line) (q : CertSoFar) → line ≡ with_item word rest
@@ -297,7 +257,7 @@ loop_step style p word rest line q is kept said early e =
     let inner = item_before rest a.0.0 a.0.1 (body_text style b.0) (body_text style l.value ∷ []) (next_is rest a.0.0 a.0.1 a.1) t.0 (l.has (body_text style l.value) r.0) in
     cert_step style stage.Units p line q (make l.value) (first_items style (unit.Loop b.0 l.value)) l.is refl
     (item_before line word rest (codes "loop") _ is said inner)
-    (kept, loop_opened style b.0 l.value, (t.1, r.1, none_of p.commands early, under 65536 (length p.loops) few.0))
+    (kept, opened style (unit.Loop b.0 l.value) (refl, refl) (tt, tt) refl tt, (t.1, r.1, none_of p.commands early, under 65536 (length p.loops) few.0))
 
 -- `command` N
 command_step : (style : Style) (p : CertSoFar) (word : Item) (rest line : Line) (q : CertSoFar) → line ≡ with_item word rest
@@ -308,7 +268,7 @@ command_step style p word rest line q is kept said e =
     let r = command_read (length style.commands) (certs.last_command p.commands) l.item l.value l.got in
     cert_step style stage.Units p line q (make l.value) (first_items style (unit.Command l.value)) l.is refl
     (item_before line word rest (codes "command") (decimal l.value ∷ []) is said (l.has (decimal l.value) r.said))
-    (kept, command_opened style l.value, (r.there, r.small, r.behind))
+    (kept, opened style (unit.Command l.value) (refl, refl, refl) (tt, tt, tt) tt (lit≤ tt, refl, refl, refl), (r.there, r.small, r.behind))
 
 -- `done`
 done_step : (style : Style) (p : CertSoFar) (word : Item) (rest line : Line) (q : CertSoFar) → line ≡ with_item word rest

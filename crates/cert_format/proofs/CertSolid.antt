@@ -1,5 +1,5 @@
 -- What a certificate spells can stand in lines: each item has no space and no byte 10.
-use Rattle.std.proofs.Common.{◌≡◌, ℕ, suc, ◌+◌, ◌/◌, ◌%◌, ◌^◌, ◌<◌, ◌≤◌, Bool, true, false, ◌&&◌, not, nat_le, nat_lt, cond, ℤ, pos, negsuc, List, [], ◌∷◌, ◌++◌, length, map, Option, Some, None, IfSome, codes, lit≤, refl, sym, ap, subst, ◌∙◌, arith}
+use Rattle.std.proofs.Common.{◌≡◌, ℕ, suc, ◌+◌, ◌/◌, ◌%◌, ◌<◌, ◌≤◌, Bool, true, false, not, nat_le, nat_lt, cond, ℤ, pos, negsuc, List, [], ◌∷◌, ◌++◌, map, Option, Some, None, IfSome, codes, lit≤, refl, sym, subst, arith}
 use Rattle.std.specs.Fmt.{decimal, signed_decimal}
 use Rattle.std.specs.List.{list_all}
 use Rattle.std.proofs.lemmas.Bool.{and_from, and_parts}
@@ -7,7 +7,7 @@ use Rattle.std.proofs.lemmas.Bool.Decides.{nat_tests}
 use Rattle.bst_meaning.specs.declared.value.Target.{Target}
 use Rattle.bst_meaning.specs.declared.value.Target.TheVariants.{Named, Block as BlockBody}
 use Rattle.bv_base.proofs.RunLemmas.{none_joined}
-use Rattle.bv_base.specs.Runs.{NoneOf, is_black, is_digit}
+use Rattle.bv_base.specs.Runs.{is_black}
 use Rattle.lin_facts.specs.declared.row.Part.{Part}
 use Rattle.lin_facts.specs.declared.row.Row.{Row as RowOf}
 use Rattle.lin_facts.specs.declared.row.Term.{Term}
@@ -43,7 +43,7 @@ use Rattle.cert_format.specs.declared.cert.Cert.{Cert}
 use Rattle.cert_format.specs.declared.cert.CommandPart.{CommandPart}
 use Rattle.cert_format.specs.declared.cert.Loop.{Loop}
 use Rattle.cert_format.specs.declared.cert.Summary.{Summary}
-use Rattle.cert_format.proofs.CertNames.{IsNamed, name_solid, variable_name}
+use Rattle.cert_format.proofs.CertNames.{name_solid, variable_name}
 use Rattle.cert_format.proofs.CertTaken.{behind_small}
 use Rattle.cert_format.proofs.CertUnits.{Lines}
 use Rattle.cert_format.proofs.CondBack.{digits_black, lines_solid, solid_append}
@@ -196,11 +196,10 @@ all_solid P f one [] each = tt
 all_solid P f one (x ∷ xs) each = solid_append (f x) (each_lines f xs) (one x each.0) (all_solid P f one xs each.1)
 
 hints_solid : (hints : List Hint) → Each IsHint hints → SolidLines (hints_lines hints)
-hints_solid hints each =
-    (
-      (type_solid (codes "hints") refl, tt),
-      solid_append (map hint_items hints) ((codes "end" ∷ []) ∷ []) (each_solid IsHint hint_items hint_solid hints each) ((type_solid (codes "end") refl, tt), tt),
-    )
+hints_solid hints each = (
+  (type_solid (codes "hints") refl, tt),
+  solid_append (map hint_items hints) ((codes "end" ∷ []) ∷ []) (each_solid IsHint hint_items hint_solid hints each) ((type_solid (codes "end") refl, tt), tt),
+)
 
 -- each symbol at a place has 32 bits
 small_syms : (next : ℕ) (syms : List Sym) → next ≤ 4294967295 → are_placed next syms ≡ true → Each (λ s. s.0 ≤ 4294967295) syms
@@ -247,18 +246,16 @@ fact_solid style next plain bound (fact.Wellformed s) is = (type_solid (codes "w
 
 parts_solid : (has_pos : Bool) (next : ℕ) → next ≤ 4294967295 → (parts : List Part) → Each (IsPart has_pos next) parts → AllSolid (part_items parts)
 parts_solid has_pos next bound [] each = tt
-parts_solid has_pos next bound (x ∷ parts) each =
-    (
-      signed_solid 1099511627776 1099511627776 x.coefficient (lit≤ tt) (lit≤ tt) each.0.small,
-      (term_solid has_pos next x.term bound each.0.term, parts_solid has_pos next bound parts each.1),
-    )
+parts_solid has_pos next bound (x ∷ parts) each = (
+  signed_solid 1099511627776 1099511627776 x.coefficient (lit≤ tt) (lit≤ tt) each.0.small,
+  (term_solid has_pos next x.term bound each.0.term, parts_solid has_pos next bound parts each.1),
+)
 
 row_solid : (has_pos : Bool) (next : ℕ) → next ≤ 4294967295 → (x : RowOf) → IsRow has_pos next x → SolidLine (row_items x)
-row_solid has_pos next bound x is =
-    (
-      type_solid (codes "row") refl,
-      (signed_solid 1099511627776 1099511627776 x.constant (lit≤ tt) (lit≤ tt) is.constant, parts_solid has_pos next bound x.parts is.parts),
-    )
+row_solid has_pos next bound x is = (
+  type_solid (codes "row") refl,
+  (signed_solid 1099511627776 1099511627776 x.constant (lit≤ tt) (lit≤ tt) is.constant, parts_solid has_pos next bound x.parts is.parts),
+)
 
 pub piece_solid : (style : Style) (at_entry has_pos : Bool) (start : ℕ) → ArePlain style.names → start ≤ 4294967295 → (piece : Piece)
     → IsPiece style at_entry has_pos start piece → SolidLines (piece_lines style.names piece)
@@ -319,26 +316,24 @@ summary_solid : (style : Style) → ArePlain style.names → (s : Summary) → I
 summary_solid style plain s is =
     let names = style.names in
     let pre = marked_lines (codes "pre") names s.pre in
-    let posts = all_marked (codes "post") names s.posts in
-    (
+    let posts = all_marked (codes "post") names s.posts in (
       (type_solid (codes "summary") refl, (target_solid style s.body plain is.body, tt)),
       solid_append (head_lines names s.entry s.whole s.writes) (pre ++ (posts ++ hints_lines s.hints)) (head_solid names s.entry s.whole s.writes plain is.writes.0)
-      (solid_append pre (posts ++ hints_lines s.hints) (marked_solid style (codes "pre") s.entry s.entry 0 plain refl (lit≤ tt) s.pre is.pre)
-      (solid_append posts (hints_lines s.hints)
-      (list_solid style (codes "post") s.entry s.entry (next_behind 0 (places_of s.pre)) plain refl (behind_small 0 (places_of s.pre) (lit≤ tt)) s.posts is.posts)
-      (hints_solid s.hints is.hints))),
+          (solid_append pre (posts ++ hints_lines s.hints) (marked_solid style (codes "pre") s.entry s.entry 0 plain refl (lit≤ tt) s.pre is.pre)
+          (solid_append posts (hints_lines s.hints)
+          (list_solid style (codes "post") s.entry s.entry (next_behind 0 (places_of s.pre)) plain refl (behind_small 0 (places_of s.pre) (lit≤ tt)) s.posts is.posts)
+          (hints_solid s.hints is.hints))),
     )
 
 loop_solid : (style : Style) → ArePlain style.names → (l : Loop) → IsLoop style l → SolidLines (loop_lines style l)
 loop_solid style plain l is =
     let names = style.names in
     let cases = all_marked (codes "case") names l.cases in
-    let exits = all_marked (codes "exit") names l.exits in
-    (
+    let exits = all_marked (codes "exit") names l.exits in (
       (type_solid (codes "loop") refl, (target_solid style l.test plain is.test, (target_solid style l.body plain is.body, tt))),
       solid_append (head_lines names l.entry l.whole l.writes) (cases ++ (exits ++ hints_lines l.hints)) (head_solid names l.entry l.whole l.writes plain is.writes.0)
-      (solid_append cases (exits ++ hints_lines l.hints) (list_solid style (codes "case") l.entry l.entry 0 plain refl (lit≤ tt) l.cases is.cases)
-      (solid_append exits (hints_lines l.hints) (list_solid style (codes "exit") l.entry l.entry 0 plain refl (lit≤ tt) l.exits is.exits) (hints_solid l.hints is.hints))),
+          (solid_append cases (exits ++ hints_lines l.hints) (list_solid style (codes "case") l.entry l.entry 0 plain refl (lit≤ tt) l.cases is.cases)
+          (solid_append exits (hints_lines l.hints) (list_solid style (codes "exit") l.entry l.entry 0 plain refl (lit≤ tt) l.exits is.exits) (hints_solid l.hints is.hints))),
     )
 
 command_solid : (style : Style) → ArePlain style.names → (c : CommandPart) → IsCommandPart style c → SolidLines (command_lines style c)
@@ -347,12 +342,11 @@ command_solid style plain c is =
     let small : c.index ≤ 1073741824 = is.small in
     let after = maybe_marked (codes "after") names c.after in
     let visit = maybe_marked (codes "visit") names c.visit in
-    let keeps = maybe_marked (codes "keeps") names c.keeps in
-    (
+    let keeps = maybe_marked (codes "keeps") names c.keeps in (
       (type_solid (codes "command") refl, (number_solid c.index (omega (arith, small)), tt)),
       solid_append after (visit ++ (keeps ++ hints_lines c.hints)) (maybe_solid style (codes "after") true false plain refl c.after is.after)
-      (solid_append visit (keeps ++ hints_lines c.hints) (maybe_solid style (codes "visit") true true plain refl c.visit is.visit)
-      (solid_append keeps (hints_lines c.hints) (maybe_solid style (codes "keeps") true false plain refl c.keeps is.keeps) (hints_solid c.hints is.hints))),
+          (solid_append visit (keeps ++ hints_lines c.hints) (maybe_solid style (codes "visit") true true plain refl c.visit is.visit)
+          (solid_append keeps (hints_lines c.hints) (maybe_solid style (codes "keeps") true false plain refl c.keeps is.keeps) (hints_solid c.hints is.hints))),
     )
 
 -- the lines of a certificate can be lines
@@ -362,12 +356,11 @@ cert_solid style plain cert is =
     let s = each_lines (summary_lines style) cert.summaries in
     let l = each_lines (loop_lines style) cert.loops in
     let c = each_lines (command_lines style) cert.commands in
-    let end : Lines = (codes "done" ∷ []) ∷ [] in
-    (
+    let end : Lines = (codes "done" ∷ []) ∷ [] in (
       (type_solid (codes "bstcert") refl, (number_solid cert.list (omega (arith, small)), tt)),
       solid_append (cond_items style.names cert.cond) (s ++ (l ++ (c ++ end))) (lines_solid style.names cert.cond plain is.cond)
-      (solid_append s (l ++ (c ++ end)) (all_solid (IsSummary style) (summary_lines style) (summary_solid style plain) cert.summaries is.summaries)
-      (solid_append l (c ++ end) (all_solid (IsLoop style) (loop_lines style) (loop_solid style plain) cert.loops is.loops)
-      (solid_append c end (all_solid (IsCommandPart style) (command_lines style) (command_solid style plain) cert.commands is.commands)
-      ((type_solid (codes "done") refl, tt), tt)))),
+          (solid_append s (l ++ (c ++ end)) (all_solid (IsSummary style) (summary_lines style) (summary_solid style plain) cert.summaries is.summaries)
+          (solid_append l (c ++ end) (all_solid (IsLoop style) (loop_lines style) (loop_solid style plain) cert.loops is.loops)
+          (solid_append c end (all_solid (IsCommandPart style) (command_lines style) (command_solid style plain) cert.commands is.commands)
+          ((type_solid (codes "done") refl, tt), tt)))),
     )

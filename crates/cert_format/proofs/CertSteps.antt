@@ -1,10 +1,9 @@
 -- Each line of a piece that is read is spelled by what has been read after it, and that keeps the limits.
-use Rattle.std.proofs.Common.{◌≡◌, ℕ, suc, ◌+◌, ◌<◌, ◌≤◌, Bool, true, false, ◌&&◌, cond, nat_le, ℤ, List, [], ◌∷◌, ◌++◌, length, map, Option, Some, None, Result, Ok, Err, codes, lit≤, refl, sym, ap, subst, ◌∙◌, append_assoc, arith}
+use Rattle.std.proofs.Common.{◌≡◌, ℕ, ◌<◌, ◌≤◌, Bool, true, false, nat_le, ℤ, List, [], ◌∷◌, ◌++◌, length, map, Option, Some, Ok, Err, codes, lit≤, refl, sym, ap, subst, ◌∙◌, append_assoc, arith}
 use Rattle.std.specs.Fmt.{decimal, signed_decimal}
 use Rattle.std.specs.Option.{option_map}
 use Rattle.std.proofs.lemmas.List.{append-nil}
-use Rattle.bv_base.specs.Answers.{then_do}
-use Rattle.bv_base.proofs.ThenLemmas.{ok, ok_is, then_ok, unless_ok, where_ok}
+use Rattle.bv_base.proofs.ThenLemmas.{ok_is, then_ok, unless_ok, where_ok}
 use Rattle.lin_facts.specs.declared.row.Part.{Part}
 use Rattle.lin_facts.specs.declared.row.Row.{Row as RowOf}
 use Rattle.lin_facts.specs.declared.row.Term.{Term}
@@ -30,13 +29,13 @@ use Rattle.cert_format.specs.declared.piece_lines.PieceStage.{PieceStage}
 use Rattle.cert_format.specs.declared.piece_lines.PieceStage.TheVariants as stage
 use Rattle.cert_format.specs.declared.piece_lines.PieceWord.{PieceWord}
 use Rattle.cert_format.specs.declared.piece_lines.PieceWord.TheVariants.{Stack, Var, Field, Is, Int, Text, Call, Block, Blank, Nonblank, Wellformed, Row}
-use Rattle.cert_format.specs.declared.stop.Stop.{Stop}
 use Rattle.cert_format.proofs.CertItems.{block_read, integer_read, known_read, placed_read}
-use Rattle.cert_format.proofs.CertKept.{all_read, behind_snoc, due, each_none, ended_read, last_read, map_snoc, more_few, next_small, placed_snoc, snoc_left, word_text}
+use Rattle.cert_format.proofs.CertKept.{all_read, behind_snoc, due, each_none, ended_read, last_read, more_few, next_small, placed_snoc, word_text}
 use Rattle.cert_format.proofs.CertNames.{entry_field_read, known_name, variable_read}
-use Rattle.cert_format.proofs.CertWords.{Termed, kind_read, term_read, text_read}
+use Rattle.cert_format.proofs.CertWords.{kind_read, term_read, text_read}
 use Rattle.cert_format.proofs.CondKept.{chain_snoc, each_snoc}
 use Rattle.cert_format.proofs.CondRead.{Has, item_before, next_is}
+use Rattle.cert_format.proofs.CondSteps.{map_snoc, snoc_left}
 use Rattle.cert_format.proofs.Split.{Ended, texts, texts_of}
 
 -- what has been read of a piece keeps the limits, and the next new symbol is known
@@ -489,7 +488,7 @@ stack_step style start p word rest line q is said kept fits small e =
     r.piece ∙ ap (λ (l : List Sym). record piece { stack = (l ++ o.top ∷ []) ++ r.syms }) no_stack in
     let here : List (List ℕ) = codes "stack" ∷ map sym_text syms in
     let behind = map (bind_items (codes "var") names) piece.vars
-        ++ (map (bind_items (codes "field") names) piece.fields ++ (map (fact_items names) piece.facts ++ map row_items piece.rows)) in
+    ++ (map (bind_items (codes "field") names) piece.fields ++ (map (fact_items names) piece.facts ++ map row_items piece.rows)) in
     let none : behind ≡ [] =
     ap (λ l. map (bind_items (codes "var") names) l ++ (map (bind_items (codes "field") names) piece.fields ++ (map (fact_items names) piece.facts ++ map row_items piece.rows))) alone.vars
     ∙ fields_none names piece alone.fields alone.facts alone.rows in
@@ -584,7 +583,7 @@ parts_read has_pos next end (first ∷ (second ∷ more)) before all bound kept 
       rise = chain_snoc (λ a b. items.is_before a.term b.term) fits_part (λ a b f. f) before x kept.rise (fits_part_of before u.0 c.0 v.0);
     } in
     let r = parts_read has_pos next end more (before ++ x ∷ []) all bound more_kept
-        (ap (λ (y : Part). pieces.parts has_pos next end more (before ++ y ∷ [])) (sym found) ∙ a.2) in
+    (ap (λ (y : Part). pieces.parts has_pos next end more (before ++ y ∷ [])) (sym found) ∙ a.2) in
     record {
       added = x ∷ r.added;
       is = r.is ∙ append_assoc before (x ∷ []) r.added;

@@ -1,10 +1,9 @@
 -- A piece that keeps the limits is read from the lines that it spells.
-use Rattle.std.proofs.Common.{◌≡◌, ℕ, suc, ◌+◌, ◌<◌, ◌≤◌, Bool, true, false, ◌&&◌, cond, nat_le, List, [], ◌∷◌, ◌++◌, length, length-append, map, Option, Some, None, Result, Ok, Err, codes, lit≤, refl, sym, ap, subst, ◌∙◌, append_assoc, arith}
+use Rattle.std.proofs.Common.{◌≡◌, ℕ, ◌+◌, ◌<◌, ◌≤◌, Bool, true, false, ◌&&◌, nat_le, List, [], ◌∷◌, ◌++◌, length, length-append, map, None, Ok, codes, lit≤, refl, sym, ap, subst, ◌∙◌, append_assoc, arith}
 use Rattle.std.specs.Fmt.{decimal, signed_decimal}
 use Rattle.std.proofs.lemmas.Bool.{and_parts}
 use Rattle.std.proofs.lemmas.Bool.Decides.{nat_tests}
 use Rattle.std.proofs.lemmas.List.{append-nil}
-use Rattle.bv_base.specs.Answers.{then_do}
 use Rattle.lin_facts.specs.declared.row.Part.{Part}
 use Rattle.lin_facts.specs.declared.row.Row.{Row as RowOf}
 use Rattle.name_table.specs.Sound.{Each}
@@ -28,7 +27,6 @@ use Rattle.cert_format.specs.declared.piece_lines.PieceStage.{PieceStage}
 use Rattle.cert_format.specs.declared.piece_lines.PieceStage.TheVariants as stage
 use Rattle.cert_format.specs.declared.piece_lines.PieceWord.{PieceWord}
 use Rattle.cert_format.specs.declared.piece_lines.PieceWord.TheVariants.{Stack, Var, Field, Is, Int, Text, Call, Block, Blank, Nonblank, Wellformed, Row}
-use Rattle.cert_format.specs.declared.stop.Stop.{Stop}
 use Rattle.cert_format.proofs.CertItems.{block_taken, integer_taken, known_taken, placed_taken}
 use Rattle.cert_format.proofs.CertKept.{all_taken, ended_taken, last_taken, next_small, word_text}
 use Rattle.cert_format.proofs.CertNames.{entry_field_taken, name_taken, variable_taken}
@@ -243,7 +241,7 @@ parts_taken has_pos next end (first ∷ []) (x ∷ parts) before small each up f
 parts_taken has_pos next end (first ∷ (second ∷ more)) (x ∷ parts) before small each up few said =
     let later = subst (λ last. Up fits_part last parts) (sym (last_snoc before x)) up.1 in
     let rest = parts_taken has_pos next end more parts (before ++ x ∷ []) small each.1 later (room_more 32 before parts x few)
-        (ap (λ l. other_texts (other_texts l)) said) in
+    (ap (λ l. other_texts (other_texts l)) said) in
     then_go (pieces.part has_pos next before first (record { items = second ∷ more; end = end })) (x, record { items = more; end = end }) _ _
     (part_taken has_pos next before first second more end x small each.0 up.0 (room 32 before parts x few) (ap first_text said)
     (ap (λ l. first_text (other_texts l)) said))
@@ -314,10 +312,9 @@ read_at at_entry has_pos s next piece = record { at_entry = at_entry; has_pos = 
 
 -- lines that are read from what has been read of a piece
 module _ (style : Style) (Run : PieceSoFar → List (List (List ℕ)) → Type 0) (plain : ArePlain style.names)
-  (step : (p q : PieceSoFar) (kind : PieceWord) (texts : List (List ℕ)) (more : List (List (List ℕ))) → pieces.stage_rank p.stage ≤ pieces.word_rank kind
-      → ((word : Item) (rest : Line) → Has rest texts → pieces.piece_line style kind word rest p ≡ Ok q) → Run q more
-      → Run p ((word_text kind ∷ texts) ∷ more)) where
-
+    (step : (p q : PieceSoFar) (kind : PieceWord) (texts : List (List ℕ)) (more : List (List (List ℕ))) → pieces.stage_rank p.stage ≤ pieces.word_rank kind
+    → ((word : Item) (rest : Line) → Has rest texts → pieces.piece_line style kind word rest p ≡ Ok q) → Run q more
+    → Run p ((word_text kind ∷ texts) ∷ more)) where
   vars_go : (vars : List Bind) (p : PieceSoFar) (more : List (List (List ℕ))) → p.next ≤ 4294967295 → pieces.stage_rank p.stage ≤ 1
       → Each (λ bind. IsVariable p.at_entry style.names bind.name) vars → Up fits_bind (last_of p.piece.vars) vars
       → are_placed p.next (bound_symbols vars) ≡ true

@@ -1,21 +1,20 @@
 -- Bodies by their names or numbers, and the numbers of lists and commands: what is read is spelled so, and what is spelled is read.
-use Rattle.std.proofs.Common.{◌≡◌, ℕ, zero, suc, ◌+◌, ◌^◌, ◌<◌, ◌≤◌, Bool, true, false, ◌&&◌, ◌||◌, not, cond, nat_eq, nat_lt, nat_le, List, [], ◌∷◌, ◌++◌, length, map, take, drop, Option, Some, None, is_some, Result, Ok, Err, codes, refl, sym, ap, subst, ◌∙◌, arith}
+use Rattle.std.proofs.Common.{◌≡◌, ℕ, zero, suc, ◌+◌, ◌<◌, ◌≤◌, Bool, true, false, ◌&&◌, ◌||◌, not, cond, nat_eq, nat_lt, nat_le, List, [], ◌∷◌, map, Option, Some, None, is_some, Ok, codes, refl, sym, ap, subst, ◌∙◌, arith}
 use Rattle.std.specs.Fmt.{decimal}
 use Rattle.std.specs.List.{list_all}
 use Rattle.std.specs.Option.{option_map, option_map_or}
 use Rattle.std.specs.Prelude.{slice_get}
-use Rattle.std.proofs.lemmas.Bool.{and_parts, or_from, or_parts}
+use Rattle.std.proofs.lemmas.Bool.{and_parts, or_parts}
 use Rattle.std.proofs.lemmas.Bool.Decides.{nat_tests}
 use Rattle.bst_meaning.specs.declared.value.Target.{Target}
 use Rattle.bst_meaning.specs.declared.value.Target.TheVariants.{Named, Block}
-use Rattle.bv_base.specs.Bytes.{is_mark, is_name_byte}
+use Rattle.bv_base.specs.Bytes.{is_name_byte}
 use Rattle.bv_base.specs.Runs.{number_from}
-use Rattle.bv_base.proofs.ThenLemmas.{ok, ok_is, then_ok, unless_ok}
+use Rattle.bv_base.proofs.ThenLemmas.{ok_is, then_ok, unless_ok}
 use Rattle.name_table.specs.Names.{is_definable, kind_at}
 use Rattle.name_table.specs.Opening.{opening_names}
 use Rattle.name_table.specs.Sound.{AreNumbered, Each, IsDeclared, IsSound, block_of}
 use Rattle.name_table.specs.declared.names.Kind.{Kind}
-use Rattle.name_table.specs.declared.names.NameId.{NameId}
 use Rattle.name_table.specs.declared.style.Body.{Body as BodyOf}
 use Rattle.name_table.specs.declared.style.BodyId.{BodyId}
 use Rattle.name_table.specs.declared.style.Style.{Style}
@@ -27,9 +26,8 @@ use Rattle.cert_format.specs.Lines.{Item}
 use Rattle.cert_format.specs.PieceItems as items
 use Rattle.cert_format.specs.Spelling.{name_text}
 use Rattle.cert_format.specs.UnitSpelling.{block_number, body_text}
-use Rattle.cert_format.specs.declared.stop.Stop.{Stop}
 use Rattle.cert_format.proofs.CertItems.{block_read, block_taken}
-use Rattle.cert_format.proofs.CertNames.{IsNamed, known_name, name_taken}
+use Rattle.cert_format.proofs.CertNames.{known_name, name_taken}
 use Rattle.cert_format.proofs.CertWords.{after_read}
 use Rattle.cert_format.proofs.CondTaken.{then_go}
 use Rattle.cert_format.proofs.Numerals.{Numeral, numeral_of, numeral_text}

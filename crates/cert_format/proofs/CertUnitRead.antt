@@ -1,18 +1,17 @@
 -- Each line of a unit that is read is spelled by what has been read after it, and that keeps the limits.
-use Rattle.std.proofs.Common.{◌≡◌, ℕ, suc, ◌+◌, ◌<◌, ◌≤◌, Bool, true, false, ◌&&◌, not, cond, nat_le, List, [], ◌∷◌, ◌++◌, length, map, Option, Some, None, IfSome, is_some, Result, Ok, Err, codes, lit≤, refl, sym, ap, subst, ◌∙◌, append_assoc, arith}
+use Rattle.std.proofs.Common.{◌≡◌, ℕ, ◌+◌, ◌<◌, ◌≤◌, Bool, true, false, ◌&&◌, cond, nat_le, List, [], ◌∷◌, ◌++◌, map, Option, Some, None, Ok, codes, lit≤, refl, sym, ap, subst, ◌∙◌, arith}
 use Rattle.std.proofs.lemmas.Bool.{and_parts}
 use Rattle.std.proofs.lemmas.Bool.Decides.{nat_tests}
 use Rattle.bv_base.specs.Answers.{then_do}
 use Rattle.bv_base.proofs.ThenLemmas.{ok, ok_is, then_ok, unless_ok, where_ok}
-use Rattle.name_table.specs.Names.{same_name}
 use Rattle.name_table.specs.Sound.{Each}
 use Rattle.name_table.specs.declared.names.Kind.{Kind}
 use Rattle.name_table.specs.declared.names.NameId.{NameId}
 use Rattle.name_table.specs.declared.style.Style.{Style}
 use Rattle.sym_state.specs.declared.hint.Hint.{Hint}
 use Rattle.sym_state.proofs.Consequences.{same_bytes}
-use Rattle.cert_format.specs.CertText.{AreWrites, IsHint, IsPiece, IsVariable, next_behind, places_of}
-use Rattle.cert_format.specs.CondText.{is_below, is_chain}
+use Rattle.cert_format.specs.CertText.{AreWrites, IsHint, IsPiece, IsVariable}
+use Rattle.cert_format.specs.CondText.{is_below}
 use Rattle.cert_format.specs.HintSpelling.{hint_items}
 use Rattle.cert_format.specs.Hints.{hint_line}
 use Rattle.cert_format.specs.Items.{among, is_above, is_word, last_of}
@@ -35,12 +34,13 @@ use Rattle.cert_format.specs.declared.unit_lines.UnitStage.{UnitStage}
 use Rattle.cert_format.specs.declared.unit_lines.UnitStage.TheVariants as stage
 use Rattle.cert_format.proofs.CertBodies.{bare_body, bare_good, bare_ready, close_good, count_more, front_behind, full_last, mark_body, new_front, piece_body, ready_next, start_small}
 use Rattle.cert_format.proofs.CertHints.{hint_read}
-use Rattle.cert_format.proofs.CertKept.{ended_read, last_read, map_snoc}
+use Rattle.cert_format.proofs.CertKept.{ended_read, last_read, named_word}
 use Rattle.cert_format.proofs.CertNames.{variable_read}
 use Rattle.cert_format.proofs.CertSteps.{Fits, Kept, in_back, piece_read}
 use Rattle.cert_format.proofs.CertUnits.{Bare, CountAt, Counted, Full, Good, Headless, Lines, Open, OpenAt, Ready, Shape, UnitKept, body_lines, closed, first_items, hints_at, mark_text, rank, tail_lines, unit_spelled}
 use Rattle.cert_format.proofs.CondKept.{chain_snoc, each_snoc}
 use Rattle.cert_format.proofs.CondRead.{Has, item_before}
+use Rattle.cert_format.proofs.CondSteps.{map_snoc}
 use Rattle.cert_format.proofs.Split.{Ended, texts}
 
 -- a line that is read is spelled behind those before it
@@ -297,6 +297,15 @@ record AllClosed (style : Style) (u : UnitSoFar) (last : Option Mark) (v : UnitS
   pub good : Good style u.kind u.entry v
   pub count : Counted u.kind u.count v
 
+-- a piece is open before the hints
+ready_of : (kind : UnitKind) (u : UnitSoFar) (s : UnitStage) (mark : Mark) → rank s < 4 → Shape s (Some mark) kind u → Ready kind mark u
+ready_of kind u stage.Entry mark low shape = shape
+ready_of kind u stage.Whole mark low shape = shape
+ready_of kind u stage.Writes mark low shape = shape
+ready_of kind u stage.Pieces mark low shape = shape
+ready_of kind u stage.Hints mark low shape = absurd (omega (arith, low))
+ready_of kind u stage.Done mark low shape = absurd (omega (arith, low))
+
 -- the pieces that have been read are closed
 closed_kept : (style : Style) (u : UnitSoFar) (next : PieceSoFar) (last : Option Mark) → rank u.stage < 4 → UnitKept style u → u.last ≡ last
     → AllClosed style u last (units.placed_as last next u)
@@ -305,7 +314,7 @@ closed_kept style u next None low kept some =
 closed_kept style u next (Some mark) low kept some =
     let o : Open style mark u = subst (λ (l : Option Mark). OpenAt style l u) some kept.open_piece in
     let start = units.first_symbol mark u.symbols in
-    let ready : Ready u.kind mark u = ready_of u.stage low (subst (λ (l : Option Mark). Shape u.stage l u.kind u) some kept.shape) in
+    let ready : Ready u.kind mark u = ready_of u.kind u u.stage mark low (subst (λ (l : Option Mark). Shape u.stage l u.kind u) some kept.shape) in
     let count : CountAt (Some mark) u.kind u.count u = subst (λ (l : Option Mark). CountAt l u.kind u.count u) some kept.count in
     let here : IsPiece style (units.is_at_entry u.kind u.entry) u.piece.has_pos start u.piece.piece =
     subst (λ (b : Bool). IsPiece style b u.piece.has_pos start u.piece.piece) o.entry o.kept.is in
@@ -315,14 +324,6 @@ closed_kept style u next (Some mark) low kept some =
       good = close_good style u.kind mark u next ready kept.good is o.kept.next;
       count = subst (λ (n : ℕ). Counted u.kind n (units.placed_as (Some mark) next u)) (sym count.1) (count_more u.kind mark u next count.0 ready count.2);
     }
-  where
-    ready_of : (s : UnitStage) → rank s < 4 → Shape s (Some mark) u.kind u → Ready u.kind mark u
-    ready_of stage.Entry low shape = shape
-    ready_of stage.Whole low shape = shape
-    ready_of stage.Writes low shape = shape
-    ready_of stage.Pieces low shape = shape
-    ready_of stage.Hints low shape = absurd (omega (arith, low))
-    ready_of stage.Done low shape = absurd (omega (arith, low))
 
 -- a piece may be opened behind what has been read
 next_ready : (style : Style) (u : UnitSoFar) (next : PieceSoFar) (last : Option Mark) (mark : Mark) → rank u.stage < 4 → UnitKept style u → u.last ≡ last
@@ -330,15 +331,7 @@ next_ready : (style : Style) (u : UnitSoFar) (next : PieceSoFar) (last : Option 
 next_ready style u next None mark low kept some follows =
     bare_ready u.kind mark (record u { piece = next }) (shape_bare u.stage u.last u.kind u low some kept.shape) follows
 next_ready style u next (Some last) mark low kept some follows =
-    ready_next u.kind last mark u next (ready_of u.stage low (subst (λ (l : Option Mark). Shape u.stage l u.kind u) some kept.shape)) follows
-  where
-    ready_of : (s : UnitStage) → rank s < 4 → Shape s (Some last) u.kind u → Ready u.kind last u
-    ready_of stage.Entry low shape = shape
-    ready_of stage.Whole low shape = shape
-    ready_of stage.Writes low shape = shape
-    ready_of stage.Pieces low shape = shape
-    ready_of stage.Hints low shape = absurd (omega (arith, low))
-    ready_of stage.Done low shape = absurd (omega (arith, low))
+    ready_next u.kind last mark u next (ready_of u.kind u u.stage last low (subst (λ (l : Option Mark). Shape u.stage l u.kind u) some kept.shape)) follows
 
 -- what a piece is before its first line
 empty_kept : (style : Style) (at_entry has_pos : Bool) (start : ℕ) → start ≤ 4294967295 → Kept style start (pieces.no_piece at_entry has_pos start)
@@ -362,36 +355,30 @@ empty_fits : (n : ℕ) (at_entry has_pos : Bool) (start : ℕ) → Fits n (piece
 empty_fits n at_entry has_pos start =
     record { stack = λ h. refl; vars = λ h. refl; fields = λ h. refl; facts = λ h. refl; rows = λ h. refl }
 
--- closing a piece changes none of these
-same_kind : (last : Option Mark) (next : PieceSoFar) (u : UnitSoFar) → (units.placed_as last next u).kind ≡ u.kind
-same_kind None next u = refl
-same_kind (Some Pre) next u = refl
-same_kind (Some Post) next u = refl
-same_kind (Some Case) next u = refl
-same_kind (Some Exit) next u = refl
-same_kind (Some After) next u = refl
-same_kind (Some Visit) next u = refl
-same_kind (Some Keeps) next u = refl
+-- a unit with the closed pieces of another one, and another open piece
+abbrev put_in : UnitSoFar → PieceSoFar → UnitSoFar → UnitSoFar
+put_in w next u =
+    record u {
+      symbols = w.symbols;
+      piece = next;
+      pre = w.pre;
+      cases = w.cases;
+      later = w.later;
+      after = w.after;
+      visit = w.visit;
+      keeps = w.keeps;
+    }
 
-same_entry : (last : Option Mark) (next : PieceSoFar) (u : UnitSoFar) → (units.placed_as last next u).entry ≡ u.entry
-same_entry None next u = refl
-same_entry (Some Pre) next u = refl
-same_entry (Some Post) next u = refl
-same_entry (Some Case) next u = refl
-same_entry (Some Exit) next u = refl
-same_entry (Some After) next u = refl
-same_entry (Some Visit) next u = refl
-same_entry (Some Keeps) next u = refl
-
-piece_placed : (last : Option Mark) (next : PieceSoFar) (u : UnitSoFar) → (units.placed_as last next u).piece ≡ next
-piece_placed None next u = refl
-piece_placed (Some Pre) next u = refl
-piece_placed (Some Post) next u = refl
-piece_placed (Some Case) next u = refl
-piece_placed (Some Exit) next u = refl
-piece_placed (Some After) next u = refl
-piece_placed (Some Visit) next u = refl
-piece_placed (Some Keeps) next u = refl
+-- closing a piece changes nothing else
+same_but : (last : Option Mark) (next : PieceSoFar) (u : UnitSoFar) → units.placed_as last next u ≡ put_in (units.placed_as last next u) next u
+same_but None next u = refl
+same_but (Some Pre) next u = refl
+same_but (Some Post) next u = refl
+same_but (Some Case) next u = refl
+same_but (Some Exit) next u = refl
+same_but (Some After) next u = refl
+same_but (Some Visit) next u = refl
+same_but (Some Keeps) next u = refl
 
 symbols_placed : (last : Option Mark) (next : PieceSoFar) (u : UnitSoFar) → (units.placed_as last next u).symbols ≡ units.symbols_of last u
 symbols_placed None next u = refl
@@ -441,30 +428,20 @@ spelled_at style u next last low some =
 
 settled : (style : Style) (u : UnitSoFar) (next : PieceSoFar) (last : Option Mark) → rank u.stage < 4 → UnitKept style u → u.last ≡ last
     → Settled style u (units.placed_as last next u)
-settled style u next None low kept some =
-    let c = closed_kept style u next None low kept some in
-    record { writes = kept.writes; hints = kept.no_hints low; good = c.good; count = c.count; few = refl; headless = kept.headless; spelled = spelled_at style u next None low some }
-settled style u next (Some Pre) low kept some =
-    let c = closed_kept style u next (Some Pre) low kept some in
-    record { writes = kept.writes; hints = kept.no_hints low; good = c.good; count = c.count; few = refl; headless = kept.headless; spelled = spelled_at style u next (Some Pre) low some }
-settled style u next (Some Post) low kept some =
-    let c = closed_kept style u next (Some Post) low kept some in
-    record { writes = kept.writes; hints = kept.no_hints low; good = c.good; count = c.count; few = refl; headless = kept.headless; spelled = spelled_at style u next (Some Post) low some }
-settled style u next (Some Case) low kept some =
-    let c = closed_kept style u next (Some Case) low kept some in
-    record { writes = kept.writes; hints = kept.no_hints low; good = c.good; count = c.count; few = refl; headless = kept.headless; spelled = spelled_at style u next (Some Case) low some }
-settled style u next (Some Exit) low kept some =
-    let c = closed_kept style u next (Some Exit) low kept some in
-    record { writes = kept.writes; hints = kept.no_hints low; good = c.good; count = c.count; few = refl; headless = kept.headless; spelled = spelled_at style u next (Some Exit) low some }
-settled style u next (Some After) low kept some =
-    let c = closed_kept style u next (Some After) low kept some in
-    record { writes = kept.writes; hints = kept.no_hints low; good = c.good; count = c.count; few = refl; headless = kept.headless; spelled = spelled_at style u next (Some After) low some }
-settled style u next (Some Visit) low kept some =
-    let c = closed_kept style u next (Some Visit) low kept some in
-    record { writes = kept.writes; hints = kept.no_hints low; good = c.good; count = c.count; few = refl; headless = kept.headless; spelled = spelled_at style u next (Some Visit) low some }
-settled style u next (Some Keeps) low kept some =
-    let c = closed_kept style u next (Some Keeps) low kept some in
-    record { writes = kept.writes; hints = kept.no_hints low; good = c.good; count = c.count; few = refl; headless = kept.headless; spelled = spelled_at style u next (Some Keeps) low some }
+settled style u next last low kept some =
+    let c = closed_kept style u next last low kept some in
+    let v = put_in (units.placed_as last next u) next u in
+    let closed_all : Settled style u v =
+    record {
+      writes = kept.writes;
+      hints = kept.no_hints low;
+      good = c.good;
+      count = c.count;
+      few = refl;
+      headless = kept.headless;
+      spelled = spelled_at style u next last low some;
+    } in
+    subst (λ (w : UnitSoFar). Settled style u w) (sym (same_but last next u)) closed_all
 
 under : (most n : ℕ) → nat_le most n ≡ false → n < most
 under most n e = grind (arith, nat_tests)
@@ -484,14 +461,14 @@ mark_step style u mark word rest line v is kept low said follows e =
     let room = unless_ok (nat_le 64 u.count) _ _ _ e in
     let r = ended_read rest next v room.1 in
     let s = settled style u fresh u.last low kept refl in
-    let kind = same_kind u.last fresh u in
+    let kind = ap (λ (x : UnitSoFar). x.kind) (same_but u.last fresh u) in
     let ready : Ready w.kind mark w = subst (λ (k : UnitKind). Ready k mark w) (sym kind) (next_ready style u fresh u.last mark low kept refl follows) in
-    let piece : w.piece ≡ fresh = piece_placed u.last fresh u in
+    let piece : w.piece ≡ fresh = ap (λ (x : UnitSoFar). x.piece) (same_but u.last fresh u) in
     let symbols : units.first_symbol mark w.symbols ≡ start = ap (units.first_symbol mark) (symbols_placed u.last fresh u) in
     let small : start ≤ 4294967295 = subst (λ (n : ℕ). n ≤ 4294967295) symbols (start_small style w.kind mark w ready s.good) in
     let first : Kept style (units.first_symbol mark w.symbols) w.piece =
     subst (λ (n : ℕ). Kept style n w.piece) (sym symbols) (subst (λ (p : PieceSoFar). Kept style start p) (sym piece) (empty_kept style entry pos start small)) in
-    let same_flag = same_entry u.last fresh u in
+    let same_flag = ap (λ (x : UnitSoFar). x.entry) (same_but u.last fresh u) in
     let opened : Open style mark next =
     record {
       kept = first;
@@ -537,7 +514,7 @@ hints_step style u word rest line v is kept low e =
     let both = and_parts (is_word (codes "hints") word) (units.may_have_hints u.kind u.last) a.0 in
     let r = ended_read rest next v a.1 in
     let s = settled style u fresh u.last low kept refl in
-    let kind = same_kind u.last fresh u in
+    let kind = ap (λ (x : UnitSoFar). x.kind) (same_but u.last fresh u) in
     let whole : Full w.kind w = subst (λ (k : UnitKind). Full k w) (sym kind) (full_at u.last refl both.1) in
     let x : List (List ℕ) = codes "hints" ∷ [] in
     let none : hints_at stage.Hints w.hints ≡ x ∷ [] = ap (λ (l : List Hint). x ∷ map hint_items l) s.hints in
@@ -563,14 +540,6 @@ hints_step style u word rest line v is kept low e =
     ∙ ap (λ (l : Lines). l ++ x ∷ []) (sym s.spelled))
     (item_before line word rest (codes "hints") [] is (same_bytes word.text (codes "hints") both.0) r.1) good kind
   where
-    ready_of : (s : UnitStage) (mark : Mark) → rank s < 4 → Shape s (Some mark) u.kind u → Ready u.kind mark u
-    ready_of stage.Entry mark low shape = shape
-    ready_of stage.Whole mark low shape = shape
-    ready_of stage.Writes mark low shape = shape
-    ready_of stage.Pieces mark low shape = shape
-    ready_of stage.Hints mark low shape = absurd (omega (arith, low))
-    ready_of stage.Done mark low shape = absurd (omega (arith, low))
-
     full_none : (k : UnitKind) → units.may_have_hints k None ≡ true → Full k (units.placed_as None (pieces.no_piece false false 0) u)
     full_none (unit.Summary entered) f = absurd (cc)
     full_none (unit.Loop test repeated) f = absurd (cc)
@@ -581,7 +550,7 @@ hints_step style u word rest line v is kept low e =
     full_at None some f = full_none u.kind f
     full_at (Some mark) some f =
         full_last u.kind mark u (pieces.no_piece false false 0)
-        (ready_of u.stage mark low (subst (λ (l : Option Mark). Shape u.stage l u.kind u) some kept.shape))
+        (ready_of u.kind u u.stage mark low (subst (λ (l : Option Mark). Shape u.stage l u.kind u) some kept.shape))
 
 -- a hint
 hint_step : (style : Style) (u : UnitSoFar) (word : Item) (rest line : Line) (v : UnitSoFar) → line ≡ with_item word rest → UnitKept style u
@@ -660,27 +629,16 @@ end_step style u word rest line v is kept at said e =
     (item_before line word rest (codes "end") [] is said r.1) good refl
 
 -- the words before pieces
-named_mark : (P : Mark → Type 0) (text word : List ℕ) (value : Mark) (rest : Option Mark) (k : Mark)
-    → cond (same_name text word) (Some value) rest ≡ Some k → (text ≡ word → P value) → (rest ≡ Some k → P k) → P k
-named_mark P text word value rest k e here next = by_test (same_name text word) refl e
-  where
-    some_of : (x y : Mark) → Some x ≡ Some y → y ≡ x
-    some_of x y e = cc
-
-    by_test : (t : Bool) → same_name text word ≡ t → cond t (Some value) rest ≡ Some k → P k
-    by_test true is f = subst P (sym (some_of value k f)) (here (same_bytes text word is))
-    by_test false is f = next f
-
 mark_said : (text : List ℕ) (k : Mark) → among text units.mark_words ≡ Some k → text ≡ mark_text k
 mark_said text k e =
     let P : Mark → Type 0 = λ w. text ≡ mark_text w in
-    named_mark P text (codes "pre") Pre _ k e (λ s. s) (λ e1.
-    named_mark P text (codes "post") Post _ k e1 (λ s. s) (λ e2.
-    named_mark P text (codes "case") Case _ k e2 (λ s. s) (λ e3.
-    named_mark P text (codes "exit") Exit _ k e3 (λ s. s) (λ e4.
-    named_mark P text (codes "after") After _ k e4 (λ s. s) (λ e5.
-    named_mark P text (codes "visit") Visit _ k e5 (λ s. s) (λ e6.
-    named_mark P text (codes "keeps") Keeps _ k e6 (λ s. s) (λ e7. absurd (cc))))))))
+    named_word P text (codes "pre") Pre _ k e (λ s. s) (λ e1.
+    named_word P text (codes "post") Post _ k e1 (λ s. s) (λ e2.
+    named_word P text (codes "case") Case _ k e2 (λ s. s) (λ e3.
+    named_word P text (codes "exit") Exit _ k e3 (λ s. s) (λ e4.
+    named_word P text (codes "after") After _ k e4 (λ s. s) (λ e5.
+    named_word P text (codes "visit") Visit _ k e5 (λ s. s) (λ e6.
+    named_word P text (codes "keeps") Keeps _ k e6 (λ s. s) (λ e7. absurd (cc))))))))
 
 -- a word before a piece, or `hints`
 marked_step : (style : Style) (u : UnitSoFar) (word : Item) (rest line : Line) (v : UnitSoFar) (o : Option Mark) → line ≡ with_item word rest

@@ -1,12 +1,10 @@
 -- The lines of a unit that keeps the limits are read as that unit.
-use Rattle.std.proofs.Common.{◌≡◌, ℕ, suc, ◌+◌, ◌<◌, ◌≤◌, Bool, true, false, ◌&&◌, cond, nat_le, List, [], ◌∷◌, ◌++◌, length, length-append, map, Option, Some, None, Result, Ok, Err, codes, lit≤, refl, sym, ap, subst, ◌∙◌, append_assoc, arith}
-use Rattle.std.specs.Fmt.{decimal}
+use Rattle.std.proofs.Common.{◌≡◌, ℕ, ◌+◌, ◌<◌, ◌≤◌, Bool, true, false, ◌&&◌, cond, nat_le, List, [], ◌∷◌, ◌++◌, length, map, Option, Some, None, Ok, Err, codes, lit≤, refl, sym, ap, subst, ◌∙◌, append_assoc, arith}
 use Rattle.std.specs.Option.{option_and_then}
 use Rattle.std.proofs.lemmas.Bool.Decides.{nat_tests}
 use Rattle.std.proofs.lemmas.List.{append-nil}
 use Rattle.bv_base.specs.Answers.{then_do}
 use Rattle.name_table.specs.Sound.{Each}
-use Rattle.name_table.specs.declared.names.Kind.{Kind}
 use Rattle.name_table.specs.declared.names.NameId.{NameId}
 use Rattle.name_table.specs.declared.style.Style.{Style}
 use Rattle.sym_state.specs.declared.hint.Hint.{Hint}
@@ -34,7 +32,6 @@ use Rattle.cert_format.specs.declared.stop.Stop.TheVariants.{Syntax, TooMany}
 use Rattle.cert_format.specs.declared.unit_lines.Mark.{Mark}
 use Rattle.cert_format.specs.declared.unit_lines.Mark.TheVariants.{Pre, Post, Case, Exit, After, Visit, Keeps}
 use Rattle.cert_format.specs.declared.unit_lines.UnitKind.{UnitKind}
-use Rattle.cert_format.specs.declared.unit_lines.UnitKind.TheVariants as unit
 use Rattle.cert_format.specs.declared.unit_lines.UnitSoFar.{UnitSoFar}
 use Rattle.cert_format.specs.declared.unit_lines.UnitStage.{UnitStage}
 use Rattle.cert_format.specs.declared.unit_lines.UnitStage.TheVariants as stage
@@ -268,11 +265,11 @@ marked_go style c kind entry whole writes u mark n cl at_entry has_pos start pie
     let at : PieceSoFar → UnitSoFar = λ p. state kind entry whole writes (Some mark) n cl p in
     let Run : PieceSoFar → Lines → Type 0 = λ p l. Goes style l (inside c (at p)) q in
     let step : (p r : PieceSoFar) (word : PieceWord) (texts : List (List ℕ)) (l : Lines) → pieces.stage_rank p.stage ≤ pieces.word_rank word
-        → ((w : Item) (rest : Line) → Has rest texts → pieces.piece_line style word w rest p ≡ Ok r) → Run r l → Run p ((word_text word ∷ texts) ∷ l) =
+    → ((w : Item) (rest : Line) → Has rest texts → pieces.piece_line style word w rest p ≡ Ok r) → Run r l → Run p ((word_text word ∷ texts) ∷ l) =
     λ p r word texts l due one next.
-        unit_goes style c (at p) (at r) q (word_text word) texts l refl
-        (λ w rest said has. ap (λ o. units.piece_or_mark style o w rest (at p)) (due_taken p.stage word w.text said due)
-        ∙ then_go (pieces.piece_line style word w rest p) r _ _ (one w rest has) refl) next in
+    unit_goes style c (at p) (at r) q (word_text word) texts l refl
+    (λ w rest said has. ap (λ o. units.piece_or_mark style o w rest (at p)) (due_taken p.stage word w.text said due)
+    ∙ then_go (pieces.piece_line style word w rest p) r _ _ (one w rest has) refl) next in
     unit_goes style c u (at (pieces.no_piece at_entry has_pos start)) q (mark_text mark) [] (piece_lines style.names piece ++ more) refl
     (λ word line said has. ap (λ (t : List ℕ). units.unit_line style (worded t word.left) line u) said
     ∙ mark_by style u mark word.left line low follows room has ∙ ap Ok opens)

@@ -1,7 +1,6 @@
 -- What has been read of a unit: its spelling, and what it keeps.
-use Rattle.std.proofs.Common.{◌≡◌, ℕ, suc, ◌+◌, ◌<◌, ◌≤◌, Bool, true, false, ◌&&◌, cond, nat_le, List, [], ◌∷◌, ◌++◌, length, length-append, map, Option, Some, None, IfSome, is_some, Result, Ok, Err, codes, lit≤, refl, sym, ap, subst, ◌∙◌, append_assoc, arith}
+use Rattle.std.proofs.Common.{◌≡◌, ℕ, ◌+◌, ◌<◌, ◌≤◌, Bool, true, false, List, [], ◌∷◌, ◌++◌, length, map, Option, Some, None, IfSome, codes}
 use Rattle.std.specs.Fmt.{decimal}
-use Rattle.std.proofs.lemmas.List.{append-nil}
 use Rattle.name_table.specs.Sound.{Each}
 use Rattle.name_table.specs.declared.names.Kind.{Kind}
 use Rattle.name_table.specs.declared.names.NameId.{NameId}
@@ -10,11 +9,9 @@ use Rattle.sym_state.specs.declared.hint.Hint.{Hint}
 use Rattle.sym_state.specs.declared.piece.Piece.{Piece}
 use Rattle.cert_format.specs.CertText.{AreWrites, IsHint, IsPiece, next_behind, places_of}
 use Rattle.cert_format.specs.HintSpelling.{hint_items}
-use Rattle.cert_format.specs.PieceSpelling.{piece_lines}
 use Rattle.cert_format.specs.Pieces as pieces
-use Rattle.cert_format.specs.UnitSpelling.{all_marked, body_text, each_lines, head_lines, marked_lines, maybe_marked, word_lines, writes_items}
+use Rattle.cert_format.specs.UnitSpelling.{all_marked, body_text, head_lines, maybe_marked}
 use Rattle.cert_format.specs.Units as units
-use Rattle.cert_format.specs.declared.piece_lines.PieceSoFar.{PieceSoFar}
 use Rattle.cert_format.specs.declared.unit_lines.Mark.{Mark}
 use Rattle.cert_format.specs.declared.unit_lines.Mark.TheVariants.{Pre, Post, Case, Exit, After, Visit, Keeps}
 use Rattle.cert_format.specs.declared.unit_lines.UnitKind.{UnitKind}
@@ -22,9 +19,7 @@ use Rattle.cert_format.specs.declared.unit_lines.UnitKind.TheVariants as unit
 use Rattle.cert_format.specs.declared.unit_lines.UnitSoFar.{UnitSoFar}
 use Rattle.cert_format.specs.declared.unit_lines.UnitStage.{UnitStage}
 use Rattle.cert_format.specs.declared.unit_lines.UnitStage.TheVariants as stage
-use Rattle.cert_format.proofs.CertKept.{each_none}
 use Rattle.cert_format.proofs.CertSteps.{Fits, Kept}
-use Rattle.cert_format.proofs.CondKept.{each_snoc}
 
 -- the lines of a text
 abbrev pub Lines : Type 0

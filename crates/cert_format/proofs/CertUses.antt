@@ -1,12 +1,12 @@
 -- References and uses of proofs: what is read is what they spell, and what is spelled is read.
-use Rattle.std.proofs.Common.{◌≡◌, ℕ, zero, suc, ◌+◌, ◌^◌, ◌<◌, ◌≤◌, Bool, true, false, ◌&&◌, ◌||◌, not, cond, nat_eq, nat_lt, min, List, [], ◌∷◌, ◌++◌, length, take, drop, Option, Some, None, Result, Ok, Err, codes, refl, sym, ap, subst, ◌∙◌, arith}
+use Rattle.std.proofs.Common.{◌≡◌, ℕ, ◌≤◌, Bool, true, false, ◌||◌, not, cond, nat_eq, nat_lt, min, List, [], ◌∷◌, ◌++◌, length, take, drop, Option, Some, None, Result, Ok, refl, sym, ap, subst, ◌∙◌, arith}
 use Rattle.std.specs.Fmt.{decimal}
 use Rattle.std.specs.List.{list_all}
-use Rattle.std.proofs.lemmas.Bool.{and_parts, or_from, or_parts}
+use Rattle.std.proofs.lemmas.Bool.{and_parts, or_parts}
 use Rattle.std.proofs.lemmas.Bool.Decides.{nat_tests}
 use Rattle.std.proofs.lemmas.List.{take-append-drop}
 use Rattle.bv_base.proofs.RunLemmas.{ends_before, length_before_is}
-use Rattle.bv_base.proofs.ThenLemmas.{ok, ok_is, then_ok, unless_ok, where_ok}
+use Rattle.bv_base.proofs.ThenLemmas.{ok_is, unless_ok}
 use Rattle.bv_base.specs.Runs.{EndsBy, NoneOf, is_digit, length_before, number_from}
 use Rattle.sym_state.specs.declared.proof.Reference.{Reference}
 use Rattle.sym_state.specs.declared.proof.Reference.TheVariants.{Row, ValueLow, ValueHigh, LengthLow, NamesLow, NamesHigh, ExactLow, ExactHigh, NonblankLength, NonblankNames, TextLow, TextHigh, PosLow, PosHigh, CountLow, CountHigh}
@@ -18,7 +18,6 @@ use Rattle.cert_format.specs.Hints.{bare, is_colon, is_out, numbered, reference_
 use Rattle.cert_format.specs.Items.{has_leading_zero, is_empty, is_numeral}
 use Rattle.cert_format.specs.Lines.{Item}
 use Rattle.cert_format.specs.declared.stop.Stop.{Stop}
-use Rattle.cert_format.specs.declared.stop.Stop.TheVariants.{Syntax, OutOfRange, NotCanonical}
 use Rattle.cert_format.proofs.Numerals.{Numeral, numeral_of, numeral_text}
 
 some_of : {A : Type 0} (x y : A) → Some x ≡ Some y → y ≡ x
@@ -180,8 +179,8 @@ use_read item one e =
     let count = length_before is_colon item.text in
     let used = used_read (take count item.text) (drop 1 (drop count item.text)) item.left one e in (
       sym (take-append-drop count item.text)
-      ∙ ap (λ (front : List ℕ). front ++ drop count item.text) used.times_said
-      ∙ ap (λ (back : List ℕ). decimal one.times ++ back) (colon_first (drop count item.text) one.reference (ends_before is_colon item.text) used.reference_said),
+          ∙ ap (λ (front : List ℕ). front ++ drop count item.text) used.times_said
+          ∙ ap (λ (back : List ℕ). decimal one.times ++ back) (colon_first (drop count item.text) one.reference (ends_before is_colon item.text) used.reference_said),
       used.is,
     )
 

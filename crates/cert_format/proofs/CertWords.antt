@@ -1,12 +1,12 @@
 -- Words, texts, terms and references of certificates: what is read is what they spell, and what is spelled is read.
-use Rattle.std.proofs.Common.{◌≡◌, ℕ, zero, suc, ◌+◌, ◌*◌, ◌-◌, ◌/◌, ◌%◌, ◌^◌, ◌<◌, ◌≤◌, Bool, true, false, ◌&&◌, ◌||◌, not, cond, nat_eq, nat_lt, nat_le, min, List, [], ◌∷◌, ◌++◌, length, take, drop, Option, Some, None, Result, Ok, Err, codes, refl, sym, ap, subst, ◌∙◌, arith}
+use Rattle.std.proofs.Common.{◌≡◌, ℕ, ◌+◌, ◌*◌, ◌-◌, ◌/◌, ◌%◌, ◌<◌, ◌≤◌, Bool, true, false, ◌&&◌, cond, nat_eq, nat_lt, nat_le, List, [], ◌∷◌, ◌++◌, length, take, drop, Option, Some, None, Result, Ok, Err, codes, refl, sym, ap, subst, ◌∙◌, arith}
 use Rattle.std.specs.Fmt.{decimal}
 use Rattle.std.specs.Option.{option_map, option_map_or}
 use Rattle.std.proofs.lemmas.Bool.Decides.{nat_tests}
 use Rattle.std.proofs.lemmas.List.{take-append-drop}
 use Rattle.std.specs.Cmp.Lexicographic.{pointwise}
 use Rattle.bv_base.specs.Answers.{then_do}
-use Rattle.bv_base.proofs.ThenLemmas.{ok, ok_is, then_ok, unless_ok, where_ok}
+use Rattle.bv_base.proofs.ThenLemmas.{ok, ok_is, then_ok}
 use Rattle.bv_base.specs.Runs.{is_digit}
 use Rattle.lin_facts.specs.declared.row.Term.{Term}
 use Rattle.lin_facts.specs.declared.row.Term.TheVariants.{Value, Length, Names, Pos, Count}
@@ -19,11 +19,10 @@ use Rattle.cert_format.specs.CertText.{IsTerm, has_word}
 use Rattle.cert_format.specs.Items.{is_word}
 use Rattle.cert_format.specs.Lines.{Item}
 use Rattle.cert_format.specs.PieceItems as items
-use Rattle.cert_format.specs.PieceSpelling.{hex_digit, hex_digits, hex_text, kind_text, sym_text, term_text}
+use Rattle.cert_format.specs.PieceSpelling.{hex_digit, hex_digits, hex_text, kind_text, term_text}
 use Rattle.cert_format.specs.declared.stop.Stop.{Stop}
 use Rattle.cert_format.specs.declared.stop.Stop.TheVariants.{Syntax}
 use Rattle.cert_format.proofs.CertItems.{known_read, known_taken}
-use Rattle.cert_format.proofs.CondTaken.{other_word, word_taken}
 
 -- the first of some words, or what comes for another one
 pub pick : {A : Type 0} (P : A → Type 0) (word : List ℕ) (item : Item) (value : A) (rest : Result A Stop) (a : A)
@@ -121,11 +120,10 @@ pair_read high low digits bytes (Some h) (Some l) (Some more) first second rest 
     let n = two_digits h l a.1 b.1 in
     let c = rest more refl in
     let byte : ℕ = 16 * h + l in
-    subst (Bytes (high ∷ (low ∷ digits))) (sym (some_of (byte ∷ more) bytes e))
-    (
+    subst (Bytes (high ∷ (low ∷ digits))) (sym (some_of (byte ∷ more) bytes e)) (
       ap (λ (x : ℕ). x ∷ (low ∷ digits)) (a.0 ∙ ap hex_digit (sym n.0))
-      ∙ ap (λ (x : ℕ). hex_digit (byte / 16) ∷ (x ∷ digits)) (b.0 ∙ ap hex_digit (sym n.1))
-      ∙ ap (λ (x : List ℕ). hex_digit (byte / 16) ∷ (hex_digit (byte % 16) ∷ x)) c.0,
+          ∙ ap (λ (x : ℕ). hex_digit (byte / 16) ∷ (x ∷ digits)) (b.0 ∙ ap hex_digit (sym n.1))
+          ∙ ap (λ (x : List ℕ). hex_digit (byte / 16) ∷ (hex_digit (byte % 16) ∷ x)) c.0,
       (n.2, c.1),
     )
 pair_read high low digits bytes (Some h) (Some l) None first second rest e = absurd (cc)

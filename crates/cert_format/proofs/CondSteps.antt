@@ -79,11 +79,11 @@ stepped names s c line q next items is goes has fits =
       fits = subst (λ (p : CondSoFar). Fits p.stage p.cond) (sym is) fits;
     }
 
-map_snoc : {A B : Type 0} (f : A → B) (xs : List A) (x : A) → map f (xs ++ x ∷ []) ≡ map f xs ++ f x ∷ []
+pub map_snoc : {A B : Type 0} (f : A → B) (xs : List A) (x : A) → map f (xs ++ x ∷ []) ≡ map f xs ++ f x ∷ []
 map_snoc f [] x = refl
 map_snoc f (y ∷ xs) x = ap (λ l. f y ∷ l) (map_snoc f xs x)
 
-snoc_left : {A : Type 0} (a : List A) (x : A) (m : List A) → m ≡ [] → (a ++ x ∷ []) ++ m ≡ (a ++ m) ++ x ∷ []
+pub snoc_left : {A : Type 0} (a : List A) (x : A) (m : List A) → m ≡ [] → (a ++ x ∷ []) ++ m ≡ (a ++ m) ++ x ∷ []
 snoc_left a x m e =
     ap (λ l. (a ++ x ∷ []) ++ l) e ∙ append-nil (a ++ x ∷ [])
     ∙ sym (ap (λ l. (a ++ l) ++ x ∷ []) e ∙ ap (λ l. l ++ x ∷ []) (append-nil a))
