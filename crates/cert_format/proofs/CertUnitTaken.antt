@@ -218,16 +218,16 @@ record IsMark (mark : Mark) (left : ℕ) : Type 0 where
   pub whole : is_word (codes "whole") (worded (mark_text mark) left) ≡ false
   pub writes : is_word (codes "writes") (worded (mark_text mark) left) ≡ false
   pub piece : among (mark_text mark) pieces.piece_words ≡ None
-  pub among : among (mark_text mark) units.mark_words ≡ Some mark
+  pub marked : among (mark_text mark) units.mark_words ≡ Some mark
 
 is_mark : (mark : Mark) (left : ℕ) → IsMark mark left
-is_mark Pre left = record { entry = refl; whole = refl; writes = refl; piece = refl; among = refl }
-is_mark Post left = record { entry = refl; whole = refl; writes = refl; piece = refl; among = refl }
-is_mark Case left = record { entry = refl; whole = refl; writes = refl; piece = refl; among = refl }
-is_mark Exit left = record { entry = refl; whole = refl; writes = refl; piece = refl; among = refl }
-is_mark After left = record { entry = refl; whole = refl; writes = refl; piece = refl; among = refl }
-is_mark Visit left = record { entry = refl; whole = refl; writes = refl; piece = refl; among = refl }
-is_mark Keeps left = record { entry = refl; whole = refl; writes = refl; piece = refl; among = refl }
+is_mark Pre left = record { entry = refl; whole = refl; writes = refl; piece = refl; marked = refl }
+is_mark Post left = record { entry = refl; whole = refl; writes = refl; piece = refl; marked = refl }
+is_mark Case left = record { entry = refl; whole = refl; writes = refl; piece = refl; marked = refl }
+is_mark Exit left = record { entry = refl; whole = refl; writes = refl; piece = refl; marked = refl }
+is_mark After left = record { entry = refl; whole = refl; writes = refl; piece = refl; marked = refl }
+is_mark Visit left = record { entry = refl; whole = refl; writes = refl; piece = refl; marked = refl }
+is_mark Keeps left = record { entry = refl; whole = refl; writes = refl; piece = refl; marked = refl }
 
 not_open : (last : Option Mark) (p : PieceSoFar) (text : List ℕ) (left : ℕ) → among text pieces.piece_words ≡ None
     → units.open_word last p (worded text left) ≡ None
@@ -242,7 +242,7 @@ mark_by style u mark left line low follows room has =
     staged_low style u.stage word line u low
     ∙ to_piece style word line u m.entry m.whole m.writes
     ∙ ap (λ o. units.piece_or_mark style o word line u) (not_open u.last u.piece (mark_text mark) left m.piece)
-    ∙ ap (λ o. units.marked_line o word line u) m.among
+    ∙ ap (λ o. units.marked_line o word line u) m.marked
     ∙ ap (λ (t : Bool). cond t (units.mark_line mark word line u) (Err (at_fault left))) follows
     ∙ ap (λ (t : Bool). cond t (Err (too_many left)) (pieces.at_end line (units.opened mark u))) room
     ∙ ended_taken line (units.opened mark u) has
