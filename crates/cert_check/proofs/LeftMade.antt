@@ -22,6 +22,7 @@ use Rattle.sym_state.specs.Entailing.{match_of, under}
 use Rattle.sym_state.specs.Facts.{subject}
 use Rattle.sym_state.specs.Renaming.{bind_renamed, fact_renamed, row_renamed, sym_renamed}
 use Rattle.sym_state.specs.Showing.{Shown, piece_by}
+use Rattle.sym_state.specs.Fitting.{FactFits, RowFits}
 use Rattle.sym_state.specs.Starting.{own_facts, own_rows, seats, symbols_of, unbound}
 use Rattle.sym_state.specs.WellMade.{HasByteText, HasShortText, HasSmallFields, HasSmallInteger, IsOfStyle, WellMade}
 use Rattle.sym_state.proofs.Entailed.{lines_pass}
@@ -29,7 +30,7 @@ use Rattle.sym_state.proofs.Frames.{all_reversed}
 use Rattle.sym_state.proofs.Keeping.{own_bounded}
 use Rattle.sym_state.proofs.Making.{bounded_renamed, bytes_renamed, each_given, own_facts_are, own_rows_below, renamed_row, seats_below, short_renamed, small_renamed, style_renamed, subject_renamed}
 use Rattle.sym_state.proofs.Numbering.{stack_below, vars_below}
-use Rattle.sym_state.proofs.Resulting.{FactFits, Fits, RowFits, bind_made, both_fit, more_made, rest_made}
+use Rattle.sym_state.proofs.Resulting.{Fits, bind_made, both_fit, more_made, rest_made}
 use Rattle.sym_state.proofs.ShownPieces.{IsShown, shown_parts}
 use Rattle.cert_check.specs.Left.{HasPlaces, IsPost}
 use Rattle.cert_check.specs.Uses.{Passage, comes_by, facts_left, fits, left_by, left_state, new_symbols, own_count, own_places, post_match, rows_left, with_binds}
