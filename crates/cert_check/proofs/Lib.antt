@@ -1,0 +1,4 @@
+pub mod Followed
+pub mod Inverted
+pub mod Keeping
+pub mod Walked
