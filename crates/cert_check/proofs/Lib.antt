@@ -1,4 +1,9 @@
+pub mod Bodies
+pub mod Entering
 pub mod Followed
 pub mod Inverted
 pub mod Keeping
+pub mod Plain
+pub mod Safety
+pub mod Tokens
 pub mod Walked
