@@ -1,5 +1,7 @@
 pub mod Bodies
+pub mod Choosing
 pub mod Entering
+pub mod Exactly
 pub mod Followed
 pub mod Inverted
 pub mod Keeping

@@ -1,7 +1,8 @@
 -- A configuration that is fine for so many steps, and what waits behind a walk as a continuation.
 use Rattle.std.proofs.Common.{◌≡◌, ◌≢◌, ℕ, zero, suc, ◌<◌, ◌≤◌, Bool, true, false, cond, List, [], ◌∷◌, ◌++◌, length, map, slice_get, option_map, Option, None, Some, Ok, refl, sym, ap, subst, ◌∙◌, arith, inl, inr}
 use Rattle.std.proofs.lemmas.List.{length-map}
-use Rattle.name_table.specs.Sound.{IsSound}
+use Rattle.name_table.specs.Sound.{IsSound, block_of}
+use Rattle.name_table.specs.declared.style.BodyId.{BodyId}
 use Rattle.name_table.specs.declared.style.Style.{Style}
 use Rattle.name_table.specs.declared.style.TokenAt.{TokenAt}
 use Rattle.name_table.specs.declared.style.CommandAt.{CommandAt}
@@ -106,11 +107,13 @@ remains_framed at_entry frames c d goes framed commands running visit entries = 
   entries = λ outside. entries;
 }
 
--- the laws of the machine on which safety stands: those of every step and of every built-in function
+-- the laws on which safety stands: those of every step of the machine, of every built-in function, and of the numbers of blocks
 pub record Laws : Type 0 where
   pub formed : (style : Style) (list : EntryList) (c : Config) → IsSound style → Fits style list → IsWellFormed style list c → IsWellFormed style list (step style c)
   pub kept : (style : Style) (o : Builtin) (place : Place) (c : Config) → IsKept o c (with_effect style (built_in o (context_of style c) c.stack) place c)
   pub confined : (o : Builtin) (context : Context) (stack : List Value) (effect : Effect) → built_in o context stack ≡ Ok effect → IsConfined o stack effect
+  pub one_body : (style : Style) (a b : BodyId) (number : ℕ) → IsSound style → block_of a style.bodies ≡ Some (Some number)
+      → block_of b style.bodies ≡ Some (Some number) → a.0 ≡ b.0
 
 -- where a walk starts: a well-made state that stands for a configuration of a run, which goes on
 pub record Start (scope : Scope) (list : EntryList) : Type 0 where

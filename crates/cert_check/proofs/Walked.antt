@@ -101,11 +101,11 @@ function_moved scope enter call place (Some (Block body)) stack state told enter
     entered_moved scope place (Block body) (enter place body) state told made (enters place body state made) course after e
 
 -- a case that follows the state, with its own symbols below
-record CaseFollows (scope : Scope) (start : State) (stack : List Sym) (case : Bool × State) : Type 0 where
+pub record CaseFollows (scope : Scope) (start : State) (stack : List Sym) (case : Bool × State) : Type 0 where
   pub follows : Follows scope start case.1
   pub below : AreBelow case.1 stack
 
-cases_moved : (scope : Scope) (enter : Enter) (call : Call) (place : Place) (three : Three) (stack : List Sym) (start : State) (cases : List (Bool × State)) (course after : Course)
+pub cases_moved : (scope : Scope) (enter : Enter) (call : Call) (place : Place) (three : Three) (stack : List Sym) (start : State) (cases : List (Bool × State)) (course after : Course)
     → Told scope → Enters scope enter → Calls scope call stack → All (CaseFollows scope start stack) cases
     → cases_entered scope enter call place three cases course ≡ Ok after → Moved scope start course after
 cases_moved scope enter call place three stack start [] course after told enters calls all e =
@@ -134,7 +134,7 @@ three_ok state a b c rest three e =
     let lowest = where_ok (is_of_kind state Int a) _ _ three middle.1 in
     record { is = ok_is _ three lowest.1; top = top.0; middle = middle.0; lowest = lowest.0 }
 
-cases_follow : (scope : Scope) (state : State) (rest : List Sym) (cases : List (Bool × State)) → AreBelow state rest
+pub cases_follow : (scope : Scope) (state : State) (rest : List Sym) (cases : List (Bool × State)) → AreBelow state rest
     → All (λ one. WellMade scope.style one.1) cases → All (λ one. LeavesVariables (record state { stack = reverse rest }) one.1) cases
     → All (CaseFollows scope state rest) cases
 cases_follow scope state rest [] below made left = All-nil (CaseFollows scope state rest)
