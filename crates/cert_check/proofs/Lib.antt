@@ -1,4 +1,5 @@
 pub mod Bodies
+pub mod Branching
 pub mod Choosing
 pub mod Entering
 pub mod Exactly
