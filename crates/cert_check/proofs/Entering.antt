@@ -77,7 +77,7 @@ entered_safe scope list n place at target walk s uses formed walks course after 
     ] e
 
 -- a variable, whose kind is told
-by_variable : (scope : Scope) (list : EntryList) (n : ℕ) (name : NameId) (place at : Place) (s : Start scope list) (course after : Course) (found : Option Kind)
+pub by_variable : (scope : Scope) (list : EntryList) (n : ℕ) (name : NameId) (place at : Place) (s : Start scope list) (course after : Course) (found : Option Kind)
     → kind_of scope.style name ≡ found → IsWellFormed scope.style list (call_step scope.style found name at s.c) → variable name place s.state course ≡ Ok after
     → SafeAfter scope list n s.c.frames s after.given → SafeFor scope.style n (call_step scope.style found name at s.c)
 by_variable scope list n name place at s course after found is formed e safe =
@@ -103,7 +103,7 @@ function_ok scope other op.WhileDo place state course after e = absurd (cc)
 function_ok scope other op.CallType place state course after e = absurd (cc)
 function_ok scope other _ place state course after e = inr (refl, e)
 
-built_in_safe : (scope : Scope) (list : EntryList) (n : ℕ) (other : Onward) (o : Builtin) (place at : Place) (s : Start scope list) → Told scope
+pub built_in_safe : (scope : Scope) (list : EntryList) (n : ℕ) (other : Onward) (o : Builtin) (place at : Place) (s : Start scope list) → Told scope
     → IsWellFormed scope.style list (after_function scope list o at s)
     → (o ≡ op.IfElse → OnwardSafe scope list n other s (after_function scope list o at s))
     → OnwardSafe scope list n (built_in scope other o place) s (after_function scope list o at s)

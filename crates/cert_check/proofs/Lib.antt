@@ -10,3 +10,4 @@ pub mod Plain
 pub mod Safety
 pub mod Tokens
 pub mod Walked
+pub mod Walking
