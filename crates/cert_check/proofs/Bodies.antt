@@ -1,8 +1,7 @@
 -- The tokens of a body that is walked are safe where the calls of names are, for one step more.
-use Rattle.std.proofs.Common.{◌≡◌, ℕ, zero, suc, ◌+◌, ◌<◌, ◌≤◌, Bool, true, false, List, [], ◌∷◌, ◌++◌, Option, None, Some, Result, Ok, Err, refl, sym, ap, subst, ◌∙◌, arith, inl, inr}
+use Rattle.std.proofs.Common.{◌≡◌, ℕ, zero, suc, List, [], ◌∷◌, ◌++◌, Ok, refl, sym, subst, inl, inr}
 use Rattle.std.specs.List.{All, AllByRecursion}
-use Rattle.std.proofs.lemmas.List.Elements.{All-cons, All-head, All-nil, All-same, All-tail}
-use Rattle.bv_base.specs.Answers.{then_do}
+use Rattle.std.proofs.lemmas.List.Elements.{All-cons, All-nil, All-same, All-tail}
 use Rattle.bv_base.specs.declared.place.Place.{Place}
 use Rattle.bv_base.proofs.ThenLemmas.{ok_is, then_ok}
 use Rattle.name_table.specs.Sound.{IsTokenSound}
@@ -30,9 +29,9 @@ use Rattle.cert_check.specs.Walks.{Enter, Scope, body_walked, chosen_in, named, 
 use Rattle.cert_check.proofs.Followed.{Follows, follows_self}
 use Rattle.cert_check.proofs.Inverted.{gives_all_ok}
 use Rattle.cert_check.proofs.Keeping.{Told}
-use Rattle.cert_check.proofs.Safety.{Framed, Reaches, SafeAfter, SafeFor, Start, among_sooner, formed_step, framed_fine, less, one_before, onward, remains_framed, safe_less, safe_on}
+use Rattle.cert_check.proofs.Safety.{Framed, SafeAfter, SafeFor, Start, among_sooner, formed_step, framed_fine, less, one_before, onward, remains_framed, safe_less, safe_on}
 use Rattle.cert_check.proofs.Tokens.{token_safe}
-use Rattle.cert_check.proofs.Walked.{AreSound, Enters, body_moved, body_sound, taken_from_moved, walked_ends}
+use Rattle.cert_check.proofs.Walked.{AreSound, Enters, body_moved, body_sound, taken_from_moved}
 
 -- other frames
 pub stands_framed : (style : Style) (cond : Cond) (list : EntryList) (v : Valuation) (state : State) (c : Config) (below : List Value) (frames : List Frame)

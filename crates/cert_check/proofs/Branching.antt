@@ -1,20 +1,17 @@
 -- `if$` is safe where what it enters is: bodies and uses for as many steps, calls of names for fewer.
-use Rattle.std.proofs.Common.{◌≡◌, ℕ, zero, suc, ◌<◌, ◌≤◌, Bool, true, false, cond, List, [], ◌∷◌, ◌++◌, reverse, Option, None, Some, Result, Ok, Err, refl, sym, ap, subst, ◌∙◌, arith}
+use Rattle.std.proofs.Common.{◌≡◌, ℕ, ◌<◌, ◌≤◌, Bool, true, false, cond, List, [], ◌∷◌, ◌++◌, reverse, Option, None, Some, Ok, refl, sym, ap, subst, ◌∙◌, arith}
 use Rattle.std.specs.Prelude.{ℤ}
-use Rattle.std.specs.List.{All}
 use Rattle.std.specs.Option.{option_map_or}
 use Rattle.std.proofs.lemmas.List.{reverse-reverse}
 use Rattle.std.proofs.lemmas.List.Elements.{All-head, All-tail}
-use Rattle.bv_base.specs.Answers.{then_do}
 use Rattle.bv_base.specs.declared.place.Place.{Place}
 use Rattle.bv_base.proofs.ThenLemmas.{then_ok}
 use Rattle.name_table.specs.declared.builtin.Builtin.{Builtin}
 use Rattle.name_table.specs.declared.builtin.Builtin.TheVariants as op
 use Rattle.name_table.specs.declared.names.Kind.{Kind}
 use Rattle.name_table.specs.declared.names.Kind.TheVariants as kind
-use Rattle.name_table.specs.declared.names.NameId.{NameId}
 use Rattle.name_table.specs.declared.style.BodyId.{BodyId}
-use Rattle.bst_meaning.specs.StyleParts.{entered_tokens, kind_of}
+use Rattle.bst_meaning.specs.StyleParts.{entered_tokens}
 use Rattle.bst_meaning.specs.declared.entry.EntryList.{EntryList}
 use Rattle.bst_meaning.specs.declared.value.Target.{Target}
 use Rattle.bst_meaning.specs.declared.value.Target.TheVariants.{Named, Block}
@@ -27,24 +24,23 @@ use Rattle.bst_meaning.specs.Invariant.{IsWellFormed}
 use Rattle.bst_meaning.specs.Machine.{call_step, with_effect, with_frame}
 use Rattle.bst_meaning.specs.Operands.{is_positive}
 use Rattle.sym_state.specs.State.{State}
-use Rattle.sym_state.specs.Cases.{above_of, with_case}
+use Rattle.sym_state.specs.Cases.{above_of}
 use Rattle.sym_state.specs.Decided.{exact_integer}
 use Rattle.sym_state.specs.Demands.{Three, three_by}
 use Rattle.sym_state.specs.Symbols.{Valuation}
 use Rattle.sym_state.specs.declared.symbol.Kinds.TheVariants.{Func, Int}
 use Rattle.sym_state.specs.declared.symbol.Sym.{Sym}
-use Rattle.sym_state.proofs.Below.{AreBelow}
 use Rattle.sym_state.proofs.Frames.{agrees_self, value_list}
 use Rattle.sym_state.proofs.KnownKinds.{function_is, integer_is}
 use Rattle.sym_state.proofs.Pushing.{moved, tops_below, with_stack}
 use Rattle.sym_state.proofs.Resulting.{rest_made}
 use Rattle.sym_state.proofs.Spots.{Spot}
 use Rattle.builtin_effects.proofs.Covering.{kind_met, three_then}
-use Rattle.refinements.specs.Covered.{IsAmong, above_case}
+use Rattle.refinements.specs.Covered.{above_case}
 use Rattle.refinements.proofs.Framing.{above_left}
 use Rattle.refinements.proofs.Kept.{above_made}
 use Rattle.refinements.proofs.Signs.{labelled_sign_found}
-use Rattle.cert_check.specs.Courses.{Course, placed}
+use Rattle.cert_check.specs.Courses.{placed}
 use Rattle.cert_check.specs.Walks.{Call, Enter, Scope, cases_entered, choice, if_else, name_entered}
 use Rattle.cert_check.proofs.Bodies.{EnterSafe}
 use Rattle.cert_check.proofs.Choosing.{case_entered, function_safe, name_safe}
@@ -52,7 +48,7 @@ use Rattle.cert_check.proofs.Entering.{OnwardSafe, UseSafe, after_function}
 use Rattle.cert_check.proofs.Exactly.{exact_is}
 use Rattle.cert_check.proofs.Inverted.{placed_ok}
 use Rattle.cert_check.proofs.Keeping.{Told}
-use Rattle.cert_check.proofs.Safety.{Reaches, SafeAfter, SafeFor, Start, onward, remains_framed, safe_fewer, safe_on}
+use Rattle.cert_check.proofs.Safety.{Reaches, SafeFor, Start, onward, remains_framed, safe_fewer, safe_on}
 use Rattle.cert_check.proofs.Tokens.{among_all}
 use Rattle.cert_check.proofs.Walked.{Calls, CaseFollows, Enters, cases_follow, if_else_moved, name_moved, three_ok}
 

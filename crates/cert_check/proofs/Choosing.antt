@@ -1,41 +1,32 @@
 -- `if$`: the machine enters the function that the case of the integer's sign enters.
-use Rattle.std.proofs.Common.{◌≡◌, ℕ, zero, suc, ◌+◌, ◌<◌, ◌≤◌, Bool, true, false, cond, List, [], ◌∷◌, ◌++◌, reverse, Option, None, Some, Result, Ok, Err, refl, sym, ap, subst, ◌∙◌, arith, inl, inr}
-use Rattle.std.specs.Prelude.{ℤ}
-use Rattle.std.specs.List.{All, AllByRecursion}
-use Rattle.std.specs.Option.{option_map_or}
-use Rattle.std.proofs.lemmas.List.{reverse-reverse}
-use Rattle.std.proofs.lemmas.List.Elements.{All-head, All-tail}
-use Rattle.bv_base.specs.Answers.{then_do}
+use Rattle.std.proofs.Common.{◌≡◌, ℕ, zero, suc, Bool, true, false, cond, List, [], ◌∷◌, ◌++◌, Option, None, Some, Ok, refl, sym, ap, subst, inl, inr}
+use Rattle.std.specs.List.{All}
+use Rattle.std.proofs.lemmas.List.Elements.{All-tail}
 use Rattle.bv_base.specs.declared.place.Place.{Place}
 use Rattle.bv_base.proofs.ThenLemmas.{then_ok}
 use Rattle.name_table.specs.declared.builtin.Builtin.{Builtin}
 use Rattle.name_table.specs.declared.builtin.Builtin.TheVariants as op
-use Rattle.name_table.specs.declared.names.Kind.{Kind}
 use Rattle.name_table.specs.declared.names.Kind.TheVariants as kind
 use Rattle.name_table.specs.declared.names.NameId.{NameId}
 use Rattle.name_table.specs.declared.style.BodyId.{BodyId}
-use Rattle.name_table.specs.declared.style.Style.{Style}
-use Rattle.name_table.specs.declared.style.Token.TheVariants.{Call as CallToken}
-use Rattle.bst_meaning.specs.StyleParts.{entered_tokens, kind_of, tokens_of}
+use Rattle.bst_meaning.specs.StyleParts.{entered_tokens, kind_of}
 use Rattle.bst_meaning.specs.declared.entry.EntryList.{EntryList}
 use Rattle.bst_meaning.specs.declared.value.Target.{Target}
 use Rattle.bst_meaning.specs.declared.value.Target.TheVariants.{Named, Block}
 use Rattle.bst_meaning.specs.Config.{Config, Frame, Whole}
 use Rattle.bst_meaning.specs.Entries.{Fits}
-use Rattle.bst_meaning.specs.Invariant.{IsFrameSound, IsWellFormed}
+use Rattle.bst_meaning.specs.Invariant.{IsWellFormed}
 use Rattle.bst_meaning.specs.Machine.{call_step, with_frame}
 use Rattle.sym_state.specs.State.{State}
 use Rattle.sym_state.specs.Demands.{Three}
-use Rattle.sym_state.specs.Symbols.{Valuation}
 use Rattle.sym_state.specs.declared.symbol.Sym.{Sym}
 use Rattle.refinements.specs.Covered.{IsAmong}
 use Rattle.cert_check.specs.Courses.{Course, counts}
 use Rattle.cert_check.specs.Walks.{Call, Enter, Onward, Scope, cases_entered, entered, entering, exact_target, function_entered, is_wizard, name_entered, named}
 use Rattle.cert_check.proofs.Bodies.{EnterSafe, framed_start, safe_framed, stands_framed}
-use Rattle.cert_check.proofs.Entering.{OnwardSafe, UseSafe, after_function, entered_safe, named_safe, target_step}
-use Rattle.cert_check.proofs.Followed.{Follows, follows_self}
+use Rattle.cert_check.proofs.Entering.{OnwardSafe, UseSafe, after_function, entered_safe, named_safe}
 use Rattle.cert_check.proofs.Keeping.{Told}
-use Rattle.cert_check.proofs.Safety.{Framed, Reaches, SafeAfter, SafeFor, Start, formed_step, framed_fine, less, one_before, safe_less}
+use Rattle.cert_check.proofs.Safety.{Framed, SafeAfter, SafeFor, Start, formed_step, framed_fine, less, one_before, safe_less}
 use Rattle.cert_check.proofs.Walked.{Calls, CaseFollows, Enters, cases_moved}
 
 -- a frame with no token left is returned from

@@ -1,7 +1,5 @@
 -- A target that is entered is safe where its walk is and the use of its summaries is.
-use Rattle.std.proofs.Common.{◌≡◌, ℕ, zero, suc, Bool, true, false, cond, List, [], ◌∷◌, Option, None, Some, slice_get, Result, Ok, Err, refl, sym, ap, subst, ◌∙◌, inl, inr, ◌⊎◌}
-use Rattle.std.specs.List.{All}
-use Rattle.bv_base.specs.Answers.{then_do}
+use Rattle.std.proofs.Common.{◌≡◌, ℕ, Bool, true, false, cond, List, [], ◌∷◌, Option, None, Some, slice_get, Ok, refl, sym, ap, subst, inl, inr, ◌⊎◌}
 use Rattle.bv_base.specs.declared.place.Place.{Place}
 use Rattle.bv_base.proofs.ThenLemmas.{where_ok}
 use Rattle.name_table.specs.declared.builtin.Builtin.{Builtin}

@@ -1,53 +1,28 @@
 -- A function that is known exactly is the one that a value is.
-use Rattle.std.proofs.Common.{◌≡◌, ℕ, zero, suc, ◌+◌, ◌<◌, ◌≤◌, Bool, true, false, cond, nat_eq, List, [], ◌∷◌, ◌++◌, reverse, slice_get, option_map, Option, None, Some, Result, Ok, Err, refl, sym, ap, subst, ◌∙◌, arith, inl, inr}
-use Rattle.std.specs.Prelude.{ℤ}
-use Rattle.std.specs.List.{All, AllByRecursion}
+use Rattle.std.proofs.Common.{◌≡◌, ℕ, suc, ◌+◌, Bool, true, false, cond, nat_eq, List, [], ◌∷◌, slice_get, option_map, Option, None, Some, refl, sym, ap, subst, ◌∙◌, arith}
+use Rattle.std.specs.List.{AllByRecursion}
 use Rattle.std.specs.Option.{option_and_then, option_map_or}
 use Rattle.std.proofs.lemmas.Bool.Decides.{nat_tests}
-use Rattle.std.proofs.lemmas.List.{reverse-reverse}
-use Rattle.std.proofs.lemmas.List.Elements.{All-head, All-tail}
-use Rattle.bv_base.specs.Answers.{then_do}
-use Rattle.bv_base.specs.declared.place.Place.{Place}
-use Rattle.bv_base.proofs.ThenLemmas.{then_ok}
 use Rattle.name_table.specs.Sound.{IsSound, block_of}
-use Rattle.name_table.specs.declared.builtin.Builtin.{Builtin}
-use Rattle.name_table.specs.declared.builtin.Builtin.TheVariants as op
-use Rattle.name_table.specs.declared.names.Kind.{Kind}
-use Rattle.name_table.specs.declared.names.Kind.TheVariants as kind
 use Rattle.name_table.specs.declared.names.NameId.{NameId}
 use Rattle.name_table.specs.declared.style.Body.{Body}
 use Rattle.name_table.specs.declared.style.BodyId.{BodyId}
 use Rattle.name_table.specs.declared.style.Style.{Style}
-use Rattle.name_table.specs.declared.style.Token.TheVariants.{Call as CallToken}
-use Rattle.bst_meaning.specs.StyleParts.{entered_tokens, kind_of, tokens_of}
-use Rattle.bst_meaning.specs.declared.entry.EntryList.{EntryList}
 use Rattle.bst_meaning.specs.declared.value.Target.{Target}
 use Rattle.bst_meaning.specs.declared.value.Target.TheVariants.{Named, Block}
 use Rattle.bst_meaning.specs.declared.value.Value.{Value}
 use Rattle.bst_meaning.specs.declared.value.Value.TheVariants as value
-use Rattle.bst_meaning.specs.Config.{Config, Frame, Whole}
-use Rattle.bst_meaning.specs.Entries.{Fits}
-use Rattle.bst_meaning.specs.Invariant.{IsFrameSound, IsWellFormed}
-use Rattle.bst_meaning.specs.Machine.{call_step, with_frame}
-use Rattle.bst_meaning.specs.Operands.{is_positive}
 use Rattle.sym_state.specs.State.{State}
-use Rattle.sym_state.specs.Cases.{above_of}
-use Rattle.sym_state.specs.Decided.{ByName, ByNumber, Function, exact_function, exact_integer, function_said}
-use Rattle.sym_state.specs.Demands.{Three, three_by}
+use Rattle.sym_state.specs.Decided.{ByName, ByNumber, Function, exact_function, function_said}
 use Rattle.sym_state.specs.Facts.{FactHolds, IsBlock, Says}
-use Rattle.sym_state.specs.Stands.{Stands}
 use Rattle.sym_state.specs.Symbols.{Valuation}
 use Rattle.sym_state.specs.declared.symbol.Fact.{Fact}
 use Rattle.sym_state.specs.declared.symbol.Fact.TheVariants as fact
-use Rattle.sym_state.specs.declared.symbol.Kinds.TheVariants.{Func, Int}
 use Rattle.sym_state.specs.declared.symbol.Sym.{Sym}
 use Rattle.sym_state.proofs.Deciding.{from_facts}
 use Rattle.sym_state.proofs.KnownKinds.{name_is}
-use Rattle.refinements.specs.Covered.{IsAmong, above_case}
-use Rattle.cert_check.specs.Courses.{Course}
-use Rattle.cert_check.specs.Walks.{Call, Enter, Scope, block_body, exact_target, target_of}
-use Rattle.cert_check.proofs.Safety.{Laws, Start}
-use Rattle.cert_check.proofs.Keeping.{Told}
+use Rattle.cert_check.specs.Walks.{block_body, exact_target, target_of}
+use Rattle.cert_check.proofs.Safety.{Laws}
 
 same_number : (a b : ℕ) → nat_eq a b ≡ true → a ≡ b
 same_number a b e = grind (arith, nat_tests)

@@ -1,7 +1,6 @@
 -- What the steps of a walk that is Ok give.
-use Rattle.std.proofs.Common.{◌≡◌, ℕ, zero, suc, ◌+◌, Bool, true, false, cond, List, [], ◌∷◌, ◌++◌, Result, Ok, Err, refl, sym, ap, subst, ◌∙◌, append_assoc}
+use Rattle.std.proofs.Common.{◌≡◌, ℕ, ◌+◌, Bool, true, false, cond, List, [], ◌∷◌, ◌++◌, Result, Ok, Err, refl, sym, ap, ◌∙◌, append_assoc}
 use Rattle.std.proofs.lemmas.List.{append-nil}
-use Rattle.bv_base.specs.Answers.{then_do}
 use Rattle.bv_base.specs.declared.place.Place.{Place}
 use Rattle.bv_base.proofs.ThenLemmas.{ok_is, then_ok}
 use Rattle.sym_state.specs.State.{State}
@@ -9,7 +8,7 @@ use Rattle.sym_state.specs.Demands.{After, Outcome}
 use Rattle.sym_state.specs.declared.demand.EffectFault.{EffectFault}
 use Rattle.sym_state.specs.declared.demand.EffectFault.TheVariants as fault
 use Rattle.cert_check.specs.declared.refusal.Refusal.{Refusal}
-use Rattle.cert_check.specs.Courses.{Course, Walk, counts, gives, gives_all, placed}
+use Rattle.cert_check.specs.Courses.{Course, counts, gives, gives_all, placed}
 use Rattle.cert_check.specs.Walks.{confined}
 
 pub placed_ok : {X : Type 0} (place : Place) (r : Result X EffectFault) (x : X) → placed place r ≡ Ok x → r ≡ Ok x

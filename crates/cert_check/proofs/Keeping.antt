@@ -1,11 +1,10 @@
 -- Rules on one state: each state that they give follows it.
-use Rattle.std.proofs.Common.{◌≡◌, ℕ, zero, suc, ◌+◌, ◌<◌, ◌≤◌, ◌^◌, map, Bool, true, false, cond, List, [], ◌∷◌, ◌++◌, length, reverse, slice_get, Option, None, Some, IfSome, Result, Ok, Err, refl, sym, ap, subst, ◌∙◌, arith, inl, inr}
+use Rattle.std.proofs.Common.{◌≡◌, ℕ, ◌+◌, ◌<◌, ◌≤◌, ◌^◌, map, Bool, true, false, List, [], ◌∷◌, ◌++◌, length, slice_get, Option, None, Some, IfSome, Ok, Err, refl, sym, ap, ◌∙◌, arith, inl, inr}
 use Rattle.std.specs.List.{All, list_all}
 use Rattle.std.specs.Option.{option_and_then, option_map_or, option_or}
 use Rattle.std.proofs.lemmas.List.Elements.{All-cons, All-head, All-nil, All-tail}
-use Rattle.bv_base.specs.Answers.{then_do}
 use Rattle.bv_base.specs.declared.place.Place.{Place}
-use Rattle.bv_base.proofs.ThenLemmas.{ok_is, then_ok, where_ok}
+use Rattle.bv_base.proofs.ThenLemmas.{then_ok, where_ok}
 use Rattle.name_table.specs.Sound.{IsSound, IsTokenSound, block_of}
 use Rattle.name_table.specs.Numbers.{IsByteList}
 use Rattle.name_table.specs.declared.builtin.Builtin.{Builtin}
@@ -21,15 +20,14 @@ use Rattle.cert_format.specs.declared.cert.Summary.{Summary}
 use Rattle.sym_state.specs.State.{State}
 use Rattle.sym_state.specs.Cases.{Cases, IsTestOf, split_of}
 use Rattle.sym_state.specs.Changes.{bound, symbol_at}
-use Rattle.sym_state.specs.Decided.{Function, ByName, exact_function, name_of}
+use Rattle.sym_state.specs.Decided.{exact_function, name_of}
 use Rattle.sym_state.specs.Demands.{After}
 use Rattle.sym_state.specs.Effects.{effect_of}
 use Rattle.sym_state.specs.Frames.{Assigns, LeavesVariables}
 use Rattle.sym_state.specs.Results.{next_of, with_top}
 use Rattle.sym_state.specs.Starting.{symbols_of}
-use Rattle.sym_state.specs.WellMade.{HasSmallLimits, IsOfStyle, WellMade}
+use Rattle.sym_state.specs.WellMade.{HasSmallLimits, WellMade}
 use Rattle.sym_state.specs.declared.hint.Hint.{Hint}
-use Rattle.sym_state.specs.declared.symbol.Bind.{Bind}
 use Rattle.sym_state.specs.declared.symbol.Fact.{Fact}
 use Rattle.sym_state.specs.declared.symbol.Fact.TheVariants as fact
 use Rattle.sym_state.specs.declared.symbol.Kinds.{Kinds}
@@ -45,12 +43,12 @@ use Rattle.builtin_effects.proofs.Keeping.{effects_keep}
 use Rattle.refinements.proofs.Framing.{split_left}
 use Rattle.refinements.proofs.Kept.{split_made}
 use Rattle.cert_check.specs.declared.refusal.Refusal.{Refusal}
-use Rattle.cert_check.specs.Courses.{Course, Walk, counts, gives, gives_all, placed}
+use Rattle.cert_check.specs.Courses.{Course, counts, gives, gives_all, placed}
 use Rattle.cert_check.specs.Certified.{IsSummaryOf}
 use Rattle.cert_check.specs.Uses.{comes_by, left_state, passage}
 use Rattle.cert_check.specs.Walks.{Scope, confined, entering_nothing, is_within, leaves, literal, literal_state, may_write, number_of, plain, split, summary_used, test_of, variable, written_by}
 use Rattle.cert_check.proofs.Followed.{Follows, Moved, all_given, counts_moved, left_follows, moved_twice, one_given, rehinted}
-use Rattle.cert_check.proofs.Inverted.{confined_ok, counts_ok, placed_ok}
+use Rattle.cert_check.proofs.Inverted.{confined_ok, placed_ok}
 
 -- each state that a used summary leaves follows the state that came to it
 abbrev pub LeftFollows : Scope → Type 0

@@ -6,6 +6,7 @@ pub mod Exactly
 pub mod Followed
 pub mod Inverted
 pub mod Keeping
+pub mod Leaving
 pub mod Plain
 pub mod Safety
 pub mod Tokens

@@ -1,5 +1,5 @@
 -- Built-in functions that enter nothing: the machine's step comes to the state that the rule gives.
-use Rattle.std.proofs.Common.{◌≡◌, ℕ, zero, suc, Bool, true, false, cond, List, [], ◌∷◌, ◌++◌, map, reverse, Option, None, Some, IfSome, Result, Ok, Err, refl, sym, ap, subst, ◌∙◌, inl, inr}
+use Rattle.std.proofs.Common.{◌≡◌, ℕ, Bool, true, false, cond, List, ◌∷◌, ◌++◌, map, reverse, Option, None, Some, IfSome, Ok, refl, sym, ap, subst, ◌∙◌}
 use Rattle.std.specs.Prelude.{pos}
 use Rattle.bv_base.specs.declared.place.Place.{Place}
 use Rattle.bv_base.proofs.ThenLemmas.{then_ok}
@@ -13,11 +13,9 @@ use Rattle.name_table.specs.declared.style.Style.{Style}
 use Rattle.bst_meaning.specs.StyleParts.{kind_of}
 use Rattle.bst_meaning.specs.declared.condition.Cond.{Cond}
 use Rattle.bst_meaning.specs.declared.entry.EntryList.{EntryList}
-use Rattle.bst_meaning.specs.declared.value.Target.TheVariants.{Named}
 use Rattle.bst_meaning.specs.declared.value.Value.{Value}
-use Rattle.bst_meaning.specs.declared.value.Value.TheVariants.{Func}
 use Rattle.bst_meaning.specs.Builtins.{built_in}
-use Rattle.bst_meaning.specs.Config.{Config, EntryState, Variable}
+use Rattle.bst_meaning.specs.Config.{Config, Variable}
 use Rattle.bst_meaning.specs.Effect.{Effect, Entered}
 use Rattle.bst_meaning.specs.Invariant.{IsWellFormed}
 use Rattle.bst_meaning.specs.Keeping.{is_assign, is_plain, name_on_top}
@@ -28,7 +26,6 @@ use Rattle.sym_state.specs.Decided.{ByName, ByNumber, Function, exact_function, 
 use Rattle.sym_state.specs.Demands.{After, Chooses, Gives, Rule}
 use Rattle.sym_state.specs.Effects.{assigned, assigned_to, cut_bound, effect_of, fits_exactly, rule_of, string_assigned}
 use Rattle.sym_state.specs.References.{at_most}
-use Rattle.sym_state.specs.Stands.{values_of}
 use Rattle.sym_state.specs.WellMade.{is_variable}
 use Rattle.sym_state.specs.declared.hint.Hint.{Hint}
 use Rattle.sym_state.specs.declared.symbol.Sym.{Sym}

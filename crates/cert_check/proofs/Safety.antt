@@ -1,14 +1,12 @@
 -- A configuration that is fine for so many steps, and what waits behind a walk as a continuation.
-use Rattle.std.proofs.Common.{◌≡◌, ◌≢◌, ℕ, zero, suc, ◌<◌, ◌≤◌, Bool, true, false, cond, List, [], ◌∷◌, ◌++◌, length, map, slice_get, option_map, Option, None, Some, Ok, refl, sym, ap, subst, ◌∙◌, arith, inl, inr}
+use Rattle.std.proofs.Common.{◌≡◌, ◌≢◌, ℕ, zero, suc, ◌≤◌, Bool, false, cond, List, [], ◌∷◌, ◌++◌, length, map, slice_get, option_map, Option, None, Some, Ok, sym, ap, subst, ◌∙◌, arith, inl, inr}
 use Rattle.std.proofs.lemmas.List.{length-map}
 use Rattle.name_table.specs.Sound.{IsSound, block_of}
 use Rattle.name_table.specs.declared.style.BodyId.{BodyId}
 use Rattle.name_table.specs.declared.style.Style.{Style}
-use Rattle.name_table.specs.declared.style.TokenAt.{TokenAt}
-use Rattle.name_table.specs.declared.style.CommandAt.{CommandAt}
 use Rattle.bst_meaning.specs.declared.entry.EntryList.{EntryList}
 use Rattle.bst_meaning.specs.declared.value.Value.{Value}
-use Rattle.bst_meaning.specs.Config.{Config, EntryState, Frame, Stopped, Visit, Whole}
+use Rattle.bst_meaning.specs.Config.{Config, EntryState, Frame, Stopped, Visit}
 use Rattle.bst_meaning.specs.Entries.{Fits}
 use Rattle.bst_meaning.specs.Invariant.{IsWellFormed}
 use Rattle.bst_meaning.specs.Keeping.{IsConfined, IsKept, placed}
@@ -23,7 +21,6 @@ use Rattle.sym_state.specs.Stands.{Stands}
 use Rattle.sym_state.specs.Symbols.{Agrees, Valuation}
 use Rattle.sym_state.specs.WellMade.{WellMade}
 use Rattle.refinements.specs.Covered.{IsAmong}
-use Rattle.cert_check.specs.Courses.{Course}
 use Rattle.cert_check.specs.Walks.{Scope}
 use Rattle.cert_check.proofs.Followed.{Follows, follows_twice}
 

@@ -1,10 +1,9 @@
 -- A step of the machine where a token is taken from a state: it comes to a state that the token gives.
-use Rattle.std.proofs.Common.{◌≡◌, ℕ, zero, suc, ◌+◌, ◌<◌, Bool, true, false, cond, List, [], ◌∷◌, ◌++◌, length, map, reverse, slice_get, Option, None, Some, IfSome, Result, Ok, Err, refl, sym, ap, subst, ◌∙◌, arith, inl, inr}
-use Rattle.std.specs.List.{All, AllByRecursion}
-use Rattle.std.specs.Option.{option_and_then, option_map_or, option_or}
+use Rattle.std.proofs.Common.{◌≡◌, ℕ, ◌<◌, true, false, List, [], ◌∷◌, ◌++◌, reverse, slice_get, Option, None, Some, Ok, Err, refl, sym, ap, subst, ◌∙◌, inl, inr}
+use Rattle.std.specs.List.{All}
+use Rattle.std.specs.Option.{option_map_or, option_or}
 use Rattle.std.proofs.lemmas.List.{reverse-append}
 use Rattle.std.proofs.lemmas.List.Elements.{All-head, All-tail}
-use Rattle.bv_base.specs.Answers.{then_do}
 use Rattle.bv_base.specs.declared.place.Place.{Place}
 use Rattle.bv_base.proofs.ThenLemmas.{then_ok}
 use Rattle.name_table.specs.Numbers.{IsByteList}
@@ -30,7 +29,7 @@ use Rattle.bst_meaning.specs.Invariant.{IsWellFormed}
 use Rattle.bst_meaning.specs.Keeping.{is_assign, is_plain}
 use Rattle.bst_meaning.specs.Machine.{assigned_by, call_step, context_of, token_step, visited_entry, with_assigned, with_effect, with_entered, with_found, with_value}
 use Rattle.sym_state.specs.State.{State}
-use Rattle.sym_state.specs.Cases.{Cases, split_of}
+use Rattle.sym_state.specs.Cases.{split_of}
 use Rattle.sym_state.specs.Changes.{bound, symbol_at}
 use Rattle.sym_state.specs.Covers.{Covers}
 use Rattle.sym_state.specs.Facts.{FactHolds, IsBlock, has_kind}
@@ -45,7 +44,7 @@ use Rattle.sym_state.specs.declared.symbol.Sym.{Sym}
 use Rattle.sym_state.specs.declared.test.Test.{Test}
 use Rattle.sym_state.specs.declared.test.Test.TheVariants as test
 use Rattle.sym_state.proofs.Entailed.{found_value}
-use Rattle.sym_state.proofs.Frames.{agrees_self, next_agrees, next_is, value_list, with_next}
+use Rattle.sym_state.proofs.Frames.{agrees_self, next_agrees, next_is, with_next}
 use Rattle.sym_state.proofs.Pushing.{moved, pushed, tops_below, with_stack, without}
 use Rattle.builtin_effects.proofs.Covering.{untaken}
 use Rattle.refinements.specs.Covered.{IsAmong, function_of}

@@ -1,10 +1,8 @@
 -- What a walk that is Ok gives of a well-made state: states that follow it.
-use Rattle.std.proofs.Common.{◌≡◌, ℕ, zero, suc, ◌+◌, ◌<◌, ◌≤◌, Bool, true, false, cond, List, [], ◌∷◌, ◌++◌, reverse, slice_get, Option, None, Some, IfSome, Result, Ok, Err, refl, sym, ap, subst, ◌∙◌, arith, inl, inr, ◌⊎◌}
+use Rattle.std.proofs.Common.{◌≡◌, ℕ, zero, suc, ◌<◌, ◌≤◌, Bool, true, false, cond, List, [], ◌∷◌, reverse, slice_get, Option, None, Some, IfSome, Ok, refl, sym, subst, arith, inl, inr, ◌⊎◌}
 use Rattle.std.specs.List.{All}
 use Rattle.std.specs.Option.{option_map_or}
-use Rattle.std.proofs.lemmas.List.{append-nil}
-use Rattle.std.proofs.lemmas.List.Elements.{All-append, All-cons, All-head, All-nil, All-same, All-tail, All-weaker}
-use Rattle.bv_base.specs.Answers.{then_do}
+use Rattle.std.proofs.lemmas.List.Elements.{All-cons, All-head, All-nil, All-same, All-tail, All-weaker}
 use Rattle.bv_base.specs.declared.place.Place.{Place}
 use Rattle.bv_base.proofs.ThenLemmas.{ok_is, then_ok, where_ok}
 use Rattle.name_table.specs.Sound.{Each, IsSound, IsTokenSound}
@@ -15,18 +13,16 @@ use Rattle.name_table.specs.declared.names.Kind.TheVariants as kind
 use Rattle.name_table.specs.declared.names.NameId.{NameId}
 use Rattle.name_table.specs.declared.style.Body.{Body}
 use Rattle.name_table.specs.declared.style.BodyId.{BodyId}
-use Rattle.name_table.specs.declared.style.Style.{Style}
 use Rattle.name_table.specs.declared.style.Token.{Token}
 use Rattle.name_table.specs.declared.style.Token.TheVariants as token
 use Rattle.name_table.specs.declared.style.TokenAt.{TokenAt}
 use Rattle.name_table.proofs.Within.{got}
 use Rattle.bst_meaning.specs.StyleParts.{kind_of, tokens_of}
-use Rattle.bst_meaning.specs.declared.condition.Cond.{Cond}
 use Rattle.bst_meaning.specs.declared.value.Target.{Target}
 use Rattle.bst_meaning.specs.declared.value.Target.TheVariants.{Named, Block}
 use Rattle.cert_format.specs.declared.cert.Summary.{Summary}
 use Rattle.sym_state.specs.State.{State}
-use Rattle.sym_state.specs.Cases.{Labelled, above_of}
+use Rattle.sym_state.specs.Cases.{above_of}
 use Rattle.sym_state.specs.Demands.{Three, is_of_kind, three_by}
 use Rattle.sym_state.specs.Frames.{LeavesVariables}
 use Rattle.sym_state.specs.WellMade.{WellMade}
@@ -41,9 +37,9 @@ use Rattle.sym_state.proofs.Resulting.{rest_made}
 use Rattle.refinements.proofs.Framing.{above_left}
 use Rattle.refinements.proofs.Kept.{above_made}
 use Rattle.cert_check.specs.Certified.{IsSummaryOf}
-use Rattle.cert_check.specs.Courses.{Course, Walk, counts, gives, gives_all, placed}
+use Rattle.cert_check.specs.Courses.{Course, counts, gives_all, placed}
 use Rattle.cert_check.specs.Walks.{Call, Enter, Onward, Scope, body_walked, built_in, cases_entered, choice, chosen, chosen_in, entered, entered_by, entering, entering_nothing, exact_target, function_entered, has_summary, if_else, is_target, is_wizard, literal_state, name_entered, named, summary_used, taken, taken_from, test_of, token_taken, use_of, walked}
-use Rattle.cert_check.proofs.Followed.{Follows, Moved, all_given, counts_moved, follows_self, follows_twice, left_follows, moved_from, moved_self, moved_twice, one_given, rehinted}
+use Rattle.cert_check.proofs.Followed.{Follows, Moved, all_given, counts_moved, follows_self, left_follows, moved_from, moved_self, moved_twice, one_given, rehinted}
 use Rattle.cert_check.proofs.Inverted.{placed_ok}
 use Rattle.cert_check.proofs.Keeping.{Told, nothing_entered, token_follows, used_moved, variable_moved}
 

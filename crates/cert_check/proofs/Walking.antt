@@ -1,5 +1,5 @@
 -- Bodies that are walked are safe where the uses of summaries are, for fewer steps.
-use Rattle.std.proofs.Common.{◌≡◌, ℕ, zero, suc, ◌<◌, ◌≤◌, List, reverse, Option, None, Some, Ok, refl, sym, ap, subst, ◌∙◌, arith}
+use Rattle.std.proofs.Common.{◌≡◌, ℕ, zero, suc, ◌<◌, ◌≤◌, reverse, Option, None, Some, Ok, refl, sym, subst, arith}
 use Rattle.bv_base.specs.declared.place.Place.{Place}
 use Rattle.name_table.specs.declared.builtin.Builtin.{Builtin}
 use Rattle.name_table.specs.declared.builtin.Builtin.TheVariants as op
@@ -14,14 +14,13 @@ use Rattle.bst_meaning.specs.Entries.{Fits}
 use Rattle.bst_meaning.specs.Invariant.{IsWellFormed}
 use Rattle.bst_meaning.specs.Machine.{call_step}
 use Rattle.cert_check.specs.declared.limits.TheConstants.{MOST_DEPTH}
-use Rattle.cert_check.specs.Courses.{Course}
 use Rattle.cert_check.specs.Units.{body_of, body_of_kind, own_walked}
 use Rattle.cert_check.specs.Walks.{Enter, Scope, body_walked, chosen_in, named}
 use Rattle.cert_check.proofs.Bodies.{EnterSafe, NamesSafe, body_fine, body_safe, nothing_walked}
 use Rattle.cert_check.proofs.Branching.{Levels, if_else_safe}
 use Rattle.cert_check.proofs.Entering.{OnwardSafe, UseSafe, after_function, built_in_safe, by_variable, named_safe, target_step}
 use Rattle.cert_check.proofs.Keeping.{Told}
-use Rattle.cert_check.proofs.Safety.{SafeAfter, SafeFor, Start}
+use Rattle.cert_check.proofs.Safety.{SafeFor, Start}
 use Rattle.cert_check.proofs.Walked.{Enters, body_moved}
 
 -- `if$` on the stack of the state
