@@ -1,11 +1,10 @@
 -- What the bindings of a post leave of a state.
-use Rattle.std.proofs.Common.{◌≡◌, ℕ, Bool, true, false, cond, nat_eq, List, [], ◌∷◌, Option, None, Some, option_map, refl, sym, ap, ◌∙◌}
+use Rattle.std.proofs.Common.{◌≡◌, Bool, false, cond, nat_eq, List, [], ◌∷◌, None, option_map, refl, ap, ◌∙◌}
 use Rattle.std.specs.List.{AllByRecursion}
 use Rattle.name_table.specs.declared.names.NameId.{NameId}
 use Rattle.sym_state.specs.State.{State}
 use Rattle.sym_state.specs.Changes.{rebound, symbol_at, with_bind}
 use Rattle.sym_state.specs.declared.symbol.Bind.{Bind}
-use Rattle.sym_state.specs.declared.symbol.Sym.{Sym}
 use Rattle.sym_state.proofs.Rebound.{rebound_none, symbol_rebound}
 use Rattle.cert_check.specs.Uses.{with_binds}
 

@@ -7,6 +7,7 @@ pub mod Followed
 pub mod Inverted
 pub mod Keeping
 pub mod Leaving
+pub mod LeftFramed
 pub mod Plain
 pub mod Safety
 pub mod Tokens
