@@ -1,0 +1,214 @@
+-- The tokens of a body that is walked are safe where the calls of names are, for one step more.
+use Rattle.std.proofs.Common.{◌≡◌, ℕ, zero, suc, List, [], ◌∷◌, ◌++◌, Ok, refl, sym, subst, inl, inr}
+use Rattle.std.specs.List.{All, AllByRecursion}
+use Rattle.std.proofs.lemmas.List.Elements.{All-cons, All-nil, All-same, All-tail}
+use Rattle.bv_base.specs.declared.place.Place.{Place}
+use Rattle.bv_base.proofs.ThenLemmas.{ok_is, then_ok}
+use Rattle.name_table.specs.Sound.{IsTokenSound}
+use Rattle.name_table.specs.declared.names.NameId.{NameId}
+use Rattle.name_table.specs.declared.style.BodyId.{BodyId}
+use Rattle.name_table.specs.declared.style.Style.{Style}
+use Rattle.name_table.specs.declared.style.Token.{Token}
+use Rattle.name_table.specs.declared.style.TokenAt.{TokenAt}
+use Rattle.bst_meaning.specs.StyleParts.{kind_of, tokens_of}
+use Rattle.bst_meaning.specs.declared.condition.Cond.{Cond}
+use Rattle.bst_meaning.specs.declared.entry.EntryList.{EntryList}
+use Rattle.bst_meaning.specs.declared.value.Value.{Value}
+use Rattle.bst_meaning.specs.Config.{Config, Frame, Whole}
+use Rattle.bst_meaning.specs.Entries.{Fits}
+use Rattle.bst_meaning.specs.Invariant.{IsFrameSound, IsWellFormed}
+use Rattle.bst_meaning.specs.Machine.{call_step, token_step, with_frame}
+use Rattle.sym_state.specs.State.{State}
+use Rattle.sym_state.specs.Stands.{Stands}
+use Rattle.sym_state.specs.Symbols.{Valuation}
+use Rattle.sym_state.proofs.Frames.{agrees_self}
+use Rattle.refinements.specs.Covered.{IsAmong}
+use Rattle.refinements.proofs.Covering.{among_later}
+use Rattle.cert_check.specs.Courses.{Course, counts, gives_all}
+use Rattle.cert_check.specs.Walks.{Enter, Scope, body_walked, chosen_in, named, taken, taken_from, token_taken, walked}
+use Rattle.cert_check.proofs.Followed.{Follows, follows_self}
+use Rattle.cert_check.proofs.Inverted.{gives_all_ok}
+use Rattle.cert_check.proofs.Keeping.{Told}
+use Rattle.cert_check.proofs.Safety.{Framed, SafeAfter, SafeFor, Start, among_sooner, formed_step, framed_fine, less, one_before, onward, remains_framed, safe_less, safe_on}
+use Rattle.cert_check.proofs.Tokens.{token_safe}
+use Rattle.cert_check.proofs.Walked.{AreSound, Enters, body_moved, body_sound, taken_from_moved}
+
+-- other frames
+pub stands_framed : (style : Style) (cond : Cond) (list : EntryList) (v : Valuation) (state : State) (c : Config) (below : List Value) (frames : List Frame)
+    → Stands style cond list v state c below → Stands style cond list v state (record c { frames = frames }) below
+stands_framed style cond list v state c below frames h = record {
+  satisfied = h.satisfied;
+  has_list = record {
+    fits = h.has_list.fits;
+    meets = h.has_list.meets;
+    preamble = h.has_list.preamble;
+    entries = h.has_list.entries;
+    count = h.has_list.count;
+  };
+  visiting = λ entered. let there = h.visiting entered in
+      record { entry = there.entry; is_visited = there.is_visited; visit = there.visit; goes_on = there.goes_on; before = there.before };
+  stack = h.stack;
+  whole = h.whole;
+  vars = h.vars;
+  fields = h.fields;
+}
+
+-- the same start with other frames
+abbrev pub framed_start : (scope : Scope) (list : EntryList) (s : Start scope list) (frames : List Frame)
+    → IsWellFormed scope.style list (record s.c { frames = frames }) → Start scope list
+framed_start scope list s frames formed = record {
+  laws = s.laws;
+  v = s.v;
+  state = s.state;
+  c = record s.c { frames = frames };
+  below = s.below;
+  made = s.made;
+  goes = s.goes;
+  formed = formed;
+  stands = stands_framed scope.style scope.cert.cond list s.v s.state s.c s.below frames s.stands;
+}
+
+pub safe_framed : (scope : Scope) (list : EntryList) (n : ℕ) (s : Start scope list) (frames waiting : List Frame) (states : List State)
+    (formed : IsWellFormed scope.style list (record s.c { frames = frames })) → SafeAfter scope list n waiting s states
+    → SafeAfter scope list n waiting (framed_start scope list s frames formed) states
+safe_framed scope list n s frames waiting states formed safe = λ after w d among reached.
+    safe after w d among (record {
+      follows = reached.follows;
+      agrees = reached.agrees;
+      remains = record {
+        goes = reached.remains.goes;
+        waiting = reached.remains.waiting;
+        commands = reached.remains.commands;
+        running = reached.remains.running;
+        visit = reached.remains.visit;
+        order = reached.remains.order;
+        others = reached.remains.others;
+        entries = reached.remains.entries;
+      };
+      formed = reached.formed;
+      stands = reached.stands;
+    })
+
+-- fewer tokens of the innermost frame
+fewer_tokens : (style : Style) (list : EntryList) (c : Config) (t : TokenAt) (tokens : List TokenAt) (at : Place) (frames : List Frame) → IsWellFormed style list c
+    → c.frames ≡ record { tokens = t ∷ tokens; place = at; part = Whole } ∷ frames
+    → IsWellFormed style list (record c { frames = record { tokens = tokens; place = at; part = Whole } ∷ frames })
+fewer_tokens style list c t tokens at frames h e =
+    let all = subst (AllByRecursion (IsFrameSound style)) e h.frames in
+    record {
+      preamble = h.preamble;
+      commands = h.commands;
+      frames = (record { tokens = all.0.tokens.1; part = tt }, all.1);
+      stack = h.stack;
+      globals = h.globals;
+      entries = h.entries;
+      order = h.order;
+    }
+
+-- the call of a name is safe where what comes after it is
+abbrev pub NamesSafe : Scope → EntryList → ℕ → Enter → Type 0
+NamesSafe scope list n enter = (name : NameId) (place at : Place) (s : Start scope list) (course after : Course)
+    → named scope enter (chosen_in scope enter place) (kind_of scope.style name) name place s.state course ≡ Ok after
+    → IsWellFormed scope.style list (call_step scope.style (kind_of scope.style name) name at s.c)
+    → SafeAfter scope list n s.c.frames s after.given → SafeFor scope.style n (call_step scope.style (kind_of scope.style name) name at s.c)
+
+-- so is a body that is entered
+abbrev pub EnterSafe : Scope → EntryList → ℕ → Enter → Type 0
+EnterSafe scope list n enter = (place at : Place) (body : BodyId) (s : Start scope list) (course after : Course) → enter place body s.state course ≡ Ok after
+    → IsWellFormed scope.style list (with_frame (tokens_of scope.style body) at Whole s.c)
+    → SafeAfter scope list n s.c.frames s after.given → SafeFor scope.style n (with_frame (tokens_of scope.style body) at Whole s.c)
+
+-- the token is taken from a state that is among those that a token is taken from
+record TakenOne (scope : Scope) (enter : Enter) (t : TokenAt) (state : State) (after : Course) : Type 0 where
+  pub before : Course
+  pub middle : Course
+  pub taken : taken scope enter t state before ≡ Ok middle
+  pub more : List State
+  pub given : after.given ≡ middle.given ++ more
+
+taken_one : (scope : Scope) (enter : Enter) (t : TokenAt) (start state : State) (states : List State) (course after : Course) → Told scope → Enters scope enter
+    → IsTokenSound scope.style.names scope.style.bodies scope.style.texts t.token → All (Follows scope start) states → IsAmong state states
+    → taken_from scope enter t states course ≡ Ok after → TakenOne scope enter t state after
+taken_one scope enter t start state [] course after told enters sound follow among e = absurd among
+taken_one scope enter t start state (first ∷ states) course after told enters sound follow (inl is) e =
+    let one = then_ok (taken scope enter t first course) (taken_from scope enter t states) after e in
+    let later = taken_from_moved scope enter t start states one.0 after told enters sound (All-tail (Follows scope start) first states follow) one.2 in
+    record {
+      before = course;
+      middle = one.0;
+      taken = subst (λ (x : State). taken scope enter t x course ≡ Ok one.0) (sym is) one.1;
+      more = later.more;
+      given = later.given;
+    }
+taken_one scope enter t start state (first ∷ states) course after told enters sound follow (inr later) e =
+    let one = then_ok (taken scope enter t first course) (taken_from scope enter t states) after e in
+    taken_one scope enter t start state states one.0 after told enters sound (All-tail (Follows scope start) first states follow) later one.2
+
+pub tokens_safe : (scope : Scope) (list : EntryList) (n : ℕ) (enter : Enter) → Told scope → Fits scope.style list → Enters scope enter
+    → NamesSafe scope list n enter → (tokens : List TokenAt) (at : Place) (frames : List Frame) (start : State) (s : Start scope list) (course after : Course)
+    → AreSound scope tokens → All (Follows scope start) course.given → IsAmong s.state course.given
+    → s.c.frames ≡ record { tokens = tokens; place = at; part = Whole } ∷ frames → walked scope enter tokens course ≡ Ok after
+    → SafeAfter scope list (suc n) frames s after.given → SafeFor scope.style (suc n) s.c
+tokens_safe scope list n enter told fits enters names [] at frames start s course after sound follow among framed e safe =
+    let frame : Frame = record { tokens = []; place = at; part = Whole } in
+    let here : Framed frame frames s.c = record { goes = s.goes; framed = framed } in
+    let left : Config = record s.c { frames = frames } in
+    one_before scope.style frame frames n s.c here
+    (safe_less scope list n frames s after.given safe s.state s.v left
+    (subst (λ (c : Course). IsAmong s.state c.given) (sym (ok_is course after e)) among)
+    (record {
+      follows = follows_self scope s.state s.made;
+      agrees = agrees_self s.state.next s.v;
+      remains = remains_framed s.state.at_entry frames s.c left s.goes refl refl refl refl refl;
+      formed = formed_step s.laws scope list frame frames s.c told.sound fits here s.formed;
+      stands = stands_framed scope.style scope.cert.cond list s.v s.state s.c s.below frames s.stands;
+    }))
+tokens_safe scope list n enter told fits enters names (t ∷ tokens) at frames start s course after sound follow among framed e safe =
+    let frame : Frame = record { tokens = t ∷ tokens; place = at; part = Whole } in
+    let rest : Frame = record { tokens = tokens; place = at; part = Whole } in
+    let here : Framed frame frames s.c = record { goes = s.goes; framed = framed } in
+    let fewer = fewer_tokens scope.style list s.c t tokens at frames s.formed framed in
+    let inner : Start scope list = framed_start scope list s (rest ∷ frames) fewer in
+    let fresh : Course = record course { given = [] } in
+    let first = then_ok (taken_from scope enter t course.given fresh) (walked scope enter tokens) after e in
+    let moves = taken_from_moved scope enter t start course.given fresh first.0 told enters sound.0 follow first.1 in
+    let one = taken_one scope enter t start s.state course.given fresh first.0 told enters sound.0 follow among first.1 in
+    let counted = then_ok (counts 1 t.place one.before) (token_taken scope enter t.token t.place s.state) one.middle one.taken in
+    let stepped : IsWellFormed scope.style list (token_step scope.style t.token t.place inner.c) = formed_step s.laws scope list frame frames s.c told.sound fits here s.formed in
+    let waits = safe_framed scope list (suc n) s (rest ∷ frames) frames after.given fewer safe in
+    let later : SafeAfter scope list n (rest ∷ frames) inner one.middle.given = λ x w d there reached.
+    less scope.style n d
+    (tokens_safe scope list n enter told fits enters names tokens at frames start (onward scope list (rest ∷ frames) inner x w d reached) first.0 after sound.1
+    (All-same (Follows scope start) first.0.given moves.more moves.given moves.follow)
+    (subst (IsAmong x) (sym one.given) (among_sooner x one.middle.given one.more there)) reached.remains.waiting first.2
+    (safe_on scope list (suc n) (rest ∷ frames) frames inner x w d after.given reached waits)) in
+    one_before scope.style frame frames n s.c here
+    (token_safe scope list n enter inner t.token t.place t.place counted.0 one.middle told sound.0 stepped
+    (λ id is. subst (λ (k : Token). SafeFor scope.style n (token_step scope.style k t.place inner.c)) (sym is)
+    (names id t.place t.place inner counted.0 one.middle
+    (subst (λ (k : Token). token_taken scope enter k t.place s.state counted.0 ≡ Ok one.middle) is counted.2)
+    (subst (λ (k : Token). IsWellFormed scope.style list (token_step scope.style k t.place inner.c)) is stepped) later)) counted.2 later)
+
+-- a body that is walked is safe for one step more than the calls in it
+pub body_safe : (scope : Scope) (list : EntryList) (n depth : ℕ) → Told scope → Fits scope.style list → NamesSafe scope list n (body_walked scope depth)
+    → EnterSafe scope list (suc n) (body_walked scope (suc depth))
+body_safe scope list n depth told fits names place at body s course after e formed safe =
+    let tokens = tokens_of scope.style body in
+    let begun : Course = record course { given = s.state ∷ [] } in
+    let inner = then_ok (walked scope (body_walked scope depth) tokens begun) (λ inner. gives_all place inner.given (record inner { given = course.given })) after e in
+    let given = gives_all_ok place inner.0.given (record inner.0 { given = course.given }) after inner.2 in
+    let frame : Frame = record { tokens = tokens; place = at; part = Whole } in
+    tokens_safe scope list n (body_walked scope depth) told fits (body_moved scope depth told) names tokens at s.c.frames s.state
+    (framed_start scope list s (frame ∷ s.c.frames) formed) begun inner.0 (body_sound scope body told.sound)
+    (All-cons (Follows scope s.state) s.state [] (follows_self scope s.state s.made) (All-nil (Follows scope s.state))) (inl refl) refl inner.1
+    (safe_framed scope list (suc n) s (frame ∷ s.c.frames) s.c.frames inner.0.given formed
+    (λ x w d among reached. safe x w d (subst (λ (c : Course). IsAmong x c.given) (sym given) (among_later x course.given inner.0.given among)) reached))
+
+-- a body whose frame is the innermost is fine
+pub body_fine : (scope : Scope) (list : EntryList) (enter : Enter) → EnterSafe scope list zero enter
+body_fine scope list enter place at body s course after e formed safe =
+    framed_fine scope.style (record { tokens = tokens_of scope.style body; place = at; part = Whole }) s.c.frames (with_frame (tokens_of scope.style body) at Whole s.c)
+    (record { goes = s.goes; framed = refl })
+
+pub nothing_walked : (scope : Scope) (list : EntryList) (n : ℕ) → EnterSafe scope list n (body_walked scope zero)
+nothing_walked scope list n place at body s course after e formed safe = absurd (cc)
