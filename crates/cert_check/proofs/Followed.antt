@@ -16,14 +16,28 @@ use Rattle.cert_check.specs.Courses.{Course, counts, gives, gives_all}
 use Rattle.cert_check.specs.Walks.{Scope, may_write}
 use Rattle.cert_check.proofs.Inverted.{counts_ok, gives_all_ok, gives_ok}
 
--- the state after is well made, extends the one before, and variables that may not be written keep their symbols
+-- whether the whole stack is known and whether an entry is visited stay, the fields keep their symbols, no symbol is given back, and
+-- facts and rows are only added at the end: what holds of one rule after the other
+pub record Grows (old new : State) : Type 0 where
+  pub whole : new.whole ≡ old.whole
+  pub at_entry : new.at_entry ≡ old.at_entry
+  pub fields : new.fields ≡ old.fields
+  pub next : old.next ≤ new.next
+  pub facts : (more : List Fact) × (new.facts ≡ old.facts ++ more)
+  pub rows : (more : List Row) × (new.rows ≡ old.rows ++ more)
+
+-- a rule by itself
+pub grows_of : (old new : State) → Extends old new → Grows old new
+grows_of old new one = record { whole = one.whole; at_entry = one.at_entry; fields = one.fields; next = one.next; facts = one.facts; rows = one.rows }
+
+-- the state after is well made, grows from the one before, and variables that may not be written keep their symbols
 pub record Follows (scope : Scope) (start after : State) : Type 0 where
   pub made : WellMade scope.style after
-  pub extends : Extends start after
+  pub grows : Grows start after
   pub vars : (name : NameId) → may_write scope name ≡ false → symbol_at name after.vars ≡ symbol_at name start.vars
 
-pub extends_twice : (first second third : State) → Extends first second → Extends second third → Extends first third
-extends_twice first second third one other = record {
+pub grows_twice : (first second third : State) → Grows first second → Grows second third → Grows first third
+grows_twice first second third one other = record {
   whole = other.whole ∙ one.whole;
   at_entry = other.at_entry ∙ one.at_entry;
   fields = other.fields ∙ one.fields;
@@ -38,8 +52,8 @@ extends_twice first second third one other = record {
   );
 }
 
-pub extends_self : (state : State) → Extends state state
-extends_self state = record {
+pub grows_self : (state : State) → Grows state state
+grows_self state = record {
   whole = refl;
   at_entry = refl;
   fields = refl;
@@ -49,19 +63,19 @@ extends_self state = record {
 }
 
 pub follows_self : (scope : Scope) (state : State) → WellMade scope.style state → Follows scope state state
-follows_self scope state made = record { made = made; extends = extends_self state; vars = λ name not. refl }
+follows_self scope state made = record { made = made; grows = grows_self state; vars = λ name not. refl }
 
 pub follows_twice : (scope : Scope) (first second third : State) → Follows scope first second → Follows scope second third → Follows scope first third
 follows_twice scope first second third one other = record {
   made = other.made;
-  extends = extends_twice first second third one.extends other.extends;
+  grows = grows_twice first second third one.grows other.grows;
   vars = λ name not. other.vars name not ∙ one.vars name not;
 }
 
 pub left_follows : (scope : Scope) (first second : State) → WellMade scope.style second → LeavesVariables first second → Follows scope first second
 left_follows scope first second made left = record {
   made = made;
-  extends = left.extends;
+  grows = grows_of first second left.extends;
   vars = λ name not. ap (symbol_at name) left.vars;
 }
 

@@ -47,7 +47,7 @@ use Rattle.cert_check.specs.Courses.{Course, counts, gives, gives_all, placed}
 use Rattle.cert_check.specs.Certified.{IsSummaryOf}
 use Rattle.cert_check.specs.Uses.{comes_by, left_state, passage}
 use Rattle.cert_check.specs.Walks.{Scope, confined, entering_nothing, is_within, leaves, literal, literal_state, may_write, number_of, plain, split, summary_used, test_of, variable, written_by}
-use Rattle.cert_check.proofs.Followed.{Follows, Moved, all_given, counts_moved, left_follows, moved_twice, one_given, rehinted}
+use Rattle.cert_check.proofs.Followed.{Follows, Moved, all_given, counts_moved, grows_of, left_follows, moved_twice, one_given, rehinted}
 use Rattle.cert_check.proofs.Inverted.{confined_ok, placed_ok}
 
 -- each state that a used summary leaves follows the state that came to it
@@ -84,7 +84,7 @@ effect_follows scope state o hints after told made within e =
       | inl left ↦ left_follows scope state after.state kept left
       | inr assigned ↦ record {
         made = kept;
-        extends = assigned.1.extends;
+        grows = grows_of state after.state assigned.1.extends;
         vars = λ name not. assigned.1.others name (λ same. no_such (may_write scope name) not
             (ap (λ (n : ℕ). may_write scope (record { 0 = n })) same ∙ written_is scope o state after.state assigned.0 assigned.1 within));
       }
@@ -169,7 +169,7 @@ variable_moved scope name place state course after made e = by_bound (bound name
 -- literals
 literal_follows : (scope : Scope) (kind : Kinds) (said : Fact) (state : State) → WellMade scope.style state
     → WellMade scope.style (literal kind said state) → Follows scope state (literal kind said state)
-literal_follows scope kind said state made after = left_follows scope state (literal kind said state) after (added state _ _ _ _ (omega arith))
+literal_follows scope kind said state made after = left_follows scope state (literal kind said state) after (added state _ _ _ _ (omega arith) (omega arith))
 
 pub of_text : (P : List ℕ → Type 0) (o : Option (List ℕ)) → IfSome o P → P [] → P (option_map_or (λ bytes. bytes) o [])
 of_text P (Some bytes) h none = h

@@ -30,6 +30,15 @@ fields_bound (b ∷ written) state none =
     moved [] all same = tt
     moved (c ∷ bs) all same = (ap (symbol_at c.name) same ∙ all.0, moved bs all.1 same)
 
+-- facts, rows and what symbols there are stay
+pub facts_bound : (written : List Bind) (state : State) → (with_binds written state).facts ≡ state.facts
+facts_bound [] state = refl
+facts_bound (b ∷ written) state = facts_bound written (with_bind b.name b.sym state)
+
+pub rows_bound : (written : List Bind) (state : State) → (with_binds written state).rows ≡ state.rows
+rows_bound [] state = refl
+rows_bound (b ∷ written) state = rows_bound written (with_bind b.name b.sym state)
+
 -- whether the whole stack is known and whether an entry is visited stay
 pub whole_bound : (written : List Bind) (state : State) → (with_binds written state).whole ≡ state.whole
 whole_bound [] state = refl

@@ -1,22 +1,23 @@
 -- A used summary leaves a state that follows the one that came to it, where that is well made.
-use Rattle.std.proofs.Common.{◌≡◌, ℕ, suc, ◌+◌, Bool, true, false, nat_eq, List, [], ◌∷◌, map, Option, None, Some, refl, sym, ap, ◌∙◌, arith}
+use Rattle.std.proofs.Common.{◌≡◌, ℕ, suc, ◌+◌, Bool, true, false, nat_eq, List, [], ◌∷◌, ◌++◌, map, Option, None, Some, refl, sym, ap, ◌∙◌, arith}
 use Rattle.std.specs.List.{AllByRecursion, list_all}
 use Rattle.std.proofs.lemmas.Bool.{and_parts}
 use Rattle.std.proofs.lemmas.Bool.Decides.{nat_tests}
 use Rattle.name_table.specs.declared.names.NameId.{NameId}
 use Rattle.sym_state.specs.State.{State}
 use Rattle.sym_state.specs.Changes.{symbol_at}
-use Rattle.sym_state.specs.Entailing.{match_of}
-use Rattle.sym_state.specs.Renaming.{bind_renamed}
-use Rattle.sym_state.specs.Starting.{seat, seats}
+use Rattle.sym_state.specs.Entailing.{under}
+use Rattle.sym_state.specs.Renaming.{bind_renamed, sym_renamed}
+use Rattle.sym_state.specs.Starting.{seat, seats, unbound}
 use Rattle.sym_state.specs.WellMade.{WellMade}
 use Rattle.sym_state.specs.declared.piece.Piece.{Piece}
 use Rattle.sym_state.specs.declared.symbol.Bind.{Bind}
 use Rattle.sym_state.specs.declared.symbol.Sym.{Sym}
-use Rattle.cert_check.specs.Uses.{Passage, left_state, new_symbols, own_count, own_symbols, renamed_by}
+use Rattle.cert_check.specs.Uses.{Passage, facts_left, left_state, new_symbols, own_count, own_places, post_match, rows_left}
 use Rattle.cert_check.specs.Walks.{Scope, may_write}
 use Rattle.cert_check.proofs.Followed.{Follows}
-use Rattle.cert_check.proofs.Leaving.{entry_bound, fields_bound, others_bound, whole_bound}
+use Rattle.cert_check.proofs.Leaving.{entry_bound, facts_bound, fields_bound, others_bound, rows_bound, whole_bound}
+use Rattle.cert_check.proofs.LeftMade.{binds_next}
 
 -- what holds of each name holds of the names of their seats
 seats_all : (P : NameId → Type 0) (binds : List Bind) (first : ℕ) (names : List NameId) → AllByRecursion P names
@@ -52,21 +53,30 @@ pub left_framed : (scope : Scope) (unit : Passage) (pre : Piece) (kept : ℕ) (s
     → AllByRecursion (λ name. symbol_at name state.fields ≡ None) unit.writes
     → WellMade scope.style (left_state scope.style scope.cert.cond unit pre kept state post)
     → Follows scope state (left_state scope.style scope.cert.cond unit pre kept state post)
+unfolding left_state
 left_framed scope unit pre kept state post may fields made =
-    let count = own_count post kept in
-    let own = own_symbols unit state post kept count state.next in
-    let binds = map (bind_renamed (renamed_by (match_of state pre 0) kept own)) post.vars in
-    let first = state.next + new_symbols unit state post kept count in
-    let written = seats binds first unit.writes in
+    let count : ℕ = own_count post kept in
+    let name : ℕ → ℕ = post_match (own_places unit state post kept count state.next) state pre in
+    let binds : List Bind = map (bind_renamed name) post.vars in
+    let first : ℕ = state.next + new_symbols unit state post kept count in
+    let written : List Bind = seats binds first unit.writes in
+    let n : ℕ = first + unbound binds unit.writes in
+    let told : State = record state {
+      stack = under state pre ++ map (sym_renamed name) post.stack;
+      facts = state.facts ++ facts_left scope.style scope.cert.cond name written post;
+      rows = state.rows ++ rows_left scope.style scope.cert.cond name written post;
+      next = n;
+    } in
+    let next = binds_next written told in
     record {
       made = made;
-      extends = record {
-        whole = whole_bound written state;
-        at_entry = entry_bound written state;
-        fields = fields_bound written state (seats_all (λ name. symbol_at name state.fields ≡ None) binds first unit.writes fields);
-        next = omega arith;
-        facts = (_, refl);
-        rows = (_, refl);
+      grows = record {
+        whole = whole_bound written told;
+        at_entry = entry_bound written told;
+        fields = fields_bound written told (seats_all (λ name. symbol_at name state.fields ≡ None) binds first unit.writes fields);
+        next = omega (arith, next);
+        facts = (_, facts_bound written told);
+        rows = (_, rows_bound written told);
       };
-      vars = λ name not. others_bound written state name (seats_all (λ other. nat_eq other.0 name.0 ≡ false) binds first unit.writes (all_differ scope name unit.writes not may));
+      vars = λ name not. others_bound written told name (seats_all (λ other. nat_eq other.0 name.0 ≡ false) binds first unit.writes (all_differ scope name unit.writes not may));
     }

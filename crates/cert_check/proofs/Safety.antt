@@ -166,9 +166,9 @@ pub safe_on : (scope : Scope) (list : EntryList) (n : ℕ) (first frames : List 
 safe_on scope list n first frames s middle w d states reached safe = λ after x e among later.
     safe after x e among (record {
       follows = follows_twice scope s.state middle after reached.follows later.follows;
-      agrees = agrees_on s.state.next middle.next s.v w x reached.follows.extends.next reached.agrees later.agrees;
+      agrees = agrees_on s.state.next middle.next s.v w x reached.follows.grows.next reached.agrees later.agrees;
       remains = remains_twice s.state.at_entry first frames s.c d e reached.remains
-          (subst (λ (t : Bool). Remains t frames d e) reached.follows.extends.at_entry later.remains);
+          (subst (λ (t : Bool). Remains t frames d e) reached.follows.grows.at_entry later.remains);
       formed = later.formed;
       stands = later.stands;
     })

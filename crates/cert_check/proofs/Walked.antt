@@ -140,7 +140,7 @@ cases_follow scope state rest (case ∷ cases) below made left =
     let more = here.extends.next in
     All-cons (CaseFollows scope state rest) case cases (record {
       follows = left_follows scope state case.1 (All-head (λ (one : Bool × State). WellMade scope.style one.1) case cases made)
-          (left_twice state popped case.1 (moved state (reverse rest)) here);
+          (left_twice state popped case.1 (omega arith) (moved state (reverse rest)) here);
       below = All-weaker (λ (s : Sym). s.0 < state.next) (λ (s : Sym). s.0 < case.1.next) (λ s h. omega (arith, h, more)) rest below;
     }) (cases_follow scope state rest cases below (All-tail (λ (one : Bool × State). WellMade scope.style one.1) case cases made)
     (All-tail (λ (one : Bool × State). LeavesVariables popped one.1) case cases left))
