@@ -1,43 +1,65 @@
 //! How far a walk has come.
 
-ghost use Rattle.std.specs.Prelude.{◌≡◌, ◌≤◌, ◌+◌, [], ◌∷◌, OnOk, OnErr};
-ghost use Rattle.name_table.specs.declared.style.Style.{Style};
-ghost use Rattle.sym_state.specs.State.{State as StateOf};
+ghost use Rattle.std.specs.Prelude.{◌≡◌, ◌≢◌, ◌<◌, [], ◌∷◌, ◌++◌, true, IfOk, OnOk, Ok, Err, MatchResult, MatchOption};
+ghost use Rattle.std.specs.List.{All};
+ghost use Rattle.sym_state.specs.Demands.{HasFewUses};
+ghost use Rattle.sym_state.specs.Effects.{is_plain};
+ghost use Rattle.sym_state.specs.Results as results;
+ghost use Rattle.sym_state.specs.WellMade.{HasBounds};
+ghost use Rattle.sym_state.specs.declared.demand.EffectFault.TheVariants.{NoMemory as WantOfMemoryThere};
 ghost use Rattle.cert_check.specs.Courses as courses;
-ghost use Rattle.cert_check.specs.Given.{CanGo, CanTake, Decides, GoesOn, Takes};
+ghost use Rattle.cert_check.specs.Given.{Takes};
+ghost use Rattle.cert_check.specs.Walks as rule;
+ghost use Rattle.cert_check.specs.declared.refusal.Reason.TheVariants.{NoMemory as WantOfMemory};
 
 use crate::limits::{MOST_CASES, MOST_COUNT};
 use crate::refusal::{Reason, Refusal};
+use crate::scope::Scope;
+use builtin_effects::effect::effect;
 use bv_base::memory::NoMemory;
 use bv_base::place::Place;
+use name_table::builtin::Builtin;
+use name_table::names::NameId;
+use refinements::{Test, split};
 use std::alloc::Global;
 use std::marker::Model;
-use sym_state::demand::EffectFault;
+use std::mem;
+use sym_state::demand::{Demand, DemandKind, EffectFault};
 use sym_state::hint::{Hint, Hints};
 use sym_state::state::State;
+use sym_state::symbol::Sym;
 
 /// The states that the token in hand has given so far, the hints that are left, and how much the unit's walk has counted.
 #[derive(Drop)]
 pub(crate) struct Course<'a> {
+    alloc: Global,
     given: Vec<State>,
     hints: Hints<'a>,
     count: u32,
 }
 
 impl<'a> Model for Course<'a> {
+    ghost use Rattle.std.specs.Prelude.{◌≤◌};
+    ghost use Rattle.std.specs.List.{All};
+    ghost use Rattle.sym_state.specs.Demands.{HasFewUses};
     ghost use Rattle.cert_check.specs.Courses as courses;
+    ghost use Rattle.cert_check.specs.declared.limits.TheConstants.{MOST_COUNT};
 
     ghost Value = { courses.Course };
 
     ghost view = { λ c. record { given = c.given.items; hints = c.hints; count = c.count } };
+
+    ghost invariant = { λ c. (c.count ≤ MOST_COUNT) × All HasFewUses c.hints };
 }
 
 impl<'a> Course<'a> {
     /// A walk that begins with these hints.
     pub(crate) fn new(alloc: Global, hints: &'a [Hint]) -> Course<'a>
+        requires { All HasFewUses hints.now }
         ensures { result ≡ record { given = []; hints = hints.now; count = 0 } }
     {
         Course {
+            alloc,
             given: Vec::new(alloc),
             hints: Hints::new(hints),
             count: 0,
@@ -46,14 +68,11 @@ impl<'a> Course<'a> {
 
     /// Counts.
     pub(crate) fn counts(&mut self, n: u32, place: Place) -> Result<(), Refusal>
-        requires { self.old.count ≤ MOST_COUNT }
-        ensures { Takes (courses.counts n place self.old) self.new result }
+        ensures takes { Takes (courses.counts n place self.old) self.new result }
+        ensures given { OnOk result (self.new.given ≡ self.old.given) }
     {
         if n > MOST_COUNT - self.count {
-            return Err(Refusal {
-                place,
-                reason: Reason::WalkTooLong,
-            });
+            return refuse(place, Reason::WalkTooLong);
         }
         self.count += n;
         Ok(())
@@ -61,22 +80,143 @@ impl<'a> Course<'a> {
 
     /// The token in hand gives one state more.
     pub(crate) fn gives(&mut self, place: Place, state: State) -> Result<(), Refusal>
-        ensures { Takes (courses.gives place state self.old) self.new result }
+        ensures takes { Takes (courses.gives place state self.old) self.new result }
     {
         if self.given.len() >= MOST_CASES {
-            return Err(Refusal {
-                place,
-                reason: Reason::TooManyCases,
-            });
+            return refuse(place, Reason::TooManyCases);
         }
-        match self.given.push(state) {
-            Ok(()) => Ok(()),
-            Err(_) => Err(Refusal {
-                place,
-                reason: Reason::NoMemory,
-            }),
+        put(place, &mut self.given, state)
+    }
+
+    /// It gives these states, one after the other.
+    pub(crate) fn gives_all(&mut self, place: Place, states: Vec<State>) -> Result<(), Refusal>
+        ensures takes { Takes (courses.gives_all place states.items self.old) self.new result }
+    {
+        for state in states {
+            self.gives(place, state)?;
+        }
+        Ok(())
+    }
+
+    /// The states that the last token gave, which the next one is taken from.
+    pub(crate) fn take_given(&mut self) -> Vec<State>
+        ensures given { result.items ≡ self.old.given }
+        ensures left { self.new ≡ record self.old { given = [] } }
+    {
+        mem::replace(&mut self.given, Vec::new(self.alloc))
+    }
+
+    /// A body is entered from a state. What the token in hand gave before is kept by the caller.
+    pub(crate) fn begin(&mut self, place: Place, state: State) -> Result<Vec<State>, Refusal>
+        ensures { MatchResult result (λ given. (given.items ≡ self.old.given) × (self.new ≡ record self.old { given = state ∷ [] }))
+            (λ refusal. refusal.reason ≡ WantOfMemory) }
+    {
+        let mut first = Vec::new(self.alloc);
+        match first.push(state) {
+            Ok(()) => Ok(mem::replace(&mut self.given, first)),
+            Err(_) => refuse(place, Reason::NoMemory),
         }
     }
+
+    /// The body has ended: the token in hand gives the states at its end, beside those that it gave before.
+    pub(crate) fn end(&mut self, place: Place, given: Vec<State>) -> Result<(), Refusal>
+        ensures takes { Takes (courses.gives_all place self.old.given (record self.old { given = given.items })) self.new result }
+    {
+        let inner = mem::replace(&mut self.given, given);
+        self.gives_all(place, inner)
+    }
+
+    /// The next hint that is left, which is taken.
+    pub(crate) fn next_hint(&mut self) -> Option<&'a Hint>
+        ensures { MatchOption result ((self.old.hints ≡ []) × (self.new ≡ self.old))
+            (λ hint. (self.old.hints ≡ hint.now ∷ self.new.hints) × (self.new ≡ record self.old { hints = self.new.hints })) }
+    {
+        self.hints.next_short()
+    }
+
+    /// A built-in function that is neither a test nor enters a function gives one state.
+    pub(crate) fn plain(
+        &mut self,
+        scope: &Scope<'_>,
+        op: Builtin,
+        place: Place,
+        state: &State,
+    ) -> Result<(), Refusal>
+        requires plain { is_plain op ≡ true }
+        requires bounds { HasBounds state.now }
+        requires room { state.now.next < 4294967295 }
+        ensures takes { Takes (rule.plain scope.now op place state.now self.old) self.new result }
+    {
+        let may = is_within(scope, written_by(op, state));
+        match effect(scope.style(), state, scope.cond(), op, &mut self.hints) {
+            Ok(after) => {
+                if may {
+                    self.gives(place, after)
+                } else {
+                    refuse(place, Reason::NotEntailed(0))
+                }
+            }
+            Err(fault) => refuse(place, reason_of(behind_demands(may, fault))),
+        }
+    }
+
+    /// A test gives the states of its cases.
+    pub(crate) fn split(
+        &mut self,
+        scope: &Scope<'_>,
+        test: Test,
+        place: Place,
+        state: &State,
+    ) -> Result<(), Refusal>
+        requires bounds { HasBounds state.now }
+        requires room { state.now.next < 4294967295 }
+        ensures takes { Takes (rule.split scope.now test place state.now self.old) self.new result }
+    {
+        let answer = split(state, scope.cond(), test, &mut self.hints);
+        let states = placed(place, answer)?;
+        self.gives_all(place, states)
+    }
+
+    /// A variable or a field puts its symbol on top.
+    pub(crate) fn variable(
+        &mut self,
+        name: NameId,
+        place: Place,
+        state: State,
+    ) -> Result<(), Refusal>
+        ensures takes { Takes (rule.variable name place state self.old) self.new result }
+    {
+        match state.bound(name) {
+            Some(sym) => {
+                let after = held(place, with_top(state, sym))?;
+                self.gives(place, after)
+            }
+            None => refuse(
+                place,
+                Reason::Demand(Demand {
+                    kind: DemandKind::NoEntry,
+                    operand: 0,
+                }),
+            ),
+        }
+    }
+}
+
+/// Puts a state behind those that were given.
+fn put(place: Place, given: &mut Vec<State>, state: State) -> Result<(), Refusal>
+    ensures { MatchResult result (λ _. given.new.items ≡ given.old.items ++ state ∷ []) (λ refusal. refusal.reason ≡ WantOfMemory) }
+{
+    match given.push(state) {
+        Ok(()) => Ok(()),
+        Err(_) => refuse(place, Reason::NoMemory),
+    }
+}
+
+/// A rule fails at a place.
+pub(crate) fn refuse<T>(place: Place, reason: Reason) -> Result<T, Refusal>
+    ensures { result ≡ courses.refuses place reason }
+{
+    Err(Refusal { place, reason })
 }
 
 /// What a rule on states gives, where it is taken at a place.
@@ -85,10 +225,17 @@ pub(crate) fn placed<T>(place: Place, answer: Result<T, EffectFault>) -> Result<
 {
     match answer {
         Ok(value) => Ok(value),
-        Err(fault) => Err(Refusal {
-            place,
-            reason: reason_of(fault),
-        }),
+        Err(fault) => refuse(place, reason_of(fault)),
+    }
+}
+
+/// What is given where memory allows.
+pub(crate) fn held<T>(place: Place, answer: Result<T, NoMemory>) -> Result<T, Refusal>
+    ensures { MatchResult result (λ value. answer ≡ Ok value) (λ refusal. refusal.reason ≡ WantOfMemory) }
+{
+    match answer {
+        Ok(value) => Ok(value),
+        Err(_) => refuse(place, Reason::NoMemory),
     }
 }
 
@@ -102,5 +249,51 @@ fn reason_of(fault: EffectFault) -> Reason
         EffectFault::HintsShort => Reason::HintsShort,
         EffectFault::WrongHint => Reason::WrongHint,
         EffectFault::NoMemory => Reason::NoMemory,
+    }
+}
+
+/// A symbol that the state has is put on top.
+fn with_top(mut state: State, sym: Sym) -> Result<State, NoMemory>
+    ensures { IfOk result (λ after. after ≡ results.with_top sym state) }
+{
+    state.push(sym)?;
+    Ok(state)
+}
+
+/// The variable that `:=` writes, which the exact function on top names.
+fn written_by(op: Builtin, state: &State) -> Option<NameId>
+    ensures { result ≡ rule.written_by op state.now }
+{
+    match (op, state.at(0)) {
+        (Builtin::Assign, Some(sym)) => state.exact_name(sym),
+        _ => None,
+    }
+}
+
+/// Whether the unit may write what a built-in function writes.
+fn is_within(scope: &Scope<'_>, written: Option<NameId>) -> bool
+    ensures { result ≡ rule.is_within scope.now written }
+{
+    match written {
+        Some(name) => scope.may_write(name),
+        None => true,
+    }
+}
+
+/// A fault of a built-in function: where it would write what the unit may not write, that comes behind the demands.
+fn behind_demands(may: bool, fault: EffectFault) -> EffectFault
+    ensures wanting { fault ≡ WantOfMemoryThere → result ≡ WantOfMemoryThere }
+    ensures behind { fault ≢ WantOfMemoryThere → rule.confined may (Err fault) ≡ Err result }
+{
+    match fault {
+        EffectFault::NoMemory => EffectFault::NoMemory,
+        EffectFault::Demand(demand) => EffectFault::Demand(demand),
+        fault => {
+            if may {
+                fault
+            } else {
+                EffectFault::NotEntailed(0)
+            }
+        }
     }
 }
