@@ -148,15 +148,7 @@ summary_go style list cond ss s more q fit room is after =
     marked_go style c kind s.entry s.whole s.writes (record (units.no_unit kind) { stage = t; entry = s.entry; whole = s.whole; writes = s.writes }) Pre 1 none_closed
     s.entry s.entry 0 s.pre (posts ++ (hints ++ more)) q fit.plain low refl refl refl (lit≤ tt) is.pre (λ u.
     posts_go style c s.body s.entry s.whole s.writes s.pre s.posts s.hints u more q fit.plain is.few is.posts is.hints (λ n l e.
-    subst (λ (k : List Piece). let x : Summary = record {
-      body = s.body;
-      entry = s.entry;
-      whole = s.whole;
-      writes = s.writes;
-      pre = s.pre;
-      posts = k;
-      hints = s.hints;
-    } in Goes style more (reading list cond (ss ++ x ∷ []) [] []) q) (sym e) after)))))
+    subst (λ (k : List Piece). let x : Summary = record s { posts = k } in Goes style more (reading list cond (ss ++ x ∷ []) [] []) q) (sym e) after)))))
 
 -- exits, and then hints
 exits_go : (style : Style) (c : CertSoFar) (test body : Target) (entry whole : Bool) (writes : List NameId) (cases before exits : List Piece) (hints : List Hint)
@@ -232,26 +224,8 @@ loop_go style list cond ss ls x more q fit room is after =
     (subst (λ (l : Lines). Goes style l (inside c (units.no_unit kind)) q) (sym lines)
     (head_go style c kind x.entry x.whole x.writes (cases ++ (exits ++ (hints ++ more))) q fit.plain is.writes (λ t low.
     cases_go style c x.test x.body x.entry x.whole x.writes x.cases x.exits x.hints t more q fit.plain low is.some is.few is.cases is.exits is.hints (λ n k l e f.
-    subst (λ (a : List Piece). let y : Loop = record {
-      test = x.test;
-      body = x.body;
-      entry = x.entry;
-      whole = x.whole;
-      writes = x.writes;
-      cases = a;
-      exits = l;
-      hints = x.hints;
-    } in Goes style more (reading list cond ss (ls ++ y ∷ []) []) q) (sym e)
-    (subst (λ (b : List Piece). let y : Loop = record {
-      test = x.test;
-      body = x.body;
-      entry = x.entry;
-      whole = x.whole;
-      writes = x.writes;
-      cases = x.cases;
-      exits = b;
-      hints = x.hints;
-    } in Goes style more (reading list cond ss (ls ++ y ∷ []) []) q) (sym f) after)))))
+    subst (λ (a : List Piece). let y : Loop = record x { cases = a; exits = l } in Goes style more (reading list cond ss (ls ++ y ∷ []) []) q) (sym e)
+    (subst (λ (b : List Piece). let y : Loop = record x { exits = b } in Goes style more (reading list cond ss (ls ++ y ∷ []) []) q) (sym f) after)))))
 
 -- `keeps`, and then hints
 keeps_go : (style : Style) (c : CertSoFar) (index : ℕ) (u : UnitSoFar) (n : ℕ) (a v k : Option Piece) (hints : List Hint) (more : Lines) (q : CertSoFar)

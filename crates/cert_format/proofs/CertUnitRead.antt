@@ -34,10 +34,10 @@ use Rattle.cert_format.specs.declared.unit_lines.UnitStage.{UnitStage}
 use Rattle.cert_format.specs.declared.unit_lines.UnitStage.TheVariants as stage
 use Rattle.cert_format.proofs.CertBodies.{bare_body, bare_good, bare_ready, close_good, count_more, front_behind, full_last, mark_body, new_front, piece_body, ready_next, start_small}
 use Rattle.cert_format.proofs.CertHints.{hint_read}
-use Rattle.cert_format.proofs.CertKept.{ended_read, last_read, named_word}
+use Rattle.cert_format.proofs.CertKept.{among_said, ended_read, last_read}
 use Rattle.cert_format.proofs.CertNames.{variable_read}
 use Rattle.cert_format.proofs.CertSteps.{Fits, Kept, in_back, piece_read}
-use Rattle.cert_format.proofs.CertUnits.{Bare, CountAt, Counted, Full, Good, Headless, Lines, Open, OpenAt, Ready, Shape, UnitKept, body_lines, closed, first_items, hints_at, mark_text, rank, tail_lines, unit_spelled}
+use Rattle.cert_format.proofs.CertUnits.{Bare, CountAt, Counted, Full, Good, Headless, Lines, Open, OpenAt, Ready, Shape, UnitKept, body_lines, closed, closed_of, first_items, hints_at, mark_text, rank, tail_lines, unit_spelled, with_closed}
 use Rattle.cert_format.proofs.CondKept.{chain_snoc, each_snoc}
 use Rattle.cert_format.proofs.CondRead.{Has, item_before}
 use Rattle.cert_format.proofs.CondSteps.{map_snoc}
@@ -357,49 +357,26 @@ empty_fits n at_entry has_pos start =
 
 -- a unit with the closed pieces of another one, and another open piece
 abbrev put_in : UnitSoFar → PieceSoFar → UnitSoFar → UnitSoFar
-put_in w next u =
-    record u {
-      symbols = w.symbols;
-      piece = next;
-      pre = w.pre;
-      cases = w.cases;
-      later = w.later;
-      after = w.after;
-      visit = w.visit;
-      keeps = w.keeps;
-    }
+put_in w next u = with_closed (closed_of w) (record u { piece = next })
+
+-- what holds of no mark and of each mark
+by_last : (P : Option Mark → Type 0) → P None → P (Some Pre) → P (Some Post) → P (Some Case) → P (Some Exit) → P (Some After) → P (Some Visit)
+    → P (Some Keeps) → (last : Option Mark) → P last
+by_last P none pre post case exit after visit keeps None = none
+by_last P none pre post case exit after visit keeps (Some mark) =
+    elim mark as (λ m. P (Some m)) [ Pre ↦ pre | Post ↦ post | Case ↦ case | Exit ↦ exit | After ↦ after | Visit ↦ visit | Keeps ↦ keeps ]
 
 -- closing a piece changes nothing else
 same_but : (last : Option Mark) (next : PieceSoFar) (u : UnitSoFar) → units.placed_as last next u ≡ put_in (units.placed_as last next u) next u
-same_but None next u = refl
-same_but (Some Pre) next u = refl
-same_but (Some Post) next u = refl
-same_but (Some Case) next u = refl
-same_but (Some Exit) next u = refl
-same_but (Some After) next u = refl
-same_but (Some Visit) next u = refl
-same_but (Some Keeps) next u = refl
+same_but last next u = by_last (λ l. units.placed_as l next u ≡ put_in (units.placed_as l next u) next u) refl refl refl refl refl refl refl refl last
 
 symbols_placed : (last : Option Mark) (next : PieceSoFar) (u : UnitSoFar) → (units.placed_as last next u).symbols ≡ units.symbols_of last u
-symbols_placed None next u = refl
-symbols_placed (Some Pre) next u = refl
-symbols_placed (Some Post) next u = refl
-symbols_placed (Some Case) next u = refl
-symbols_placed (Some Exit) next u = refl
-symbols_placed (Some After) next u = refl
-symbols_placed (Some Visit) next u = refl
-symbols_placed (Some Keeps) next u = refl
+symbols_placed last next u = by_last (λ l. (units.placed_as l next u).symbols ≡ units.symbols_of l u) refl refl refl refl refl refl refl refl last
 
 same_body : (names : List (List ℕ × Kind)) (kind : UnitKind) (last : Option Mark) (next : PieceSoFar) (u : UnitSoFar)
     → body_lines names kind (units.placed_as last u.piece u) ≡ body_lines names kind (units.placed_as last next u)
-same_body names kind None next u = refl
-same_body names kind (Some Pre) next u = refl
-same_body names kind (Some Post) next u = refl
-same_body names kind (Some Case) next u = refl
-same_body names kind (Some Exit) next u = refl
-same_body names kind (Some After) next u = refl
-same_body names kind (Some Visit) next u = refl
-same_body names kind (Some Keeps) next u = refl
+same_body names kind last next u =
+    by_last (λ l. body_lines names kind (units.placed_as l u.piece u) ≡ body_lines names kind (units.placed_as l next u)) refl refl refl refl refl refl refl refl last
 
 nil_end : (l : Lines) → l ++ [] ≡ l
 nil_end [] = refl
@@ -630,15 +607,7 @@ end_step style u word rest line v is kept at said e =
 
 -- the words before pieces
 mark_said : (text : List ℕ) (k : Mark) → among text units.mark_words ≡ Some k → text ≡ mark_text k
-mark_said text k e =
-    let P : Mark → Type 0 = λ w. text ≡ mark_text w in
-    named_word P text (codes "pre") Pre _ k e (λ s. s) (λ e1.
-    named_word P text (codes "post") Post _ k e1 (λ s. s) (λ e2.
-    named_word P text (codes "case") Case _ k e2 (λ s. s) (λ e3.
-    named_word P text (codes "exit") Exit _ k e3 (λ s. s) (λ e4.
-    named_word P text (codes "after") After _ k e4 (λ s. s) (λ e5.
-    named_word P text (codes "visit") Visit _ k e5 (λ s. s) (λ e6.
-    named_word P text (codes "keeps") Keeps _ k e6 (λ s. s) (λ e7. absurd (cc))))))))
+mark_said text k = among_said mark_text text units.mark_words k refl
 
 -- a word before a piece, or `hints`
 marked_step : (style : Style) (u : UnitSoFar) (word : Item) (rest line : Line) (v : UnitSoFar) (o : Option Mark) → line ≡ with_item word rest

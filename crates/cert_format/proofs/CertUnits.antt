@@ -42,16 +42,11 @@ pub record Closed : Type 0 where
   pub symbols : ℕ
 
 abbrev pub closed_of : UnitSoFar → Closed
-closed_of u =
-    record {
-      pre = u.pre;
-      cases = u.cases;
-      later = u.later;
-      after = u.after;
-      visit = u.visit;
-      keeps = u.keeps;
-      symbols = u.symbols;
-    }
+closed_of u = record { pre = u.pre; cases = u.cases; later = u.later; after = u.after; visit = u.visit; keeps = u.keeps; symbols = u.symbols }
+
+-- a unit with other closed pieces
+abbrev pub with_closed : Closed → UnitSoFar → UnitSoFar
+with_closed c u = record u { pre = c.pre; cases = c.cases; later = c.later; after = c.after; visit = c.visit; keeps = c.keeps; symbols = c.symbols }
 
 -- the pieces of a unit, each behind its word
 abbrev pub body_of : List (List ℕ × Kind) → UnitKind → Closed → Lines
@@ -83,12 +78,7 @@ unit_spelled style u = first_items style u.kind ∷ (head_lines style.names u.en
 
 -- the order of the lines of a unit
 abbrev pub rank : UnitStage → ℕ
-rank stage.Entry = 0
-rank stage.Whole = 1
-rank stage.Writes = 2
-rank stage.Pieces = 3
-rank stage.Hints = 4
-rank stage.Done = 5
+rank s = elim s [ stage.Entry ↦ 0 | stage.Whole ↦ 1 | stage.Writes ↦ 2 | stage.Pieces ↦ 3 | stage.Hints ↦ 4 | stage.Done ↦ 5 ]
 
 -- a piece of this mark may be opened: nothing stands behind it
 abbrev pub ReadyOf : UnitKind → Mark → Closed → Type 0
@@ -205,10 +195,4 @@ pub record UnitKept (style : Style) (u : UnitSoFar) : Type 0 where
 
 -- the word before a piece
 abbrev pub mark_text : Mark → List ℕ
-mark_text Pre = codes "pre"
-mark_text Post = codes "post"
-mark_text Case = codes "case"
-mark_text Exit = codes "exit"
-mark_text After = codes "after"
-mark_text Visit = codes "visit"
-mark_text Keeps = codes "keeps"
+mark_text mark = elim mark [ Pre ↦ codes "pre" | Post ↦ codes "post" | Case ↦ codes "case" | Exit ↦ codes "exit" | After ↦ codes "after" | Visit ↦ codes "visit" | Keeps ↦ codes "keeps" ]
