@@ -193,6 +193,14 @@ pub record UnitKept (style : Style) (u : UnitSoFar) : Type 0 where
   pub hints : Each IsHint u.hints
   pub headless : Headless u.kind u.stage u.entry u.whole u.writes
 
+-- what is kept of a unit, by its parts
+pub kept_of : (style : Style) (u : UnitSoFar) → (rank u.stage < 1 → u.entry ≡ false) → (rank u.stage < 2 → u.whole ≡ false)
+    → (rank u.stage < 2 → u.writes ≡ []) → (rank u.stage < 3 → u.last ≡ None) → (rank u.stage < 4 → u.hints ≡ [])
+    → AreWrites u.entry style.names u.writes → Shape u.stage u.last u.kind u → Good style u.kind u.entry u → OpenAt style u.last u
+    → CountAt u.last u.kind u.count u → u.count ≤ 64 → Each IsHint u.hints → Headless u.kind u.stage u.entry u.whole u.writes → UnitKept style u
+kept_of style u a b c d e f g h i j k l m =
+    record { no_entry = a; no_whole = b; no_writes = c; no_piece = d; no_hints = e; writes = f; shape = g; good = h; open_piece = i; count = j; few = k; hints = l; headless = m }
+
 -- the word before a piece
 abbrev pub mark_text : Mark → List ℕ
 mark_text mark = elim mark [ Pre ↦ codes "pre" | Post ↦ codes "post" | Case ↦ codes "case" | Exit ↦ codes "exit" | After ↦ codes "after" | Visit ↦ codes "visit" | Keeps ↦ codes "keeps" ]
