@@ -171,11 +171,11 @@ stage_rank stage.Rows = 4
 
 -- the order of the lines of a piece, by their words
 abbrev pub word_rank : PieceWord → ℕ
-word_rank Stack = 0
-word_rank Var = 1
-word_rank Field = 2
-word_rank Row = 4
-word_rank _ = 3
+word_rank Stack = stage_rank stage.Stack
+word_rank Var = stage_rank stage.Vars
+word_rank Field = stage_rank stage.Fields
+word_rank Row = stage_rank stage.Rows
+word_rank _ = stage_rank stage.Facts
 
 -- a word, where its line may come
 abbrev pub where_due : PieceStage → PieceWord → Option PieceWord
