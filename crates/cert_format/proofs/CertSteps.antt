@@ -4,7 +4,7 @@ use Rattle.std.specs.Fmt.{decimal, signed_decimal}
 use Rattle.std.specs.Option.{option_map}
 use Rattle.std.proofs.lemmas.List.{append-nil}
 use Rattle.bv_base.specs.Answers.{then_do}
-use Rattle.bv_base.proofs.ThenLemmas.{ok, ok_is, then_ok, unless_ok, where_ok}
+use Rattle.bv_base.proofs.ThenLemmas.{ok_is, then_ok, unless_ok, where_ok}
 use Rattle.lin_facts.specs.declared.row.Part.{Part}
 use Rattle.lin_facts.specs.declared.row.Row.{Row as RowOf}
 use Rattle.lin_facts.specs.declared.row.Term.{Term}
@@ -166,8 +166,7 @@ record Binding (names : List (List ℕ × Kind)) (next : ℕ) (text : List ℕ) 
 
 binding_read : (names : List (List ℕ × Kind)) (next : ℕ) (text : List ℕ) (name_of : Item → Result NameId Stop) (make : Bind → PieceSoFar) (word : Item)
     (rest line : Line) (q : PieceSoFar) → next ≤ 4294967295 → line ≡ with_item word rest → word.text ≡ text
-    → then_do (next_item rest) (λ item. then_do (name_of item.0) (λ name. then_do (pieces.bound next name item.1) (λ bind. ok {E = Stop} (make bind)))) ≡ Ok q
-    → Binding names next text name_of make line q
+    → pieces.bind_line name_of next rest make ≡ Ok q → Binding names next text name_of make line q
 binding_read names next text name_of make word rest line q small is said e =
     let a = then_ok (next_item rest) _ _ e in
     let b = then_ok (name_of a.0.0) _ _ a.2 in
