@@ -29,13 +29,12 @@ use sym_state::state::State;
 use sym_state::symbol::{Fact, Kinds, Sym};
 
 /// The step shows that the length has 32 bits. That it is above 30000 can't be, so the case of 1 is dropped.
-static WALKED: [&str; 1] = [
-    "step 1 Row:0; drop 1 Row:3 Row:2 Row:0 ExactLow:4; keep => 6; next 7; is 4 Int; int 4 30000; is 5 Int; is 6 Int; int 6 0; 0 1v5; 0 1l0 -1v5; 0 1v4 -1v5; entailed None",
-];
+const WALKED: &str =
+    "step 1 Row:0; drop 1 Row:3 Row:2 Row:0 ExactLow:4; keep => 6; next 7; is 4 Int; int 4 30000; is 5 Int; is 6 Int; int 6 0; 0 1v5; 0 1l0 -1v5; 0 1v4 -1v5; entailed None";
 
 #[test]
 fn a_walk_ends_in_what_it_entails(rt: HostRuntime) {
-    compare(&rt, rt.alloc(), &Walk, &WALKED);
+    compare(&rt, rt.alloc(), &Walk, &[WALKED]);
 }
 
 struct Walk;
