@@ -36,7 +36,9 @@ use Rattle.cert_format.specs.declared.cond_lines.Stage.TheVariants as part
 use Rattle.cert_format.specs.declared.piece_lines.PieceSoFar.{PieceSoFar}
 use Rattle.cert_format.specs.declared.piece_lines.PieceStage.{PieceStage}
 use Rattle.cert_format.specs.declared.stop.Stop.{Stop}
+use Rattle.cert_format.specs.declared.unit_lines.Mark.{Mark}
 use Rattle.cert_format.specs.declared.unit_lines.Mark.TheVariants.{Pre, Post, Case, Exit, After, Visit, Keeps}
+use Rattle.cert_format.specs.declared.unit_lines.UnitKind.{UnitKind}
 use Rattle.cert_format.specs.declared.unit_lines.UnitKind.TheVariants as unit
 use Rattle.cert_format.specs.declared.unit_lines.UnitSoFar.{UnitSoFar}
 use Rattle.cert_format.specs.declared.unit_lines.UnitStage.{UnitStage}
@@ -47,8 +49,9 @@ use Rattle.cert_format.proofs.CertSolid.{cert_solid}
 use Rattle.cert_format.proofs.CertTaken.{behind_small, read_at}
 use Rattle.cert_format.proofs.CertTargets.{NoSigns, command_taken, list_taken, plain_signs, target_taken}
 use Rattle.cert_format.proofs.CertUnitTaken.{Goes, goes_line, head_go, hinted, hints_go, inside, list_go, marked_go, state}
-use Rattle.cert_format.proofs.CertUnits.{Closed, Lines, rank}
+use Rattle.cert_format.proofs.CertUnits.{Closed, Lines, mark_text, rank}
 use Rattle.cert_format.proofs.CondBack.{all_lines}
+use Rattle.cert_format.proofs.CondRead.{Has}
 use Rattle.cert_format.proofs.CondTaken.{expect_taken, other_word, take_first, then_go, word_taken}
 use Rattle.cert_format.proofs.CondWhole.{Up, last_snoc, up_of}
 use Rattle.cert_format.proofs.Plain.{plain_names}
@@ -93,6 +96,36 @@ with_cases cs l = record { pre = None; cases = cs; later = l; after = None; visi
 abbrev for_command : Option Piece → Option Piece → Option Piece → Closed
 for_command a v k = record { pre = None; cases = []; later = []; after = a; visit = v; keeps = k; symbols = 0 }
 
+-- the first line of a unit and its parts in four
+parts_go : (style : Style) (p next q : CertSoFar) (text : List ℕ) (rest : List (List ℕ)) (a b c d more : Lines)
+    → ((word : Item) (line : Line) → word.text ≡ text → Has line rest → certs.cert_staged style p.stage word line p ≡ Ok next)
+    → Goes style (a ++ (b ++ (c ++ (d ++ more)))) next q → Goes style (((text ∷ rest) ∷ (a ++ (b ++ (c ++ d)))) ++ more) p q
+parts_go style p next q text rest a b c d more one after =
+    let lines : (a ++ (b ++ (c ++ d))) ++ more ≡ a ++ (b ++ (c ++ (d ++ more))) =
+    append_assoc a (b ++ (c ++ d)) more
+    ∙ ap (λ (l : Lines). a ++ l) (append_assoc b (c ++ d) more ∙ ap (λ (l : Lines). b ++ l) (append_assoc c d more)) in
+    goes_line style p next q text rest ((a ++ (b ++ (c ++ d))) ++ more) one (subst (λ (l : Lines). Goes style l next q) (sym lines) after)
+
+-- a unit that follows its first line, of pieces of one mark
+marks_go : (style : Style) (c : CertSoFar) (kind : UnitKind) (entry whole : Bool) (writes : List NameId) (u : UnitSoFar) (mark : Mark) (put : List Piece → Closed)
+    (start n : ℕ) (x : Piece) (list : List Piece) (more : Lines) (q : CertSoFar) → ArePlain style.names → rank u.stage < 4
+    → units.may_follow u.kind u.last mark ≡ true → nat_le 64 u.count ≡ false
+    → units.opened mark u ≡ state kind entry whole writes (Some mark) n (put []) (pieces.no_piece entry entry start)
+    → units.may_follow kind (Some mark) mark ≡ true → start ≤ 4294967295
+    → ((l : List Piece) (r : PieceSoFar) (m : ℕ)
+    → units.opened mark (state kind entry whole writes (Some mark) m (put l) r)
+    ≡ state kind entry whole writes (Some mark) (m + 1) (put (l ++ r.piece ∷ [])) (pieces.no_piece entry entry start))
+    → n + length list ≤ 64 → Each (IsPiece style entry entry start) (x ∷ list)
+    → ((l : List Piece) (r : PieceSoFar) → l ++ r.piece ∷ [] ≡ x ∷ list
+    → Goes style more (inside c (state kind entry whole writes (Some mark) (n + length list) (put l) r)) q)
+    → Goes style (all_marked (mark_text mark) style.names (x ∷ list) ++ more) (inside c u) q
+marks_go style c kind entry whole writes u mark put start n x list more q plain low follows room opens again small each_opens few each after =
+    let rest = all_marked (mark_text mark) style.names list in
+    subst (λ (l : Lines). Goes style l (inside c u) q) (sym (append_assoc (marked_lines (mark_text mark) style.names x) rest more))
+    (marked_go style c kind entry whole writes u mark n (put []) entry entry start x (rest ++ more) q plain low follows room opens small each.0 (λ s.
+    list_go style c kind entry whole writes mark put entry entry start list [] (read_at entry entry s (next_behind start (places_of x)) x) n more q plain again small
+    each_opens few each.1 after))
+
 -- posts, and then hints
 posts_go : (style : Style) (c : CertSoFar) (body : Target) (entry whole : Bool) (writes : List NameId) (pre : Piece) (posts : List Piece) (hints : List Hint)
     (t : PieceStage) (more : Lines) (q : CertSoFar) → ArePlain style.names → suc (length posts) ≤ 64
@@ -110,19 +143,12 @@ posts_go style c body entry whole writes pre (x ∷ posts) hints t more q plain 
     let n = next_behind 0 (places_of pre) in
     let small : n ≤ 4294967295 = behind_small 0 (places_of pre) (lit≤ tt) in
     let kind = unit.Summary body in
-    let behind = hints_lines hints ++ more in
     let put : List Piece → Closed = with_posts pre n in
-    subst (λ (l : Lines). Goes style l (inside c (state kind entry whole writes (Some Pre) 1 none_closed (read_at entry entry t n pre))) q)
-    (sym (append_assoc (marked_lines (codes "post") style.names x) (all_marked (codes "post") style.names posts) behind))
-    (marked_go style c kind entry whole writes (state kind entry whole writes (Some Pre) 1 none_closed (read_at entry entry t n pre)) Post 2 (put [])
-    entry entry n x (all_marked (codes "post") style.names posts ++ behind) q plain (lit≤ tt) refl refl refl small each.0 (λ s.
-    list_go style c kind entry whole writes Post put entry entry n posts [] (read_at entry entry s (next_behind n (places_of x)) x) 2 behind q plain refl small
-    (λ l r m. refl) (two_more (length posts) few) each.1 (λ l r e.
+    let room : 2 + length posts ≤ 64 = omega (arith, few) in
+    marks_go style c kind entry whole writes (state kind entry whole writes (Some Pre) 1 none_closed (read_at entry entry t n pre)) Post put n 2 x posts
+    (hints_lines hints ++ more) q plain (lit≤ tt) refl refl refl refl small (λ l r m. refl) room each (λ l r e.
     hints_go style c kind entry whole writes (state kind entry whole writes (Some Post) (2 + length posts) (put l) r) (2 + length posts) (put (l ++ r.piece ∷ [])) hints more q
-    (lit≤ tt) refl refl all (after (2 + length posts) (l ++ r.piece ∷ []) e))))
-  where
-    two_more : (n : ℕ) → suc (suc n) ≤ 64 → 2 + n ≤ 64
-    two_more n few = omega (arith, few)
+    (lit≤ tt) refl refl all (after (2 + length posts) (l ++ r.piece ∷ []) e))
 
 -- a summary
 summary_go : (style : Style) (list : ℕ) (cond : Cond) (ss : List Summary) (s : Summary) (more : Lines) (q : CertSoFar) → Fit style → length ss < 65536
@@ -131,32 +157,18 @@ summary_go style list cond ss s more q fit room is after =
     let c = reading list cond ss [] [] in
     let kind = unit.Summary s.body in
     let names = style.names in
-    let head = head_lines names s.entry s.whole s.writes in
     let pre = marked_lines (codes "pre") names s.pre in
     let posts = all_marked (codes "post") names s.posts in
     let hints = hints_lines s.hints in
-    let lines : (head ++ (pre ++ (posts ++ hints))) ++ more ≡ head ++ (pre ++ (posts ++ (hints ++ more))) =
-    append_assoc head (pre ++ (posts ++ hints)) more
-    ∙ ap (λ (l : Lines). head ++ l) (append_assoc pre (posts ++ hints) more ∙ ap (λ (l : Lines). pre ++ l) (append_assoc posts hints more)) in
-    let make : Target → CertSoFar = λ t. certs.begun_unit (unit.Summary t) c in
-    goes_line style c (inside c (units.no_unit kind)) q (codes "summary") (body_text style s.body ∷ []) ((head ++ (pre ++ (posts ++ hints))) ++ more)
+    parts_go style c (inside c (units.no_unit kind)) q (codes "summary") (body_text style s.body ∷ []) (head_lines names s.entry s.whole s.writes) pre posts hints more
     (λ word line said has. rw (word_taken (codes "summary") word said) (rw (full (length ss) 65536 room)
-    (last_taken (certs.body style) make line s.body (body_text style s.body) has
+    (last_taken (certs.body style) (λ (t : Target). certs.begun_unit (unit.Summary t) c) line s.body (body_text style s.body) has
     (λ item text. target_taken style item s.body fit.plain fit.signs fit.numbered is.body text))))
-    (subst (λ (l : Lines). Goes style l (inside c (units.no_unit kind)) q) (sym lines)
     (head_go style c kind s.entry s.whole s.writes (pre ++ (posts ++ (hints ++ more))) q fit.plain is.writes (λ t low.
     marked_go style c kind s.entry s.whole s.writes (record (units.no_unit kind) { stage = t; entry = s.entry; whole = s.whole; writes = s.writes }) Pre 1 none_closed
     s.entry s.entry 0 s.pre (posts ++ (hints ++ more)) q fit.plain low refl refl refl (lit≤ tt) is.pre (λ u.
     posts_go style c s.body s.entry s.whole s.writes s.pre s.posts s.hints u more q fit.plain is.few is.posts is.hints (λ n l e.
-    subst (λ (k : List Piece). let x : Summary = record {
-      body = s.body;
-      entry = s.entry;
-      whole = s.whole;
-      writes = s.writes;
-      pre = s.pre;
-      posts = k;
-      hints = s.hints;
-    } in Goes style more (reading list cond (ss ++ x ∷ []) [] []) q) (sym e) after)))))
+    subst (λ (k : List Piece). let x : Summary = record s { posts = k } in Goes style more (reading list cond (ss ++ x ∷ []) [] []) q) (sym e) after))))
 
 -- exits, and then hints
 exits_go : (style : Style) (c : CertSoFar) (test body : Target) (entry whole : Bool) (writes : List NameId) (cases before exits : List Piece) (hints : List Hint)
@@ -172,18 +184,13 @@ exits_go style c test body entry whole writes cases before [] hints p n more q p
     (lit≤ tt) refl refl all (after n (before ++ p.piece ∷ []) [] is refl)
 exits_go style c test body entry whole writes cases before (x ∷ exits) hints p n more q plain is few each all after =
     let kind = unit.Loop test body in
-    let behind = hints_lines hints ++ more in
     let done = before ++ p.piece ∷ [] in
     let put : List Piece → Closed = with_cases done in
     let room : n < 64 = omega (arith, few) in
-    subst (λ (l : Lines). Goes style l (inside c (state kind entry whole writes (Some Case) n (with_cases before []) p)) q)
-    (sym (append_assoc (marked_lines (codes "exit") style.names x) (all_marked (codes "exit") style.names exits) behind))
-    (marked_go style c kind entry whole writes (state kind entry whole writes (Some Case) n (with_cases before []) p) Exit (n + 1) (put [])
-    entry entry 0 x (all_marked (codes "exit") style.names exits ++ behind) q plain (lit≤ tt) refl (full n 64 room) refl (lit≤ tt) each.0 (λ s.
-    list_go style c kind entry whole writes Exit put entry entry 0 exits [] (read_at entry entry s (next_behind 0 (places_of x)) x) (n + 1) behind q plain refl (lit≤ tt)
-    (λ l r m. refl) (omega (arith, few)) each.1 (λ l r e.
+    marks_go style c kind entry whole writes (state kind entry whole writes (Some Case) n (with_cases before []) p) Exit put 0 (n + 1) x exits
+    (hints_lines hints ++ more) q plain (lit≤ tt) refl (full n 64 room) refl refl (lit≤ tt) (λ l r m. refl) (omega (arith, few)) each (λ l r e.
     hints_go style c kind entry whole writes (state kind entry whole writes (Some Exit) (n + 1 + length exits) (put l) r) (n + 1 + length exits) (put (l ++ r.piece ∷ [])) hints more q
-    (lit≤ tt) refl refl all (after (n + 1 + length exits) done (l ++ r.piece ∷ []) is e))))
+    (lit≤ tt) refl refl all (after (n + 1 + length exits) done (l ++ r.piece ∷ []) is e))
 
 -- cases, exits, and then hints
 cases_go : (style : Style) (c : CertSoFar) (test body : Target) (entry whole : Bool) (writes : List NameId) (cases exits : List Piece) (hints : List Hint)
@@ -196,15 +203,9 @@ cases_go : (style : Style) (c : CertSoFar) (test body : Target) (entry whole : B
 cases_go style c test body entry whole writes [] exits hints t more q plain low some few each also all after = absurd (omega (arith, some))
 cases_go style c test body entry whole writes (x ∷ cases) exits hints t more q plain low some few each also all after =
     let kind = unit.Loop test body in
-    let behind = all_marked (codes "exit") style.names exits ++ (hints_lines hints ++ more) in
-    let put : List Piece → Closed = λ l. with_cases l [] in
-    subst (λ (l : Lines). Goes style l (inside c (record (units.no_unit kind) { stage = t; entry = entry; whole = whole; writes = writes })) q)
-    (sym (append_assoc (marked_lines (codes "case") style.names x) (all_marked (codes "case") style.names cases) behind))
-    (marked_go style c kind entry whole writes (record (units.no_unit kind) { stage = t; entry = entry; whole = whole; writes = writes }) Case 1 (put [])
-    entry entry 0 x (all_marked (codes "case") style.names cases ++ behind) q plain low refl refl refl (lit≤ tt) each.0 (λ s.
-    list_go style c kind entry whole writes Case put entry entry 0 cases [] (read_at entry entry s (next_behind 0 (places_of x)) x) 1 behind q plain refl (lit≤ tt)
-    (λ l r m. refl) (omega (arith, few)) each.1 (λ l r e.
-    exits_go style c test body entry whole writes (x ∷ cases) l exits hints r (1 + length cases) more q plain e (omega (arith, few)) also all after)))
+    marks_go style c kind entry whole writes (record (units.no_unit kind) { stage = t; entry = entry; whole = whole; writes = writes }) Case (λ l. with_cases l []) 0 1
+    x cases (all_marked (codes "exit") style.names exits ++ (hints_lines hints ++ more)) q plain low refl refl refl refl (lit≤ tt) (λ l r m. refl) (omega (arith, few)) each
+    (λ l r e. exits_go style c test body entry whole writes (x ∷ cases) l exits hints r (1 + length cases) more q plain e (omega (arith, few)) also all after)
 
 -- a loop
 loop_go : (style : Style) (list : ℕ) (cond : Cond) (ss : List Summary) (ls : List Loop) (x : Loop) (more : Lines) (q : CertSoFar) → Fit style → length ls < 65536
@@ -213,15 +214,11 @@ loop_go style list cond ss ls x more q fit room is after =
     let c = reading list cond ss ls [] in
     let kind = unit.Loop x.test x.body in
     let names = style.names in
-    let head = head_lines names x.entry x.whole x.writes in
     let cases = all_marked (codes "case") names x.cases in
     let exits = all_marked (codes "exit") names x.exits in
-    let hints = hints_lines x.hints in
-    let lines : (head ++ (cases ++ (exits ++ hints))) ++ more ≡ head ++ (cases ++ (exits ++ (hints ++ more))) =
-    append_assoc head (cases ++ (exits ++ hints)) more
-    ∙ ap (λ (l : Lines). head ++ l) (append_assoc cases (exits ++ hints) more ∙ ap (λ (l : Lines). cases ++ l) (append_assoc exits hints more)) in
     let make : Target → CertSoFar = λ t. certs.begun_unit (unit.Loop x.test t) c in
-    goes_line style c (inside c (units.no_unit kind)) q (codes "loop") (body_text style x.test ∷ (body_text style x.body ∷ [])) ((head ++ (cases ++ (exits ++ hints))) ++ more)
+    parts_go style c (inside c (units.no_unit kind)) q (codes "loop") (body_text style x.test ∷ (body_text style x.body ∷ []))
+    (head_lines names x.entry x.whole x.writes) cases exits (hints_lines x.hints) more
     (λ word line said has.
     let t = take_first line (body_text style x.test) (body_text style x.body ∷ []) has in
     rw (other_word (codes "loop") (codes "summary") word said refl) (rw (word_taken (codes "loop") word said) (rw (full (length ls) 65536 room)
@@ -229,29 +226,10 @@ loop_go style list cond ss ls x more q fit room is after =
     (then_go (certs.body style t.item) x.test _ _ (target_taken style t.item x.test fit.plain fit.signs fit.numbered is.test t.said)
     (last_taken (certs.body style) make t.rest x.body (body_text style x.body) t.has
     (λ item text. target_taken style item x.body fit.plain fit.signs fit.numbered is.body text)))))))
-    (subst (λ (l : Lines). Goes style l (inside c (units.no_unit kind)) q) (sym lines)
-    (head_go style c kind x.entry x.whole x.writes (cases ++ (exits ++ (hints ++ more))) q fit.plain is.writes (λ t low.
+    (head_go style c kind x.entry x.whole x.writes (cases ++ (exits ++ (hints_lines x.hints ++ more))) q fit.plain is.writes (λ t low.
     cases_go style c x.test x.body x.entry x.whole x.writes x.cases x.exits x.hints t more q fit.plain low is.some is.few is.cases is.exits is.hints (λ n k l e f.
-    subst (λ (a : List Piece). let y : Loop = record {
-      test = x.test;
-      body = x.body;
-      entry = x.entry;
-      whole = x.whole;
-      writes = x.writes;
-      cases = a;
-      exits = l;
-      hints = x.hints;
-    } in Goes style more (reading list cond ss (ls ++ y ∷ []) []) q) (sym e)
-    (subst (λ (b : List Piece). let y : Loop = record {
-      test = x.test;
-      body = x.body;
-      entry = x.entry;
-      whole = x.whole;
-      writes = x.writes;
-      cases = x.cases;
-      exits = b;
-      hints = x.hints;
-    } in Goes style more (reading list cond ss (ls ++ y ∷ []) []) q) (sym f) after)))))
+    subst (λ (a : List Piece). let y : Loop = record x { cases = a; exits = l } in Goes style more (reading list cond ss (ls ++ y ∷ []) []) q) (sym e)
+    (subst (λ (b : List Piece). let y : Loop = record x { exits = b } in Goes style more (reading list cond ss (ls ++ y ∷ []) []) q) (sym f) after))))
 
 -- `keeps`, and then hints
 keeps_go : (style : Style) (c : CertSoFar) (index : ℕ) (u : UnitSoFar) (n : ℕ) (a v k : Option Piece) (hints : List Hint) (more : Lines) (q : CertSoFar)
@@ -313,22 +291,15 @@ command_go style list cond ss ls ks x more q fit fits is after =
     let c = reading list cond ss ls ks in
     let kind = unit.Command x.index in
     let names = style.names in
-    let first = maybe_marked (codes "after") names x.after in
-    let visit = maybe_marked (codes "visit") names x.visit in
-    let keeps = maybe_marked (codes "keeps") names x.keeps in
-    let hints = hints_lines x.hints in
-    let lines : (first ++ (visit ++ (keeps ++ hints))) ++ more ≡ first ++ (visit ++ (keeps ++ (hints ++ more))) =
-    append_assoc first (visit ++ (keeps ++ hints)) more
-    ∙ ap (λ (l : Lines). first ++ l) (append_assoc visit (keeps ++ hints) more ∙ ap (λ (l : Lines). visit ++ l) (append_assoc keeps hints more)) in
     let make : ℕ → CertSoFar = λ n. certs.begun_unit (unit.Command n) c in
     let last = certs.last_command ks in
-    goes_line style c (inside c (units.no_unit kind)) q (codes "command") (decimal x.index ∷ []) ((first ++ (visit ++ (keeps ++ hints))) ++ more)
+    parts_go style c (inside c (units.no_unit kind)) q (codes "command") (decimal x.index ∷ []) (maybe_marked (codes "after") names x.after)
+    (maybe_marked (codes "visit") names x.visit) (maybe_marked (codes "keeps") names x.keeps) (hints_lines x.hints) more
     (λ word line said has. rw (other_word (codes "command") (codes "summary") word said refl) (rw (other_word (codes "command") (codes "loop") word said refl)
     (rw (word_taken (codes "command") word said)
     (last_taken (certs.command_number (length style.commands) last) make line x.index (decimal x.index) has
     (λ item text. command_taken (length style.commands) last item x.index is.there is.small fits text)))))
-    (subst (λ (l : Lines). Goes style l (inside c (units.no_unit kind)) q) (sym lines)
-    (after_go style c x.index x.after x.visit x.keeps x.hints more q fit.plain is.after is.visit is.keeps is.hints (λ m. after)))
+    (after_go style c x.index x.after x.visit x.keeps x.hints more q fit.plain is.after is.visit is.keeps is.hints (λ m. after))
 
 room : {A : Type 0} (before more : List A) (x : A) → length before + length (x ∷ more) ≤ 65536 → length before < 65536
 room before more x few = omega (arith, few)

@@ -128,12 +128,10 @@ mark_body names (unit.Command index) Visit u ready e =
     (new_front visit m keeps (codes "visit" ∷ []) (ap (maybe_marked (codes "visit") names) ready.0) (ap (λ (l : Lines). (codes "visit" ∷ []) ∷ l) e)
     (ap (maybe_marked (codes "keeps") names) ready.1))
 mark_body names (unit.Command index) Keeps u ready e =
-    let after = maybe_marked (codes "after") names u.after in
     let visit = maybe_marked (codes "visit") names u.visit in
     let keeps = maybe_marked (codes "keeps") names u.keeps in
-    let m = marked_lines (codes "keeps") names u.piece.piece in
-    in_back after (visit ++ keeps) (visit ++ m) (codes "keeps" ∷ [])
-    (in_back visit keeps m (codes "keeps" ∷ [])
+    in_back (maybe_marked (codes "after") names u.after) (visit ++ keeps) (visit ++ marked_lines (codes "keeps") names u.piece.piece) (codes "keeps" ∷ [])
+    (in_back visit keeps (marked_lines (codes "keeps") names u.piece.piece) (codes "keeps" ∷ [])
     (ap (λ (l : Lines). (codes "keeps" ∷ []) ∷ l) e ∙ sym (ap (λ o. maybe_marked (codes "keeps") names o ++ (codes "keeps" ∷ []) ∷ []) ready)))
 mark_body names (unit.Summary entered) Case u ready e = absurd (ready)
 mark_body names (unit.Summary entered) Exit u ready e = absurd (ready)

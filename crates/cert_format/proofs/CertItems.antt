@@ -40,14 +40,16 @@ placed_read next item s bound e =
     let small = not_over next (number_from 0 item.text) c.0 in
     (numeral_text item.text s.0 a.0 c.1 is (omega (arith, small, bound)), omega (arith, small, is))
 
-placed_by : (next left n : ℕ) (text : List ℕ) → Numeral text n → nat_lt next n ≡ false
-    → items.placed next (record { text = text; left = left }) ≡ Ok (record { 0 = n })
-placed_by next left n text is over = rw is.digits (rw is.value (rw over (rw is.plain refl)))
+-- a reader that takes the numeral of a symbol takes the symbol's text
+symbol_taken : (reader : Item → Result Sym Stop) (item : Item) (s : Sym) → s.0 ≤ 4294967295 → item.text ≡ sym_text s
+    → ((text : List ℕ) → Numeral text s.0 → reader (record { text = text; left = item.left }) ≡ Ok s) → reader item ≡ Ok s
+symbol_taken reader item s small said taken =
+    ap (λ (t : List ℕ). reader (record { text = t; left = item.left })) said ∙ taken (decimal s.0) (numeral_of s.0 (omega (arith, small)))
 
 pub placed_taken : (next : ℕ) (item : Item) (s : Sym) → next ≤ 4294967295 → s.0 ≤ next → item.text ≡ sym_text s → items.placed next item ≡ Ok s
 placed_taken next item s bound small said =
-    ap (λ (t : List ℕ). items.placed next (record { text = t; left = item.left })) said
-    ∙ placed_by next item.left s.0 (decimal s.0) (numeral_of s.0 (omega (arith, bound, small))) (over_not next s.0 small)
+    symbol_taken (items.placed next) item s (omega (arith, bound, small)) said
+    (λ text is. rw is.digits (rw is.value (rw (over_not next s.0 small) (rw is.plain refl))))
 
 -- a symbol that has a place
 pub known_read : (next : ℕ) (item : Item) (s : Sym) → next ≤ 4294967295 → items.known next item ≡ Ok s → (item.text ≡ sym_text s) × (s.0 < next)
@@ -59,14 +61,10 @@ known_read next item s bound e =
     let small = below_is next (number_from 0 item.text) b.0 in
     (numeral_text item.text s.0 a.0 c.0 is (omega (arith, small, bound)), omega (arith, small, is))
 
-known_by : (next left n : ℕ) (text : List ℕ) → Numeral text n → nat_le next n ≡ false
-    → items.known next (record { text = text; left = left }) ≡ Ok (record { 0 = n })
-known_by next left n text is over = rw is.digits (rw is.value (rw over (rw is.plain refl)))
-
 pub known_taken : (next : ℕ) (item : Item) (s : Sym) → next ≤ 4294967295 → s.0 < next → item.text ≡ sym_text s → items.known next item ≡ Ok s
 known_taken next item s bound small said =
-    ap (λ (t : List ℕ). items.known next (record { text = t; left = item.left })) said
-    ∙ known_by next item.left s.0 (decimal s.0) (numeral_of s.0 (omega (arith, bound, small))) (is_below next s.0 small)
+    symbol_taken (items.known next) item s (omega (arith, bound, small)) said
+    (λ text is. rw is.digits (rw is.value (rw (is_below next s.0 small) (rw is.plain refl))))
 
 -- a number from 1 on
 positive_is : (n : ℕ) → nat_eq n 0 ≡ false → nat_lt 4294967295 n ≡ false → IsPositive n

@@ -1,5 +1,5 @@
 -- Places, chains and lines of one more item, for what pieces keep.
-use Rattle.std.proofs.Common.{◌≡◌, ℕ, ◌+◌, ◌<◌, ◌≤◌, Bool, true, false, cond, nat_le, List, [], ◌∷◌, ◌++◌, length, length-append, Option, Some, None, Result, Ok, codes, refl, sym, ap, subst, ◌∙◌, arith}
+use Rattle.std.proofs.Common.{◌≡◌, ℕ, ◌+◌, ◌<◌, ◌≤◌, Bool, true, false, cond, nat_le, List, [], ◌∷◌, ◌++◌, length, length-append, map, Option, Some, None, Result, Ok, codes, refl, sym, ap, subst, ◌∙◌, arith}
 use Rattle.std.specs.Option.{option_and_then}
 use Rattle.std.proofs.lemmas.Bool.{and_from, and_parts}
 use Rattle.std.proofs.lemmas.Bool.Decides.{nat_tests}
@@ -19,7 +19,7 @@ use Rattle.cert_format.specs.declared.piece_lines.PieceWord.{PieceWord}
 use Rattle.cert_format.specs.declared.piece_lines.PieceWord.TheVariants.{Stack, Var, Field, Is, Int, Text, Call, Block, Blank, Nonblank, Wellformed, Row}
 use Rattle.cert_format.specs.declared.stop.Stop.{Stop}
 use Rattle.cert_format.proofs.CondRead.{Has, at_end, item_before, next_is, none_left}
-use Rattle.cert_format.proofs.CondTaken.{take_end, take_first, then_go}
+use Rattle.cert_format.proofs.CondTaken.{first_text, other_texts, take_end, take_first, then_go}
 use Rattle.cert_format.proofs.Split.{Ended}
 
 -- an item that ends its line
@@ -106,21 +106,23 @@ next_small next s = omega arith
 
 -- the words of the lines of a piece
 abbrev pub word_text : PieceWord → List ℕ
-word_text Stack = codes "stack"
-word_text Var = codes "var"
-word_text Field = codes "field"
-word_text Is = codes "is"
-word_text Int = codes "int"
-word_text Text = codes "text"
-word_text Call = codes "call"
-word_text Block = codes "block"
-word_text Blank = codes "blank"
-word_text Nonblank = codes "nonblank"
-word_text Wellformed = codes "wellformed"
-word_text Row = codes "row"
+word_text k = elim k [
+  | Stack ↦ codes "stack"
+  | Var ↦ codes "var"
+  | Field ↦ codes "field"
+  | Is ↦ codes "is"
+  | Int ↦ codes "int"
+  | Text ↦ codes "text"
+  | Call ↦ codes "call"
+  | Block ↦ codes "block"
+  | Blank ↦ codes "blank"
+  | Nonblank ↦ codes "nonblank"
+  | Wellformed ↦ codes "wellformed"
+  | Row ↦ codes "row"
+]
 
 -- the first of some words, or what comes for another one
-pub named_word : {A : Type 0} (P : A → Type 0) (text word : List ℕ) (value : A) (rest : Option A) (k : A)
+named_word : {A : Type 0} (P : A → Type 0) (text word : List ℕ) (value : A) (rest : Option A) (k : A)
     → cond (same_name text word) (Some value) rest ≡ Some k → (text ≡ word → P value) → (rest ≡ Some k → P k) → P k
 named_word {A} P text word value rest k e here next = by_test (same_name text word) refl e
   where
@@ -131,21 +133,16 @@ named_word {A} P text word value rest k e here next = by_test (same_name text wo
     by_test true is f = subst P (sym (some_of value k f)) (here (same_bytes text word is))
     by_test false is f = next f
 
+-- a word that is found in a table has its name, where each word of the table has
+pub among_said : {A : Type 0} (name : A → List ℕ) (text : List ℕ) (table : List (List ℕ × A)) (k : A)
+    → map (λ e. e.0) table ≡ map (λ e. name e.1) table → among text table ≡ Some k → text ≡ name k
+among_said name text [] k are e = absurd (cc)
+among_said name text (first ∷ table) k are e =
+    named_word (λ w. text ≡ name w) text first.0 first.1 (among text table) k e (λ s. s ∙ ap first_text are)
+    (among_said name text table k (ap other_texts are))
+
 word_said : (text : List ℕ) (k : PieceWord) → among text pieces.piece_words ≡ Some k → text ≡ word_text k
-word_said text k e =
-    let P : PieceWord → Type 0 = λ w. text ≡ word_text w in
-    named_word P text (codes "stack") Stack _ k e (λ s. s) (λ e1.
-    named_word P text (codes "var") Var _ k e1 (λ s. s) (λ e2.
-    named_word P text (codes "field") Field _ k e2 (λ s. s) (λ e3.
-    named_word P text (codes "is") Is _ k e3 (λ s. s) (λ e4.
-    named_word P text (codes "int") Int _ k e4 (λ s. s) (λ e5.
-    named_word P text (codes "text") Text _ k e5 (λ s. s) (λ e6.
-    named_word P text (codes "call") Call _ k e6 (λ s. s) (λ e7.
-    named_word P text (codes "block") Block _ k e7 (λ s. s) (λ e8.
-    named_word P text (codes "blank") Blank _ k e8 (λ s. s) (λ e9.
-    named_word P text (codes "nonblank") Nonblank _ k e9 (λ s. s) (λ e10.
-    named_word P text (codes "wellformed") Wellformed _ k e10 (λ s. s) (λ e11.
-    named_word P text (codes "row") Row _ k e11 (λ s. s) (λ e12. absurd (cc)))))))))))))
+word_said text k = among_said word_text text pieces.piece_words k refl
 
 -- the word of a line of a piece, and that the line may come
 pub due : (s : PieceStage) (text : List ℕ) (k : PieceWord) → pieces.piece_word s text ≡ Some k
@@ -179,14 +176,4 @@ due_taken s k text said small = ap (pieces.piece_word s) said ∙ by_kind k (ord
 
     by_kind : (k : PieceWord) → nat_le (pieces.stage_rank s) (pieces.word_rank k) ≡ true → pieces.piece_word s (word_text k) ≡ Some k
     by_kind Stack e = rw e refl
-    by_kind Var e = rw e refl
-    by_kind Field e = rw e refl
-    by_kind Is e = rw e refl
-    by_kind Int e = rw e refl
-    by_kind Text e = rw e refl
-    by_kind Call e = rw e refl
-    by_kind Block e = rw e refl
-    by_kind Blank e = rw e refl
-    by_kind Nonblank e = rw e refl
-    by_kind Wellformed e = rw e refl
-    by_kind Row e = rw e refl
+    by_kind _ e = rw e refl

@@ -41,7 +41,7 @@ use Rattle.cert_format.proofs.CertKept.{ended_read, last_read}
 use Rattle.cert_format.proofs.CertSteps.{in_back}
 use Rattle.cert_format.proofs.CertTargets.{command_read, list_read, target_read}
 use Rattle.cert_format.proofs.CertUnitRead.{unit_read}
-use Rattle.cert_format.proofs.CertUnits.{CountAt, Full, Good, Headless, Lines, Shape, UnitKept, body_of, closed, closed_of, first_items, first_post, hints_at, one_if, unit_spelled}
+use Rattle.cert_format.proofs.CertUnits.{CountAt, Full, Good, Headless, Lines, Shape, UnitKept, body_of, closed, closed_of, first_items, first_post, hints_at, kept_of, one_if, unit_spelled}
 use Rattle.cert_format.proofs.CondKept.{chain_snoc, each_snoc, kept_at, none_kept}
 use Rattle.cert_format.proofs.CondRead.{Has, item_before, next_is, word_is}
 use Rattle.cert_format.proofs.CondSteps.{Fits, spelled, step_at, told_ok}
@@ -202,21 +202,7 @@ cond_step style p word rest line q is kept e =
 opened : (style : Style) (kind : UnitKind) → Shape (units.first_stage kind) None kind (units.no_unit kind) → Good style kind false (units.no_unit kind)
     → CountAt None kind 0 (units.no_unit kind) → Headless kind (units.first_stage kind) false false [] → UnitKept style (units.no_unit kind)
 opened style kind shape good count headless =
-    record {
-      no_entry = λ h. refl;
-      no_whole = λ h. refl;
-      no_writes = λ h. refl;
-      no_piece = λ h. refl;
-      no_hints = λ h. refl;
-      writes = (tt, refl);
-      shape = shape;
-      good = good;
-      open_piece = tt;
-      count = count;
-      few = lit≤ tt;
-      hints = tt;
-      headless = headless;
-    }
+    kept_of style (units.no_unit kind) (λ h. refl) (λ h. refl) (λ h. refl) (λ h. refl) (λ h. refl) (tt, refl) shape good tt count (lit≤ tt) tt headless
 
 under : (most n : ℕ) → nat_le most n ≡ false → n < most
 under most n e = grind (arith, nat_tests)

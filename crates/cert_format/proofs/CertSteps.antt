@@ -1,8 +1,9 @@
 -- Each line of a piece that is read is spelled by what has been read after it, and that keeps the limits.
-use Rattle.std.proofs.Common.{◌≡◌, ℕ, ◌<◌, ◌≤◌, Bool, true, false, nat_le, ℤ, List, [], ◌∷◌, ◌++◌, length, map, Option, Some, Ok, Err, codes, lit≤, refl, sym, ap, subst, ◌∙◌, append_assoc, arith}
+use Rattle.std.proofs.Common.{◌≡◌, ℕ, ◌<◌, ◌≤◌, Bool, true, false, nat_le, ℤ, List, [], ◌∷◌, ◌++◌, length, map, Option, Some, Result, Ok, Err, codes, lit≤, refl, sym, ap, subst, ◌∙◌, append_assoc, arith}
 use Rattle.std.specs.Fmt.{decimal, signed_decimal}
 use Rattle.std.specs.Option.{option_map}
 use Rattle.std.proofs.lemmas.List.{append-nil}
+use Rattle.bv_base.specs.Answers.{then_do}
 use Rattle.bv_base.proofs.ThenLemmas.{ok_is, then_ok, unless_ok, where_ok}
 use Rattle.lin_facts.specs.declared.row.Part.{Part}
 use Rattle.lin_facts.specs.declared.row.Row.{Row as RowOf}
@@ -29,6 +30,7 @@ use Rattle.cert_format.specs.declared.piece_lines.PieceStage.{PieceStage}
 use Rattle.cert_format.specs.declared.piece_lines.PieceStage.TheVariants as stage
 use Rattle.cert_format.specs.declared.piece_lines.PieceWord.{PieceWord}
 use Rattle.cert_format.specs.declared.piece_lines.PieceWord.TheVariants.{Stack, Var, Field, Is, Int, Text, Call, Block, Blank, Nonblank, Wellformed, Row}
+use Rattle.cert_format.specs.declared.stop.Stop.{Stop}
 use Rattle.cert_format.proofs.CertItems.{block_read, integer_read, known_read, placed_read}
 use Rattle.cert_format.proofs.CertKept.{all_read, behind_snoc, due, each_none, ended_read, last_read, more_few, next_small, placed_snoc, word_text}
 use Rattle.cert_format.proofs.CertNames.{entry_field_read, known_name, variable_read}
@@ -77,6 +79,39 @@ piece_step style start p line q next texts_here is goes has fits kept entry pos 
     } in
     subst (λ (r : PieceSoFar). PieceStep style start p line r) (sym is) step
 
+-- a piece that keeps the limits, by its parts
+pub piece_of : (style : Style) (at_entry has_pos : Bool) (start : ℕ) (piece : Piece) → are_placed start (places_of piece) ≡ true → length piece.stack ≤ 64
+    → Each (λ bind. IsVariable at_entry style.names bind.name) piece.vars → is_chain (λ a b. is_below a.name b.name) piece.vars ≡ true
+    → Each (λ bind. IsField style.names bind.name × (at_entry ≡ true)) piece.fields → is_chain (λ a b. is_below a.name b.name) piece.fields ≡ true
+    → Each (IsFact style (next_behind start (places_of piece))) piece.facts → length piece.facts ≤ 64
+    → Each (IsRow has_pos (next_behind start (places_of piece))) piece.rows → length piece.rows ≤ 64 → IsPiece style at_entry has_pos start piece
+piece_of style at_entry has_pos start piece a b c d e f g h i j =
+    record { placed = a; few_symbols = b; vars = c; vars_rise = d; fields = e; fields_rise = f; facts = g; few_facts = h; rows = i; few_rows = j }
+
+-- the lists behind the line of this rank are empty, where those behind an earlier one are and nothing else stands in it
+fits_from : (from rank : ℕ) (old piece : Piece) → Fits from old → from ≤ rank → (rank < 1 → piece.stack ≡ []) → (rank < 1 → piece.vars ≡ old.vars)
+    → (rank < 2 → piece.fields ≡ old.fields) → (rank < 3 → piece.facts ≡ old.facts) → (rank < 4 → piece.rows ≡ old.rows) → Fits rank piece
+fits_from from rank old piece fits low stack vars fields facts rows =
+    record {
+      stack = stack;
+      vars = λ h. vars h ∙ fits.vars (omega (arith, low, h));
+      fields = λ h. fields h ∙ fits.fields (omega (arith, low, h));
+      facts = λ h. facts h ∙ fits.facts (omega (arith, low, h));
+      rows = λ h. rows h ∙ fits.rows (omega (arith, low, h));
+    }
+
+-- nothing stands behind the rows
+nothing_behind : (piece : Piece) → Fits 4 piece
+nothing_behind piece =
+    let early : (n : ℕ) → n ≤ 4 → 4 < n → ⊥ = λ n few more. omega (arith, few, more) in
+    record {
+      stack = λ h. absurd (early 1 (lit≤ tt) h);
+      vars = λ h. absurd (early 1 (lit≤ tt) h);
+      fields = λ h. absurd (early 2 (lit≤ tt) h);
+      facts = λ h. absurd (early 3 (lit≤ tt) h);
+      rows = λ h. absurd (early 4 (lit≤ tt) h);
+    }
+
 -- what stands behind other items
 pub in_back : {A : Type 0} (a m n : List A) (x : A) → n ≡ m ++ x ∷ [] → a ++ n ≡ (a ++ m) ++ x ∷ []
 in_back a m n x e = ap (λ l. a ++ l) e ∙ sym (append_assoc a m (x ∷ []))
@@ -111,6 +146,43 @@ bound_read next name line bind small e =
       has = l.has (sym_text bind.sym) (r.0 ∙ ap (λ (b : Bind). sym_text b.sym) (sym l.is));
     }
 
+-- a variable behind those before it
+abbrev pub with_var : Bind → PieceSoFar → PieceSoFar
+with_var x p = record p { stage = stage.Vars; next = items.next_after p.next x.sym; piece = record p.piece { vars = p.piece.vars ++ x ∷ [] } }
+
+-- a field behind those before it
+abbrev pub with_field : Bind → PieceSoFar → PieceSoFar
+with_field x p = record p { stage = stage.Fields; next = items.next_after p.next x.sym; piece = record p.piece { fields = p.piece.fields ++ x ∷ [] } }
+
+-- a line that binds a symbol to a name, after its word
+record Binding (names : List (List ℕ × Kind)) (next : ℕ) (text : List ℕ) (name_of : Item → Result NameId Stop) (make : Bind → PieceSoFar) (line : Line)
+    (q : PieceSoFar) : Type 0 where
+  pub bind : Bind
+  pub item : Item
+  pub got : name_of item ≡ Ok bind.name
+  pub is : q ≡ make bind
+  pub placed : bind.sym.0 ≤ next
+  pub has : item.text ≡ name_text names bind.name → Has line (bind_items text names bind)
+
+binding_read : (names : List (List ℕ × Kind)) (next : ℕ) (text : List ℕ) (name_of : Item → Result NameId Stop) (make : Bind → PieceSoFar) (word : Item)
+    (rest line : Line) (q : PieceSoFar) → next ≤ 4294967295 → line ≡ with_item word rest → word.text ≡ text
+    → pieces.bind_line name_of next rest make ≡ Ok q → Binding names next text name_of make line q
+binding_read names next text name_of make word rest line q small is said e =
+    let a = then_ok (next_item rest) _ _ e in
+    let b = then_ok (name_of a.0.0) _ _ a.2 in
+    let c = then_ok (pieces.bound next b.0 a.0.1) _ _ b.2 in
+    let x : Bind = c.0 in
+    let l = bound_read next b.0 a.0.1 x small c.1 in
+    record {
+      bind = x;
+      item = a.0.0;
+      got = b.1 ∙ ap Ok (sym l.named);
+      is = ok_is (make x) q c.2;
+      placed = l.placed;
+      has = λ name. item_before line word rest text _ is said
+          (item_before rest a.0.0 a.0.1 (name_text names x.name) (sym_text x.sym ∷ []) (next_is rest a.0.0 a.0.1 a.1) name l.has);
+    }
+
 -- a binding may stand behind the last one
 abbrev pub fits_bind : Option Bind → Bind → Bool
 fits_bind last bind = is_above (option_map (λ b. b.name) last) bind.name
@@ -137,70 +209,46 @@ var_step style start p word rest line q is said kept fits small e =
     let names = style.names in
     let piece = p.piece in
     let last = pieces.last_bound piece.vars in
-    let a = then_ok (next_item rest) _ _ e in
-    let b = then_ok (items.variable_above p.at_entry last names a.0.0) _ _ a.2 in
-    let c = then_ok (pieces.bound p.next b.0 a.0.1) _ _ b.2 in
-    let v = variable_read p.at_entry last names a.0.0 b.0 b.1 in
-    let x : Bind = c.0 in
-    let l = bound_read p.next b.0 a.0.1 x kept.small c.1 in
-    let next : PieceSoFar = record p {
-      stage = stage.Vars;
-      next = items.next_after p.next x.sym;
-      piece = record p.piece { vars = p.piece.vars ++ x ∷ [] };
-    } in
-    let no_fields = fits.fields (below (pieces.stage_rank p.stage) 1 2 small (lit≤ tt)) in
-    let no_facts = fits.facts (below (pieces.stage_rank p.stage) 1 3 small (lit≤ tt)) in
-    let no_rows = fits.rows (below (pieces.stage_rank p.stage) 1 4 small (lit≤ tt)) in
+    let b = binding_read names p.next (codes "var") (items.variable_above p.at_entry last names) (λ x. with_var x p) word rest line q kept.small is said e in
+    let x : Bind = b.bind in
+    let v = variable_read p.at_entry last names b.item x.name b.got in
+    let next : PieceSoFar = with_var x p in
+    let fit : Fits 1 next.piece = fits_from (pieces.stage_rank p.stage) 1 piece next.piece fits small (λ h. absurd (omega (arith, h))) (λ h. absurd (omega (arith, h))) (λ h. refl) (λ h. refl) (λ h. refl) in
+    let no_fields = fit.fields (lit≤ tt) in
+    let no_facts = fit.facts (lit≤ tt) in
+    let no_rows = fit.rows (lit≤ tt) in
     let f = bind_items (codes "var") names in
     let behind = map (bind_items (codes "field") names) piece.fields ++ (map (fact_items names) piece.facts ++ map row_items piece.rows) in
     let goes : piece_lines names next.piece ≡ piece_lines names piece ++ f x ∷ [] =
     in_back (stack_lines piece.stack) (map f piece.vars ++ behind) (map f (piece.vars ++ x ∷ []) ++ behind) (f x)
     (ap (λ l. l ++ behind) (map_snoc f piece.vars x) ∙ snoc_left (map f piece.vars) (f x) behind (fields_none names piece no_fields no_facts no_rows)) in
-    let syms : Bind → Sym = λ b. b.sym in
     let places : places_of next.piece ≡ places_of piece ++ x.sym ∷ [] =
     in_back piece.stack (bound_symbols piece.vars ++ bound_symbols piece.fields) (bound_symbols (piece.vars ++ x ∷ []) ++ bound_symbols piece.fields) x.sym
-    (ap (λ l. l ++ bound_symbols piece.fields) (map_snoc syms piece.vars x)
+    (ap (λ l. l ++ bound_symbols piece.fields) (map_snoc (λ b. b.sym) piece.vars x)
     ∙ snoc_left (bound_symbols piece.vars) x.sym (bound_symbols piece.fields) (ap bound_symbols no_fields)) in
-    let m = placed_more start p.next (places_of piece) (places_of next.piece) x.sym places kept.is.placed kept.next l.placed in
-    let good : IsPiece style p.at_entry p.has_pos start next.piece =
-    record {
-      placed = m.placed;
-      few_symbols = kept.is.few_symbols;
-      vars = each_snoc (λ bind. IsVariable p.at_entry names bind.name) piece.vars x kept.is.vars (subst (IsVariable p.at_entry names) (sym l.named) v.is);
-      vars_rise = chain_snoc rises fits_bind (λ a b f. f) piece.vars x kept.is.vars_rise (ap (is_above last) l.named ∙ v.above);
-      fields = kept.is.fields;
-      fields_rise = kept.is.fields_rise;
-      facts = each_none (IsFact style (next_behind start (places_of next.piece))) piece.facts no_facts;
-      few_facts = kept.is.few_facts;
-      rows = each_none (IsRow p.has_pos (next_behind start (places_of next.piece))) piece.rows no_rows;
-      few_rows = kept.is.few_rows;
-    } in
-    piece_step style start p line q next (f x) (ok_is next q c.2) goes
-    (item_before line word rest (codes "var") _ is said
-    (item_before rest a.0.0 a.0.1 (name_text names x.name) (sym_text x.sym ∷ []) (next_is rest a.0.0 a.0.1 a.1) (v.said ∙ ap (name_text names) (sym l.named)) l.has))
-    (record { stack = λ h. absurd (omega (arith, h)); vars = λ h. absurd (omega (arith, h)); fields = λ h. no_fields; facts = λ h. no_facts; rows = λ h. no_rows })
-    (record { is = good; next = m.follows; small = next_small p.next x.sym }) refl refl
+    let m = placed_more start p.next (places_of piece) (places_of next.piece) x.sym places kept.is.placed kept.next b.placed in
+    let good =
+    piece_of style p.at_entry p.has_pos start next.piece m.placed kept.is.few_symbols
+    (each_snoc (λ bind. IsVariable p.at_entry names bind.name) piece.vars x kept.is.vars v.is)
+    (chain_snoc rises fits_bind (λ a b f. f) piece.vars x kept.is.vars_rise v.above) kept.is.fields kept.is.fields_rise
+    (each_none (IsFact style (next_behind start (places_of next.piece))) piece.facts no_facts) kept.is.few_facts
+    (each_none (IsRow p.has_pos (next_behind start (places_of next.piece))) piece.rows no_rows) kept.is.few_rows in
+    piece_step style start p line q next (f x) b.is goes (b.has v.said) fit (record { is = good; next = m.follows; small = next_small p.next x.sym }) refl refl
 
 field_step : (style : Style) (start : ℕ) (p : PieceSoFar) (word : Item) (rest line : Line) (q : PieceSoFar) → line ≡ with_item word rest
     → word.text ≡ codes "field" → Kept style start p → Fits (pieces.stage_rank p.stage) p.piece → pieces.stage_rank p.stage ≤ 2
     → pieces.field_line style.names rest p ≡ Ok q → PieceStep style start p line q
 field_step style start p word rest line q is said kept fits small e =
     let names = style.names in
+    let last = pieces.last_bound p.piece.fields in
+    let b = binding_read names p.next (codes "field") (items.entry_field p.at_entry last names) (λ x. with_field x p) word rest line q kept.small is said e in
+    let v = entry_field_read p.at_entry last names b.item b.bind.name b.got in
+    let x : Bind = b.bind in
     let piece = p.piece in
-    let last = pieces.last_bound piece.fields in
-    let a = then_ok (next_item rest) _ _ e in
-    let b = then_ok (items.entry_field p.at_entry last names a.0.0) _ _ a.2 in
-    let c = then_ok (pieces.bound p.next b.0 a.0.1) _ _ b.2 in
-    let v = entry_field_read p.at_entry last names a.0.0 b.0 b.1 in
-    let x : Bind = c.0 in
-    let l = bound_read p.next b.0 a.0.1 x kept.small c.1 in
-    let next : PieceSoFar = record p {
-      stage = stage.Fields;
-      next = items.next_after p.next x.sym;
-      piece = record p.piece { fields = p.piece.fields ++ x ∷ [] };
-    } in
-    let no_facts = fits.facts (below (pieces.stage_rank p.stage) 2 3 small (lit≤ tt)) in
-    let no_rows = fits.rows (below (pieces.stage_rank p.stage) 2 4 small (lit≤ tt)) in
+    let next : PieceSoFar = with_field x p in
+    let fit : Fits 2 next.piece = fits_from (pieces.stage_rank p.stage) 2 piece next.piece fits small (λ h. absurd (omega (arith, h))) (λ h. refl) (λ h. absurd (omega (arith, h))) (λ h. refl) (λ h. refl) in
+    let no_facts = fit.facts (lit≤ tt) in
+    let no_rows = fit.rows (lit≤ tt) in
     let f = bind_items (codes "field") names in
     let vars = map (bind_items (codes "var") names) piece.vars in
     let behind = map (fact_items names) piece.facts ++ map row_items piece.rows in
@@ -208,35 +256,17 @@ field_step style start p word rest line q is said kept fits small e =
     in_back (stack_lines piece.stack) (vars ++ (map f piece.fields ++ behind)) (vars ++ (map f (piece.fields ++ x ∷ []) ++ behind)) (f x)
     (in_back vars (map f piece.fields ++ behind) (map f (piece.fields ++ x ∷ []) ++ behind) (f x)
     (ap (λ l. l ++ behind) (map_snoc f piece.fields x) ∙ snoc_left (map f piece.fields) (f x) behind (facts_none names piece no_facts no_rows))) in
-    let syms : Bind → Sym = λ b. b.sym in
     let places : places_of next.piece ≡ places_of piece ++ x.sym ∷ [] =
     in_back piece.stack (bound_symbols piece.vars ++ bound_symbols piece.fields) (bound_symbols piece.vars ++ bound_symbols (piece.fields ++ x ∷ [])) x.sym
-    (in_back (bound_symbols piece.vars) (bound_symbols piece.fields) (bound_symbols (piece.fields ++ x ∷ [])) x.sym (map_snoc syms piece.fields x)) in
-    let m = placed_more start p.next (places_of piece) (places_of next.piece) x.sym places kept.is.placed kept.next l.placed in
-    let good : IsPiece style p.at_entry p.has_pos start next.piece =
-    record {
-      placed = m.placed;
-      few_symbols = kept.is.few_symbols;
-      vars = kept.is.vars;
-      vars_rise = kept.is.vars_rise;
-      fields = each_snoc (λ bind. IsField names bind.name × (p.at_entry ≡ true)) piece.fields x kept.is.fields (subst (IsField names) (sym l.named) v.is, v.entry);
-      fields_rise = chain_snoc rises fits_bind (λ a b f. f) piece.fields x kept.is.fields_rise (ap (is_above last) l.named ∙ v.above);
-      facts = each_none (IsFact style (next_behind start (places_of next.piece))) piece.facts no_facts;
-      few_facts = kept.is.few_facts;
-      rows = each_none (IsRow p.has_pos (next_behind start (places_of next.piece))) piece.rows no_rows;
-      few_rows = kept.is.few_rows;
-    } in
-    piece_step style start p line q next (f x) (ok_is next q c.2) goes
-    (item_before line word rest (codes "field") _ is said
-    (item_before rest a.0.0 a.0.1 (name_text names x.name) (sym_text x.sym ∷ []) (next_is rest a.0.0 a.0.1 a.1) (v.said ∙ ap (name_text names) (sym l.named)) l.has))
-    (record {
-      stack = λ h. absurd (omega (arith, h));
-      vars = λ h. absurd (omega (arith, h));
-      fields = λ h. absurd (omega (arith, h));
-      facts = λ h. no_facts;
-      rows = λ h. no_rows;
-    })
-    (record { is = good; next = m.follows; small = next_small p.next x.sym }) refl refl
+    (in_back (bound_symbols piece.vars) (bound_symbols piece.fields) (bound_symbols (piece.fields ++ x ∷ [])) x.sym (map_snoc (λ b. b.sym) piece.fields x)) in
+    let m = placed_more start p.next (places_of piece) (places_of next.piece) x.sym places kept.is.placed kept.next b.placed in
+    let good =
+    piece_of style p.at_entry p.has_pos start next.piece m.placed kept.is.few_symbols kept.is.vars kept.is.vars_rise
+    (each_snoc (λ bind. IsField names bind.name × (p.at_entry ≡ true)) piece.fields x kept.is.fields (v.is, v.entry))
+    (chain_snoc rises fits_bind (λ a b f. f) piece.fields x kept.is.fields_rise v.above)
+    (each_none (IsFact style (next_behind start (places_of next.piece))) piece.facts no_facts) kept.is.few_facts
+    (each_none (IsRow p.has_pos (next_behind start (places_of next.piece))) piece.rows no_rows) kept.is.few_rows in
+    piece_step style start p line q next (f x) b.is goes (b.has v.said) fit (record { is = good; next = m.follows; small = next_small p.next x.sym }) refl refl
 
 -- what the line of a fact says behind its symbol
 record Said (style : Style) (next : ℕ) (kind : PieceWord) (s : Sym) (line : Line) (x : Fact) : Type 0 where
@@ -245,6 +275,32 @@ record Said (style : Style) (next : ℕ) (kind : PieceWord) (s : Sym) (line : Li
   pub has : Has line more
   pub is : IsFact style next x
 
+-- a fact with a value behind its symbol
+said_last : {A : Type 0} {Good : A → Type 0} (style : Style) (next : ℕ) (kind : PieceWord) (s : Sym) (reader : Item → Result A Stop) (make : A → Fact)
+    (line : Line) (x : Fact) → then_do (next_item line) (λ item. then_do (reader item.0) (λ value. pieces.at_end item.1 (make value))) ≡ Ok x
+    → (spelled : A → List ℕ) → ((value : A) → fact_items style.names (make value) ≡ word_text kind ∷ (sym_text s ∷ (spelled value ∷ [])))
+    → ((item : Item) (value : A) → reader item ≡ Ok value → (item.text ≡ spelled value) × Good value) → ((value : A) → Good value → IsFact style next (make value))
+    → Said style next kind s line x
+said_last style next kind s reader make line x e spelled items_are reads good =
+    let l = last_read reader make line x e in
+    let r = reads l.item l.value l.got in
+    record {
+      more = spelled l.value ∷ [];
+      said = ap (fact_items style.names) l.is ∙ items_are l.value;
+      has = l.has (spelled l.value) r.0;
+      is = subst (IsFact style next) (sym l.is) (good l.value r.1);
+    }
+
+-- a fact with nothing behind its symbol
+said_end : (style : Style) (next : ℕ) (kind : PieceWord) (s : Sym) (made : Fact) (line : Line) (x : Fact) → pieces.at_end line made ≡ Ok x
+    → fact_items style.names made ≡ word_text kind ∷ (sym_text s ∷ []) → IsFact style next made → Said style next kind s line x
+said_end style next kind s made line x e items_are good =
+    let r = ended_read line made x e in
+    record { more = []; said = ap (fact_items style.names) r.0 ∙ items_are; has = r.1; is = subst (IsFact style next) (sym r.0) good }
+
+in_two : {A B C : Type 0} → A × B × C → A × (B × C)
+in_two h = (h.0, (h.1, h.2))
+
 fact_read : (style : Style) (next : ℕ) (kind : PieceWord) (s : Sym) (line : Line) (x : Fact) → s.0 < next → pieces.word_rank kind ≡ 3
     → pieces.fact_of style kind s line ≡ Ok x → Said style next kind s line x
 fact_read style next Stack s line x small rank e = absurd (omega (arith, rank))
@@ -252,59 +308,23 @@ fact_read style next Var s line x small rank e = absurd (omega (arith, rank))
 fact_read style next Field s line x small rank e = absurd (omega (arith, rank))
 fact_read style next Row s line x small rank e = absurd (omega (arith, rank))
 fact_read style next Is s line x small rank e =
-    let l = last_read items.kind (fact.Is s) line x e in
-    let r = kind_read l.item l.value l.got in
-    record {
-      more = kind_text l.value ∷ [];
-      said = ap (fact_items style.names) l.is;
-      has = l.has (kind_text l.value) r.0;
-      is = subst (IsFact style next) (sym l.is) (small, r.1);
-    }
+    said_last style next Is s items.kind (fact.Is s) line x e kind_text (λ value. refl) (λ item value got. kind_read item value got)
+    (λ value is. (small, is))
 fact_read style next Int s line x small rank e =
-    let l = last_read (items.integer 2147483648 2147483647) (fact.Int s) line x e in
-    let r = integer_read 2147483648 2147483647 l.item l.value (lit≤ tt) (lit≤ tt) l.got in
-    record {
-      more = signed_decimal l.value ∷ [];
-      said = ap (fact_items style.names) l.is;
-      has = l.has (signed_decimal l.value) r.0;
-      is = subst (IsFact style next) (sym l.is) (small, r.1);
-    }
+    said_last style next Int s (items.integer 2147483648 2147483647) (fact.Int s) line x e signed_decimal (λ value. refl)
+    (λ item value got. integer_read 2147483648 2147483647 item value (lit≤ tt) (lit≤ tt) got) (λ value is. (small, is))
 fact_read style next Text s line x small rank e =
-    let l = last_read items.text (fact.Text s) line x e in
-    let r = text_read l.item l.value l.got in
-    record {
-      more = hex_text l.value ∷ [];
-      said = ap (fact_items style.names) l.is;
-      has = l.has (hex_text l.value) r.0;
-      is = subst (IsFact style next) (sym l.is) (small, r.1);
-    }
+    said_last style next Text s items.text (fact.Text s) line x e hex_text (λ value. refl) (λ item value got. text_read item value got)
+    (λ value is. (small, is))
 fact_read style next Call s line x small rank e =
-    let l = last_read (name_in style.names) (fact.Call s) line x e in
-    let r = known_name style.names l.item l.value l.got in
-    record {
-      more = name_text style.names l.value ∷ [];
-      said = ap (fact_items style.names) l.is;
-      has = l.has (name_text style.names l.value) r.0;
-      is = subst (IsFact style next) (sym l.is) (small, r.1);
-    }
+    said_last style next Call s (name_in style.names) (fact.Call s) line x e (name_text style.names) (λ value. refl)
+    (λ item value got. known_name style.names item value got) (λ value is. (small, is))
 fact_read style next Block s line x small rank e =
-    let l = last_read (items.block_number style.bodies) (fact.Block s) line x e in
-    let r = block_read style.bodies l.item l.value l.got in
-    record {
-      more = decimal l.value ∷ [];
-      said = ap (fact_items style.names) l.is;
-      has = l.has (decimal l.value) r.0;
-      is = subst (IsFact style next) (sym l.is) (small, r.1, r.2);
-    }
-fact_read style next Blank s line x small rank e =
-    let r = ended_read line (fact.Blank s) x e in
-    record { more = []; said = ap (fact_items style.names) r.0; has = r.1; is = subst (IsFact style next) (sym r.0) small }
-fact_read style next Nonblank s line x small rank e =
-    let r = ended_read line (fact.Nonblank s) x e in
-    record { more = []; said = ap (fact_items style.names) r.0; has = r.1; is = subst (IsFact style next) (sym r.0) small }
-fact_read style next Wellformed s line x small rank e =
-    let r = ended_read line (fact.Wellformed s) x e in
-    record { more = []; said = ap (fact_items style.names) r.0; has = r.1; is = subst (IsFact style next) (sym r.0) small }
+    said_last style next Block s (items.block_number style.bodies) (fact.Block s) line x e decimal (λ value. refl)
+    (λ item value got. in_two (block_read style.bodies item value got)) (λ value is. (small, is.0, is.1))
+fact_read style next Blank s line x small rank e = said_end style next Blank s (fact.Blank s) line x e refl small
+fact_read style next Nonblank s line x small rank e = said_end style next Nonblank s (fact.Nonblank s) line x e refl small
+fact_read style next Wellformed s line x small rank e = said_end style next Wellformed s (fact.Wellformed s) line x e refl small
 
 fact_step : (style : Style) (start : ℕ) (kind : PieceWord) (p : PieceSoFar) (word : Item) (rest line : Line) (q : PieceSoFar) → line ≡ with_item word rest
     → word.text ≡ word_text kind → Kept style start p → Fits (pieces.stage_rank p.stage) p.piece → pieces.stage_rank p.stage ≤ 3
@@ -320,7 +340,8 @@ fact_step style start kind p word rest line q is said kept fits small rank e =
     let x : Fact = c.0 in
     let r = fact_read style p.next kind b.0 a.0.1 x k.1 rank c.1 in
     let next : PieceSoFar = record p { stage = stage.Facts; piece = record p.piece { facts = p.piece.facts ++ x ∷ [] } } in
-    let no_rows = fits.rows (below (pieces.stage_rank p.stage) 3 4 small (lit≤ tt)) in
+    let fit : Fits 3 next.piece = fits_from (pieces.stage_rank p.stage) 3 piece next.piece fits small (λ h. absurd (omega (arith, h))) (λ h. refl) (λ h. refl) (λ h. absurd (omega (arith, h))) (λ h. refl) in
+    let no_rows = fit.rows (lit≤ tt) in
     let f = fact_items names in
     let vars = map (bind_items (codes "var") names) piece.vars in
     let fields = map (bind_items (codes "field") names) piece.fields in
@@ -332,32 +353,14 @@ fact_step style start kind p word rest line q is said kept fits small rank e =
     (in_back vars (fields ++ before) (fields ++ after) (f x)
     (in_back fields before after (f x)
     (ap (λ l. l ++ behind) (map_snoc f piece.facts x) ∙ snoc_left (map f piece.facts) (f x) behind (ap (λ l. map row_items l) no_rows)))) in
-    let good : IsPiece style p.at_entry p.has_pos start next.piece =
-    record {
-      placed = kept.is.placed;
-      few_symbols = kept.is.few_symbols;
-      vars = kept.is.vars;
-      vars_rise = kept.is.vars_rise;
-      fields = kept.is.fields;
-      fields_rise = kept.is.fields_rise;
-      facts = each_snoc (IsFact style (next_behind start (places_of piece))) piece.facts x kept.is.facts
-          (subst (λ (n : ℕ). IsFact style n x) kept.next r.is);
-      few_facts = more_few 64 piece.facts x many.0;
-      rows = kept.is.rows;
-      few_rows = kept.is.few_rows;
-    } in
+    let good =
+    piece_of style p.at_entry p.has_pos start next.piece kept.is.placed kept.is.few_symbols kept.is.vars kept.is.vars_rise kept.is.fields kept.is.fields_rise
+    (each_snoc (IsFact style (next_behind start (places_of piece))) piece.facts x kept.is.facts (subst (λ (n : ℕ). IsFact style n x) kept.next r.is))
+    (more_few 64 piece.facts x many.0) kept.is.rows kept.is.few_rows in
     let inner = item_before rest a.0.0 a.0.1 (sym_text b.0) r.more (next_is rest a.0.0 a.0.1 a.1) k.0 r.has in
     let outer = item_before line word rest (word_text kind) (sym_text b.0 ∷ r.more) is said inner in
     piece_step style start p line q next (f x) (ok_is next q c.2) goes
-    (record { items = outer.items ∙ sym r.said; ends = outer.ends })
-    (record {
-      stack = λ h. absurd (omega (arith, h));
-      vars = λ h. absurd (omega (arith, h));
-      fields = λ h. absurd (omega (arith, h));
-      facts = λ h. absurd (omega (arith, h));
-      rows = λ h. no_rows;
-    })
-    (record { is = good; next = kept.next; small = kept.small }) refl refl
+    (record { items = outer.items ∙ sym r.said; ends = outer.ends }) fit (record { is = good; next = kept.next; small = kept.small }) refl refl
 
 -- nothing stands behind the stack yet
 record Alone (piece : Piece) : Type 0 where
@@ -404,19 +407,10 @@ push_read style start p item q kept alone e =
     ap (λ l. bound_symbols l ++ bound_symbols piece.fields) alone.vars ∙ ap bound_symbols alone.fields in
     let places : places_of next.piece ≡ places_of piece ++ s ∷ [] = snoc_left piece.stack s (bound_symbols piece.vars ++ bound_symbols piece.fields) none in
     let m = placed_more start p.next (places_of piece) (places_of next.piece) s places kept.is.placed kept.next r.1 in
-    let good : IsPiece style p.at_entry p.has_pos start next.piece =
-    record {
-      placed = m.placed;
-      few_symbols = more_few 64 piece.stack s many.0;
-      vars = kept.is.vars;
-      vars_rise = kept.is.vars_rise;
-      fields = kept.is.fields;
-      fields_rise = kept.is.fields_rise;
-      facts = each_none (IsFact style (next_behind start (places_of next.piece))) piece.facts alone.facts;
-      few_facts = kept.is.few_facts;
-      rows = each_none (IsRow p.has_pos (next_behind start (places_of next.piece))) piece.rows alone.rows;
-      few_rows = kept.is.few_rows;
-    } in
+    let good =
+    piece_of style p.at_entry p.has_pos start next.piece m.placed (more_few 64 piece.stack s many.0) kept.is.vars kept.is.vars_rise kept.is.fields
+    kept.is.fields_rise (each_none (IsFact style (next_behind start (places_of next.piece))) piece.facts alone.facts) kept.is.few_facts
+    (each_none (IsRow p.has_pos (next_behind start (places_of next.piece))) piece.rows alone.rows) kept.is.few_rows in
     record {
       top = s;
       said = r.0;
@@ -622,32 +616,16 @@ row_step style start p word rest line q is said kept small e =
     (in_back vars (fields ++ (facts ++ before)) (fields ++ (facts ++ after)) (row_items x)
     (in_back fields (facts ++ before) (facts ++ after) (row_items x)
     (in_back facts before after (row_items x) (map_snoc row_items piece.rows x)))) in
-    let good : IsPiece style p.at_entry p.has_pos start next.piece =
-    record {
-      placed = kept.is.placed;
-      few_symbols = kept.is.few_symbols;
-      vars = kept.is.vars;
-      vars_rise = kept.is.vars_rise;
-      fields = kept.is.fields;
-      fields_rise = kept.is.fields_rise;
-      facts = kept.is.facts;
-      few_facts = kept.is.few_facts;
-      rows = each_snoc (IsRow p.has_pos (next_behind start (places_of piece))) piece.rows x kept.is.rows
-          (subst (λ (n : ℕ). IsRow p.has_pos n x) kept.next good_row);
-      few_rows = more_few 64 piece.rows x many.0;
-    } in
+    let good =
+    piece_of style p.at_entry p.has_pos start next.piece kept.is.placed kept.is.few_symbols kept.is.vars kept.is.vars_rise kept.is.fields kept.is.fields_rise
+    kept.is.facts kept.is.few_facts
+    (each_snoc (IsRow p.has_pos (next_behind start (places_of piece))) piece.rows x kept.is.rows (subst (λ (n : ℕ). IsRow p.has_pos n x) kept.next good_row))
+    (more_few 64 piece.rows x many.0) in
     let last_items : Has a.0.1 (part_items c.0) = record { items = r.said ∙ ap part_items (sym r.is); ends = d.1 } in
     piece_step style start p line q next (row_items x) (ok_is next q c.2) goes
     (item_before line word rest (codes "row") _ is said
     (item_before rest a.0.0 a.0.1 (signed_decimal b.0) (part_items c.0) (next_is rest a.0.0 a.0.1 a.1) i.0 last_items))
-    (record {
-      stack = λ h. absurd (omega (arith, h));
-      vars = λ h. absurd (omega (arith, h));
-      fields = λ h. absurd (omega (arith, h));
-      facts = λ h. absurd (omega (arith, h));
-      rows = λ h. absurd (omega (arith, h));
-    })
-    (record { is = good; next = kept.next; small = kept.small }) refl refl
+    (nothing_behind next.piece) (record { is = good; next = kept.next; small = kept.small }) refl refl
 
 -- a line of a piece that is read
 pub piece_read : (style : Style) (start : ℕ) (kind : PieceWord) (p : PieceSoFar) (word : Item) (rest line : Line) (q : PieceSoFar) → line ≡ with_item word rest

@@ -30,7 +30,7 @@ use Rattle.cert_format.specs.declared.piece_lines.PieceWord.TheVariants.{Stack, 
 use Rattle.cert_format.proofs.CertItems.{block_taken, integer_taken, known_taken, placed_taken}
 use Rattle.cert_format.proofs.CertKept.{all_taken, ended_taken, last_taken, next_small, word_text}
 use Rattle.cert_format.proofs.CertNames.{entry_field_taken, name_taken, variable_taken}
-use Rattle.cert_format.proofs.CertSteps.{fits_bind, fits_part, rises}
+use Rattle.cert_format.proofs.CertSteps.{fits_bind, fits_part, rises, with_field, with_var}
 use Rattle.cert_format.proofs.CertWords.{kind_taken, term_taken, text_taken}
 use Rattle.cert_format.proofs.CondRead.{Has}
 use Rattle.cert_format.proofs.CondTaken.{first_text, other_texts, take_first, then_go}
@@ -79,10 +79,6 @@ bound_taken next bind line small placed has =
     let make : Sym → Bind = λ s. record { name = bind.name; sym = s } in
     last_taken (items.placed next) make line bind.sym (sym_text bind.sym) has (λ item said. placed_taken next item bind.sym small placed said)
 
--- a variable behind those before it
-abbrev with_var : Bind → PieceSoFar → PieceSoFar
-with_var x p = record p { stage = stage.Vars; next = items.next_after p.next x.sym; piece = record p.piece { vars = p.piece.vars ++ x ∷ [] } }
-
 var_taken : (style : Style) (p : PieceSoFar) (x : Bind) (line : Line) → ArePlain style.names → p.next ≤ 4294967295 → x.sym.0 ≤ p.next
     → IsVariable p.at_entry style.names x.name → fits_bind (last_of p.piece.vars) x ≡ true
     → Has line (name_text style.names x.name ∷ (sym_text x.sym ∷ [])) → pieces.var_line style.names line p ≡ Ok (with_var x p)
@@ -93,10 +89,6 @@ var_taken style p x line plain small placed is above has =
     then_go (next_item line) (t.item, t.rest) _ _ t.gives
     (then_go (items.variable_above p.at_entry last names t.item) x.name _ _ (variable_taken p.at_entry last names t.item x.name plain is above t.said)
     (then_go (pieces.bound p.next x.name t.rest) x _ _ (bound_taken p.next x t.rest small placed t.has) refl))
-
--- a field behind those before it
-abbrev with_field : Bind → PieceSoFar → PieceSoFar
-with_field x p = record p { stage = stage.Fields; next = items.next_after p.next x.sym; piece = record p.piece { fields = p.piece.fields ++ x ∷ [] } }
 
 field_taken : (style : Style) (p : PieceSoFar) (x : Bind) (line : Line) → ArePlain style.names → p.next ≤ 4294967295 → x.sym.0 ≤ p.next
     → IsField style.names x.name → p.at_entry ≡ true → fits_bind (last_of p.piece.fields) x ≡ true
@@ -122,14 +114,16 @@ fact_word (fact.Wellformed s) = Wellformed
 
 -- the symbol of a fact
 abbrev fact_sym : Fact → Sym
-fact_sym (fact.Is s k) = s
-fact_sym (fact.Int s n) = s
-fact_sym (fact.Text s t) = s
-fact_sym (fact.Call s n) = s
-fact_sym (fact.Block s n) = s
-fact_sym (fact.Blank s) = s
-fact_sym (fact.Nonblank s) = s
-fact_sym (fact.Wellformed s) = s
+fact_sym x = elim x [
+  | fact.Is s k ↦ s
+  | fact.Int s n ↦ s
+  | fact.Text s t ↦ s
+  | fact.Call s n ↦ s
+  | fact.Block s n ↦ s
+  | fact.Blank s ↦ s
+  | fact.Nonblank s ↦ s
+  | fact.Wellformed s ↦ s
+]
 
 -- what stands behind the symbol of a fact
 abbrev fact_more : List (List ℕ × Kind) → Fact → List (List ℕ)
@@ -144,13 +138,7 @@ fact_more names (fact.Wellformed s) = []
 
 fact_spelled : (names : List (List ℕ × Kind)) (x : Fact) → fact_items names x ≡ word_text (fact_word x) ∷ (sym_text (fact_sym x) ∷ fact_more names x)
 fact_spelled names (fact.Is s k) = refl
-fact_spelled names (fact.Int s n) = refl
-fact_spelled names (fact.Text s t) = refl
-fact_spelled names (fact.Call s n) = refl
-fact_spelled names (fact.Block s n) = refl
-fact_spelled names (fact.Blank s) = refl
-fact_spelled names (fact.Nonblank s) = refl
-fact_spelled names (fact.Wellformed s) = refl
+fact_spelled names _ = refl
 
 fact_known : (style : Style) (next : ℕ) (x : Fact) → IsFact style next x → (fact_sym x).0 < next
 fact_known style next (fact.Is s k) is = is.0
@@ -164,25 +152,13 @@ fact_known style next (fact.Wellformed s) is = is
 
 fact_ranked : (x : Fact) → pieces.word_rank (fact_word x) ≡ 3
 fact_ranked (fact.Is s k) = refl
-fact_ranked (fact.Int s n) = refl
-fact_ranked (fact.Text s t) = refl
-fact_ranked (fact.Call s n) = refl
-fact_ranked (fact.Block s n) = refl
-fact_ranked (fact.Blank s) = refl
-fact_ranked (fact.Nonblank s) = refl
-fact_ranked (fact.Wellformed s) = refl
+fact_ranked _ = refl
 
 -- the line of a fact goes to the reader of facts
 fact_goes : (style : Style) (x : Fact) (word : Item) (line : Line) (p : PieceSoFar)
     → pieces.piece_line style (fact_word x) word line p ≡ pieces.fact_line style (fact_word x) word line p
 fact_goes style (fact.Is s k) word line p = refl
-fact_goes style (fact.Int s n) word line p = refl
-fact_goes style (fact.Text s t) word line p = refl
-fact_goes style (fact.Call s n) word line p = refl
-fact_goes style (fact.Block s n) word line p = refl
-fact_goes style (fact.Blank s) word line p = refl
-fact_goes style (fact.Nonblank s) word line p = refl
-fact_goes style (fact.Wellformed s) word line p = refl
+fact_goes style _ word line p = refl
 
 fact_of_taken : (style : Style) (next : ℕ) (x : Fact) (line : Line) → ArePlain style.names → IsFact style next x → Has line (fact_more style.names x)
     → pieces.fact_of style (fact_word x) (fact_sym x) line ≡ Ok x
@@ -310,44 +286,52 @@ stack_taken p s syms line small placed few has =
 abbrev pub read_at : Bool → Bool → PieceStage → ℕ → Piece → PieceSoFar
 read_at at_entry has_pos s next piece = record { at_entry = at_entry; has_pos = has_pos; stage = s; next = next; piece = piece }
 
+-- a piece with other variables or other fields
+abbrev vars_at : PieceSoFar → PieceStage → ℕ → List Bind → PieceSoFar
+vars_at p s n l = record p { stage = s; next = n; piece = record p.piece { vars = l } }
+
+abbrev fields_at : PieceSoFar → PieceStage → ℕ → List Bind → PieceSoFar
+fields_at p s n l = record p { stage = s; next = n; piece = record p.piece { fields = l } }
+
+-- bindings of one list, which `at` puts into a piece, are read up to what follows them
+abbrev BindsGo : List (List ℕ × Kind) → (PieceSoFar → List (List (List ℕ)) → Type 0) → List ℕ → ℕ → (PieceStage → ℕ → List Bind → PieceSoFar)
+    → (Bind → Type 0) → Type 0
+BindsGo names Run word rank at Good =
+    (binds : List Bind) (s : PieceStage) (n : ℕ) (l : List Bind) (more : List (List (List ℕ))) → n ≤ 4294967295 → pieces.stage_rank s ≤ rank
+    → Each Good binds → Up fits_bind (last_of l) binds → are_placed n (bound_symbols binds) ≡ true
+    → ((t : PieceStage) → pieces.stage_rank t ≤ rank → Run (at t (next_behind n (bound_symbols binds)) (l ++ binds)) more)
+    → Run (at s n l) (map (bind_items word names) binds ++ more)
+
 -- lines that are read from what has been read of a piece
 module _ (style : Style) (Run : PieceSoFar → List (List (List ℕ)) → Type 0) (plain : ArePlain style.names)
     (step : (p q : PieceSoFar) (kind : PieceWord) (texts : List (List ℕ)) (more : List (List (List ℕ))) → pieces.stage_rank p.stage ≤ pieces.word_rank kind
     → ((word : Item) (rest : Line) → Has rest texts → pieces.piece_line style kind word rest p ≡ Ok q) → Run q more
     → Run p ((word_text kind ∷ texts) ∷ more)) where
-  vars_go : (vars : List Bind) (p : PieceSoFar) (more : List (List (List ℕ))) → p.next ≤ 4294967295 → pieces.stage_rank p.stage ≤ 1
-      → Each (λ bind. IsVariable p.at_entry style.names bind.name) vars → Up fits_bind (last_of p.piece.vars) vars
-      → are_placed p.next (bound_symbols vars) ≡ true
-      → ((s : PieceStage) → pieces.stage_rank s ≤ 1
-      → Run (record p { stage = s; next = next_behind p.next (bound_symbols vars); piece = record p.piece { vars = p.piece.vars ++ vars } }) more)
-      → Run p (map (bind_items (codes "var") style.names) vars ++ more)
-  vars_go [] p more small rank each up placed next =
-      subst (λ (l : List Bind). Run (record p { piece = record p.piece { vars = l } }) more) (append-nil p.piece.vars) (next p.stage rank)
-  vars_go (x ∷ vars) p more small rank each up placed next =
-      let both = and_parts (nat_le x.sym.0 p.next) (are_placed (items.next_after p.next x.sym) (bound_symbols vars)) placed in
-      let later = subst (λ last. Up fits_bind last vars) (sym (last_snoc p.piece.vars x)) up.1 in
-      step p (with_var x p) Var (name_text style.names x.name ∷ (sym_text x.sym ∷ [])) (map (bind_items (codes "var") style.names) vars ++ more) rank
-      (λ word rest has. var_taken style p x rest plain small (within x.sym.0 p.next both.0) each.0 up.0 has)
-      (vars_go vars (with_var x p) more (next_small p.next x.sym) (lit≤ tt) each.1 later both.1 (λ s low.
-      subst (λ (l : List Bind). Run (record p { stage = s; next = next_behind p.next (bound_symbols (x ∷ vars)); piece = record p.piece { vars = l } }) more)
-      (sym (append_assoc p.piece.vars (x ∷ []) vars)) (next s low)))
+  binds_go : (word : List ℕ) (stage_after : PieceStage) (rank : ℕ) (at : PieceStage → ℕ → List Bind → PieceSoFar) (Good : Bind → Type 0)
+      → pieces.stage_rank stage_after ≤ rank
+      → ((s : PieceStage) (n : ℕ) (l : List Bind) (x : Bind) (more : List (List (List ℕ))) → pieces.stage_rank s ≤ rank → n ≤ 4294967295 → x.sym.0 ≤ n → Good x
+      → fits_bind (last_of l) x ≡ true → Run (at stage_after (items.next_after n x.sym) (l ++ x ∷ [])) more → Run (at s n l) (bind_items word style.names x ∷ more))
+      → BindsGo style.names Run word rank at Good
+  binds_go word stage_after rank at Good low one [] s n l more small early each up placed next =
+      subst (λ (k : List Bind). Run (at s n k) more) (append-nil l) (next s early)
+  binds_go word stage_after rank at Good low one (x ∷ binds) s n l more small early each up placed next =
+      let both = and_parts (nat_le x.sym.0 n) (are_placed (items.next_after n x.sym) (bound_symbols binds)) placed in
+      let later = subst (λ last. Up fits_bind last binds) (sym (last_snoc l x)) up.1 in
+      one s n l x (map (bind_items word style.names) binds ++ more) early small (within x.sym.0 n both.0) each.0 up.0
+      (binds_go word stage_after rank at Good low one binds stage_after (items.next_after n x.sym) (l ++ x ∷ []) more (next_small n x.sym) low each.1 later both.1
+      (λ t late. subst (λ (k : List Bind). Run (at t (next_behind n (bound_symbols (x ∷ binds))) k) more) (sym (append_assoc l (x ∷ []) binds)) (next t late)))
 
-  fields_go : (fields : List Bind) (p : PieceSoFar) (more : List (List (List ℕ))) → p.next ≤ 4294967295 → pieces.stage_rank p.stage ≤ 2
-      → Each (λ bind. IsField style.names bind.name × (p.at_entry ≡ true)) fields → Up fits_bind (last_of p.piece.fields) fields
-      → are_placed p.next (bound_symbols fields) ≡ true
-      → ((s : PieceStage) → pieces.stage_rank s ≤ 2
-      → Run (record p { stage = s; next = next_behind p.next (bound_symbols fields); piece = record p.piece { fields = p.piece.fields ++ fields } }) more)
-      → Run p (map (bind_items (codes "field") style.names) fields ++ more)
-  fields_go [] p more small rank each up placed next =
-      subst (λ (l : List Bind). Run (record p { piece = record p.piece { fields = l } }) more) (append-nil p.piece.fields) (next p.stage rank)
-  fields_go (x ∷ fields) p more small rank each up placed next =
-      let both = and_parts (nat_le x.sym.0 p.next) (are_placed (items.next_after p.next x.sym) (bound_symbols fields)) placed in
-      let later = subst (λ last. Up fits_bind last fields) (sym (last_snoc p.piece.fields x)) up.1 in
-      step p (with_field x p) Field (name_text style.names x.name ∷ (sym_text x.sym ∷ [])) (map (bind_items (codes "field") style.names) fields ++ more) rank
-      (λ word rest has. field_taken style p x rest plain small (within x.sym.0 p.next both.0) each.0.0 each.0.1 up.0 has)
-      (fields_go fields (with_field x p) more (next_small p.next x.sym) (lit≤ tt) each.1 later both.1 (λ s low.
-      subst (λ (l : List Bind). Run (record p { stage = s; next = next_behind p.next (bound_symbols (x ∷ fields)); piece = record p.piece { fields = l } }) more)
-      (sym (append_assoc p.piece.fields (x ∷ []) fields)) (next s low)))
+  vars_go : (p : PieceSoFar) → BindsGo style.names Run (codes "var") 1 (vars_at p) (λ x. IsVariable p.at_entry style.names x.name)
+  vars_go p =
+      binds_go (codes "var") stage.Vars 1 (vars_at p) (λ x. IsVariable p.at_entry style.names x.name) (lit≤ tt) (λ s n l x rest low few placed good up.
+      step (vars_at p s n l) (with_var x (vars_at p s n l)) Var (name_text style.names x.name ∷ (sym_text x.sym ∷ [])) rest low
+      (λ word line has. var_taken style (vars_at p s n l) x line plain few placed good up has))
+
+  fields_go : (p : PieceSoFar) → BindsGo style.names Run (codes "field") 2 (fields_at p) (λ x. IsField style.names x.name × (p.at_entry ≡ true))
+  fields_go p =
+      binds_go (codes "field") stage.Fields 2 (fields_at p) (λ x. IsField style.names x.name × (p.at_entry ≡ true)) (lit≤ tt) (λ s n l x rest low few placed good up.
+      step (fields_at p s n l) (with_field x (fields_at p s n l)) Field (name_text style.names x.name ∷ (sym_text x.sym ∷ [])) rest low
+      (λ word line has. field_taken style (fields_at p s n l) x line plain few placed good.0 good.1 up has))
 
   facts_go : (facts : List Fact) (p : PieceSoFar) (more : List (List (List ℕ))) → p.next ≤ 4294967295 → pieces.stage_rank p.stage ≤ 3
       → Each (IsFact style p.next) facts → length p.piece.facts + length facts ≤ 64
@@ -421,9 +405,9 @@ module _ (style : Style) (Run : PieceSoFar → List (List (List ℕ)) → Type 0
       let after = subst (λ (n : ℕ). (s : PieceStage) → Run (read_at at_entry has_pos s n piece) more) same next in
       subst (Run (pieces.no_piece at_entry has_pos start)) (sym lines)
       (stack_go piece.stack (pieces.no_piece at_entry has_pos start) (vars ++ (fields ++ (facts ++ (rows ++ more)))) small (lit≤ tt) refl first_parts.0 is.few_symbols (λ t low.
-      vars_go piece.vars (read_at at_entry has_pos t n1 (record { stack = piece.stack; vars = []; fields = []; facts = []; rows = [] }))
+      vars_go (read_at at_entry has_pos t n1 (record { stack = piece.stack; vars = []; fields = []; facts = []; rows = [] })) piece.vars t n1 []
       (fields ++ (facts ++ (rows ++ more))) s1 low is.vars (rise piece.vars is.vars_rise) second_parts.0 (λ u lower.
-      fields_go piece.fields (read_at at_entry has_pos u n2 (record { stack = piece.stack; vars = piece.vars; fields = []; facts = []; rows = [] }))
+      fields_go (read_at at_entry has_pos u n2 (record { stack = piece.stack; vars = piece.vars; fields = []; facts = []; rows = [] })) piece.fields u n2 []
       (facts ++ (rows ++ more)) s2 (omega (arith, lower)) is.fields (rise piece.fields is.fields_rise) second_parts.1 (λ v third.
       facts_go piece.facts (read_at at_entry has_pos v n3 (record { stack = piece.stack; vars = piece.vars; fields = piece.fields; facts = []; rows = [] }))
       (rows ++ more) s3 (omega (arith, third)) (subst (λ (n : ℕ). Each (IsFact style n) piece.facts) same is.facts) (alone (length piece.facts) 64 is.few_facts) (λ w fourth.

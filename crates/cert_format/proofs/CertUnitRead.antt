@@ -1,5 +1,5 @@
 -- Each line of a unit that is read is spelled by what has been read after it, and that keeps the limits.
-use Rattle.std.proofs.Common.{◌≡◌, ℕ, ◌+◌, ◌<◌, ◌≤◌, Bool, true, false, ◌&&◌, cond, nat_le, List, [], ◌∷◌, ◌++◌, map, Option, Some, None, Ok, codes, lit≤, refl, sym, ap, subst, ◌∙◌, arith}
+use Rattle.std.proofs.Common.{◌≡◌, ℕ, ◌+◌, ◌<◌, ◌≤◌, Bool, true, false, ◌&&◌, cond, nat_lt, nat_le, List, [], ◌∷◌, ◌++◌, map, Option, Some, None, Ok, codes, lit≤, refl, sym, ap, subst, ◌∙◌, arith}
 use Rattle.std.proofs.lemmas.Bool.{and_parts}
 use Rattle.std.proofs.lemmas.Bool.Decides.{nat_tests}
 use Rattle.bv_base.specs.Answers.{then_do}
@@ -34,10 +34,10 @@ use Rattle.cert_format.specs.declared.unit_lines.UnitStage.{UnitStage}
 use Rattle.cert_format.specs.declared.unit_lines.UnitStage.TheVariants as stage
 use Rattle.cert_format.proofs.CertBodies.{bare_body, bare_good, bare_ready, close_good, count_more, front_behind, full_last, mark_body, new_front, piece_body, ready_next, start_small}
 use Rattle.cert_format.proofs.CertHints.{hint_read}
-use Rattle.cert_format.proofs.CertKept.{ended_read, last_read, named_word}
+use Rattle.cert_format.proofs.CertKept.{among_said, ended_read, last_read}
 use Rattle.cert_format.proofs.CertNames.{variable_read}
-use Rattle.cert_format.proofs.CertSteps.{Fits, Kept, in_back, piece_read}
-use Rattle.cert_format.proofs.CertUnits.{Bare, CountAt, Counted, Full, Good, Headless, Lines, Open, OpenAt, Ready, Shape, UnitKept, body_lines, closed, first_items, hints_at, mark_text, rank, tail_lines, unit_spelled}
+use Rattle.cert_format.proofs.CertSteps.{Fits, Kept, in_back, piece_of, piece_read}
+use Rattle.cert_format.proofs.CertUnits.{Bare, CountAt, Counted, Full, Good, Headless, Lines, Open, OpenAt, Ready, Shape, UnitKept, body_lines, closed, closed_of, first_items, hints_at, kept_of, mark_text, rank, tail_lines, unit_spelled, with_closed}
 use Rattle.cert_format.proofs.CondKept.{chain_snoc, each_snoc}
 use Rattle.cert_format.proofs.CondRead.{Has, item_before}
 use Rattle.cert_format.proofs.CondSteps.{map_snoc}
@@ -62,22 +62,22 @@ unit_step style u line v next here is goes has kept kind =
     } in
     subst (λ (r : UnitSoFar). UnitStep style u line r) (sym is) step
 
+-- what holds of each stage before the hints
+before_hints : (P : UnitStage → Type 0) → P stage.Entry → P stage.Whole → P stage.Writes → P stage.Pieces → (s : UnitStage) → rank s < 4 → P s
+before_hints P entry whole writes at_pieces stage.Entry low = entry
+before_hints P entry whole writes at_pieces stage.Whole low = whole
+before_hints P entry whole writes at_pieces stage.Writes low = writes
+before_hints P entry whole writes at_pieces stage.Pieces low = at_pieces
+before_hints P entry whole writes at_pieces stage.Hints low = absurd (omega (arith, low))
+before_hints P entry whole writes at_pieces stage.Done low = absurd (omega (arith, low))
+
 -- no piece has come before the stage of pieces
 shape_bare : (s : UnitStage) (last : Option Mark) (kind : UnitKind) (u : UnitSoFar) → rank s < 4 → last ≡ None → Shape s last kind u → Bare kind u
-shape_bare stage.Entry last kind u low none shape = subst (λ (l : Option Mark). Shape stage.Entry l kind u) none shape
-shape_bare stage.Whole last kind u low none shape = subst (λ (l : Option Mark). Shape stage.Whole l kind u) none shape
-shape_bare stage.Writes last kind u low none shape = subst (λ (l : Option Mark). Shape stage.Writes l kind u) none shape
-shape_bare stage.Pieces last kind u low none shape = subst (λ (l : Option Mark). Shape stage.Pieces l kind u) none shape
-shape_bare stage.Hints last kind u low none shape = absurd (omega (arith, low))
-shape_bare stage.Done last kind u low none shape = absurd (omega (arith, low))
+shape_bare s last kind u low none shape =
+    before_hints (λ t. Shape t None kind u → Bare kind u) (λ h. h) (λ h. h) (λ h. h) (λ h. h) s low (subst (λ (l : Option Mark). Shape s l kind u) none shape)
 
 no_hint_lines : (s : UnitStage) (hints : List Hint) → rank s < 4 → hints_at s hints ≡ []
-no_hint_lines stage.Entry hints low = refl
-no_hint_lines stage.Whole hints low = refl
-no_hint_lines stage.Writes hints low = refl
-no_hint_lines stage.Pieces hints low = refl
-no_hint_lines stage.Hints hints low = absurd (omega (arith, low))
-no_hint_lines stage.Done hints low = absurd (omega (arith, low))
+no_hint_lines s hints low = before_hints (λ t. hints_at t hints ≡ []) refl refl refl refl s low
 
 -- nothing is spelled behind the head before the stage of pieces
 tail_none : (style : Style) (u : UnitSoFar) → rank u.stage < 3 → u.last ≡ None → Bare u.kind u → tail_lines style u ≡ []
@@ -101,9 +101,6 @@ head_step first head more tail after x e none also =
 
 low_rank : (s t : UnitStage) → s ≡ t → rank s ≡ rank t
 low_rank s t e = ap rank e
-
-count_bare : (kind : UnitKind) (n : ℕ) (last : Option Mark) (u : UnitSoFar) → last ≡ None → CountAt last kind n u → CountAt None kind n u
-count_bare kind n last u none count = subst (λ (l : Option Mark). CountAt l kind n u) none count
 
 open_none : (style : Style) (last : Option Mark) (u : UnitSoFar) → last ≡ None → OpenAt style last u
 open_none style last u none = subst (λ (l : Option Mark). OpenAt style l u) (sym none) tt
@@ -141,22 +138,12 @@ entry_step style u word rest line v is kept at said e =
     ap (λ (b : Bool). word_lines (codes "whole") b ++ map (writes_items names) u.writes) no_whole ∙ ap (λ (l : List NameId). map (writes_items names) l) no_writes in
     let head : head_lines names true u.whole u.writes ≡ head_lines names u.entry u.whole u.writes ++ x ∷ [] =
     new_front (word_lines (codes "entry") u.entry) (word_lines (codes "entry") true) behind x (ap (word_lines (codes "entry")) no_entry) refl nothing in
-    let good : UnitKept style next =
-    record {
-      no_entry = λ h. absurd (omega (arith, h));
-      no_whole = λ h. no_whole;
-      no_writes = λ h. no_writes;
-      no_piece = λ h. none;
-      no_hints = λ h. kept.no_hints (omega (arith, low));
-      writes = subst (λ (l : List NameId). AreWrites true names l) (sym no_writes) (tt, refl);
-      shape = subst (λ (l : Option Mark). Shape stage.Whole l u.kind next) (sym none) bare;
-      good = bare_good style u.kind true next bare;
-      open_piece = open_none style u.last next none;
-      count = kept.count;
-      few = kept.few;
-      hints = kept.hints;
-      headless = with_head u.kind u.stage stage.Whole u.entry u.whole true u.whole u.writes u.writes (omega (arith, low)) kept.headless;
-    } in
+    let good =
+    kept_of style next (λ h. absurd (omega (arith, h))) (λ h. no_whole) (λ h. no_writes) (λ h. none) (λ h. kept.no_hints (omega (arith, low)))
+    (subst (λ (l : List NameId). AreWrites true names l) (sym no_writes) (tt, refl))
+    (subst (λ (l : Option Mark). Shape stage.Whole l u.kind next) (sym none) bare) (bare_good style u.kind true next bare)
+    (open_none style u.last next none) kept.count kept.few kept.hints
+    (with_head u.kind u.stage stage.Whole u.entry u.whole true u.whole u.writes u.writes (omega (arith, low)) kept.headless) in
     unit_step style u line v next x r.0
     (head_step (first_items style u.kind) (head_lines names u.entry u.whole u.writes) (head_lines names true u.whole u.writes) (tail_lines style u)
     (tail_lines style next) x head (tail_none style u (omega (arith, low)) none bare) (tail_none style next (lit≤ tt) none bare))
@@ -180,22 +167,11 @@ whole_step style u word rest line v is kept low said e =
     in_back (word_lines (codes "entry") u.entry) (word_lines (codes "whole") u.whole ++ writes) (word_lines (codes "whole") true ++ writes) x
     (new_front (word_lines (codes "whole") u.whole) (word_lines (codes "whole") true) writes x (ap (word_lines (codes "whole")) no_whole) refl
     (ap (λ (l : List NameId). map (writes_items names) l) no_writes)) in
-    let good : UnitKept style next =
-    record {
-      no_entry = λ h. absurd (omega (arith, h));
-      no_whole = λ h. absurd (omega (arith, h));
-      no_writes = λ h. absurd (omega (arith, h));
-      no_piece = λ h. none;
-      no_hints = λ h. kept.no_hints (omega (arith, low));
-      writes = kept.writes;
-      shape = subst (λ (l : Option Mark). Shape stage.Writes l u.kind next) (sym none) bare;
-      good = kept.good;
-      open_piece = open_none style u.last next none;
-      count = kept.count;
-      few = kept.few;
-      hints = kept.hints;
-      headless = with_head u.kind u.stage stage.Writes u.entry u.whole u.entry true u.writes u.writes (omega (arith, low)) kept.headless;
-    } in
+    let good =
+    kept_of style next (λ h. absurd (omega (arith, h))) (λ h. absurd (omega (arith, h))) (λ h. absurd (omega (arith, h))) (λ h. none)
+    (λ h. kept.no_hints (omega (arith, low))) kept.writes (subst (λ (l : Option Mark). Shape stage.Writes l u.kind next) (sym none) bare) kept.good
+    (open_none style u.last next none) kept.count kept.few kept.hints
+    (with_head u.kind u.stage stage.Writes u.entry u.whole u.entry true u.writes u.writes (omega (arith, low)) kept.headless) in
     unit_step style u line v next x r.0
     (head_step (first_items style u.kind) (head_lines names u.entry u.whole u.writes) (head_lines names u.entry true u.writes) (tail_lines style u)
     (tail_lines style next) x head (tail_none style u (omega (arith, low)) none bare) (tail_none style next (lit≤ tt) none bare))
@@ -218,22 +194,12 @@ writes_step style u word rest line v is kept low said e =
     let head : head_lines names u.entry u.whole next.writes ≡ head_lines names u.entry u.whole u.writes ++ x ∷ [] =
     in_back (word_lines (codes "entry") u.entry) (whole ++ map (writes_items names) u.writes) (whole ++ map (writes_items names) next.writes) x
     (in_back whole (map (writes_items names) u.writes) (map (writes_items names) next.writes) x (map_snoc (writes_items names) u.writes id)) in
-    let good : UnitKept style next =
-    record {
-      no_entry = λ h. absurd (omega (arith, h));
-      no_whole = λ h. absurd (omega (arith, h));
-      no_writes = λ h. absurd (omega (arith, h));
-      no_piece = λ h. none;
-      no_hints = λ h. kept.no_hints (omega (arith, low));
-      writes = (each_snoc (IsVariable u.entry names) u.writes id kept.writes.0 w.is, chain_snoc is_below is_above (λ a b f. f) u.writes id kept.writes.1 w.above);
-      shape = subst (λ (m : Option Mark). Shape stage.Writes m u.kind next) (sym none) bare;
-      good = kept.good;
-      open_piece = open_none style u.last next none;
-      count = kept.count;
-      few = kept.few;
-      hints = kept.hints;
-      headless = with_head u.kind u.stage stage.Writes u.entry u.whole u.entry u.whole u.writes next.writes low kept.headless;
-    } in
+    let good =
+    kept_of style next (λ h. absurd (omega (arith, h))) (λ h. absurd (omega (arith, h))) (λ h. absurd (omega (arith, h))) (λ h. none)
+    (λ h. kept.no_hints (omega (arith, low)))
+    (each_snoc (IsVariable u.entry names) u.writes id kept.writes.0 w.is, chain_snoc is_below is_above (λ a b f. f) u.writes id kept.writes.1 w.above)
+    (subst (λ (m : Option Mark). Shape stage.Writes m u.kind next) (sym none) bare) kept.good (open_none style u.last next none) kept.count kept.few
+    kept.hints (with_head u.kind u.stage stage.Writes u.entry u.whole u.entry u.whole u.writes next.writes low kept.headless) in
     unit_step style u line v next x l.is
     (head_step (first_items style u.kind) (head_lines names u.entry u.whole u.writes) (head_lines names u.entry u.whole next.writes) (tail_lines style u)
     (tail_lines style next) x head (tail_none style u (omega (arith, low)) none bare) (tail_none style next (lit≤ tt) none bare))
@@ -270,22 +236,10 @@ line_step style u mark kind word rest line v is kept some at due e =
     ap (λ (l : Option Mark). body_lines names u.kind (units.placed_as l q next)) some ∙ body
     ∙ ap (λ (l : Option Mark). body_lines names u.kind (units.placed_as l u.piece u) ++ x ∷ []) (sym some) in
     let opened : Open style mark next = record { kept = s.kept; fits = s.fits; entry = s.entry ∙ o.entry; pos = s.pos ∙ o.pos } in
-    let good : UnitKept style next =
-    record {
-      no_entry = λ h. absurd (omega (arith, h, low));
-      no_whole = λ h. absurd (omega (arith, h, low));
-      no_writes = λ h. absurd (omega (arith, h, low));
-      no_piece = λ h. absurd (omega (arith, h, low));
-      no_hints = λ h. kept.no_hints h;
-      writes = kept.writes;
-      shape = kept.shape;
-      good = kept.good;
-      open_piece = subst (λ (l : Option Mark). OpenAt style l next) (sym some) opened;
-      count = kept.count;
-      few = kept.few;
-      hints = kept.hints;
-      headless = kept.headless;
-    } in
+    let good =
+    kept_of style next (λ h. absurd (omega (arith, h, low))) (λ h. absurd (omega (arith, h, low))) (λ h. absurd (omega (arith, h, low)))
+    (λ h. absurd (omega (arith, h, low))) (λ h. kept.no_hints h) kept.writes kept.shape kept.good
+    (subst (λ (l : Option Mark). OpenAt style l next) (sym some) opened) kept.count kept.few kept.hints kept.headless in
     unit_step style u line v next x (ok_is next v a.2)
     (tail_step (first_items style u.kind) (head_lines names u.entry u.whole u.writes) (tail_lines style u) (tail_lines style next) x
     (front_behind (body_lines names u.kind (closed u)) (body_lines names u.kind (closed next)) (hints_at u.stage u.hints) x placed
@@ -299,12 +253,8 @@ record AllClosed (style : Style) (u : UnitSoFar) (last : Option Mark) (v : UnitS
 
 -- a piece is open before the hints
 ready_of : (kind : UnitKind) (u : UnitSoFar) (s : UnitStage) (mark : Mark) → rank s < 4 → Shape s (Some mark) kind u → Ready kind mark u
-ready_of kind u stage.Entry mark low shape = shape
-ready_of kind u stage.Whole mark low shape = shape
-ready_of kind u stage.Writes mark low shape = shape
-ready_of kind u stage.Pieces mark low shape = shape
-ready_of kind u stage.Hints mark low shape = absurd (omega (arith, low))
-ready_of kind u stage.Done mark low shape = absurd (omega (arith, low))
+ready_of kind u s mark low shape =
+    before_hints (λ t. Shape t (Some mark) kind u → Ready kind mark u) (λ h. h) (λ h. h) (λ h. h) (λ h. h) s low shape
 
 -- the pieces that have been read are closed
 closed_kept : (style : Style) (u : UnitSoFar) (next : PieceSoFar) (last : Option Mark) → rank u.stage < 4 → UnitKept style u → u.last ≡ last
@@ -336,20 +286,11 @@ next_ready style u next (Some last) mark low kept some follows =
 -- what a piece is before its first line
 empty_kept : (style : Style) (at_entry has_pos : Bool) (start : ℕ) → start ≤ 4294967295 → Kept style start (pieces.no_piece at_entry has_pos start)
 empty_kept style at_entry has_pos start small =
-    let none : IsPiece style at_entry has_pos start (pieces.no_piece at_entry has_pos start).piece =
     record {
-      placed = refl;
-      few_symbols = lit≤ tt;
-      vars = tt;
-      vars_rise = refl;
-      fields = tt;
-      fields_rise = refl;
-      facts = tt;
-      few_facts = lit≤ tt;
-      rows = tt;
-      few_rows = lit≤ tt;
-    } in
-    record { is = none; next = refl; small = small }
+      is = piece_of style at_entry has_pos start (pieces.no_piece at_entry has_pos start).piece refl (lit≤ tt) tt refl tt refl tt (lit≤ tt) tt (lit≤ tt);
+      next = refl;
+      small = small;
+    }
 
 empty_fits : (n : ℕ) (at_entry has_pos : Bool) (start : ℕ) → Fits n (pieces.no_piece at_entry has_pos start).piece
 empty_fits n at_entry has_pos start =
@@ -357,49 +298,26 @@ empty_fits n at_entry has_pos start =
 
 -- a unit with the closed pieces of another one, and another open piece
 abbrev put_in : UnitSoFar → PieceSoFar → UnitSoFar → UnitSoFar
-put_in w next u =
-    record u {
-      symbols = w.symbols;
-      piece = next;
-      pre = w.pre;
-      cases = w.cases;
-      later = w.later;
-      after = w.after;
-      visit = w.visit;
-      keeps = w.keeps;
-    }
+put_in w next u = with_closed (closed_of w) (record u { piece = next })
+
+-- what holds of no mark and of each mark
+by_last : (P : Option Mark → Type 0) → P None → P (Some Pre) → P (Some Post) → P (Some Case) → P (Some Exit) → P (Some After) → P (Some Visit)
+    → P (Some Keeps) → (last : Option Mark) → P last
+by_last P none pre post case exit after visit keeps None = none
+by_last P none pre post case exit after visit keeps (Some mark) =
+    elim mark as (λ m. P (Some m)) [ Pre ↦ pre | Post ↦ post | Case ↦ case | Exit ↦ exit | After ↦ after | Visit ↦ visit | Keeps ↦ keeps ]
 
 -- closing a piece changes nothing else
 same_but : (last : Option Mark) (next : PieceSoFar) (u : UnitSoFar) → units.placed_as last next u ≡ put_in (units.placed_as last next u) next u
-same_but None next u = refl
-same_but (Some Pre) next u = refl
-same_but (Some Post) next u = refl
-same_but (Some Case) next u = refl
-same_but (Some Exit) next u = refl
-same_but (Some After) next u = refl
-same_but (Some Visit) next u = refl
-same_but (Some Keeps) next u = refl
+same_but last next u = by_last (λ l. units.placed_as l next u ≡ put_in (units.placed_as l next u) next u) refl refl refl refl refl refl refl refl last
 
 symbols_placed : (last : Option Mark) (next : PieceSoFar) (u : UnitSoFar) → (units.placed_as last next u).symbols ≡ units.symbols_of last u
-symbols_placed None next u = refl
-symbols_placed (Some Pre) next u = refl
-symbols_placed (Some Post) next u = refl
-symbols_placed (Some Case) next u = refl
-symbols_placed (Some Exit) next u = refl
-symbols_placed (Some After) next u = refl
-symbols_placed (Some Visit) next u = refl
-symbols_placed (Some Keeps) next u = refl
+symbols_placed last next u = by_last (λ l. (units.placed_as l next u).symbols ≡ units.symbols_of l u) refl refl refl refl refl refl refl refl last
 
 same_body : (names : List (List ℕ × Kind)) (kind : UnitKind) (last : Option Mark) (next : PieceSoFar) (u : UnitSoFar)
     → body_lines names kind (units.placed_as last u.piece u) ≡ body_lines names kind (units.placed_as last next u)
-same_body names kind None next u = refl
-same_body names kind (Some Pre) next u = refl
-same_body names kind (Some Post) next u = refl
-same_body names kind (Some Case) next u = refl
-same_body names kind (Some Exit) next u = refl
-same_body names kind (Some After) next u = refl
-same_body names kind (Some Visit) next u = refl
-same_body names kind (Some Keeps) next u = refl
+same_body names kind last next u =
+    by_last (λ l. body_lines names kind (units.placed_as l u.piece u) ≡ body_lines names kind (units.placed_as l next u)) refl refl refl refl refl refl refl refl last
 
 nil_end : (l : Lines) → l ++ [] ≡ l
 nil_end [] = refl
@@ -480,22 +398,11 @@ mark_step style u mark word rest line v is kept low said follows e =
     let lines_none : piece_lines names w.piece.piece ≡ [] = ap (λ (p : PieceSoFar). piece_lines names p.piece) piece in
     let x : List (List ℕ) = mark_text mark ∷ [] in
     let body : body_lines names w.kind (closed next) ≡ body_lines names w.kind w ++ x ∷ [] = mark_body names w.kind mark next ready lines_none in
-    let good : UnitKept style next =
-    record {
-      no_entry = λ h. absurd (omega (arith, h));
-      no_whole = λ h. absurd (omega (arith, h));
-      no_writes = λ h. absurd (omega (arith, h));
-      no_piece = λ h. absurd (omega (arith, h));
-      no_hints = λ h. s.hints;
-      writes = s.writes;
-      shape = ready;
-      good = s.good;
-      open_piece = opened;
-      count = (u.count, refl, subst (λ (n : ℕ). Counted w.kind n w) s.few s.count);
-      few = omega (arith, under 64 u.count room.0);
-      hints = subst (λ (l : List Hint). Each IsHint l) (sym s.hints) tt;
-      headless = still_headless w.kind u.stage stage.Pieces w.entry w.whole w.writes (lit≤ tt) s.headless;
-    } in
+    let good =
+    kept_of style next (λ h. absurd (omega (arith, h))) (λ h. absurd (omega (arith, h))) (λ h. absurd (omega (arith, h)))
+    (λ h. absurd (omega (arith, h))) (λ h. s.hints) s.writes ready s.good opened (u.count, refl, subst (λ (n : ℕ). Counted w.kind n w) s.few s.count)
+    (omega (arith, under 64 u.count room.0)) (subst (λ (l : List Hint). Each IsHint l) (sym s.hints) tt)
+    (still_headless w.kind u.stage stage.Pieces w.entry w.whole w.writes (lit≤ tt) s.headless) in
     unit_step style u line v next x r.0
     (ap (λ (l : Lines). first_items style w.kind ∷ (head_lines names w.entry w.whole w.writes ++ l)) (nil_end (body_lines names w.kind (closed next)) ∙ body)
     ∙ tail_step (first_items style w.kind) (head_lines names w.entry w.whole w.writes) (body_lines names w.kind w) (body_lines names w.kind w ++ x ∷ []) x refl
@@ -518,22 +425,11 @@ hints_step style u word rest line v is kept low e =
     let whole : Full w.kind w = subst (λ (k : UnitKind). Full k w) (sym kind) (full_at u.last refl both.1) in
     let x : List (List ℕ) = codes "hints" ∷ [] in
     let none : hints_at stage.Hints w.hints ≡ x ∷ [] = ap (λ (l : List Hint). x ∷ map hint_items l) s.hints in
-    let good : UnitKept style next =
-    record {
-      no_entry = λ h. absurd (omega (arith, h));
-      no_whole = λ h. absurd (omega (arith, h));
-      no_writes = λ h. absurd (omega (arith, h));
-      no_piece = λ h. refl;
-      no_hints = λ h. absurd (omega (arith, h));
-      writes = s.writes;
-      shape = (whole, refl);
-      good = s.good;
-      open_piece = tt;
-      count = s.count;
-      few = subst (λ (n : ℕ). n ≤ 64) (sym s.few) kept.few;
-      hints = subst (λ (l : List Hint). Each IsHint l) (sym s.hints) tt;
-      headless = still_headless w.kind u.stage stage.Hints w.entry w.whole w.writes (lit≤ tt) s.headless;
-    } in
+    let good =
+    kept_of style next (λ h. absurd (omega (arith, h))) (λ h. absurd (omega (arith, h))) (λ h. absurd (omega (arith, h))) (λ h. refl)
+    (λ h. absurd (omega (arith, h))) s.writes (whole, refl) s.good tt s.count (subst (λ (n : ℕ). n ≤ 64) (sym s.few) kept.few)
+    (subst (λ (l : List Hint). Each IsHint l) (sym s.hints) tt)
+    (still_headless w.kind u.stage stage.Hints w.entry w.whole w.writes (lit≤ tt) s.headless) in
     unit_step style u line v next x r.0
     (ap (λ (l : Lines). first_items style w.kind ∷ (head_lines names w.entry w.whole w.writes ++ (body_lines names w.kind w ++ l))) none
     ∙ tail_step (first_items style w.kind) (head_lines names w.entry w.whole w.writes) (body_lines names w.kind w) (body_lines names w.kind w ++ x ∷ []) x refl
@@ -570,22 +466,10 @@ hint_step style u word rest line v is kept at e =
     ap (λ (t : UnitStage). hints_at t next.hints) at
     ∙ ap (λ (l : Lines). (codes "hints" ∷ []) ∷ l) (map_snoc hint_items u.hints a.0)
     ∙ ap (λ (t : UnitStage). hints_at t u.hints ++ x ∷ []) (sym at) in
-    let good : UnitKept style next =
-    record {
-      no_entry = λ g. absurd (omega (arith, g, low));
-      no_whole = λ g. absurd (omega (arith, g, low));
-      no_writes = λ g. absurd (omega (arith, g, low));
-      no_piece = λ g. absurd (omega (arith, g, low));
-      no_hints = λ g. absurd (omega (arith, g, low));
-      writes = kept.writes;
-      shape = kept.shape;
-      good = kept.good;
-      open_piece = open_none style u.last next shape.1;
-      count = kept.count;
-      few = kept.few;
-      hints = each_snoc IsHint u.hints a.0 kept.hints h.1;
-      headless = kept.headless;
-    } in
+    let good =
+    kept_of style next (λ g. absurd (omega (arith, g, low))) (λ g. absurd (omega (arith, g, low))) (λ g. absurd (omega (arith, g, low)))
+    (λ g. absurd (omega (arith, g, low))) (λ g. absurd (omega (arith, g, low))) kept.writes kept.shape kept.good (open_none style u.last next shape.1)
+    kept.count kept.few (each_snoc IsHint u.hints a.0 kept.hints h.1) kept.headless in
     let tail : tail_lines style next ≡ tail_lines style u ++ x ∷ [] =
     ap (λ (b : Lines). b ++ hints_at u.stage next.hints) (body next shape.1 ∙ sym (body u shape.1))
     ∙ in_back (body_lines names u.kind (closed u)) (hints_at u.stage u.hints) (hints_at u.stage next.hints) x hints in
@@ -604,22 +488,10 @@ end_step style u word rest line v is kept at said e =
     let shape : Full u.kind u × (u.last ≡ None) = subst (λ (t : UnitStage). Shape t u.last u.kind u) at kept.shape in
     let body : (n : UnitSoFar) → n.last ≡ None → body_lines names n.kind (closed n) ≡ body_lines names n.kind n =
     λ n none. ap (λ (l : Option Mark). body_lines names n.kind (units.placed_as l n.piece n)) none in
-    let good : UnitKept style next =
-    record {
-      no_entry = λ g. absurd (omega (arith, g));
-      no_whole = λ g. absurd (omega (arith, g));
-      no_writes = λ g. absurd (omega (arith, g));
-      no_piece = λ g. absurd (omega (arith, g));
-      no_hints = λ g. absurd (omega (arith, g));
-      writes = kept.writes;
-      shape = shape;
-      good = kept.good;
-      open_piece = open_none style u.last next shape.1;
-      count = kept.count;
-      few = kept.few;
-      hints = kept.hints;
-      headless = still_headless u.kind u.stage stage.Done u.entry u.whole u.writes (lit≤ tt) kept.headless;
-    } in
+    let good =
+    kept_of style next (λ g. absurd (omega (arith, g))) (λ g. absurd (omega (arith, g))) (λ g. absurd (omega (arith, g)))
+    (λ g. absurd (omega (arith, g))) (λ g. absurd (omega (arith, g))) kept.writes shape kept.good (open_none style u.last next shape.1) kept.count
+    kept.few kept.hints (still_headless u.kind u.stage stage.Done u.entry u.whole u.writes (lit≤ tt) kept.headless) in
     let tail : tail_lines style next ≡ tail_lines style u ++ x ∷ [] =
     ap (λ (b : Lines). b ++ hints_at stage.Done u.hints) (body next shape.1 ∙ sym (body u shape.1))
     ∙ in_back (body_lines names u.kind (closed u)) (hints_at stage.Hints u.hints) (hints_at stage.Done u.hints) x refl
@@ -630,15 +502,7 @@ end_step style u word rest line v is kept at said e =
 
 -- the words before pieces
 mark_said : (text : List ℕ) (k : Mark) → among text units.mark_words ≡ Some k → text ≡ mark_text k
-mark_said text k e =
-    let P : Mark → Type 0 = λ w. text ≡ mark_text w in
-    named_word P text (codes "pre") Pre _ k e (λ s. s) (λ e1.
-    named_word P text (codes "post") Post _ k e1 (λ s. s) (λ e2.
-    named_word P text (codes "case") Case _ k e2 (λ s. s) (λ e3.
-    named_word P text (codes "exit") Exit _ k e3 (λ s. s) (λ e4.
-    named_word P text (codes "after") After _ k e4 (λ s. s) (λ e5.
-    named_word P text (codes "visit") Visit _ k e5 (λ s. s) (λ e6.
-    named_word P text (codes "keeps") Keeps _ k e6 (λ s. s) (λ e7. absurd (cc))))))))
+mark_said text k = among_said mark_text text units.mark_words k refl
 
 -- a word before a piece, or `hints`
 marked_step : (style : Style) (u : UnitSoFar) (word : Item) (rest line : Line) (v : UnitSoFar) (o : Option Mark) → line ≡ with_item word rest
@@ -656,18 +520,26 @@ piece_step_at style u word rest line v last None is kept low some open_at e =
     marked_step style u word rest line v (among word.text units.mark_words) is kept low refl e
 piece_step_at style u word rest line v None (Some kind) is kept low some open_at e = absurd (cc)
 piece_step_at style u word rest line v (Some mark) (Some kind) is kept low some open_at e =
-    line_step style u mark kind word rest line v is kept some (at_pieces u.stage refl) open_at e
+    line_step style u mark kind word rest line v is kept some
+    (before_hints (λ t. u.stage ≡ t → t ≡ stage.Pieces) (early stage.Entry (lit≤ tt)) (early stage.Whole (lit≤ tt)) (early stage.Writes (lit≤ tt)) (λ at. refl)
+    u.stage low refl) open_at e
   where
     none_some : None ≡ Some mark → ⊥
     none_some e = absurd (cc)
 
-    at_pieces : (s : UnitStage) → u.stage ≡ s → s ≡ stage.Pieces
-    at_pieces stage.Pieces at = refl
-    at_pieces stage.Entry at = absurd (none_some (sym (kept.no_piece (subst (λ (t : UnitStage). rank t < 3) (sym at) (lit≤ tt))) ∙ some))
-    at_pieces stage.Whole at = absurd (none_some (sym (kept.no_piece (subst (λ (t : UnitStage). rank t < 3) (sym at) (lit≤ tt))) ∙ some))
-    at_pieces stage.Writes at = absurd (none_some (sym (kept.no_piece (subst (λ (t : UnitStage). rank t < 3) (sym at) (lit≤ tt))) ∙ some))
-    at_pieces stage.Hints at = absurd (omega (arith, low, ap rank at))
-    at_pieces stage.Done at = absurd (omega (arith, low, ap rank at))
+    early : (t : UnitStage) → rank t < 3 → u.stage ≡ t → t ≡ stage.Pieces
+    early t less at = absurd (none_some (sym (kept.no_piece (subst (λ (s : UnitStage). rank s < 3) (sym at) less)) ∙ some))
+
+within : (a b : ℕ) → nat_lt a b ≡ true → a < b
+within a b e = grind (arith, nat_tests)
+
+whole_due : (s : UnitStage) → units.may_have_whole s ≡ nat_lt (rank s) 2
+whole_due stage.Entry = refl
+whole_due _ = refl
+
+writes_due : (s : UnitStage) → units.may_have_writes s ≡ nat_lt (rank s) 3
+writes_due stage.Entry = refl
+writes_due _ = refl
 
 -- a line before the hints
 body_step : (style : Style) (u : UnitSoFar) (word : Item) (rest line : Line) (v : UnitSoFar) (a b c : Bool) → line ≡ with_item word rest
@@ -686,21 +558,10 @@ body_step style u word rest line v true b c is kept low first second third e =
     at_entry _ f = absurd (cc)
 body_step style u word rest line v false true c is kept low first second third e =
     let both = and_parts (units.may_have_whole u.stage) (is_word (codes "whole") word) second in
-    whole_step style u word rest line v is kept (early u.stage both.0) (same_bytes word.text (codes "whole") both.1) e
-  where
-    early : (s : UnitStage) → units.may_have_whole s ≡ true → rank s < 2
-    early stage.Entry f = lit≤ tt
-    early stage.Whole f = lit≤ tt
-    early _ f = absurd (cc)
+    whole_step style u word rest line v is kept (within (rank u.stage) 2 (sym (whole_due u.stage) ∙ both.0)) (same_bytes word.text (codes "whole") both.1) e
 body_step style u word rest line v false false true is kept low first second third e =
     let both = and_parts (units.may_have_writes u.stage) (is_word (codes "writes") word) third in
-    writes_step style u word rest line v is kept (early u.stage both.0) (same_bytes word.text (codes "writes") both.1) e
-  where
-    early : (s : UnitStage) → units.may_have_writes s ≡ true → rank s < 3
-    early stage.Entry f = lit≤ tt
-    early stage.Whole f = lit≤ tt
-    early stage.Writes f = lit≤ tt
-    early _ f = absurd (cc)
+    writes_step style u word rest line v is kept (within (rank u.stage) 3 (sym (writes_due u.stage) ∙ both.0)) (same_bytes word.text (codes "writes") both.1) e
 body_step style u word rest line v false false false is kept low first second third e =
     piece_step_at style u word rest line v u.last (units.open_word u.last u.piece word) is kept low refl refl e
 

@@ -39,7 +39,7 @@ use Rattle.cert_format.proofs.CertHints.{hint_more, hint_spelled, hint_taken, hi
 use Rattle.cert_format.proofs.CertKept.{due_taken, ended_taken, last_taken, word_text}
 use Rattle.cert_format.proofs.CertNames.{variable_taken}
 use Rattle.cert_format.proofs.CertTaken.{piece_goes, read_at}
-use Rattle.cert_format.proofs.CertUnits.{Closed, Lines, mark_text, rank}
+use Rattle.cert_format.proofs.CertUnits.{Closed, Lines, mark_text, rank, with_closed}
 use Rattle.cert_format.proofs.CondRead.{Has}
 use Rattle.cert_format.proofs.CondTaken.{other_word, take_first, then_go, word_taken}
 use Rattle.cert_format.proofs.CondWhole.{Up, last_snoc, up_of}
@@ -189,24 +189,7 @@ head_go style c kind entry whole writes more q plain is after =
 -- a unit with an open piece
 abbrev pub state : UnitKind → Bool → Bool → List NameId → Option Mark → ℕ → Closed → PieceSoFar → UnitSoFar
 state kind entry whole writes last n cl p =
-    record {
-      kind = kind;
-      stage = stage.Pieces;
-      entry = entry;
-      whole = whole;
-      writes = writes;
-      last = last;
-      count = n;
-      symbols = cl.symbols;
-      piece = p;
-      pre = cl.pre;
-      cases = cl.cases;
-      later = cl.later;
-      after = cl.after;
-      visit = cl.visit;
-      keeps = cl.keeps;
-      hints = [];
-    }
+    with_closed cl (record (units.no_unit kind) { stage = stage.Pieces; entry = entry; whole = whole; writes = writes; last = last; count = n; piece = p })
 
 -- a word by its text
 abbrev worded : List ℕ → ℕ → Item

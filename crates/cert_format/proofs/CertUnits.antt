@@ -42,16 +42,11 @@ pub record Closed : Type 0 where
   pub symbols : ℕ
 
 abbrev pub closed_of : UnitSoFar → Closed
-closed_of u =
-    record {
-      pre = u.pre;
-      cases = u.cases;
-      later = u.later;
-      after = u.after;
-      visit = u.visit;
-      keeps = u.keeps;
-      symbols = u.symbols;
-    }
+closed_of u = record { pre = u.pre; cases = u.cases; later = u.later; after = u.after; visit = u.visit; keeps = u.keeps; symbols = u.symbols }
+
+-- a unit with other closed pieces
+abbrev pub with_closed : Closed → UnitSoFar → UnitSoFar
+with_closed c u = record u { pre = c.pre; cases = c.cases; later = c.later; after = c.after; visit = c.visit; keeps = c.keeps; symbols = c.symbols }
 
 -- the pieces of a unit, each behind its word
 abbrev pub body_of : List (List ℕ × Kind) → UnitKind → Closed → Lines
@@ -83,12 +78,7 @@ unit_spelled style u = first_items style u.kind ∷ (head_lines style.names u.en
 
 -- the order of the lines of a unit
 abbrev pub rank : UnitStage → ℕ
-rank stage.Entry = 0
-rank stage.Whole = 1
-rank stage.Writes = 2
-rank stage.Pieces = 3
-rank stage.Hints = 4
-rank stage.Done = 5
+rank s = elim s [ stage.Entry ↦ 0 | stage.Whole ↦ 1 | stage.Writes ↦ 2 | stage.Pieces ↦ 3 | stage.Hints ↦ 4 | stage.Done ↦ 5 ]
 
 -- a piece of this mark may be opened: nothing stands behind it
 abbrev pub ReadyOf : UnitKind → Mark → Closed → Type 0
@@ -203,12 +193,14 @@ pub record UnitKept (style : Style) (u : UnitSoFar) : Type 0 where
   pub hints : Each IsHint u.hints
   pub headless : Headless u.kind u.stage u.entry u.whole u.writes
 
+-- what is kept of a unit, by its parts
+pub kept_of : (style : Style) (u : UnitSoFar) → (rank u.stage < 1 → u.entry ≡ false) → (rank u.stage < 2 → u.whole ≡ false)
+    → (rank u.stage < 2 → u.writes ≡ []) → (rank u.stage < 3 → u.last ≡ None) → (rank u.stage < 4 → u.hints ≡ [])
+    → AreWrites u.entry style.names u.writes → Shape u.stage u.last u.kind u → Good style u.kind u.entry u → OpenAt style u.last u
+    → CountAt u.last u.kind u.count u → u.count ≤ 64 → Each IsHint u.hints → Headless u.kind u.stage u.entry u.whole u.writes → UnitKept style u
+kept_of style u a b c d e f g h i j k l m =
+    record { no_entry = a; no_whole = b; no_writes = c; no_piece = d; no_hints = e; writes = f; shape = g; good = h; open_piece = i; count = j; few = k; hints = l; headless = m }
+
 -- the word before a piece
 abbrev pub mark_text : Mark → List ℕ
-mark_text Pre = codes "pre"
-mark_text Post = codes "post"
-mark_text Case = codes "case"
-mark_text Exit = codes "exit"
-mark_text After = codes "after"
-mark_text Visit = codes "visit"
-mark_text Keeps = codes "keeps"
+mark_text mark = elim mark [ Pre ↦ codes "pre" | Post ↦ codes "post" | Case ↦ codes "case" | Exit ↦ codes "exit" | After ↦ codes "after" | Visit ↦ codes "visit" | Keeps ↦ codes "keeps" ]

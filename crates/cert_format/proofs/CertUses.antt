@@ -157,21 +157,7 @@ colon_first [] r ends e = absurd (some_text r e)
   where
     some_text : (r : Reference) → [] ≡ reference_text r → ⊥
     some_text (Row n) e = absurd (cc)
-    some_text (ValueLow n) e = absurd (cc)
-    some_text (ValueHigh n) e = absurd (cc)
-    some_text (LengthLow n) e = absurd (cc)
-    some_text (NamesLow n) e = absurd (cc)
-    some_text (NamesHigh n) e = absurd (cc)
-    some_text (ExactLow n) e = absurd (cc)
-    some_text (ExactHigh n) e = absurd (cc)
-    some_text (NonblankLength n) e = absurd (cc)
-    some_text (NonblankNames n) e = absurd (cc)
-    some_text (TextLow n) e = absurd (cc)
-    some_text (TextHigh n) e = absurd (cc)
-    some_text PosLow e = absurd (cc)
-    some_text PosHigh e = absurd (cc)
-    some_text CountLow e = absurd (cc)
-    some_text CountHigh e = absurd (cc)
+    some_text _ e = absurd (cc)
 colon_first (b ∷ rest) r ends e = ap (λ (c : ℕ). c ∷ rest) (same_number b 58 ends) ∙ ap (λ (t : List ℕ). 58 ∷ t) e
 
 pub use_read : (item : Item) (one : Use) → use_item item ≡ Ok one → (item.text ≡ use_text one) × IsUse one

@@ -95,9 +95,8 @@ may_have_names _ = false
 
 -- a `nonblank` line may come
 abbrev pub may_have_nonblank : Stage → Bool
-may_have_nonblank Names = true
 may_have_nonblank Nonblank = true
-may_have_nonblank _ = false
+may_have_nonblank s = may_have_names s
 
 -- a line after the one of `length`: the lists, each of which may be empty, and then `othertype`
 abbrev pub listed_line : List (List ℕ × Kind) → Item → Line → CondSoFar → Result CondSoFar Stop

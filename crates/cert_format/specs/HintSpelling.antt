@@ -11,7 +11,6 @@ use Rattle.cert_format.specs.PieceSpelling.{sym_text}
 
 -- a reference: a letter, and the number of a row or a symbol
 abbrev pub reference_text : Reference → List ℕ
-reference_text (Row number) = 114 ∷ decimal number
 reference_text (ValueLow sym) = 118 ∷ sym_text sym
 reference_text (ValueHigh sym) = 119 ∷ sym_text sym
 reference_text (LengthLow sym) = 108 ∷ sym_text sym
@@ -27,6 +26,7 @@ reference_text PosLow = codes "p"
 reference_text PosHigh = codes "q"
 reference_text CountLow = codes "o"
 reference_text CountHigh = codes "z"
+reference_text (Row number) = 114 ∷ decimal number
 
 -- how often a row is taken, and the row
 abbrev pub use_text : Use → List ℕ

@@ -30,12 +30,12 @@ bind_items word names bind = word ∷ (name_text names bind.name ∷ (sym_text b
 
 -- a kind; that of every value has no word
 abbrev pub kind_text : Kinds → List ℕ
+kind_text Any = []
 kind_text IntKind = codes "int"
 kind_text Str = codes "str"
 kind_text Missing = codes "miss"
 kind_text Optional = codes "opt"
 kind_text Func = codes "func"
-kind_text Any = []
 
 -- a digit of base 16, in lower case
 abbrev pub hex_digit : ℕ → ℕ

@@ -75,29 +75,22 @@ bound next name line =
     then_do (next_item line) (λ item.
     then_do (items.placed next item.0) (λ sym. at_end item.1 (record { name = name; sym = sym })))
 
+-- a name that is read from an item, and the symbol behind it
+abbrev pub bind_line : (Item → Result NameId Stop) → ℕ → Line → (Bind → PieceSoFar) → Result PieceSoFar Stop
+bind_line name_of next line make =
+    then_do (next_item line) (λ item. then_do (name_of item.0) (λ name. then_do (bound next name item.1) (λ bind. Ok (make bind))))
+
 -- `var` V S, after its word
 abbrev pub var_line : List (List ℕ × Kind) → Line → PieceSoFar → Result PieceSoFar Stop
 var_line names line p =
-    then_do (next_item line) (λ item.
-    then_do (items.variable_above p.at_entry (last_bound p.piece.vars) names item.0) (λ name.
-    then_do (bound p.next name item.1) (λ bind.
-    Ok (record p {
-      stage = stage.Vars;
-      next = items.next_after p.next bind.sym;
-      piece = record p.piece { vars = p.piece.vars ++ bind ∷ [] };
-    }))))
+    bind_line (items.variable_above p.at_entry (last_bound p.piece.vars) names) p.next line (λ bind.
+    record p { stage = stage.Vars; next = items.next_after p.next bind.sym; piece = record p.piece { vars = p.piece.vars ++ bind ∷ [] } })
 
 -- `field` F S, after its word
 abbrev pub field_line : List (List ℕ × Kind) → Line → PieceSoFar → Result PieceSoFar Stop
 field_line names line p =
-    then_do (next_item line) (λ item.
-    then_do (items.entry_field p.at_entry (last_bound p.piece.fields) names item.0) (λ name.
-    then_do (bound p.next name item.1) (λ bind.
-    Ok (record p {
-      stage = stage.Fields;
-      next = items.next_after p.next bind.sym;
-      piece = record p.piece { fields = p.piece.fields ++ bind ∷ [] };
-    }))))
+    bind_line (items.entry_field p.at_entry (last_bound p.piece.fields) names) p.next line (λ bind.
+    record p { stage = stage.Fields; next = items.next_after p.next bind.sym; piece = record p.piece { fields = p.piece.fields ++ bind ∷ [] } })
 
 -- a fact by the word of its line, after its symbol
 abbrev pub fact_of : Style → PieceWord → Sym → Line → Result Fact Stop
@@ -171,11 +164,11 @@ stage_rank stage.Rows = 4
 
 -- the order of the lines of a piece, by their words
 abbrev pub word_rank : PieceWord → ℕ
-word_rank Stack = 0
-word_rank Var = 1
-word_rank Field = 2
-word_rank Row = 4
-word_rank _ = 3
+word_rank Stack = stage_rank stage.Stack
+word_rank Var = stage_rank stage.Vars
+word_rank Field = stage_rank stage.Fields
+word_rank Row = stage_rank stage.Rows
+word_rank _ = stage_rank stage.Facts
 
 -- a word, where its line may come
 abbrev pub where_due : PieceStage → PieceWord → Option PieceWord

@@ -8,6 +8,7 @@ use Rattle.name_table.specs.Sound.{block_of}
 use Rattle.name_table.specs.declared.names.Kind.{Kind}
 use Rattle.name_table.specs.declared.names.NameId.{NameId}
 use Rattle.name_table.specs.declared.style.Style.{Style}
+use Rattle.sym_state.specs.declared.hint.Hint.{Hint}
 use Rattle.sym_state.specs.declared.piece.Piece.{Piece}
 use Rattle.cert_format.specs.HintSpelling.{hints_lines}
 use Rattle.cert_format.specs.PieceSpelling.{piece_lines}
@@ -57,32 +58,27 @@ all_marked word names pieces = each_lines (marked_lines word names) pieces
 abbrev pub maybe_marked : List ℕ → List (List ℕ × Kind) → Option Piece → List (List (List ℕ))
 maybe_marked word names piece = option_map_or (marked_lines word names) piece []
 
+-- the lines of a unit: the first one, what follows it in three parts, and the hints
+abbrev pub unit_lines : List (List ℕ) → List (List (List ℕ)) → List (List (List ℕ)) → List (List (List ℕ)) → List Hint → List (List (List ℕ))
+unit_lines first a b c hints = first ∷ (a ++ (b ++ (c ++ hints_lines hints)))
+
 -- the lines of a summary
 abbrev pub summary_lines : Style → Summary → List (List (List ℕ))
 summary_lines style summary =
-    (codes "summary" ∷ (body_text style summary.body ∷ []))
-    ∷ (head_lines style.names summary.entry summary.whole summary.writes
-    ++ (marked_lines (codes "pre") style.names summary.pre
-    ++ (all_marked (codes "post") style.names summary.posts
-    ++ hints_lines summary.hints)))
+    unit_lines (codes "summary" ∷ (body_text style summary.body ∷ [])) (head_lines style.names summary.entry summary.whole summary.writes)
+    (marked_lines (codes "pre") style.names summary.pre) (all_marked (codes "post") style.names summary.posts) summary.hints
 
 -- the lines of a loop
 abbrev pub loop_lines : Style → Loop → List (List (List ℕ))
 loop_lines style loop =
-    (codes "loop" ∷ (body_text style loop.test ∷ (body_text style loop.body ∷ [])))
-    ∷ (head_lines style.names loop.entry loop.whole loop.writes
-    ++ (all_marked (codes "case") style.names loop.cases
-    ++ (all_marked (codes "exit") style.names loop.exits
-    ++ hints_lines loop.hints)))
+    unit_lines (codes "loop" ∷ (body_text style loop.test ∷ (body_text style loop.body ∷ []))) (head_lines style.names loop.entry loop.whole loop.writes)
+    (all_marked (codes "case") style.names loop.cases) (all_marked (codes "exit") style.names loop.exits) loop.hints
 
 -- the lines of a command
 abbrev pub command_lines : Style → CommandPart → List (List (List ℕ))
 command_lines style command =
-    (codes "command" ∷ (decimal command.index ∷ []))
-    ∷ (maybe_marked (codes "after") style.names command.after
-    ++ (maybe_marked (codes "visit") style.names command.visit
-    ++ (maybe_marked (codes "keeps") style.names command.keeps
-    ++ hints_lines command.hints)))
+    unit_lines (codes "command" ∷ (decimal command.index ∷ [])) (maybe_marked (codes "after") style.names command.after)
+    (maybe_marked (codes "visit") style.names command.visit) (maybe_marked (codes "keeps") style.names command.keeps) command.hints
 
 -- the lines of a certificate
 abbrev pub cert_lines : Style → Cert → List (List (List ℕ))

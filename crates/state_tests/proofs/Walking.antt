@@ -131,6 +131,21 @@ agrees_on symbols next u v w few a b = record {
   count = b.count ∙ a.count;
 }
 
+-- at a later state and configuration, under an assignment that agrees with the one before
+at_later : (style : Style) (admits : Cond) (list : EntryList) (v : Valuation) (symbols : ℕ) (before tokens : List TokenAt) (state after : State)
+    (c d : Config) (below : List Value) (at : At style admits list v symbols before state c below) (w : Valuation) → Agrees state.next at.assignment w
+    → WellMade style after → state.next ≤ after.next → Stands style admits list w after d below → IsToExecute tokens d
+    → At style admits list v symbols tokens after d below
+at_later style admits list v symbols before tokens state after c d below at w agrees made more stands next =
+    record {
+      assignment = w;
+      agrees = agrees_on symbols state.next v at.assignment w at.few at.agrees agrees;
+      few = let low = at.few in omega (arith, low, more);
+      made = made;
+      stands = stands;
+      next = next;
+    }
+
 -- after a token that pushes
 pub pushed_on : (style : Style) (admits : Cond) (list : EntryList) (v : Valuation) (symbols : ℕ) (t : TokenAt) (tokens : List TokenAt)
     (state after : State) (c : Config) (below : List Value) (at : At style admits list v symbols (t ∷ tokens) state c below)
@@ -142,14 +157,8 @@ pushed_on style admits list v symbols t tokens state after c below at covers mad
     let there : Config = record c { frames = one.frames } in
     let is : with_value push.value there ≡ step style c = sym (one.is ∙ push.pushes) in
     subst (λ (d : Config). At style admits list v symbols tokens after d below) is
-    (record {
-      assignment = push.assignment;
-      agrees = agrees_on symbols state.next v at.assignment push.assignment at.few at.agrees push.agrees;
-      few = let low = at.few in omega (arith, low, more);
-      made = made;
-      stands = push.stands;
-      next = after_push tokens push.value there one.left;
-    })
+    (at_later style admits list v symbols (t ∷ tokens) tokens state after c (with_value push.value there) below at push.assignment push.agrees made more push.stands
+    (after_push tokens push.value there one.left))
 
 -- after a built-in function, an effect or one of the cases of a test
 pub covered_on : (style : Style) (admits : Cond) (list : EntryList) (v : Valuation) (symbols : ℕ) (t : TokenAt) (tokens : List TokenAt) (o : Builtin)
@@ -165,14 +174,8 @@ covered_on style admits list v symbols t tokens o state after c below at calls p
     sym (one.is ∙ call_is style t.token o t.place there calls
     ∙ ap (λ (r : Result Effect Fault). with_effect style r t.place there) covers.gives) in
     subst (λ (d : Config). At style admits list v symbols tokens after d below) is
-    (record {
-      assignment = covers.assignment;
-      agrees = agrees_on symbols state.next v at.assignment covers.assignment at.few at.agrees covers.agrees;
-      few = let low = at.few in omega (arith, low, more);
-      made = made;
-      stands = covers.stands;
-      next = after_effect style o tokens covers.effect t.place there plain covers.gives (kept there) one.left;
-    })
+    (at_later style admits list v symbols (t ∷ tokens) tokens state after c (with_effect style (Ok covers.effect) t.place there) below at covers.assignment covers.agrees
+    made more covers.stands (after_effect style o tokens covers.effect t.place there plain covers.gives (kept there) one.left))
 
 -- no symbol is given back
 pub framed_next : (style : Style) (o : Builtin) (old new : State) → EffectFrame style o old new → old.next ≤ new.next
