@@ -88,25 +88,8 @@ macro_rules! on {
     };
 }
 
-/// A stack of as many symbols as it may have.
-const FULL_STACK: &str =
-    "stack 0 0 0 0 0 0 0 0 0 0 0 0 0 0 0 0 0 0 0 0 0 0 0 0 0 0 0 0 0 0 0 0 0 0 0 0 0 0 0 0 0 0 0 0 0 0 0 0 0 0 0 0 0 0 0 0 0 0 0 0 0 0 0 0";
-
-/// A stack of one more.
-const LONG_STACK: &str =
-    "stack 0 0 0 0 0 0 0 0 0 0 0 0 0 0 0 0 0 0 0 0 0 0 0 0 0 0 0 0 0 0 0 0 0 0 0 0 0 0 0 0 0 0 0 0 0 0 0 0 0 0 0 0 0 0 0 0 0 0 0 0 0 0 0 0 0";
-
-/// A proof of as many uses as it may have.
-const FULL_PROOF: &str =
-    "step 1 1:p 1:p 1:p 1:p 1:p 1:p 1:p 1:p 1:p 1:p 1:p 1:p 1:p 1:p 1:p 1:p 1:p 1:p 1:p 1:p 1:p 1:p 1:p 1:p 1:p 1:p 1:p 1:p 1:p 1:p 1:p 1:p 1:p 1:p 1:p 1:p 1:p 1:p 1:p 1:p 1:p 1:p 1:p 1:p 1:p 1:p 1:p 1:p 1:p 1:p 1:p 1:p 1:p 1:p 1:p 1:p 1:p 1:p 1:p 1:p 1:p 1:p 1:p 1:p";
-
-/// A proof of one more.
-const LONG_PROOF: &str =
-    "step 1 1:p 1:p 1:p 1:p 1:p 1:p 1:p 1:p 1:p 1:p 1:p 1:p 1:p 1:p 1:p 1:p 1:p 1:p 1:p 1:p 1:p 1:p 1:p 1:p 1:p 1:p 1:p 1:p 1:p 1:p 1:p 1:p 1:p 1:p 1:p 1:p 1:p 1:p 1:p 1:p 1:p 1:p 1:p 1:p 1:p 1:p 1:p 1:p 1:p 1:p 1:p 1:p 1:p 1:p 1:p 1:p 1:p 1:p 1:p 1:p 1:p 1:p 1:p 1:p 1:p";
-
-/// Each line that is changed, and what comes of that.
-static ROWS: [Row; 93] = [
-    // The condition.
+/// Lines of the condition.
+static CONDITION: [Row; 31] = [
     on!(0, "", "read"),
     on!(1, "bstcert 2", "1:9 OutOfRange"),
     on!(1, "bstcert 01", "1:9 NotCanonical"),
@@ -138,7 +121,10 @@ static ROWS: [Row; 93] = [
     on!(11, "end end", "11:5 Syntax"),
     on!(47, "done done", "47:6 Syntax"),
     on!(47, "don", "47:1 Syntax"),
-    // Pieces.
+];
+
+/// Lines of pieces.
+static PIECES: [Row; 38] = [
     on!(12, "summary h", "12:9 UnknownName"),
     on!(12, "summary #0", "read"),
     on!(12, "summary #1", "12:9 OutOfRange"),
@@ -153,6 +139,16 @@ static ROWS: [Row; 93] = [
     on!(18, "stack 1", "18:7 NotCanonical"),
     on!(18, "stack 00", "18:7 NotCanonical"),
     on!(18, "stack -0", "18:7 Syntax"),
+    on!(
+        18,
+        "stack 0 0 0 0 0 0 0 0 0 0 0 0 0 0 0 0 0 0 0 0 0 0 0 0 0 0 0 0 0 0 0 0 0 0 0 0 0 0 0 0 0 0 0 0 0 0 0 0 0 0 0 0 0 0 0 0 0 0 0 0 0 0 0 0",
+        "read"
+    ),
+    on!(
+        18,
+        "stack 0 0 0 0 0 0 0 0 0 0 0 0 0 0 0 0 0 0 0 0 0 0 0 0 0 0 0 0 0 0 0 0 0 0 0 0 0 0 0 0 0 0 0 0 0 0 0 0 0 0 0 0 0 0 0 0 0 0 0 0 0 0 0 0 0",
+        "18:135 TooMany"
+    ),
     on!(19, "var n 3", "19:7 NotCanonical"),
     on!(19, "var title 1", "19:5 UnknownName"),
     on!(20, "field n 2", "20:7 UnknownName"),
@@ -175,7 +171,10 @@ static ROWS: [Row; 93] = [
     on!(26, "row 4 1 names:0 1 length:0", "26:19 NotCanonical"),
     on!(28, "stack 4", "28:7 NotCanonical"),
     on!(28, "is 2 opt", "read"),
-    // Hints, loops and commands.
+];
+
+/// Lines of hints, loops and commands.
+static HINTS: [Row; 24] = [
     on!(30, "use 1073741825", "30:5 OutOfRange"),
     on!(30, "used 0", "30:1 Syntax"),
     on!(30, "plain 0", "30:7 Syntax"),
@@ -188,6 +187,16 @@ static ROWS: [Row; 93] = [
     on!(31, "step 1 1:x0", "31:8 Syntax"),
     on!(31, "step 1 1:p0", "31:8 Syntax"),
     on!(31, "step 1 1:r", "31:8 Syntax"),
+    on!(
+        31,
+        "step 1 1:p 1:p 1:p 1:p 1:p 1:p 1:p 1:p 1:p 1:p 1:p 1:p 1:p 1:p 1:p 1:p 1:p 1:p 1:p 1:p 1:p 1:p 1:p 1:p 1:p 1:p 1:p 1:p 1:p 1:p 1:p 1:p 1:p 1:p 1:p 1:p 1:p 1:p 1:p 1:p 1:p 1:p 1:p 1:p 1:p 1:p 1:p 1:p 1:p 1:p 1:p 1:p 1:p 1:p 1:p 1:p 1:p 1:p 1:p 1:p 1:p 1:p 1:p 1:p",
+        "read"
+    ),
+    on!(
+        31,
+        "step 1 1:p 1:p 1:p 1:p 1:p 1:p 1:p 1:p 1:p 1:p 1:p 1:p 1:p 1:p 1:p 1:p 1:p 1:p 1:p 1:p 1:p 1:p 1:p 1:p 1:p 1:p 1:p 1:p 1:p 1:p 1:p 1:p 1:p 1:p 1:p 1:p 1:p 1:p 1:p 1:p 1:p 1:p 1:p 1:p 1:p 1:p 1:p 1:p 1:p 1:p 1:p 1:p 1:p 1:p 1:p 1:p 1:p 1:p 1:p 1:p 1:p 1:p 1:p 1:p 1:p",
+        "31:264 TooMany"
+    ),
     on!(31, "drop", "31:5 Syntax"),
     on!(34, "loop g", "34:7 Syntax"),
     on!(34, "summary g", "35:1 Syntax"),
@@ -198,16 +207,23 @@ static ROWS: [Row; 93] = [
     on!(43, "var ie 0", "read"),
     on!(44, "visit", "44:1 Syntax"),
     on!(46, "hints", "46:1 Syntax"),
-    // As many items as may stand there, and one more.
-    on!(18, FULL_STACK, "read"),
-    on!(18, LONG_STACK, "18:135 TooMany"),
-    on!(31, FULL_PROOF, "read"),
-    on!(31, LONG_PROOF, "31:264 TooMany"),
 ];
 
 #[test]
-fn each_changed_line_is_told(rt: HostRuntime) -> Result<(), Fail> {
-    expect_rows(&rt, rt.alloc(), &ROWS)?;
+fn lines_of_a_condition(rt: HostRuntime) -> Result<(), Fail> {
+    expect_rows(&rt, rt.alloc(), &CONDITION)?;
+    Ok(())
+}
+
+#[test]
+fn lines_of_pieces(rt: HostRuntime) -> Result<(), Fail> {
+    expect_rows(&rt, rt.alloc(), &PIECES)?;
+    Ok(())
+}
+
+#[test]
+fn lines_of_hints_loops_and_commands(rt: HostRuntime) -> Result<(), Fail> {
+    expect_rows(&rt, rt.alloc(), &HINTS)?;
     Ok(())
 }
 

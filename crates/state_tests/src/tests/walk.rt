@@ -14,9 +14,10 @@ use crate::tests::known::{condition, piece, style};
 use crate::tests::lines::{Answers, add_state, compare};
 use crate::tests::reading::{Unread, list};
 use crate::tests::states::add_failing;
-use crate::tests::states::example::{NAMES, piece_of};
+use crate::tests::states::example::NAMES;
 use builtin_effects::effect::effect;
 use bv_base::memory::NoMemory;
+use bv_base::seq::Seq;
 use name_table::builtin::Builtin;
 use name_table::names::NameId;
 use name_table::style::Style;
@@ -26,15 +27,16 @@ use sym_state::hint::{Hint, Hints};
 use sym_state::piece::Piece;
 use sym_state::start::start;
 use sym_state::state::State;
-use sym_state::symbol::{Fact, Kinds, Sym};
+use sym_state::symbol::{Bind, Fact, Kinds, Sym};
 
 /// The step shows that the length has 32 bits. That it is above 30000 can't be, so the case of 1 is dropped.
-const WALKED: &str =
-    "step 1 Row:0; drop 1 Row:3 Row:2 Row:0 ExactLow:4; keep => 6; next 7; is 4 Int; int 4 30000; is 5 Int; is 6 Int; int 6 0; 0 1v5; 0 1l0 -1v5; 0 1v4 -1v5; entailed None";
+static WALKED: [&str; 1] = [
+    "step 1 Row:0; drop 1 Row:3 Row:2 Row:0 ExactLow:4; keep => 6; next 7; is 4 Int; int 4 30000; is 5 Int; is 6 Int; int 6 0; 0 1v5; 0 1l0 -1v5; 0 1v4 -1v5; entailed None",
+];
 
 #[test]
 fn a_walk_ends_in_what_it_entails(rt: HostRuntime) {
-    compare(&rt, rt.alloc(), &Walk, &[WALKED]);
+    compare(&rt, rt.alloc(), &Walk, &WALKED);
 }
 
 struct Walk;
@@ -92,7 +94,20 @@ fn nonblank_s(alloc: Global) -> Result<Piece, NoMemory>
     ensures few { IfOk result (λ piece. symbols_of piece ≤ 9) }
     ensures fit { IfOk result (λ piece. (style : StyleValue) → IsFit style piece) }
 {
-    piece_of(alloc, 42, Fact::Nonblank(Sym(0)))
+    let mut vars = Seq::new(alloc);
+    vars.push(Bind {
+        name: NameId(42),
+        sym: Sym(0),
+    })?;
+    let mut facts = Seq::new(alloc);
+    facts.push(Fact::Nonblank(Sym(0)))?;
+    Ok(Piece {
+        stack: Seq::new(alloc),
+        vars,
+        fields: Seq::new(alloc),
+        facts,
+        rows: Seq::new(alloc),
+    })
 }
 
 /// The state that starts from that piece.

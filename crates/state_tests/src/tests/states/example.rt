@@ -1,6 +1,6 @@
 //! The worked example of docs/STATES.md.
 
-ghost use Rattle.std.specs.Prelude.{◌≡◌, ◌≤◌, [], ◌∷◌, length, IfOk};
+ghost use Rattle.std.specs.Prelude.{◌≤◌, length, IfOk};
 ghost use Rattle.name_table.specs.declared.style.Style.{Style as StyleValue};
 ghost use Rattle.std.specs.List.{All};
 ghost use Rattle.sym_state.specs.Starting.{IsNumbered, IsFit, symbols_of};
@@ -13,7 +13,7 @@ use crate::tests::reading::{Unread, halves};
 use crate::tests::states::{Asked, add_failing, add_shown};
 use bv_base::memory::NoMemory;
 use bv_base::seq::Seq;
-use name_table::names::{Kind, NameId};
+use name_table::names::Kind;
 use std::alloc::Global;
 use sym_state::piece::Piece;
 use sym_state::proof::Proof;
@@ -112,23 +112,16 @@ fn add_ending(
     add_failing(line, state, &piece, 0, proofs)
 }
 
-/// The piece that binds one variable to symbol 0, of which a fact is known.
-pub fn piece_of(alloc: Global, name: u32, fact: Fact) -> Result<Piece, NoMemory>
-    ensures { IfOk result (λ piece. piece ≡ record {
-      stack = [];
-      vars = record { name = record { 0 = name }; sym = record { 0 = 0 } } ∷ [];
-      fields = [];
-      facts = fact ∷ [];
-      rows = [];
-    }) }
+/// The piece that binds `n` to symbol 0, which is exactly 97.
+fn exact_n(alloc: Global) -> Result<Piece, NoMemory>
+    ensures numbered { IfOk result IsNumbered }
+    ensures few { IfOk result (λ piece. symbols_of piece ≤ 9) }
+    ensures fit { IfOk result (λ piece. (style : StyleValue) → IsFit style piece) }
 {
     let mut vars = Seq::new(alloc);
-    vars.push(Bind {
-        name: NameId(name),
-        sym: Sym(0),
-    })?;
+    vars.push(bind!(41, 0))?;
     let mut facts = Seq::new(alloc);
-    facts.push(fact)?;
+    facts.push(Fact::Int(Sym(0), 97))?;
     Ok(Piece {
         stack: Seq::new(alloc),
         vars,
@@ -136,15 +129,6 @@ pub fn piece_of(alloc: Global, name: u32, fact: Fact) -> Result<Piece, NoMemory>
         facts,
         rows: Seq::new(alloc),
     })
-}
-
-/// The piece that binds `n` to symbol 0, which is exactly 97.
-fn exact_n(alloc: Global) -> Result<Piece, NoMemory>
-    ensures numbered { IfOk result IsNumbered }
-    ensures few { IfOk result (λ piece. symbols_of piece ≤ 9) }
-    ensures fit { IfOk result (λ piece. (style : StyleValue) → IsFit style piece) }
-{
-    piece_of(alloc, 41, Fact::Int(Sym(0), 97))
 }
 
 /// The state that starts from that piece.
