@@ -17,3 +17,4 @@ pub mod Safety
 pub mod Tokens
 pub mod Walked
 pub mod Walking
+pub mod Placing

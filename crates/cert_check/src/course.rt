@@ -1,20 +1,23 @@
 //! How far a walk has come.
 
-ghost use Rattle.std.specs.Prelude.{◌≡◌, ◌≢◌, ◌<◌, [], ◌∷◌, ◌++◌, true, IfOk, OnOk, Ok, Err, MatchResult, MatchOption};
+ghost use Rattle.std.specs.Prelude.{◌≡◌, ◌≢◌, ◌<◌, ◌≤◌, [], ◌∷◌, ◌++◌, length, true, IfOk, OnOk, Ok, Err, MatchResult, MatchOption};
 ghost use Rattle.std.specs.List.{All};
 ghost use Rattle.sym_state.specs.Demands.{HasFewUses};
 ghost use Rattle.sym_state.specs.Effects.{is_plain};
+ghost use Rattle.sym_state.specs.Entailing.{line_count};
 ghost use Rattle.sym_state.specs.Results as results;
-ghost use Rattle.sym_state.specs.WellMade.{HasBounds};
+ghost use Rattle.sym_state.specs.WellMade.{HasBounds, IsBounded};
 ghost use Rattle.sym_state.specs.declared.demand.EffectFault.TheVariants.{NoMemory as WantOfMemoryThere};
 ghost use Rattle.cert_check.specs.Courses as courses;
-ghost use Rattle.cert_check.specs.Given.{Takes};
+ghost use Rattle.cert_check.specs.Given.{Refused, Takes};
+ghost use Rattle.cert_check.specs.Uses as uses;
 ghost use Rattle.cert_check.specs.Walks as rule;
 ghost use Rattle.cert_check.specs.declared.refusal.Reason.TheVariants.{NoMemory as WantOfMemory};
 
 use crate::limits::{MOST_CASES, MOST_COUNT};
 use crate::refusal::{Reason, Refusal};
 use crate::scope::Scope;
+use crate::uses::{Passage, comes_by};
 use builtin_effects::effect::effect;
 use bv_base::memory::NoMemory;
 use bv_base::place::Place;
@@ -26,6 +29,7 @@ use std::marker::Model;
 use std::mem;
 use sym_state::demand::{Demand, DemandKind, EffectFault};
 use sym_state::hint::{Hint, Hints};
+use sym_state::piece::Piece;
 use sym_state::state::State;
 use sym_state::symbol::Sym;
 
@@ -132,6 +136,30 @@ impl<'a> Course<'a> {
             (λ hint. (self.old.hints ≡ hint.now ∷ self.new.hints) × (self.new ≡ record self.old { hints = self.new.hints })) }
     {
         self.hints.next_short()
+    }
+
+    /// A state comes to a unit by its pre, which the next hints show.
+    pub(crate) fn comes(
+        &mut self,
+        scope: &Scope<'_>,
+        place: Place,
+        unit: &Passage<'_>,
+        pre: &Piece,
+        state: &State,
+    ) -> Result<(), Refusal>
+        requires bounds { HasBounds state.now }
+        requires rows { All IsBounded pre.now.rows }
+        requires lines { line_count pre.now ≤ 2147483648 }
+        ensures comes { MatchResult result
+            (λ _. uses.comes_by unit.now scope.now.cert.cond pre.now state.now self.old.hints ≡ Ok self.new.hints)
+            (Refused (courses.placed place (uses.comes_by unit.now scope.now.cert.cond pre.now state.now self.old.hints))) }
+        ensures rest { OnOk result (self.new ≡ record self.old { hints = self.new.hints }) }
+        ensures few { OnOk result (length pre.now.stack ≤ length state.now.stack) }
+    {
+        placed(
+            place,
+            comes_by(unit, scope.cond(), pre, state, &mut self.hints),
+        )
     }
 
     /// A built-in function that is neither a test nor enters a function gives one state.

@@ -6,6 +6,7 @@ pub mod limits;
 mod literals;
 pub mod refusal;
 mod scope;
+mod summaries;
 mod targets;
 mod units;
 mod uses;

@@ -11,7 +11,7 @@ use Rattle.sym_state.specs.Starting.{seats, unbound}
 use Rattle.sym_state.proofs.Fronts.{front_left}
 use Rattle.sym_state.proofs.Started.{seen_within}
 use Rattle.std.specs.Prelude.{map, reverse, drop, take}
-use Rattle.cert_check.specs.Uses.{Passage, left_by, own_count}
+use Rattle.cert_check.specs.Uses.{Passage, own_count}
 use Rattle.cert_check.proofs.LeftSteps.{few_new, left_is}
 use Rattle.cert_check.proofs.uses.left_state.Goals as goal
 
