@@ -11,6 +11,7 @@ pub mod Followed
 pub mod Inverted
 pub mod Keeping
 pub mod Leaving
+pub mod LeftFollowing
 pub mod LeftFramed
 pub mod Plain
 pub mod Safety
