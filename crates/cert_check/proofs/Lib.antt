@@ -8,11 +8,13 @@ pub mod Choosing
 pub mod Entering
 pub mod Exactly
 pub mod Followed
+pub mod Having
 pub mod Inverted
 pub mod Keeping
 pub mod Leaving
 pub mod LeftFollowing
 pub mod LeftFramed
+pub mod OwnStart
 pub mod Plain
 pub mod Safety
 pub mod Tokens
