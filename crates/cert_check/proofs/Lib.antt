@@ -14,9 +14,12 @@ pub mod Keeping
 pub mod Leaving
 pub mod LeftFollowing
 pub mod LeftFramed
+pub mod OwnFrame
 pub mod OwnStart
+pub mod OwnValues
 pub mod Plain
 pub mod Safety
+pub mod Symbols
 pub mod Tokens
 pub mod Walked
 pub mod Walking
