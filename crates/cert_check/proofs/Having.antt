@@ -245,7 +245,7 @@ or_false true e = refl
 or_false false e = absurd (cc)
 
 -- a name that has a value
-have_value : (s : Spot) (at_entry : Bool) (name : NameId) (k : Kind) → IsWellFormed s.style s.list s.c → (at_entry ≡ true → s.state.at_entry ≡ true)
+pub have_value : (s : Spot) (at_entry : Bool) (name : NameId) (k : Kind) → IsWellFormed s.style s.list s.c → (at_entry ≡ true → s.state.at_entry ≡ true)
     → kind_of s.style name ≡ Some k → takes_part at_entry k ≡ true → HasValue s.style s.admits s.c.globals (visited_entry s.c) name
 have_value s at_entry name IntGlobal formed there is takes =
     let found = variable_bound s name IntGlobal is refl in

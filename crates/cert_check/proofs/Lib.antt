@@ -14,6 +14,8 @@ pub mod Keeping
 pub mod Leaving
 pub mod LeftFollowing
 pub mod LeftFramed
+pub mod OwnEnd
+pub mod OwnFacts
 pub mod OwnFrame
 pub mod OwnStart
 pub mod OwnValues
