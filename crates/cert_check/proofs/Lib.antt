@@ -17,6 +17,7 @@ pub mod LeftFramed
 pub mod OwnEnd
 pub mod OwnFacts
 pub mod OwnFrame
+pub mod OwnLeft
 pub mod OwnStart
 pub mod OwnValues
 pub mod Plain

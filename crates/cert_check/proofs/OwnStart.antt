@@ -137,7 +137,7 @@ came_is scope unit pre state hints left e =
     ] refl e
 
 -- nothing lies below a stack that is whole
-nothing_under : (state : State) (pre : Piece) → length state.stack ≡ length pre.stack → under state pre ≡ []
+pub nothing_under : (state : State) (pre : Piece) → length state.stack ≡ length pre.stack → under state pre ≡ []
 nothing_under state pre e =
     let none : length state.stack - length pre.stack ≡ 0 = omega (arith, e) in
     ap (λ (n : ℕ). take n state.stack) none
