@@ -37,6 +37,7 @@ use Rattle.cert_check.specs.Uses.{Passage, facts_left, is_among, left_by, left_s
 use Rattle.cert_check.specs.Walks.{Scope, may_write}
 use Rattle.cert_check.proofs.Having.{have_value}
 use Rattle.cert_check.proofs.LeftFollowing.{post_follows, written_unbound}
+use Rattle.cert_check.proofs.LeftFramed.{seats_all}
 use Rattle.cert_check.proofs.Leaving.{entry_bound, facts_bound, fields_bound, rows_bound, whole_bound}
 use Rattle.cert_check.proofs.LeftPlaces.{name_below}
 use Rattle.cert_check.proofs.OwnEnd.{EndOf, Used, end_holds, end_values, name_valued, own_list, own_open, own_scope, own_start, with_own}
@@ -74,16 +75,16 @@ values_renamed w name (s ∷ stack) =
 
 module _ (scope : Scope) (list : EntryList) (u : Used scope list) (e : EndOf scope list u) where
   -- the state's symbol for a post's, how many there are with the post's own, and the written variables with their symbols
-  abbrev left_name : ℕ → ℕ
+  abbrev pub left_name : ℕ → ℕ
   left_name = post_match (own_list scope list u e) u.s.state u.summary.pre
 
-  abbrev left_first : ℕ
+  abbrev pub left_first : ℕ
   left_first = u.s.state.next + new_symbols (passage u.summary) u.s.state e.post (symbols_of u.summary.pre) (own_count e.post (symbols_of u.summary.pre))
 
-  abbrev left_binds : List Bind
+  abbrev pub left_binds : List Bind
   left_binds = map (bind_renamed left_name) e.post.vars
 
-  abbrev left_written : List Bind
+  abbrev pub left_written : List Bind
   left_written = seats left_binds left_first u.summary.writes
 
   abbrev most : ℕ
@@ -148,12 +149,12 @@ module _ (scope : Scope) (list : EntryList) (u : Used scope list) (e : EndOf sco
   )
 
   -- the values of all symbols
-  seat_values : Seated scope.style scope.cert.cond e.d left_first (with_own scope list u e).assignment left_written
+  pub seat_values : Seated scope.style scope.cert.cond e.d left_first (with_own scope list u e).assignment left_written
   seat_values =
       seated scope.style scope.cert.cond e.d left_first (with_own scope list u e).assignment left_binds u.summary.writes (with_own scope list u e).values binds_below_first
       (binds_hold e.post.vars post_vars (end_holds scope list u e).met.vars) (written_have u.summary.writes e.one.placed.writes)
 
-  abbrev left_values : Valuation
+  abbrev pub left_values : Valuation
   left_values = seat_values.assignment
 
   -- the state's symbols have the values that they had, and those of the post have the values at the end
@@ -215,3 +216,125 @@ module _ (scope : Scope) (list : EntryList) (u : Used scope list) (e : EndOf sco
       ∙ ap (λ (l : List Value). values_of left_values upper ++ (l ++ u.s.below)) (sym old)
       ∙ sym (append_assoc (values_of left_values upper) (values_of left_values lower) u.s.below)
       ∙ ap (λ (l : List Value). l ++ u.s.below) (sym (values_append left_values lower upper))
+
+  -- a name that the summary doesn't write has the value of the symbol that it had
+  abbrev NameHolds : NameId → Sym → Type 0
+  NameHolds name s = value_by (kind_of scope.style name) name e.d.globals (visited_entry e.d) ≡ Some (left_values.value s.0)
+
+  old_holds : (binds : List Bind) → All (λ (b : Bind). b.sym.0 < u.s.state.next) binds
+      → AllByRecursion (IsBound scope.style u.s.v u.s.c.globals (visited_entry u.s.c)) binds → (name : NameId) (s : Sym) → symbol_at name binds ≡ Some s
+      → is_among u.summary.writes name ≡ false → NameHolds name s
+  old_holds binds below hold name s found not =
+      name_kept (own_scope scope u.summary) list e.frames (own_start scope list u) e.end e.w e.d e.reached name not
+      ∙ found_value scope.style u.s.v u.s.c name binds s hold found
+      ∙ ap Some (sym (old_agree.value s.0 (found_below u.s.state.next name binds s below found)))
+
+  fields_hold : AllByRecursion (IsBound scope.style left_values e.d.globals (visited_entry e.d)) u.s.state.fields
+  fields_hold =
+      by_symbols NameHolds u.s.state.fields (each_once (is_field u.s.state.at_entry) 0 scope.style.names u.s.state.fields u.s.made.binds_fields)
+      (λ name s found. old_holds u.s.state.fields u.s.made.fields u.s.stands.fields name s found
+      (not_among u.summary.writes u.s.state.fields name s (written_unbound scope.style u.s.state u.summary.entry u.summary.writes u.s.made e.one.placed.writes) found))
+
+  abbrev left_told : State
+  left_told = record u.s.state {
+    stack = under u.s.state u.summary.pre ++ map (sym_renamed left_name) e.post.stack;
+    facts = u.s.state.facts ++ left_facts;
+    rows = u.s.state.rows ++ left_rows;
+    next = left_first + unbound left_binds u.summary.writes;
+  }
+
+  vars_hold : WellMade scope.style (with_binds left_written left_told)
+      → AllByRecursion (IsBound scope.style left_values e.d.globals (visited_entry e.d)) (with_binds left_written left_told).vars
+  vars_hold made =
+      let after : State = with_binds left_written left_told in
+      by_symbols NameHolds after.vars (each_once (is_variable after.at_entry) 0 scope.style.names after.vars made.binds_vars)
+      (λ name s found. bound_last NameHolds left_written left_told name s seat_values.bound
+      (λ here not. old_holds u.s.state.vars u.s.made.vars u.s.stands.vars name s here
+      (ap (λ (names : List NameId). is_among names name) (sym (seat_names left_binds left_first u.summary.writes)) ∙ not)) found)
+
+  -- at an entry it is visited still
+  visits : (t : Bool) → u.summary.entry ≡ t → u.s.state.at_entry ≡ true → IsVisiting left_values e.d
+  visits true entry here =
+      let at = e.reached.stands.visiting (e.reached.follows.grows.at_entry ∙ entry) in record {
+        entry = at.entry;
+        is_visited = at.is_visited;
+        visit = at.visit;
+        goes_on = at.goes_on;
+        before = post_agree.position ∙ at.before;
+      }
+  visits false entry here =
+      let at = u.s.stands.visiting here in record {
+        entry = at.entry;
+        is_visited = same_visited (own_scope scope u.summary) list e.frames (own_start scope list u) e.end e.w e.d e.reached entry ∙ at.is_visited;
+        visit = at.visit;
+        goes_on = e.reached.remains.visit ∙ at.goes_on;
+        before = old_agree.position ∙ at.before;
+      }
+
+  -- the state that is left stands
+  left_stands : WellMade scope.style (with_binds left_written left_told)
+      → Stands scope.style scope.cert.cond list left_values (with_binds left_written left_told) e.d u.s.below
+  left_stands made =
+      let after : State = with_binds left_written left_told in
+      let at : after.at_entry ≡ u.s.state.at_entry = entry_bound left_written left_told in
+      let none = written_unbound scope.style u.s.state u.summary.entry u.summary.writes u.s.made e.one.placed.writes in
+      let same_fields : after.fields ≡ u.s.state.fields =
+      fields_bound left_written left_told (seats_all (λ (name : NameId). symbol_at name u.s.state.fields ≡ None) left_binds left_first u.summary.writes none) in
+      record {
+        satisfied = record {
+          values = seat_values.values;
+          count = subst (λ (n : ℕ). n ≤ scope.cert.cond.entries) (sym old_agree.count) u.s.stands.satisfied.count;
+          position = λ here. subst (λ (n : ℕ). n < left_values.count) (sym old_agree.position)
+              (subst (λ (n : ℕ). u.s.v.position < n) (sym old_agree.count) (u.s.stands.satisfied.position (sym at ∙ here)));
+          facts = subst (λ (l : List Fact). AllByRecursion (FactHolds scope.style left_values) l) (sym (facts_bound left_written left_told)) left_facts_hold;
+          rows = subst (λ (l : List Row). AllByRecursion (Holds (numbers left_values)) l) (sym (rows_bound left_written left_told)) left_rows_hold;
+        };
+        has_list = record {
+          fits = u.s.stands.has_list.fits;
+          meets = u.s.stands.has_list.meets;
+          preamble = e.reached.stands.has_list.preamble;
+          entries = e.reached.stands.has_list.entries;
+          count = old_agree.count ∙ u.s.stands.has_list.count;
+        };
+        visiting = λ here. visits u.summary.entry refl (sym at ∙ here);
+        stack = subst (λ (l : List Sym). e.d.stack ≡ values_of left_values l ++ u.s.below) (sym (stack_bound left_written left_told)) left_stack;
+        whole = λ all. u.s.stands.whole (sym (whole_bound left_written left_told) ∙ all);
+        vars = vars_hold made;
+        fields = subst (λ (l : List Bind). AllByRecursion (IsBound scope.style left_values e.d.globals (visited_entry e.d)) l) (sym same_fields) fields_hold;
+      }
+
+  -- what stays of a configuration stays while the summary is used
+  left_remains : Remains u.s.state.at_entry e.frames u.s.c e.d
+  left_remains = record {
+    goes = e.reached.remains.goes;
+    waiting = e.reached.remains.waiting;
+    commands = e.reached.remains.commands;
+    running = e.reached.remains.running;
+    visit = e.reached.remains.visit;
+    order = e.reached.remains.order;
+    others = e.reached.remains.others;
+    entries = λ outside. e.reached.remains.entries (not_there u.summary.entry refl outside);
+  }
+    where
+      not_there : (t : Bool) → u.summary.entry ≡ t → u.s.state.at_entry ≡ false → u.summary.entry ≡ false
+      not_there false entry outside = entry
+      not_there true entry outside = absurd (no_both u.s.state.at_entry ((came_is scope (passage u.summary) u.summary.pre u.s.state u.hints u.left u.came).entry entry) outside)
+        where
+          no_both : (t : Bool) → t ≡ true → t ≡ false → ⊥
+          no_both true a b = cc
+          no_both false a b = cc
+
+-- the state that a summary leaves by the post in which its own check ends is reached
+pub left_reached : (scope : Scope) (list : EntryList) (u : Used scope list) (e : EndOf scope list u) → list_all (may_write scope) u.summary.writes ≡ true
+    → Reaches scope list e.frames u.s (left_state scope.style scope.cert.cond (passage u.summary) u.summary.pre (symbols_of u.summary.pre) u.s.state e.post)
+    (left_values scope list u e) e.d
+unfolding left_state
+left_reached scope list u e may =
+    let follows = post_follows scope u.summary u.s.state e.post u.hints u.left u.small u.is e.one u.s.made u.came may in
+    record {
+      follows = follows;
+      agrees = old_agree scope list u e;
+      remains = left_remains scope list u e;
+      formed = e.reached.formed;
+      stands = left_stands scope list u e follows.made;
+    }
