@@ -24,5 +24,6 @@ pub mod Plain
 pub mod Safety
 pub mod Symbols
 pub mod Tokens
+pub mod Using
 pub mod Walked
 pub mod Walking

@@ -53,15 +53,6 @@ bodies_safe scope list (suc depth) (suc n) told fits uses =
       uses = λ m few. uses m (omega (arith, few));
     }) (uses n (omega arith)))
 
--- what is safe in a walk of the greatest depth where uses are: those of blocks for as many steps
-pub deepest : (scope : Scope) (list : EntryList) (n : ℕ) → Told scope → Fits scope.style list → ((m : ℕ) → m < n → (target : Target) → UseSafe scope list m target)
-    → ((m : ℕ) → m ≤ n → (target : Target) → UseSafe scope list m target) → Levels scope list n (body_walked scope MOST_DEPTH)
-deepest scope list n told fits uses blocks = record {
-  enters = λ m few. bodies_safe scope list MOST_DEPTH m told fits (λ k less. uses k (omega (arith, few, less)));
-  blocks = λ m few body. blocks m few (Block body);
-  uses = uses;
-}
-
 own_named : (scope : Scope) (list : EntryList) (n : ℕ) (found : Option Kind) (name : NameId) (place at : Place) (s : Start scope list) → Told scope → Fits scope.style list
     → Levels scope list n (body_walked scope MOST_DEPTH) → kind_of scope.style name ≡ found → IsWellFormed scope.style list (call_step scope.style found name at s.c)
     → OnwardSafe scope list n (own_walked scope place (Named name) (body_of_kind found)) s (call_step scope.style found name at s.c)
