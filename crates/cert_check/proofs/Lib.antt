@@ -4,6 +4,7 @@ pub mod LeftPlaces
 pub mod LeftSteps
 pub mod Bodies
 pub mod Branching
+pub mod Calling
 pub mod Choosing
 pub mod Entering
 pub mod Exactly

@@ -24,7 +24,7 @@ use Rattle.cert_check.proofs.Safety.{SafeFor, Start}
 use Rattle.cert_check.proofs.Walked.{Enters, body_moved}
 
 -- `if$` on the stack of the state
-chosen_safe : (scope : Scope) (list : EntryList) (n : ℕ) (enter : Enter) (place at : Place) (s : Start scope list) (o : Builtin) → Told scope → Fits scope.style list
+pub chosen_safe : (scope : Scope) (list : EntryList) (n : ℕ) (enter : Enter) (place at : Place) (s : Start scope list) (o : Builtin) → Told scope → Fits scope.style list
     → Enters scope enter → Levels scope list n enter → o ≡ op.IfElse → IsWellFormed scope.style list (after_function scope list o at s)
     → OnwardSafe scope list n (chosen_in scope enter place) s (after_function scope list o at s)
 chosen_safe scope list n enter place at s o told fits moves levels is formed course after e safe =
