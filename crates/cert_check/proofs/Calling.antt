@@ -1,7 +1,8 @@
 -- The call of a command that is walked is safe where all summaries are checked.
-use Rattle.std.proofs.Common.{◌≡◌, ℕ, List, [], ◌∷◌, ◌++◌, slice_get, Option, Some, Ok, refl, sym, ap, subst, ◌∙◌, append_assoc, arith, inl, inr}
+use Rattle.std.proofs.Common.{◌≡◌, ℕ, Bool, true, nat_eq, List, [], ◌∷◌, ◌++◌, slice_get, Option, Some, Ok, refl, sym, ap, subst, ◌∙◌, append_assoc, arith, inl, inr}
 use Rattle.std.specs.List.{All}
 use Rattle.std.specs.Option.{option_map_or}
+use Rattle.std.proofs.lemmas.Bool.Decides.{nat_tests}
 use Rattle.std.proofs.lemmas.List.{append-nil}
 use Rattle.std.proofs.lemmas.List.Elements.{All-head, All-tail}
 use Rattle.bv_base.specs.declared.place.Place.{Place}
@@ -9,6 +10,7 @@ use Rattle.bv_base.proofs.ThenLemmas.{ok_is, then_ok}
 use Rattle.name_table.specs.Sound.{IsSound}
 use Rattle.name_table.specs.declared.names.Kind.{Kind}
 use Rattle.name_table.specs.declared.style.Style.{Style}
+use Rattle.bst_meaning.specs.Config.{Config}
 use Rattle.bst_meaning.specs.Entries.{Fits}
 use Rattle.bst_meaning.specs.Invariant.{IsWellFormed}
 use Rattle.bst_meaning.specs.Machine.{call_step}
@@ -16,17 +18,19 @@ use Rattle.bst_meaning.specs.StyleParts.{kind_of}
 use Rattle.bst_meaning.specs.declared.entry.EntryList.{EntryList}
 use Rattle.bst_meaning.specs.declared.value.Target.{Target}
 use Rattle.bst_meaning.specs.declared.value.Target.TheVariants.{Named, Block}
+use Rattle.bst_meaning.specs.declared.value.Value.{Value}
 use Rattle.cert_format.specs.declared.cert.Cert.{Cert}
 use Rattle.cert_format.specs.declared.cert.Summary.{Summary}
 use Rattle.sym_state.specs.State.{State}
+use Rattle.sym_state.specs.Symbols.{Valuation}
 use Rattle.sym_state.specs.WellMade.{WellMade}
 use Rattle.sym_state.specs.declared.hint.Hint.{Hint}
 use Rattle.refinements.specs.Covered.{IsAmong}
 use Rattle.cert_check.specs.Certified.{IsCertified}
 use Rattle.cert_check.specs.Courses.{Course}
-use Rattle.cert_check.specs.Safely.{CallSafe, SafeFor, target_step}
+use Rattle.cert_check.specs.Safely.{EntersSafely, IsAllChecked, IsAt, SafeFor, target_step}
 use Rattle.cert_check.specs.Units.{beginning, call_walked, checked_at, everywhere, summary_checked, target_entered, target_from}
-use Rattle.cert_check.specs.Walks.{Scope, body_walked, chosen_in}
+use Rattle.cert_check.specs.Walks.{Scope, body_walked, chosen_in, is_target, summary_used}
 use Rattle.cert_check.specs.declared.limits.TheConstants.{MOST_DEPTH}
 use Rattle.cert_check.specs.declared.refusal.Refusal.{Refusal}
 use Rattle.cert_check.proofs.Branching.{Levels}
@@ -108,27 +112,73 @@ from_safe scope list n target place at s (state ∷ states) course after told fi
       | inr there ↦ from_safe scope list n target place at s states first.0 after told fits uses formed later there first.2 safe
     ]
 
+-- what holds of each holds of one among them
+among_made : (style : Style) (state : State) (all : List State) → All (WellMade style) all → IsAmong state all → WellMade style state
+among_made style state [] fine there = absurd there
+among_made style state (first ∷ all) fine (inl same) = subst (WellMade style) (sym same) (All-head (WellMade style) first all fine)
+among_made style state (first ∷ all) fine (inr later) = among_made style state all (All-tail (WellMade style) first all fine) later
+
+-- a state that stands for a configuration is where a walk may start
+abbrev start_at : (laws : Laws) (scope : Scope) (list : EntryList) (v : Valuation) (state : State) (target : Target) (at : Place) (c : Config) (below : List Value)
+    → WellMade scope.style state → IsAt scope.style scope.cert.cond list v state target at c below → Start scope list
+start_at laws scope list v state target at c below made is = record {
+  laws = laws;
+  v = v;
+  state = state;
+  c = c;
+  below = below;
+  made = made;
+  goes = is.goes;
+  formed = is.formed;
+  stands = is.stands;
+}
+
+each_checked : (style : Style) (cert : Cert) → IsAllChecked style cert → (k : ℕ) (summary : Summary) → slice_get cert.summaries k ≡ Some summary
+    → IsChecked style cert summary
+each_checked style cert checked k summary there = record {
+  left = [];
+  checked = sym (ap (λ (o : Option Summary). option_map_or (summary_checked style cert) o (Ok [])) there) ∙ checked k;
+}
+
+told_by : (scope : Scope) → IsSound scope.style → IsCertified scope.style scope.cert → Told scope
+told_by scope sound certified =
+    record { sound = sound; limits = certified.limits; fields = certified.fields; summaries = certified.summaries }
+
 -- the call of a command
 pub call_safe : (laws : Laws) (style : Style) (cert : Cert) (list : EntryList) (states : List State) (target : Target) (place at : Place) (hints : List Hint)
-    (after : Course) (n : ℕ) → IsSound style → Fits style list → IsCertified style cert → ((k : ℕ) → checked_at style cert k ≡ Ok [])
-    → All (WellMade style) states → call_walked style cert states target place hints ≡ Ok after → CallSafe style cert list n target at states after.given
+    (after : Course) (n : ℕ) → IsSound style → Fits style list → IsCertified style cert → IsAllChecked style cert → All (WellMade style) states
+    → call_walked style cert states target place hints ≡ Ok after → EntersSafely (everywhere style cert) list n target at states after.given
 call_safe laws style cert list states target place at hints after n sound fits certified checked made e state v c below among is safe =
     let scope : Scope = everywhere style cert in
-    let told : Told scope = record { sound = sound; limits = certified.limits; fields = certified.fields; summaries = certified.summaries } in
-    let s : Start scope list = record {
-      laws = laws;
-      v = v;
-      state = state;
-      c = c;
-      below = below;
-      made = among_made states made among;
-      goes = is.goes;
-      formed = is.formed;
-      stands = is.stands;
-    } in
-    let each : (k : ℕ) (summary : Summary) → slice_get cert.summaries k ≡ Some summary → IsChecked style cert summary =
-    λ k summary there. record { left = []; checked = sym (ap (λ (o : Option Summary). option_map_or (summary_checked style cert) o (Ok [])) there) ∙ checked k } in
-    from_safe scope list n target place at s states (beginning hints) after told fits (uses_safe scope list told fits each) is.enters made among e
+    let told : Told scope = told_by scope sound certified in
+    from_safe scope list n target place at (start_at laws scope list v state target at c below (among_made style state states made among) is) states (beginning hints) after
+    told fits (uses_safe scope list told fits (each_checked style cert checked)) is.enters made among e
+    (λ end w d given reached. safe end w d given (record {
+      follows = reached.follows;
+      agrees = reached.agrees;
+      remains = reached.remains;
+      formed = reached.formed;
+      stands = reached.stands;
+    }))
+
+same_self : (n : ℕ) → nat_eq n n ≡ true
+same_self n = grind (arith, nat_tests)
+
+target_self : (target : Target) → is_target target target ≡ true
+target_self (Named name) = same_self name.0
+target_self (Block body) = same_self body.0
+
+-- the use of a summary
+pub use_safe : (laws : Laws) (scope : Scope) (list : EntryList) (k : ℕ) (summary : Summary) (first : State) (place at : Place) (course after : Course) (n : ℕ)
+    → IsSound scope.style → Fits scope.style list → IsCertified scope.style scope.cert → IsAllChecked scope.style scope.cert
+    → slice_get scope.cert.summaries k ≡ Some summary → WellMade scope.style first → summary_used scope place summary first course ≡ Ok after
+    → EntersSafely scope list n summary.body at (first ∷ []) after.given
+use_safe laws scope list k summary first place at course after n sound fits certified checked there made e state v c below among is safe =
+    let told : Told scope = told_by scope sound certified in
+    let only = same_one among in
+    uses_safe scope list told fits (each_checked scope.style scope.cert checked) n summary.body k summary place at
+    (start_at laws scope list v state summary.body at c below (subst (WellMade scope.style) (sym only) made) is) there (target_self summary.body) is.enters course after
+    (subst (λ (x : State). summary_used scope place summary x course ≡ Ok after) (sym only) e)
     (λ end w d given reached. safe end w d given (record {
       follows = reached.follows;
       agrees = reached.agrees;
@@ -137,7 +187,6 @@ call_safe laws style cert list states target place at hints after n sound fits c
       stands = reached.stands;
     }))
   where
-    among_made : (all : List State) → All (WellMade style) all → IsAmong state all → WellMade style state
-    among_made [] fine there = absurd there
-    among_made (first ∷ all) fine (inl same) = subst (WellMade style) (sym same) (All-head (WellMade style) first all fine)
-    among_made (first ∷ all) fine (inr later) = among_made all (All-tail (WellMade style) first all fine) later
+    same_one : IsAmong state (first ∷ []) → state ≡ first
+    same_one (inl same) = same
+    same_one (inr none) = absurd none

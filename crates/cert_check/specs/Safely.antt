@@ -1,6 +1,6 @@
 -- What the walk of a call says of the machine (docs/CHECKER.md, "What accepted means"): what comes after it is safe where it is
 -- safe from each state that the walk gives.
-use Rattle.std.specs.Prelude.{◌≡◌, ◌≢◌, ℕ, zero, suc, ◌≤◌, Bool, false, List, ◌++◌, map, slice_get, Some, None}
+use Rattle.std.specs.Prelude.{◌≡◌, ◌≢◌, ℕ, zero, suc, ◌≤◌, Bool, false, List, [], ◌++◌, map, slice_get, Some, None, Ok}
 use Rattle.bv_base.specs.declared.place.Place.{Place}
 use Rattle.lin_facts.specs.declared.row.Row.{Row}
 use Rattle.name_table.specs.declared.names.NameId.{NameId}
@@ -24,7 +24,7 @@ use Rattle.sym_state.specs.Symbols.{Agrees, Valuation}
 use Rattle.sym_state.specs.WellMade.{WellMade}
 use Rattle.sym_state.specs.declared.symbol.Fact.{Fact}
 use Rattle.refinements.specs.Covered.{IsAmong}
-use Rattle.cert_check.specs.Units.{everywhere}
+use Rattle.cert_check.specs.Units.{checked_at}
 use Rattle.cert_check.specs.Walks.{Scope, may_write}
 
 -- the configuration is fine, and so are those of the next n steps
@@ -83,10 +83,15 @@ pub record IsLeft (scope : Scope) (list : EntryList) (v : Valuation) (state : St
   pub formed : IsWellFormed scope.style list d
   pub stands : Stands scope.style scope.cert.cond list w after d below
 
--- where a call is walked from these states to those, the machine is fine for so many steps after it enters the target from one of
--- the first, where it is from each configuration for which one of the last stands
-abbrev pub CallSafe : Style → Cert → EntryList → ℕ → Target → Place → List State → List State → Type 0
-CallSafe style cert list n target at states given =
-    (state : State) (v : Valuation) (c : Config) (below : List Value) → IsAmong state states → IsAt style cert.cond list v state target at c below
-    → ((after : State) (w : Valuation) (d : Config) → IsAmong after given → IsLeft (everywhere style cert) list v state c below after w d
-    → SafeFor style n d) → SafeFor style n (target_step style target at c)
+-- where states are walked on to others, the machine is fine for so many steps after it enters the target from a configuration for
+-- which one of the first stands, where it is from each for which one of the last does
+abbrev pub EntersSafely : Scope → EntryList → ℕ → Target → Place → List State → List State → Type 0
+EntersSafely scope list n target at states given =
+    (state : State) (v : Valuation) (c : Config) (below : List Value) → IsAmong state states
+    → IsAt scope.style scope.cert.cond list v state target at c below
+    → ((after : State) (w : Valuation) (d : Config) → IsAmong after given → IsLeft scope list v state c below after w d → SafeFor scope.style n d)
+    → SafeFor scope.style n (target_step scope.style target at c)
+
+-- every summary of a certificate is checked
+abbrev pub IsAllChecked : Style → Cert → Type 0
+IsAllChecked style cert = (k : ℕ) → checked_at style cert k ≡ Ok []
