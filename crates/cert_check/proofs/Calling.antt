@@ -1,5 +1,5 @@
 -- The call of a command that is walked is safe where all summaries are checked.
-use Rattle.std.proofs.Common.{◌≡◌, ℕ, Bool, true, nat_eq, List, [], ◌∷◌, ◌++◌, slice_get, Option, Some, Ok, refl, sym, ap, subst, ◌∙◌, append_assoc, arith, inl, inr}
+use Rattle.std.proofs.Common.{◌≡◌, ℕ, true, nat_eq, List, [], ◌∷◌, ◌++◌, slice_get, Option, Some, Ok, sym, ap, subst, ◌∙◌, append_assoc, arith, inl, inr}
 use Rattle.std.specs.List.{All}
 use Rattle.std.specs.Option.{option_map_or}
 use Rattle.std.proofs.lemmas.Bool.Decides.{nat_tests}
@@ -14,7 +14,6 @@ use Rattle.bst_meaning.specs.Config.{Config}
 use Rattle.bst_meaning.specs.Entries.{Fits}
 use Rattle.bst_meaning.specs.Invariant.{IsWellFormed}
 use Rattle.bst_meaning.specs.Machine.{call_step}
-use Rattle.bst_meaning.specs.StyleParts.{kind_of}
 use Rattle.bst_meaning.specs.declared.entry.EntryList.{EntryList}
 use Rattle.bst_meaning.specs.declared.value.Target.{Target}
 use Rattle.bst_meaning.specs.declared.value.Target.TheVariants.{Named, Block}
@@ -29,10 +28,9 @@ use Rattle.refinements.specs.Covered.{IsAmong}
 use Rattle.cert_check.specs.Certified.{IsCertified}
 use Rattle.cert_check.specs.Courses.{Course}
 use Rattle.cert_check.specs.Safely.{EntersSafely, IsAllChecked, IsAt, SafeFor, target_step}
-use Rattle.cert_check.specs.Units.{beginning, call_walked, checked_at, everywhere, summary_checked, target_entered, target_from}
+use Rattle.cert_check.specs.Units.{beginning, call_walked, everywhere, summary_checked, target_entered, target_from}
 use Rattle.cert_check.specs.Walks.{Scope, body_walked, chosen_in, is_target, summary_used}
 use Rattle.cert_check.specs.declared.limits.TheConstants.{MOST_DEPTH}
-use Rattle.cert_check.specs.declared.refusal.Refusal.{Refusal}
 use Rattle.cert_check.proofs.Branching.{Levels}
 use Rattle.cert_check.proofs.Choosing.{name_safe}
 use Rattle.cert_check.proofs.Entering.{OnwardSafe, UseSafe, entered_safe}

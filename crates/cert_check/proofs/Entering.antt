@@ -7,11 +7,10 @@ use Rattle.name_table.specs.declared.builtin.Builtin.TheVariants as op
 use Rattle.name_table.specs.declared.names.Kind.{Kind}
 use Rattle.name_table.specs.declared.names.Kind.TheVariants as kind
 use Rattle.name_table.specs.declared.names.NameId.{NameId}
-use Rattle.name_table.specs.declared.style.Style.{Style}
 use Rattle.bst_meaning.specs.StyleParts.{kind_of, tokens_of}
 use Rattle.bst_meaning.specs.declared.entry.EntryList.{EntryList}
 use Rattle.bst_meaning.specs.declared.value.Target.{Target}
-use Rattle.bst_meaning.specs.declared.value.Target.TheVariants.{Named, Block}
+use Rattle.bst_meaning.specs.declared.value.Target.TheVariants.{Named}
 use Rattle.bst_meaning.specs.Builtins.{built_in as machine_gives}
 use Rattle.bst_meaning.specs.Config.{Config, Whole}
 use Rattle.bst_meaning.specs.Invariant.{IsWellFormed}

@@ -1,11 +1,10 @@
 -- A state that follows another: it is well made, and it keeps what a unit may not change.
-use Rattle.std.proofs.Common.{◌≡◌, ℕ, ◌≤◌, false, List, [], ◌∷◌, ◌++◌, Ok, refl, sym, ap, subst, ◌∙◌, arith, append_assoc}
+use Rattle.std.proofs.Common.{◌≡◌, ℕ, ◌≤◌, List, [], ◌∷◌, ◌++◌, Ok, refl, sym, ap, subst, ◌∙◌, arith, append_assoc}
 use Rattle.std.specs.List.{All}
 use Rattle.std.proofs.lemmas.List.{append-nil}
 use Rattle.std.proofs.lemmas.List.Elements.{All-append, All-cons, All-nil, All-weaker}
 use Rattle.bv_base.specs.declared.place.Place.{Place}
 use Rattle.lin_facts.specs.declared.row.Row.{Row}
-use Rattle.name_table.specs.declared.names.NameId.{NameId}
 use Rattle.sym_state.specs.State.{State}
 use Rattle.sym_state.specs.Changes.{symbol_at}
 use Rattle.sym_state.specs.Frames.{Extends, LeavesVariables}
@@ -13,7 +12,7 @@ use Rattle.sym_state.specs.WellMade.{WellMade}
 use Rattle.sym_state.specs.declared.hint.Hint.{Hint}
 use Rattle.sym_state.specs.declared.symbol.Fact.{Fact}
 use Rattle.cert_check.specs.Courses.{Course, counts, gives, gives_all}
-use Rattle.cert_check.specs.Walks.{Scope, may_write}
+use Rattle.cert_check.specs.Walks.{Scope}
 pub use Rattle.cert_check.specs.Safely.{Follows, Grows}
 use Rattle.cert_check.proofs.Inverted.{counts_ok, gives_all_ok, gives_ok}
 

@@ -12,7 +12,7 @@ use Rattle.name_table.specs.declared.names.Kind.TheVariants.{Field, IntEntry, St
 use Rattle.name_table.specs.declared.names.NameId.{NameId}
 use Rattle.name_table.specs.declared.style.Style.{Style}
 use Rattle.bst_meaning.specs.Condition.{EntryMeets, FieldHasNames, FieldIsNonblank, HasInk}
-use Rattle.bst_meaning.specs.Config.{Config, EntryState, Variable}
+use Rattle.bst_meaning.specs.Config.{EntryState, Variable}
 use Rattle.bst_meaning.specs.Entries.{EntryFits, IsByteList, field_ids_at, field_ids_from}
 use Rattle.bst_meaning.specs.Invariant.{IsEntrySound, IsWellFormed}
 use Rattle.bst_meaning.specs.Machine.{field_in, field_value, value_at, visited_entry, visited_index}
@@ -26,11 +26,11 @@ use Rattle.bst_meaning.specs.declared.value.TheConstants.{ENTRY_SIZE, GLOBAL_SIZ
 use Rattle.bst_meaning.specs.declared.value.Value.{Value}
 use Rattle.bst_meaning.specs.declared.value.Value.TheVariants.{Int, Str, Missing}
 use Rattle.sym_state.specs.Facts.{emptiness, has_good_names, has_kind}
-use Rattle.sym_state.specs.Opening.{HasValue, IsFieldValue, IsOfItsKind}
+use Rattle.sym_state.specs.Opening.{HasValue, IsOfItsKind}
 use Rattle.sym_state.specs.Stands.{value_by}
-use Rattle.sym_state.specs.Starting.{is_nonblank, most_names, names_in_play}
+use Rattle.sym_state.specs.Starting.{most_names, names_in_play}
 use Rattle.sym_state.specs.Symbols.{IsValue, length_of, name_count_of}
-use Rattle.sym_state.specs.WellMade.{ids_from, is_variable, takes_part}
+use Rattle.sym_state.specs.WellMade.{ids_from, takes_part}
 use Rattle.sym_state.specs.declared.symbol.Kinds.TheVariants.{Optional}
 use Rattle.sym_state.proofs.Spots.{Spot}
 use Rattle.builtin_effects.proofs.Assigned.{variable_bound}

@@ -1,12 +1,12 @@
 -- A state that a unit leaves has few new symbols: those on the post's stack, and those of written variables.
-use Rattle.std.proofs.Common.{◌≡◌, ℕ, zero, suc, ◌+◌, ◌*◌, ◌-◌, ◌≤◌, ◌<◌, Bool, true, false, cond, ◌||◌, ◌&&◌, not, ap, sym, ◌∙◌, subst, refl, List, [], ◌∷◌, ◌++◌, length, map, arith, nat_eq, is_none, Option, None, Some, Ok, Err}
+use Rattle.std.proofs.Common.{◌≡◌, ℕ, zero, suc, ◌+◌, ◌*◌, ◌-◌, ◌≤◌, ◌<◌, Bool, true, false, cond, ◌||◌, ◌&&◌, not, ap, ◌∙◌, subst, refl, List, [], ◌∷◌, ◌++◌, length, map, arith, nat_eq, is_none, Option, None, Some, Ok, Err}
 use Rattle.std.specs.List.{All, count_by, list_any}
 use Rattle.std.specs.Option.{option_map_or, option_or, option_and_then}
 use Rattle.std.proofs.lemmas.Bool.{and_parts}
 use Rattle.std.proofs.lemmas.Bool.Decides.{nat_tests}
 use Rattle.std.proofs.lemmas.List.Elements.{All-head, All-tail}
 use Rattle.std.proofs.lemmas.List.Folds.{list_any-append}
-use Rattle.std.proofs.lemmas.List.Sums.{count_by-le-length, sum_by-cons}
+use Rattle.std.proofs.lemmas.List.Sums.{sum_by-cons}
 use Rattle.name_table.specs.Names.{kind_at}
 use Rattle.name_table.specs.declared.names.Kind.{Kind}
 use Rattle.name_table.specs.declared.names.Kind.TheVariants.{Builtin, Wizard, Field, IntEntry, StrEntry, IntGlobal, StrGlobal}
@@ -22,7 +22,7 @@ use Rattle.sym_state.specs.declared.piece.Piece.{Piece}
 use Rattle.sym_state.specs.declared.symbol.Bind.{Bind}
 use Rattle.sym_state.specs.declared.symbol.Sym.{Sym}
 use Rattle.sym_state.specs.Changes.{bound, symbol_at}
-use Rattle.sym_state.specs.Starting.{has_kind, placed, symbols_of}
+use Rattle.sym_state.specs.Starting.{placed, symbols_of}
 use Rattle.sym_state.specs.WellMade.{WellMade, ids_from, is_field, is_variable}
 use Rattle.sym_state.proofs.Deciding.{same_number}
 use Rattle.cert_check.specs.Left.{AreUpwards, HasPlaces, IsPlaced}

@@ -1,5 +1,5 @@
 -- Each symbol of a post has a place, at a symbol of the state that is left.
-use Rattle.std.proofs.Common.{◌≡◌, ℕ, zero, suc, ◌+◌, ◌-◌, ◌≤◌, ◌<◌, Bool, true, false, cond, ◌||◌, ap, sym, ◌∙◌, subst, refl, List, [], ◌∷◌, ◌++◌, length, map, drop, arith, nat_eq, nat_lt, max, Option, None, Some}
+use Rattle.std.proofs.Common.{◌≡◌, ℕ, zero, suc, ◌+◌, ◌-◌, ◌≤◌, ◌<◌, Bool, true, false, cond, ◌||◌, sym, ◌∙◌, refl, List, [], ◌∷◌, ◌++◌, length, map, drop, arith, nat_eq, nat_lt, max, Option, None, Some}
 use Rattle.std.specs.List.{All, cons_option, list_any, zip}
 use Rattle.std.specs.Option.{option_map, option_map_or, option_or, option_and_then, unwrap_or}
 use Rattle.std.proofs.lemmas.Bool.Decides.{nat_tests}

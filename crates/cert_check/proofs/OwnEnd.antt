@@ -1,16 +1,14 @@
 -- A summary's own check ends in a post: the post's symbols have values in the state that came to the summary.
-use Rattle.std.proofs.Common.{◌≡◌, ℕ, ◌+◌, ◌-◌, ◌≤◌, ◌<◌, Bool, true, false, cond, nat_eq, nat_lt, max, List, [], ◌∷◌, ◌++◌, length, Option, None, Some, Ok, refl, sym, ap, subst, ◌∙◌, arith}
-use Rattle.std.specs.List.{All, AllByRecursion, list_any}
+use Rattle.std.proofs.Common.{◌≡◌, ℕ, ◌≤◌, ◌<◌, Bool, true, false, cond, nat_eq, nat_lt, max, List, [], ◌∷◌, ◌++◌, length, Option, None, Some, Ok, refl, sym, ap, subst, ◌∙◌, arith}
+use Rattle.std.specs.List.{AllByRecursion, list_any}
 use Rattle.std.specs.Option.{option_and_then, option_or}
 use Rattle.std.proofs.lemmas.Bool.Decides.{nat_tests}
 use Rattle.std.proofs.lemmas.List.Elements.{All-cons, All-nil}
 use Rattle.name_table.specs.declared.names.NameId.{NameId}
-use Rattle.name_table.specs.declared.style.Style.{Style}
 use Rattle.bst_meaning.specs.Config.{Config, Frame}
 use Rattle.bst_meaning.specs.Machine.{visited_entry}
 use Rattle.bst_meaning.specs.StyleParts.{kind_of}
 use Rattle.bst_meaning.specs.declared.entry.EntryList.{EntryList}
-use Rattle.bst_meaning.specs.declared.value.Value.{Value}
 use Rattle.cert_format.specs.declared.cert.Summary.{Summary}
 use Rattle.sym_state.specs.State.{State}
 use Rattle.sym_state.specs.Changes.{bound}
@@ -18,7 +16,7 @@ use Rattle.sym_state.specs.Entailing.{at_first_place, match_of, places, under}
 use Rattle.sym_state.specs.Opening.{StandsOpen}
 use Rattle.sym_state.specs.Renaming.{through}
 use Rattle.sym_state.specs.Showing.{piece_by}
-use Rattle.sym_state.specs.Stands.{IsBound, PieceHolds, value_by, values_of}
+use Rattle.sym_state.specs.Stands.{PieceHolds, value_by, values_of}
 use Rattle.sym_state.specs.Starting.{IsFit, IsNumbered, all_symbols, symbols_of}
 use Rattle.sym_state.specs.Symbols.{Valuation}
 use Rattle.sym_state.specs.WellMade.{HasSmallFields}
@@ -30,7 +28,7 @@ use Rattle.sym_state.proofs.Entailed.{lines_pass}
 use Rattle.sym_state.proofs.Keeping.{started_well_made}
 use Rattle.sym_state.proofs.ShownPieces.{shown_parts, shown_piece_holds}
 use Rattle.cert_check.specs.Certified.{IsPostOf, IsSummaryOf}
-use Rattle.cert_check.specs.Uses.{Passage, comes_by, first_name, is_among, name_at, own_count, own_places, passage, post_match, unchanged, unwritten}
+use Rattle.cert_check.specs.Uses.{comes_by, first_name, is_among, name_at, own_count, own_places, passage, post_match, unchanged, unwritten}
 use Rattle.cert_check.specs.Walks.{Scope}
 use Rattle.cert_check.proofs.LeftPlaces.{matched_below, named_below, own_has, places_below, pre_has}
 use Rattle.cert_check.proofs.OwnFrame.{name_kept}

@@ -1,5 +1,5 @@
 -- A summary's own check keeps the values of variables that the summary doesn't write, and of fields.
-use Rattle.std.proofs.Common.{◌≡◌, Bool, true, false, List, slice_get, Option, None, Some, option_map, refl, sym, ap, subst, ◌∙◌}
+use Rattle.std.proofs.Common.{◌≡◌, Bool, true, false, List, slice_get, Option, Some, refl, sym, ap, subst, ◌∙◌}
 use Rattle.std.specs.Option.{option_and_then}
 use Rattle.std.specs.Prelude.{ℕ}
 use Rattle.name_table.specs.declared.names.Kind.{Kind}
@@ -14,8 +14,6 @@ use Rattle.sym_state.specs.Changes.{symbol_at}
 use Rattle.sym_state.specs.Stands.{value_by}
 use Rattle.sym_state.specs.Symbols.{Valuation}
 use Rattle.sym_state.specs.WellMade.{is_field, is_variable}
-use Rattle.sym_state.specs.declared.symbol.Bind.{Bind}
-use Rattle.sym_state.specs.declared.symbol.Sym.{Sym}
 use Rattle.sym_state.proofs.Entailed.{found_value}
 use Rattle.sym_state.proofs.Making.{found_below}
 use Rattle.cert_check.specs.Walks.{Scope, may_write}

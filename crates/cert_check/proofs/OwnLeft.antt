@@ -1,5 +1,5 @@
 -- The state that a used summary leaves stands where its own check ends.
-use Rattle.std.proofs.Common.{◌≡◌, ℕ, suc, ◌+◌, ◌-◌, ◌≤◌, ◌<◌, Bool, true, false, max, List, [], ◌∷◌, ◌++◌, length, map, reverse, take, Option, None, Some, refl, sym, ap, subst, ◌∙◌, append_assoc, arith}
+use Rattle.std.proofs.Common.{◌≡◌, ℕ, suc, ◌+◌, ◌-◌, ◌≤◌, ◌<◌, Bool, true, false, max, List, [], ◌∷◌, ◌++◌, length, map, reverse, Option, None, Some, refl, sym, ap, subst, ◌∙◌, append_assoc, arith}
 use Rattle.std.specs.Prelude.{◌||◌}
 use Rattle.std.specs.List.{All, AllByRecursion, flat_map, list_all}
 use Rattle.std.specs.Option.{option_map_or}
@@ -18,10 +18,10 @@ use Rattle.sym_state.specs.Entailing.{match_of, under}
 use Rattle.sym_state.specs.Facts.{FactHolds}
 use Rattle.sym_state.specs.Opening.{HasValue, IsOfItsKind}
 use Rattle.sym_state.specs.Renaming.{bind_renamed, fact_renamed, row_renamed, sym_renamed, through}
-use Rattle.sym_state.specs.Stands.{HasList, IsBound, IsVisiting, Satisfies, Stands, value_by, values_of}
+use Rattle.sym_state.specs.Stands.{IsBound, IsVisiting, Stands, value_by, values_of}
 use Rattle.sym_state.specs.Starting.{own_facts, own_rows, seat, seats, symbols_of, unbound}
 use Rattle.sym_state.specs.Symbols.{Agrees, Valuation, numbers}
-use Rattle.sym_state.specs.WellMade.{WellMade, is_field, is_variable, takes_part}
+use Rattle.sym_state.specs.WellMade.{WellMade, is_field, is_variable}
 use Rattle.sym_state.specs.declared.symbol.Bind.{Bind}
 use Rattle.sym_state.specs.declared.symbol.Fact.{Fact}
 use Rattle.sym_state.specs.declared.symbol.Sym.{Sym}
@@ -33,7 +33,7 @@ use Rattle.sym_state.proofs.Opened.{Seated, seated}
 use Rattle.sym_state.proofs.ShownPieces.{shown_parts}
 use Rattle.sym_state.proofs.Spots.{Spot}
 use Rattle.builtin_effects.proofs.Rebinding.{each_once}
-use Rattle.cert_check.specs.Uses.{Passage, facts_left, is_among, left_by, left_state, new_symbols, own_count, passage, post_match, rows_left, with_binds}
+use Rattle.cert_check.specs.Uses.{facts_left, is_among, left_state, new_symbols, own_count, passage, post_match, rows_left, with_binds}
 use Rattle.cert_check.specs.Walks.{Scope, may_write}
 use Rattle.cert_check.proofs.Having.{have_value}
 use Rattle.cert_check.proofs.LeftFollowing.{post_follows, written_unbound}
@@ -44,7 +44,7 @@ use Rattle.cert_check.proofs.OwnEnd.{EndOf, Used, end_holds, end_values, name_va
 use Rattle.cert_check.proofs.OwnFacts.{gives_each, kind_facts, kind_rows, renamed_facts, renamed_rows}
 use Rattle.cert_check.proofs.OwnFrame.{name_kept, same_visited}
 use Rattle.cert_check.proofs.OwnStart.{below_pre, came_is, nothing_under}
-use Rattle.cert_check.proofs.Safety.{Reaches, Remains, Start, agrees_on}
+use Rattle.cert_check.proofs.Safety.{Reaches, Remains, agrees_on}
 use Rattle.cert_check.proofs.Symbols.{bound_last, by_symbols, not_among}
 
 first_of : (a b : Bool) → a ≡ true → (a || b) ≡ true

@@ -1,7 +1,7 @@
 -- The start of a summary's own check stands for the configuration of its use.
 use Rattle.std.proofs.Common.{◌≡◌, ℕ, ◌-◌, Bool, true, false, cond, not, nat_eq, List, [], ◌∷◌, ◌++◌, length, map, take, Ok, Err, refl, sym, ap, subst, ◌∙◌, arith}
 use Rattle.std.specs.Prelude.{◌&&◌, ◌||◌}
-use Rattle.std.specs.List.{All, AllByRecursion, flat_map}
+use Rattle.std.specs.List.{AllByRecursion}
 use Rattle.std.proofs.lemmas.Bool.{and_parts}
 use Rattle.std.proofs.lemmas.Bool.Decides.{nat_tests}
 use Rattle.std.proofs.lemmas.List.{append-nil}
@@ -13,7 +13,6 @@ use Rattle.lin_facts.specs.declared.row.Term.{Term}
 use Rattle.lin_facts.specs.declared.row.Term.TheVariants as term
 use Rattle.name_table.specs.declared.style.Style.{Style}
 use Rattle.bst_meaning.specs.Config.{Config}
-use Rattle.bst_meaning.specs.Invariant.{IsWellFormed}
 use Rattle.bst_meaning.specs.Machine.{visited_entry}
 use Rattle.bst_meaning.specs.declared.entry.EntryList.{EntryList}
 use Rattle.bst_meaning.specs.declared.value.Value.{Value}
@@ -21,7 +20,7 @@ use Rattle.cert_format.specs.declared.cert.Summary.{Summary}
 use Rattle.sym_state.specs.State.{State}
 use Rattle.sym_state.specs.Entailing.{match_of, under}
 use Rattle.sym_state.specs.Facts.{FactHolds}
-use Rattle.sym_state.specs.Opening.{CanStart, PiecesHold, StandsOpen}
+use Rattle.sym_state.specs.Opening.{PiecesHold, StandsOpen}
 use Rattle.sym_state.specs.Renaming.{bind_renamed, fact_renamed, piece_renamed, row_renamed, sym_renamed, term_renamed, through}
 use Rattle.sym_state.specs.Showing.{Shown, piece_by}
 use Rattle.sym_state.specs.Stands.{IsBound, PieceHolds, values_of}

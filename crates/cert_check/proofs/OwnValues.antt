@@ -1,5 +1,5 @@
 -- The values of a post's symbols in the state that a summary leaves, beside those of the state that came to it.
-use Rattle.std.proofs.Common.{◌≡◌, ℕ, zero, suc, ◌+◌, ◌≤◌, ◌<◌, Bool, true, false, cond, nat_eq, nat_lt, List, [], ◌∷◌, ◌++◌, Option, None, Some, refl, sym, ap, subst, ◌∙◌, arith}
+use Rattle.std.proofs.Common.{◌≡◌, ℕ, zero, suc, ◌+◌, ◌≤◌, ◌<◌, Bool, true, false, cond, nat_eq, nat_lt, List, [], ◌∷◌, ◌++◌, Option, None, Some, refl, ap, ◌∙◌, arith}
 use Rattle.std.specs.Prelude.{◌||◌}
 use Rattle.std.specs.List.{AllByRecursion}
 use Rattle.std.specs.Option.{unwrap_or}
@@ -11,7 +11,7 @@ use Rattle.sym_state.specs.Symbols.{Agrees, IsValue, Valuation}
 use Rattle.sym_state.specs.declared.piece.Piece.{Piece}
 use Rattle.sym_state.specs.declared.symbol.Sym.{Sym}
 use Rattle.sym_state.proofs.Frames.{agrees_self, next_agrees, next_is, value_case, with_next}
-use Rattle.cert_check.specs.Uses.{Passage, new_one, new_symbols, own_places, unchanged}
+use Rattle.cert_check.specs.Uses.{Passage, new_one, own_places, unchanged}
 use Rattle.cert_check.proofs.LeftPlaces.{has_place}
 use Rattle.cert_check.proofs.LeftSteps.{numbered}
 use Rattle.cert_check.proofs.Safety.{agrees_on}

@@ -1,5 +1,5 @@
 -- A configuration that is fine for so many steps, and what waits behind a walk as a continuation.
-use Rattle.std.proofs.Common.{◌≡◌, ◌≢◌, ℕ, zero, suc, ◌≤◌, Bool, false, cond, List, [], ◌∷◌, ◌++◌, length, map, slice_get, option_map, Option, None, Some, Ok, sym, ap, subst, ◌∙◌, arith, inl, inr}
+use Rattle.std.proofs.Common.{◌≡◌, ℕ, zero, suc, ◌≤◌, Bool, cond, List, [], ◌∷◌, ◌++◌, length, map, slice_get, option_map, Option, None, Some, Ok, sym, ap, subst, ◌∙◌, arith, inl, inr}
 use Rattle.std.proofs.lemmas.List.{length-map}
 use Rattle.name_table.specs.Sound.{IsSound, block_of}
 use Rattle.name_table.specs.declared.style.BodyId.{BodyId}

@@ -1,14 +1,14 @@
 -- Bindings by the symbols of their names.
 use Rattle.std.proofs.Common.{◌≡◌, ℕ, ◌+◌, Bool, true, false, cond, nat_eq, List, [], ◌∷◌, map, Option, None, Some, option_map, refl, sym, ap, subst, ◌∙◌, arith}
 use Rattle.std.specs.Prelude.{◌||◌}
-use Rattle.std.specs.List.{AllByRecursion, list_any}
+use Rattle.std.specs.List.{AllByRecursion}
 use Rattle.std.proofs.lemmas.Bool.Decides.{nat_tests}
 use Rattle.name_table.specs.declared.names.Kind.{Kind}
 use Rattle.name_table.specs.declared.names.NameId.{NameId}
 use Rattle.name_table.specs.declared.style.Style.{Style}
 use Rattle.bst_meaning.specs.StyleParts.{kind_of}
 use Rattle.sym_state.specs.State.{State}
-use Rattle.sym_state.specs.Changes.{rebound, symbol_at, with_bind}
+use Rattle.sym_state.specs.Changes.{symbol_at, with_bind}
 use Rattle.sym_state.specs.WellMade.{ids_from}
 use Rattle.sym_state.specs.declared.symbol.Bind.{Bind}
 use Rattle.sym_state.specs.declared.symbol.Sym.{Sym}

@@ -1,16 +1,14 @@
 -- The use of a summary whose own check is Ok is safe.
-use Rattle.std.proofs.Common.{◌≡◌, ℕ, zero, suc, ◌<◌, ◌≤◌, Bool, true, false, cond, nat_eq, List, [], ◌∷◌, ◌++◌, length, map, slice_get, Option, None, Some, Ok, Err, refl, sym, ap, subst, ◌∙◌, arith, inl, inr}
+use Rattle.std.proofs.Common.{◌≡◌, ℕ, zero, suc, ◌<◌, Bool, true, false, cond, nat_eq, List, [], ◌∷◌, length, map, slice_get, Option, None, Some, Ok, Err, refl, sym, ap, subst, arith, inl, inr}
 use Rattle.std.specs.List.{All, list_all}
 use Rattle.std.proofs.lemmas.Bool.Decides.{nat_tests}
 use Rattle.std.proofs.lemmas.List.Elements.{All-head, All-tail}
 use Rattle.bv_base.specs.Answers.{then_do}
 use Rattle.bv_base.specs.declared.place.Place.{Place}
 use Rattle.bv_base.proofs.ThenLemmas.{then_ok, where_ok}
-use Rattle.name_table.specs.Sound.{IsSound}
 use Rattle.name_table.specs.declared.names.NameId.{NameId}
 use Rattle.name_table.specs.declared.style.BodyId.{BodyId}
 use Rattle.name_table.specs.declared.style.Style.{Style}
-use Rattle.bst_meaning.specs.Config.{Config}
 use Rattle.bst_meaning.specs.Entries.{Fits}
 use Rattle.bst_meaning.specs.Invariant.{IsWellFormed}
 use Rattle.bst_meaning.specs.declared.condition.Cond.{Cond}
@@ -22,7 +20,6 @@ use Rattle.cert_format.specs.declared.cert.Summary.{Summary}
 use Rattle.sym_state.specs.State.{State}
 use Rattle.sym_state.specs.Showing.{Shown, piece_by}
 use Rattle.sym_state.specs.Starting.{symbols_of}
-use Rattle.sym_state.specs.Symbols.{Valuation}
 use Rattle.sym_state.specs.declared.demand.EffectFault.TheVariants.{NotEntailed}
 use Rattle.sym_state.specs.declared.hint.Hint.{Hint}
 use Rattle.sym_state.specs.declared.hint.Hint.TheVariants as hint
@@ -34,14 +31,14 @@ use Rattle.cert_check.specs.Courses.{Course, counts, gives_all, placed}
 use Rattle.cert_check.specs.declared.limits.TheConstants.{MOST_DEPTH}
 use Rattle.cert_check.specs.Units.{all_end, beginning, body_of, ends, ends_by, none_left, own_walked, place_of, summary_checked}
 use Rattle.cert_check.specs.Uses.{comes_by, left_state, passage}
-use Rattle.cert_check.specs.Walks.{Scope, body_walked, is_target, leaves, may_write}
+use Rattle.cert_check.specs.Walks.{Scope, is_target, leaves, may_write}
 use Rattle.cert_check.proofs.Entering.{OnwardSafe, UseSafe, target_step}
 use Rattle.cert_check.proofs.Inverted.{gives_all_ok, placed_ok}
 use Rattle.cert_check.proofs.Keeping.{Told}
 use Rattle.cert_check.proofs.OwnEnd.{EndOf, Used, own_scope, own_start}
 use Rattle.cert_check.proofs.OwnLeft.{left_reached, left_values}
 use Rattle.cert_check.proofs.OwnStart.{own_state}
-use Rattle.cert_check.proofs.Safety.{Reaches, SafeAfter, SafeFor, Start}
+use Rattle.cert_check.proofs.Safety.{SafeAfter, SafeFor, Start}
 use Rattle.cert_check.proofs.Walking.{bodies_safe, own_safe}
 
 -- an element that is there
