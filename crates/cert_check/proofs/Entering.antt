@@ -7,11 +7,10 @@ use Rattle.name_table.specs.declared.builtin.Builtin.TheVariants as op
 use Rattle.name_table.specs.declared.names.Kind.{Kind}
 use Rattle.name_table.specs.declared.names.Kind.TheVariants as kind
 use Rattle.name_table.specs.declared.names.NameId.{NameId}
-use Rattle.name_table.specs.declared.style.Style.{Style}
 use Rattle.bst_meaning.specs.StyleParts.{kind_of, tokens_of}
 use Rattle.bst_meaning.specs.declared.entry.EntryList.{EntryList}
 use Rattle.bst_meaning.specs.declared.value.Target.{Target}
-use Rattle.bst_meaning.specs.declared.value.Target.TheVariants.{Named, Block}
+use Rattle.bst_meaning.specs.declared.value.Target.TheVariants.{Named}
 use Rattle.bst_meaning.specs.Builtins.{built_in as machine_gives}
 use Rattle.bst_meaning.specs.Config.{Config, Whole}
 use Rattle.bst_meaning.specs.Invariant.{IsWellFormed}
@@ -24,16 +23,12 @@ use Rattle.sym_state.specs.declared.hint.Hint.TheVariants as hint
 use Rattle.sym_state.specs.declared.test.Test.{Test}
 use Rattle.cert_check.specs.Courses.{Course}
 use Rattle.cert_check.specs.Walks.{Enter, Onward, Scope, built_in, entered, entered_by, entering_nothing, has_summary, is_target, named, summary_used, test_of, use_of, variable}
+pub use Rattle.cert_check.specs.Safely.{target_step}
 use Rattle.cert_check.proofs.Bodies.{EnterSafe}
 use Rattle.cert_check.proofs.Keeping.{Told}
 use Rattle.cert_check.proofs.Plain.{plain_safe}
 use Rattle.cert_check.proofs.Safety.{SafeAfter, SafeFor, Start}
 use Rattle.cert_check.proofs.Tokens.{test_safe, variable_safe}
-
--- the machine enters a target
-abbrev pub target_step : Style → Target → Place → Config → Config
-target_step style (Named name) at c = call_step style (kind_of style name) name at c
-target_step style (Block body) at c = with_frame (tokens_of style body) at Whole c
 
 -- a way on from a start is safe in a configuration that the machine comes to
 abbrev pub OnwardSafe : (scope : Scope) (list : EntryList) → ℕ → Onward → Start scope list → Config → Type 0

@@ -1,11 +1,10 @@
 -- A state that follows another: it is well made, and it keeps what a unit may not change.
-use Rattle.std.proofs.Common.{◌≡◌, ℕ, ◌≤◌, false, List, [], ◌∷◌, ◌++◌, Ok, refl, sym, ap, subst, ◌∙◌, arith, append_assoc}
+use Rattle.std.proofs.Common.{◌≡◌, ℕ, ◌≤◌, List, [], ◌∷◌, ◌++◌, Ok, refl, sym, ap, subst, ◌∙◌, arith, append_assoc}
 use Rattle.std.specs.List.{All}
 use Rattle.std.proofs.lemmas.List.{append-nil}
 use Rattle.std.proofs.lemmas.List.Elements.{All-append, All-cons, All-nil, All-weaker}
 use Rattle.bv_base.specs.declared.place.Place.{Place}
 use Rattle.lin_facts.specs.declared.row.Row.{Row}
-use Rattle.name_table.specs.declared.names.NameId.{NameId}
 use Rattle.sym_state.specs.State.{State}
 use Rattle.sym_state.specs.Changes.{symbol_at}
 use Rattle.sym_state.specs.Frames.{Extends, LeavesVariables}
@@ -13,28 +12,13 @@ use Rattle.sym_state.specs.WellMade.{WellMade}
 use Rattle.sym_state.specs.declared.hint.Hint.{Hint}
 use Rattle.sym_state.specs.declared.symbol.Fact.{Fact}
 use Rattle.cert_check.specs.Courses.{Course, counts, gives, gives_all}
-use Rattle.cert_check.specs.Walks.{Scope, may_write}
+use Rattle.cert_check.specs.Walks.{Scope}
+pub use Rattle.cert_check.specs.Safely.{Follows, Grows}
 use Rattle.cert_check.proofs.Inverted.{counts_ok, gives_all_ok, gives_ok}
-
--- whether the whole stack is known and whether an entry is visited stay, the fields keep their symbols, no symbol is given back, and
--- facts and rows are only added at the end: what holds of one rule after the other
-pub record Grows (old new : State) : Type 0 where
-  pub whole : new.whole ≡ old.whole
-  pub at_entry : new.at_entry ≡ old.at_entry
-  pub fields : new.fields ≡ old.fields
-  pub next : old.next ≤ new.next
-  pub facts : (more : List Fact) × (new.facts ≡ old.facts ++ more)
-  pub rows : (more : List Row) × (new.rows ≡ old.rows ++ more)
 
 -- a rule by itself
 pub grows_of : (old new : State) → Extends old new → Grows old new
 grows_of old new one = record { whole = one.whole; at_entry = one.at_entry; fields = one.fields; next = one.next; facts = one.facts; rows = one.rows }
-
--- the state after is well made, grows from the one before, and variables that may not be written keep their symbols
-pub record Follows (scope : Scope) (start after : State) : Type 0 where
-  pub made : WellMade scope.style after
-  pub grows : Grows start after
-  pub vars : (name : NameId) → may_write scope name ≡ false → symbol_at name after.vars ≡ symbol_at name start.vars
 
 pub grows_twice : (first second third : State) → Grows first second → Grows second third → Grows first third
 grows_twice first second third one other = record {

@@ -26,7 +26,7 @@ use Rattle.sym_state.specs.Effects.{effect_of}
 use Rattle.sym_state.specs.Frames.{Assigns, LeavesVariables}
 use Rattle.sym_state.specs.Results.{next_of, with_top}
 use Rattle.sym_state.specs.Starting.{symbols_of}
-use Rattle.sym_state.specs.WellMade.{HasSmallLimits, WellMade}
+use Rattle.sym_state.specs.WellMade.{HasSmallFields, HasSmallLimits, WellMade}
 use Rattle.sym_state.specs.declared.hint.Hint.{Hint}
 use Rattle.sym_state.specs.declared.symbol.Fact.{Fact}
 use Rattle.sym_state.specs.declared.symbol.Fact.TheVariants as fact
@@ -49,19 +49,14 @@ use Rattle.cert_check.specs.Uses.{comes_by, left_state, passage}
 use Rattle.cert_check.specs.Walks.{Scope, confined, entering_nothing, is_within, leaves, literal, literal_state, may_write, number_of, plain, split, summary_used, test_of, variable, written_by}
 use Rattle.cert_check.proofs.Followed.{Follows, Moved, all_given, counts_moved, grows_of, left_follows, moved_twice, one_given, rehinted}
 use Rattle.cert_check.proofs.Inverted.{confined_ok, placed_ok}
-
--- each state that a used summary leaves follows the state that came to it
-abbrev pub LeftFollows : Scope → Type 0
-LeftFollows scope = (summary : Summary) (state : State) (hints left : List Hint) → IsSummaryOf scope.style summary → WellMade scope.style state
-    → comes_by (passage summary) scope.cert.cond summary.pre state hints ≡ Ok left → list_all (may_write scope) summary.writes ≡ true
-    → All (λ post. Follows scope state (left_state scope.style scope.cert.cond (passage summary) summary.pre (symbols_of summary.pre) state post)) summary.posts
+use Rattle.cert_check.proofs.LeftFollowing.{summary_follows}
 
 -- what walks are taken under
 pub record Told (scope : Scope) : Type 0 where
   pub sound : IsSound scope.style
   pub limits : HasSmallLimits scope.cert.cond
+  pub fields : HasSmallFields scope.cert.cond
   pub summaries : All (IsSummaryOf scope.style) scope.cert.summaries
-  pub left : LeftFollows scope
 
 -- the variable that `:=` binds is one that may be written
 written_is : (scope : Scope) (o : Builtin) (old new : State) → o ≡ op.Assign → (a : Assigns scope.style old new)
@@ -227,4 +222,4 @@ used_moved scope place summary state course after told is made e =
     (counts_moved scope state (length summary.writes) place left counted.0 counted.1)
     (all_given scope state place _ counted.0 after
     (left_all scope state (left_state scope.style scope.cert.cond (passage summary) summary.pre (symbols_of summary.pre) state) summary.posts
-    (told.left summary state course.hints mid.0 is made (placed_ok place shown mid.0 mid.1) may.0)) counted.2))
+    (summary_follows scope summary state course.hints mid.0 told.fields is made (placed_ok place shown mid.0 mid.1) may.0)) counted.2))

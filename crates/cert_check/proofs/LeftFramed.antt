@@ -20,7 +20,7 @@ use Rattle.cert_check.proofs.Leaving.{entry_bound, facts_bound, fields_bound, ot
 use Rattle.cert_check.proofs.LeftMade.{binds_next}
 
 -- what holds of each name holds of the names of their seats
-seats_all : (P : NameId → Type 0) (binds : List Bind) (first : ℕ) (names : List NameId) → AllByRecursion P names
+pub seats_all : (P : NameId → Type 0) (binds : List Bind) (first : ℕ) (names : List NameId) → AllByRecursion P names
     → AllByRecursion (λ b. P b.name) (seats binds first names)
 seats_all P binds first [] all = tt
 seats_all P binds first (name ∷ names) all = by_seat (symbol_at name binds) (λ n. seats_all P binds n names all.1)

@@ -147,7 +147,7 @@ places_below style state pre made =
     (binds_below n state.vars pre.vars made.vars) (binds_below n state.fields pre.fields made.fields))
 
 -- a symbol that a post's own symbol stands for is the state's
-named_below : (style : Style) (unit : Passage) (state : State) (found : Option NameId) (t : Sym) → WellMade style state
+pub named_below : (style : Style) (unit : Passage) (state : State) (found : Option NameId) (t : Sym) → WellMade style state
     → option_and_then (unwritten unit state) found ≡ Some t → t.0 < state.next
 named_below style unit state None t made e = absurd (cc)
 named_below style unit state (Some name) t made e =
@@ -179,7 +179,7 @@ own_below style unit state post s (suc more) next n made old few =
           (own_below style unit state post (suc s) more (next + 1) n made old (omega (arith, few')))
     ] refl few
 
-own_has : (unit : Passage) (state : State) (post : Piece) (s more next k : ℕ) → s ≤ k → k < s + more
+pub own_has : (unit : Passage) (state : State) (post : Piece) (s more next k : ℕ) → s ≤ k → k < s + more
     → has_place (own_places unit state post s more next) k ≡ true
 own_has unit state post s zero next k low high = absurd (omega arith)
 own_has unit state post s (suc more) next k low high =

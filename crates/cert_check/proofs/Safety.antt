@@ -1,5 +1,5 @@
 -- A configuration that is fine for so many steps, and what waits behind a walk as a continuation.
-use Rattle.std.proofs.Common.{◌≡◌, ◌≢◌, ℕ, zero, suc, ◌≤◌, Bool, false, cond, List, [], ◌∷◌, ◌++◌, length, map, slice_get, option_map, Option, None, Some, Ok, sym, ap, subst, ◌∙◌, arith, inl, inr}
+use Rattle.std.proofs.Common.{◌≡◌, ℕ, zero, suc, ◌≤◌, Bool, cond, List, [], ◌∷◌, ◌++◌, length, map, slice_get, option_map, Option, None, Some, Ok, sym, ap, subst, ◌∙◌, arith, inl, inr}
 use Rattle.std.proofs.lemmas.List.{length-map}
 use Rattle.name_table.specs.Sound.{IsSound, block_of}
 use Rattle.name_table.specs.declared.style.BodyId.{BodyId}
@@ -22,12 +22,8 @@ use Rattle.sym_state.specs.Symbols.{Agrees, Valuation}
 use Rattle.sym_state.specs.WellMade.{WellMade}
 use Rattle.refinements.specs.Covered.{IsAmong}
 use Rattle.cert_check.specs.Walks.{Scope}
+pub use Rattle.cert_check.specs.Safely.{Remains, SafeFor}
 use Rattle.cert_check.proofs.Followed.{Follows, follows_twice}
-
--- the configuration is fine, and so are those of the next n steps
-abbrev pub SafeFor : Style → ℕ → Config → Type 0
-SafeFor style zero c = IsFine style c
-SafeFor style (suc n) c = IsFine style c × SafeFor style n (step style c)
 
 pub less : (style : Style) (n : ℕ) (c : Config) → SafeFor style (suc n) c → SafeFor style n c
 less style zero c safe = safe.0
@@ -54,18 +50,6 @@ pub one_before : (style : Style) (frame : Frame) (frames : List Frame) (n : ℕ)
     → SafeFor style n (frame_step style frame frames frame.tokens c) → SafeFor style (suc n) c
 one_before style frame frames n c f safe =
     (framed_fine style frame frames c f, subst (SafeFor style n) (sym (step_is style frame frames c f)) safe)
-
--- what stays of a configuration while a call goes on: the commands, the visit, the entries but for the variables of the one
--- that is visited, and all of them where the state isn't at an entry; these frames wait
-pub record Remains (at_entry : Bool) (frames : List Frame) (c d : Config) : Type 0 where
-  pub goes : d.stopped ≡ None
-  pub waiting : d.frames ≡ frames
-  pub commands : d.commands ≡ c.commands
-  pub running : d.running ≡ c.running
-  pub visit : d.visit ≡ c.visit
-  pub order : map placed d.entries ≡ map placed c.entries
-  pub others : (at : ℕ) → visited_index c ≢ Some at → slice_get d.entries at ≡ slice_get c.entries at
-  pub entries : at_entry ≡ false → d.entries ≡ c.entries
 
 same_length : (xs ys : List EntryState) → map placed xs ≡ map placed ys → length xs ≡ length ys
 same_length xs ys e = sym (length-map xs placed) ∙ ap length e ∙ length-map ys placed

@@ -223,7 +223,7 @@ if_else_moved scope enter place (c ∷ (b ∷ (a ∷ rest))) state told enters m
 abbrev pub AreSound : Scope → List TokenAt → Type 0
 AreSound scope tokens = Each (λ at. IsTokenSound scope.style.names scope.style.bodies scope.style.texts at.token) tokens
 
-chosen_moved : (scope : Scope) (enter : Enter) (place : Place) (state : State) → Told scope → Enters scope enter → WellMade scope.style state
+pub chosen_moved : (scope : Scope) (enter : Enter) (place : Place) (state : State) → Told scope → Enters scope enter → WellMade scope.style state
     → Moves scope (chosen_in scope enter place) state
 chosen_moved scope enter place state told enters made course after e =
     if_else_moved scope enter place (reverse state.stack) state told enters made (all_reversed state.next state.stack made.stack) course after e

@@ -1,5 +1,5 @@
 -- Bodies that are walked are safe where the uses of summaries are, for fewer steps.
-use Rattle.std.proofs.Common.{◌≡◌, ℕ, zero, suc, ◌<◌, ◌≤◌, reverse, Option, None, Some, Ok, refl, sym, subst, arith}
+use Rattle.std.proofs.Common.{◌≡◌, ℕ, zero, suc, ◌<◌, reverse, Option, None, Some, Ok, refl, sym, subst, arith}
 use Rattle.bv_base.specs.declared.place.Place.{Place}
 use Rattle.name_table.specs.declared.builtin.Builtin.{Builtin}
 use Rattle.name_table.specs.declared.builtin.Builtin.TheVariants as op
@@ -24,7 +24,7 @@ use Rattle.cert_check.proofs.Safety.{SafeFor, Start}
 use Rattle.cert_check.proofs.Walked.{Enters, body_moved}
 
 -- `if$` on the stack of the state
-chosen_safe : (scope : Scope) (list : EntryList) (n : ℕ) (enter : Enter) (place at : Place) (s : Start scope list) (o : Builtin) → Told scope → Fits scope.style list
+pub chosen_safe : (scope : Scope) (list : EntryList) (n : ℕ) (enter : Enter) (place at : Place) (s : Start scope list) (o : Builtin) → Told scope → Fits scope.style list
     → Enters scope enter → Levels scope list n enter → o ≡ op.IfElse → IsWellFormed scope.style list (after_function scope list o at s)
     → OnwardSafe scope list n (chosen_in scope enter place) s (after_function scope list o at s)
 chosen_safe scope list n enter place at s o told fits moves levels is formed course after e safe =
@@ -52,15 +52,6 @@ bodies_safe scope list (suc depth) (suc n) told fits uses =
       blocks = λ m few body. uses m (omega (arith, few)) (Block body);
       uses = λ m few. uses m (omega (arith, few));
     }) (uses n (omega arith)))
-
--- what is safe in a walk of the greatest depth where uses are: those of blocks for as many steps
-pub deepest : (scope : Scope) (list : EntryList) (n : ℕ) → Told scope → Fits scope.style list → ((m : ℕ) → m < n → (target : Target) → UseSafe scope list m target)
-    → ((m : ℕ) → m ≤ n → (target : Target) → UseSafe scope list m target) → Levels scope list n (body_walked scope MOST_DEPTH)
-deepest scope list n told fits uses blocks = record {
-  enters = λ m few. bodies_safe scope list MOST_DEPTH m told fits (λ k less. uses k (omega (arith, few, less)));
-  blocks = λ m few body. blocks m few (Block body);
-  uses = uses;
-}
 
 own_named : (scope : Scope) (list : EntryList) (n : ℕ) (found : Option Kind) (name : NameId) (place at : Place) (s : Start scope list) → Told scope → Fits scope.style list
     → Levels scope list n (body_walked scope MOST_DEPTH) → kind_of scope.style name ≡ found → IsWellFormed scope.style list (call_step scope.style found name at s.c)

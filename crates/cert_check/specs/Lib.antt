@@ -5,3 +5,4 @@ pub mod Certified
 pub mod Given
 pub mod Walks
 pub mod Units
+pub mod Safely

@@ -2,6 +2,7 @@
 #![tactic(auto)]
 
 mod course;
+pub mod laws;
 pub mod limits;
 mod literals;
 pub mod refusal;

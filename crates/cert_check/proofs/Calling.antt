@@ -1,0 +1,190 @@
+-- The call of a command that is walked is safe where all summaries are checked.
+use Rattle.std.proofs.Common.{◌≡◌, ℕ, true, nat_eq, List, [], ◌∷◌, ◌++◌, slice_get, Option, Some, Ok, sym, ap, subst, ◌∙◌, append_assoc, arith, inl, inr}
+use Rattle.std.specs.List.{All}
+use Rattle.std.specs.Option.{option_map_or}
+use Rattle.std.proofs.lemmas.Bool.Decides.{nat_tests}
+use Rattle.std.proofs.lemmas.List.{append-nil}
+use Rattle.std.proofs.lemmas.List.Elements.{All-head, All-tail}
+use Rattle.bv_base.specs.declared.place.Place.{Place}
+use Rattle.bv_base.proofs.ThenLemmas.{ok_is, then_ok}
+use Rattle.name_table.specs.Sound.{IsSound}
+use Rattle.name_table.specs.declared.names.Kind.{Kind}
+use Rattle.name_table.specs.declared.style.Style.{Style}
+use Rattle.bst_meaning.specs.Config.{Config}
+use Rattle.bst_meaning.specs.Entries.{Fits}
+use Rattle.bst_meaning.specs.Invariant.{IsWellFormed}
+use Rattle.bst_meaning.specs.Machine.{call_step}
+use Rattle.bst_meaning.specs.declared.entry.EntryList.{EntryList}
+use Rattle.bst_meaning.specs.declared.value.Target.{Target}
+use Rattle.bst_meaning.specs.declared.value.Target.TheVariants.{Named, Block}
+use Rattle.bst_meaning.specs.declared.value.Value.{Value}
+use Rattle.cert_format.specs.declared.cert.Cert.{Cert}
+use Rattle.cert_format.specs.declared.cert.Summary.{Summary}
+use Rattle.sym_state.specs.State.{State}
+use Rattle.sym_state.specs.Symbols.{Valuation}
+use Rattle.sym_state.specs.WellMade.{WellMade}
+use Rattle.sym_state.specs.declared.hint.Hint.{Hint}
+use Rattle.refinements.specs.Covered.{IsAmong}
+use Rattle.cert_check.specs.Certified.{IsCertified}
+use Rattle.cert_check.specs.Courses.{Course}
+use Rattle.cert_check.specs.Safely.{EntersSafely, IsAllChecked, IsAt, SafeFor, target_step}
+use Rattle.cert_check.specs.Units.{beginning, call_walked, everywhere, summary_checked, target_entered, target_from}
+use Rattle.cert_check.specs.Walks.{Scope, body_walked, chosen_in, is_target, summary_used}
+use Rattle.cert_check.specs.declared.limits.TheConstants.{MOST_DEPTH}
+use Rattle.cert_check.proofs.Branching.{Levels}
+use Rattle.cert_check.proofs.Choosing.{name_safe}
+use Rattle.cert_check.proofs.Entering.{OnwardSafe, UseSafe, entered_safe}
+use Rattle.cert_check.proofs.Keeping.{Told}
+use Rattle.cert_check.proofs.Safety.{Laws, SafeAfter, Start, safe_fewer}
+use Rattle.cert_check.proofs.Using.{IsChecked, uses_safe}
+use Rattle.cert_check.proofs.Walked.{Moves, body_moved, chosen_moved, entered_moved, name_moved}
+use Rattle.cert_check.proofs.Walking.{bodies_safe, chosen_safe}
+
+-- what is safe where the use of every summary is
+all_levels : (scope : Scope) (list : EntryList) (n : ℕ) → Told scope → Fits scope.style list → ((m : ℕ) (target : Target) → UseSafe scope list m target)
+    → Levels scope list n (body_walked scope MOST_DEPTH)
+all_levels scope list n told fits uses = record {
+  enters = λ m few. bodies_safe scope list MOST_DEPTH m told fits (λ k less target. uses k target);
+  blocks = λ m few body. uses m (Block body);
+  uses = λ m less target. uses m target;
+}
+
+-- a target that is entered
+target_safe : (scope : Scope) (list : EntryList) (n : ℕ) (target : Target) (place at : Place) (s : Start scope list) → Told scope → Fits scope.style list
+    → ((m : ℕ) (target : Target) → UseSafe scope list m target) → IsWellFormed scope.style list (target_step scope.style target at s.c)
+    → OnwardSafe scope list n (target_entered scope place target) s (target_step scope.style target at s.c)
+target_safe scope list n (Named name) place at s told fits uses formed course after e safe =
+    let levels = all_levels scope list n told fits uses in
+    let enter = body_walked scope MOST_DEPTH in
+    name_safe scope list n enter (chosen_in scope enter place) name place at s told (levels.enters n (omega arith)) (uses n (Named name)) formed
+    (λ o known is. chosen_safe scope list n enter place at s o told fits (body_moved scope MOST_DEPTH told) levels is
+    (subst (λ (k : Option Kind). IsWellFormed scope.style list (call_step scope.style k name at s.c)) known formed)) course after e safe
+target_safe scope list n (Block body) place at s told fits uses formed course after e safe =
+    let levels = all_levels scope list n told fits uses in
+    entered_safe scope list n place at (Block body) (body_walked scope MOST_DEPTH place body) s (uses n (Block body)) formed
+    (λ begun ended walk waits. levels.enters n (omega arith) place at body s begun ended walk formed waits) course after e safe
+
+target_moved : (scope : Scope) (target : Target) (place : Place) (state : State) → Told scope → WellMade scope.style state
+    → Moves scope (target_entered scope place target) state
+target_moved scope (Named name) place state told made =
+    let enter = body_walked scope MOST_DEPTH in
+    name_moved scope enter (chosen_in scope enter place) place name state told (body_moved scope MOST_DEPTH told) made
+    (chosen_moved scope enter place state told (body_moved scope MOST_DEPTH told) made)
+target_moved scope (Block body) place state told made =
+    entered_moved scope place (Block body) (body_walked scope MOST_DEPTH place body) state told made (body_moved scope MOST_DEPTH told place body state made)
+
+-- what was given before stays before what later states give
+record GivesMore (before after : Course) : Type 0 where
+  more : List State
+  given : after.given ≡ before.given ++ more
+
+from_more : (scope : Scope) (target : Target) (place : Place) (states : List State) (course after : Course) → Told scope → All (WellMade scope.style) states
+    → target_from scope place target states course ≡ Ok after → GivesMore course after
+from_more scope target place [] course after told made e =
+    record { more = []; given = ap (λ (c : Course). c.given) (ok_is course after e) ∙ sym (append-nil course.given) }
+from_more scope target place (state ∷ states) course after told made e =
+    let first = then_ok (target_entered scope place target state course) (target_from scope place target states) after e in
+    let one = target_moved scope target place state told (All-head (WellMade scope.style) state states made) course first.0 first.1 in
+    let rest = from_more scope target place states first.0 after told (All-tail (WellMade scope.style) state states made) first.2 in
+    record {
+      more = one.more ++ rest.more;
+      given = rest.given ∙ ap (λ (l : List State). l ++ rest.more) one.given ∙ append_assoc course.given one.more rest.more;
+    }
+
+-- a target that is entered from one of these states
+from_safe : (scope : Scope) (list : EntryList) (n : ℕ) (target : Target) (place at : Place) (s : Start scope list) (states : List State) (course after : Course)
+    → Told scope → Fits scope.style list → ((m : ℕ) (target : Target) → UseSafe scope list m target)
+    → IsWellFormed scope.style list (target_step scope.style target at s.c) → All (WellMade scope.style) states → IsAmong s.state states
+    → target_from scope place target states course ≡ Ok after → SafeAfter scope list n s.c.frames s after.given
+    → SafeFor scope.style n (target_step scope.style target at s.c)
+from_safe scope list n target place at s [] course after told fits uses formed made among e safe = absurd among
+from_safe scope list n target place at s (state ∷ states) course after told fits uses formed made among e safe =
+    let first = then_ok (target_entered scope place target state course) (target_from scope place target states) after e in
+    let later = All-tail (WellMade scope.style) state states made in
+    elim among [
+      | inl is ↦
+          let rest = from_more scope target place states first.0 after told later first.2 in
+          target_safe scope list n target place at s told fits uses formed course first.0
+          (subst (λ (x : State). target_entered scope place target x course ≡ Ok first.0) (sym is) first.1)
+          (safe_fewer scope list n s.c.frames s first.0.given rest.more after.given rest.given safe)
+      | inr there ↦ from_safe scope list n target place at s states first.0 after told fits uses formed later there first.2 safe
+    ]
+
+-- what holds of each holds of one among them
+among_made : (style : Style) (state : State) (all : List State) → All (WellMade style) all → IsAmong state all → WellMade style state
+among_made style state [] fine there = absurd there
+among_made style state (first ∷ all) fine (inl same) = subst (WellMade style) (sym same) (All-head (WellMade style) first all fine)
+among_made style state (first ∷ all) fine (inr later) = among_made style state all (All-tail (WellMade style) first all fine) later
+
+-- a state that stands for a configuration is where a walk may start
+abbrev start_at : (laws : Laws) (scope : Scope) (list : EntryList) (v : Valuation) (state : State) (target : Target) (at : Place) (c : Config) (below : List Value)
+    → WellMade scope.style state → IsAt scope.style scope.cert.cond list v state target at c below → Start scope list
+start_at laws scope list v state target at c below made is = record {
+  laws = laws;
+  v = v;
+  state = state;
+  c = c;
+  below = below;
+  made = made;
+  goes = is.goes;
+  formed = is.formed;
+  stands = is.stands;
+}
+
+each_checked : (style : Style) (cert : Cert) → IsAllChecked style cert → (k : ℕ) (summary : Summary) → slice_get cert.summaries k ≡ Some summary
+    → IsChecked style cert summary
+each_checked style cert checked k summary there = record {
+  left = [];
+  checked = sym (ap (λ (o : Option Summary). option_map_or (summary_checked style cert) o (Ok [])) there) ∙ checked k;
+}
+
+told_by : (scope : Scope) → IsSound scope.style → IsCertified scope.style scope.cert → Told scope
+told_by scope sound certified =
+    record { sound = sound; limits = certified.limits; fields = certified.fields; summaries = certified.summaries }
+
+-- the call of a command
+pub call_safe : (laws : Laws) (style : Style) (cert : Cert) (list : EntryList) (states : List State) (target : Target) (place at : Place) (hints : List Hint)
+    (after : Course) (n : ℕ) → IsSound style → Fits style list → IsCertified style cert → IsAllChecked style cert → All (WellMade style) states
+    → call_walked style cert states target place hints ≡ Ok after → EntersSafely (everywhere style cert) list n target at states after.given
+call_safe laws style cert list states target place at hints after n sound fits certified checked made e state v c below among is safe =
+    let scope : Scope = everywhere style cert in
+    let told : Told scope = told_by scope sound certified in
+    from_safe scope list n target place at (start_at laws scope list v state target at c below (among_made style state states made among) is) states (beginning hints) after
+    told fits (uses_safe scope list told fits (each_checked style cert checked)) is.enters made among e
+    (λ end w d given reached. safe end w d given (record {
+      follows = reached.follows;
+      agrees = reached.agrees;
+      remains = reached.remains;
+      formed = reached.formed;
+      stands = reached.stands;
+    }))
+
+same_self : (n : ℕ) → nat_eq n n ≡ true
+same_self n = grind (arith, nat_tests)
+
+target_self : (target : Target) → is_target target target ≡ true
+target_self (Named name) = same_self name.0
+target_self (Block body) = same_self body.0
+
+-- the use of a summary
+pub use_safe : (laws : Laws) (scope : Scope) (list : EntryList) (k : ℕ) (summary : Summary) (first : State) (place at : Place) (course after : Course) (n : ℕ)
+    → IsSound scope.style → Fits scope.style list → IsCertified scope.style scope.cert → IsAllChecked scope.style scope.cert
+    → slice_get scope.cert.summaries k ≡ Some summary → WellMade scope.style first → summary_used scope place summary first course ≡ Ok after
+    → EntersSafely scope list n summary.body at (first ∷ []) after.given
+use_safe laws scope list k summary first place at course after n sound fits certified checked there made e state v c below among is safe =
+    let told : Told scope = told_by scope sound certified in
+    let only = same_one among in
+    uses_safe scope list told fits (each_checked scope.style scope.cert checked) n summary.body k summary place at
+    (start_at laws scope list v state summary.body at c below (subst (WellMade scope.style) (sym only) made) is) there (target_self summary.body) is.enters course after
+    (subst (λ (x : State). summary_used scope place summary x course ≡ Ok after) (sym only) e)
+    (λ end w d given reached. safe end w d given (record {
+      follows = reached.follows;
+      agrees = reached.agrees;
+      remains = reached.remains;
+      formed = reached.formed;
+      stands = reached.stands;
+    }))
+  where
+    same_one : IsAmong state (first ∷ []) → state ≡ first
+    same_one (inl same) = same
+    same_one (inr none) = absurd none
