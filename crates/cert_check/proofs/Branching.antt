@@ -48,7 +48,7 @@ use Rattle.cert_check.proofs.Entering.{OnwardSafe, UseSafe, after_function}
 use Rattle.cert_check.proofs.Exactly.{exact_is}
 use Rattle.cert_check.proofs.Inverted.{placed_ok}
 use Rattle.cert_check.proofs.Keeping.{Told}
-use Rattle.cert_check.proofs.Safety.{Reaches, SafeFor, Start, onward, remains_framed, safe_fewer, safe_on}
+use Rattle.cert_check.proofs.Safety.{Reaches, SafeFor, Start, onward, remains_framed, safe_fewer, safe_on, spot_at}
 use Rattle.cert_check.proofs.Tokens.{among_all}
 use Rattle.cert_check.proofs.Walked.{Calls, CaseFollows, Enters, cases_follow, if_else_moved, name_moved, three_ok}
 
@@ -104,7 +104,7 @@ if_else_safe scope list enter place at (c ∷ (b ∷ (a ∷ rest))) n s told fit
     let follow = cases_follow scope s.state rest split.0.cases under
     (above_made scope.style scope.cert.cond popped a course.hints split.0 (rest_made scope.style s.state rest s.made under) old cases)
     (above_left scope.cert.cond popped a course.hints split.0 cases) in
-    let spot : Spot = record { style = scope.style; admits = scope.cert.cond; list = list; v = s.v; state = s.state; c = s.c; below = s.below; place = at; made = s.made; stands = s.stands } in
+    let spot : Spot = spot_at scope list s at in
     let top = function_is (s.v.value c.0) (kind_met spot Func c met.top) in
     let middle = function_is (s.v.value b.0) (kind_met spot Func b met.middle) in
     let lowest = integer_is (s.v.value a.0) (kind_met spot Int a met.lowest) in

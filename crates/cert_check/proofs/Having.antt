@@ -269,7 +269,7 @@ have_value s at_entry name Field formed there is takes =
 have_value s at_entry name _ formed there is takes = absurd (cc)
 
 -- what holds of each number whose kind passes a test holds of the ids
-all_ids : (P : NameId → Type 0) (test : Kind → Bool) (id : ℕ) (names : List (List ℕ × Kind))
+pub all_ids : (P : NameId → Type 0) (test : Kind → Bool) (id : ℕ) (names : List (List ℕ × Kind))
     → ((i : ℕ) (k : Kind) → kind_at (record { 0 = i }) names ≡ Some k → test k ≡ true → P (record { 0 = id + i }))
     → AllByRecursion P (ids_from test id names)
 all_ids P test id [] each = tt

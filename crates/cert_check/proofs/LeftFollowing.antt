@@ -1,10 +1,8 @@
 -- Each state that a used summary leaves follows the state that came to it.
-use Rattle.std.proofs.Common.{◌≡◌, ℕ, zero, suc, ◌+◌, Bool, true, false, cond, nat_eq, List, [], ◌∷◌, map, Option, None, Some, Ok, refl, ap, subst, ◌∙◌, arith}
+use Rattle.std.proofs.Common.{◌≡◌, ℕ, ◌+◌, Bool, true, false, cond, nat_eq, List, [], ◌∷◌, map, Option, None, Some, Ok, refl, ap, subst, ◌∙◌, arith}
 use Rattle.std.specs.List.{All, AllByRecursion, list_all}
 use Rattle.std.specs.Option.{option_map_or}
-use Rattle.std.proofs.lemmas.Bool.Decides.{nat_tests}
 use Rattle.std.proofs.lemmas.List.Elements.{All-head, All-tail, All-weaker}
-use Rattle.name_table.specs.Names.{kind_at}
 use Rattle.name_table.specs.declared.names.Kind.{Kind}
 use Rattle.name_table.specs.declared.names.Kind.TheVariants as kind
 use Rattle.name_table.specs.declared.names.NameId.{NameId}
@@ -18,78 +16,65 @@ use Rattle.sym_state.specs.WellMade.{HasSmallFields, WellMade, ids_from, is_fiel
 use Rattle.sym_state.specs.declared.hint.Hint.{Hint}
 use Rattle.sym_state.specs.declared.piece.Piece.{Piece}
 use Rattle.sym_state.specs.declared.symbol.Bind.{Bind}
-use Rattle.builtin_effects.proofs.Rebinding.{Differs, later_differ}
+use Rattle.sym_state.specs.declared.symbol.Sym.{Sym}
 use Rattle.cert_check.specs.Certified.{IsPostOf, IsSummaryOf}
 use Rattle.cert_check.specs.Uses.{comes_by, left_state, passage}
 use Rattle.cert_check.specs.Walks.{Scope, may_write}
 use Rattle.cert_check.proofs.Followed.{Follows}
+use Rattle.cert_check.proofs.Having.{all_ids}
 use Rattle.cert_check.proofs.LeftFramed.{left_framed}
 use Rattle.cert_check.proofs.LeftMade.{left_made}
+use Rattle.cert_check.proofs.Symbols.{same_name}
 
--- a name that no binding has isn't bound
-none_of : (name : NameId) (binds : List Bind) → Differs name.0 binds → symbol_at name binds ≡ None
-none_of name [] differ = refl
-none_of name (b ∷ binds) differ =
-    ap (λ (t : Bool). cond t (Some b.sym) (symbol_at name binds)) differ.0 ∙ none_of name binds differ.1
-
-lower_differs : (n id i : ℕ) → n ≡ id → nat_eq n (id + suc i) ≡ false
-lower_differs n id i e = grind (arith, nat_tests)
-
-first_unbound : (id i : ℕ) (rest : List NameId) (binds : List Bind) → map (λ b. b.name) binds ≡ record { 0 = id } ∷ rest
-    → ((bs : List Bind) → map (λ b. b.name) bs ≡ rest → symbol_at (record { 0 = suc id + i }) bs ≡ None)
-    → symbol_at (record { 0 = id + suc i }) binds ≡ None
-first_unbound id i rest [] e later = absurd (cc)
-first_unbound id i rest (b ∷ binds) e later =
-    let head : b.name ≡ record { 0 = id } = cc in
-    let tail : map (λ b. b.name) binds ≡ rest = cc in
-    let next : suc id + i ≡ id + suc i = omega arith in
-    ap (λ (t : Bool). cond t (Some b.sym) (symbol_at (record { 0 = id + suc i }) binds)) (lower_differs b.name.0 id i (ap (λ (n : NameId). n.0) head))
-    ∙ subst (λ (n : ℕ). symbol_at (record { 0 = n }) binds ≡ None) next (later binds tail)
-
--- nor is one whose kind isn't that of the names which are bound
-unbound_at : (test : Kind → Bool) (id i : ℕ) (names : List (List ℕ × Kind)) (found : Kind) (binds : List Bind)
-    → kind_at (record { 0 = i }) names ≡ Some found → test found ≡ false → map (λ b. b.name) binds ≡ ids_from test id names
-    → symbol_at (record { 0 = id + i }) binds ≡ None
-unbound_at test id i [] found binds is fails e = absurd (cc)
-unbound_at test id zero (name ∷ names) found binds is fails e =
-    let same : found ≡ name.1 = cc in
-    let skips : test name.1 ≡ false = subst (λ (k : Kind). test k ≡ false) same fails in
-    let ids : map (λ b. b.name) binds ≡ ids_from test (suc id) names =
-    e ∙ ap (λ (t : Bool). cond t (record { 0 = id } ∷ ids_from test (suc id) names) (ids_from test (suc id) names)) skips in
-    none_of (record { 0 = id + 0 }) binds (later_differ test (suc id) (id + 0) names binds (omega arith) ids)
-unbound_at test id (suc i) (name ∷ names) found binds is fails e =
-    let rest : List NameId = ids_from test (suc id) names in
-    let next : suc id + i ≡ id + suc i = omega arith in
-    elim (test name.1) as (λ (t : Bool). map (λ b. b.name) binds ≡ cond t (record { 0 = id } ∷ rest) rest
-    → symbol_at (record { 0 = id + suc i }) binds ≡ None) [
-      | true ↦ λ at. first_unbound id i rest binds at (λ bs ids. unbound_at test (suc id) i names found bs is fails ids)
-      | false ↦ λ at. subst (λ (n : ℕ). symbol_at (record { 0 = n }) binds ≡ None) next (unbound_at test (suc id) i names found binds is fails at)
-    ] e
+-- what holds of each name that is bound holds of one that has a symbol
+named_has : (P : NameId → Type 0) (binds : List Bind) (names : List NameId) (name : NameId) (s : Sym) → map (λ b. b.name) binds ≡ names
+    → AllByRecursion P names → symbol_at name binds ≡ Some s → P name
+named_has P [] names name s e all found = absurd (cc)
+named_has P (b ∷ binds) [] name s e all found = absurd (cc)
+named_has P (b ∷ binds) (first ∷ names) name s e all found =
+    let head : first ≡ b.name = cc in
+    let tail : map (λ b. b.name) binds ≡ names = cc in
+    elim (nat_eq b.name.0 name.0) as (λ (t : Bool). nat_eq b.name.0 name.0 ≡ t → cond t (Some b.sym) (symbol_at name binds) ≡ Some s → P name) [
+      | true ↦ λ is there. subst P (head ∙ same_name b.name name is) all.0
+      | false ↦ λ is there. named_has P binds names name s tail all.1 there
+    ] refl found
 
 -- no field is a variable, whether an entry is visited or not
-not_field : (unit_entry at_entry : Bool) (found : Kind) → is_variable unit_entry found ≡ true → is_field at_entry found ≡ false
-not_field unit_entry at_entry kind.Field e = absurd (cc)
-not_field unit_entry at_entry _ e = refl
+not_field : (unit_entry at_entry : Bool) (found : Option Kind) → option_map_or (is_variable unit_entry) found false ≡ true
+    → option_map_or (is_field at_entry) found false ≡ true → ⊥
+not_field unit_entry at_entry None e f = cc
+not_field unit_entry at_entry (Some kind.Field) e f = cc
+not_field unit_entry at_entry (Some _) e f = cc
 
 -- a variable isn't among the fields
-variable_unbound : (style : Style) (state : State) (unit_entry : Bool) (name : NameId) (found : Option Kind) → WellMade style state
-    → kind_of style name ≡ found → option_map_or (is_variable unit_entry) found false ≡ true → symbol_at name state.fields ≡ None
-variable_unbound style state unit_entry name None made is variable = absurd (cc)
-variable_unbound style state unit_entry name (Some found) made is variable =
-    let none : 0 + name.0 ≡ name.0 = omega arith in
-    subst (λ (n : ℕ). symbol_at (record { 0 = n }) state.fields ≡ None) none
-    (unbound_at (is_field state.at_entry) 0 name.0 style.names found state.fields is (not_field unit_entry state.at_entry found variable) made.binds_fields)
+variable_unbound : (style : Style) (state : State) (unit_entry : Bool) (name : NameId) → WellMade style state
+    → option_map_or (is_variable unit_entry) (kind_of style name) false ≡ true → symbol_at name state.fields ≡ None
+variable_unbound style state unit_entry name made variable = by_symbol (symbol_at name state.fields) refl
+  where
+    IsField : NameId → Type 0
+    IsField other = option_map_or (is_field state.at_entry) (kind_of style other) false ≡ true
+
+    fields : AllByRecursion IsField (ids_from (is_field state.at_entry) 0 style.names)
+    fields = all_ids IsField (is_field state.at_entry) 0 style.names (λ i k is passes.
+        let here : i ≡ 0 + i = omega arith in
+        subst (λ (n : ℕ). IsField (record { 0 = n })) here (ap (λ (o : Option Kind). option_map_or (is_field state.at_entry) o false) is ∙ passes))
+
+    by_symbol : (o : Option Sym) → symbol_at name state.fields ≡ o → o ≡ None
+    by_symbol None is = refl
+    by_symbol (Some s) is = absurd (not_field unit_entry state.at_entry (kind_of style name) variable
+        (named_has IsField state.fields (ids_from (is_field state.at_entry) 0 style.names) name s made.binds_fields fields is))
 
 -- nor are those that a unit writes
 pub written_unbound : (style : Style) (state : State) (unit_entry : Bool) (names : List NameId) → WellMade style state
     → All (λ name. option_map_or (is_variable unit_entry) (kind_of style name) false ≡ true) names
     → AllByRecursion (λ name. symbol_at name state.fields ≡ None) names
 written_unbound style state unit_entry [] made all = tt
-written_unbound style state unit_entry (name ∷ names) made all =
-    (variable_unbound style state unit_entry name (kind_of style name) made refl
-    (All-head (λ (name : NameId). option_map_or (is_variable unit_entry) (kind_of style name) false ≡ true) name names all),
-    written_unbound style state unit_entry names made
-    (All-tail (λ (name : NameId). option_map_or (is_variable unit_entry) (kind_of style name) false ≡ true) name names all))
+written_unbound style state unit_entry (name ∷ names) made all = (
+  variable_unbound style state unit_entry name made
+      (All-head (λ (name : NameId). option_map_or (is_variable unit_entry) (kind_of style name) false ≡ true) name names all),
+  written_unbound style state unit_entry names made
+      (All-tail (λ (name : NameId). option_map_or (is_variable unit_entry) (kind_of style name) false ≡ true) name names all),
+)
 
 -- the state that a summary leaves by one of its posts follows the state that came to it
 pub post_follows : (scope : Scope) (summary : Summary) (state : State) (post : Piece) (hints left : List Hint) → HasSmallFields scope.cert.cond

@@ -142,9 +142,10 @@ module _ (scope : Scope) (list : EntryList) (u : Used scope list) (e : EndOf sco
       by_name : (o : Option NameId) → first_name x e.post ≡ o → option_and_then (unwritten (passage u.summary) u.s.state) o ≡ Some there
           → (there.0 < u.s.state.next) × (u.s.v.value there.0 ≡ end_values.value x)
       by_name None first found = absurd (cc)
-      by_name (Some name) first found =
-          (named_below scope.style (passage u.summary) u.s.state (Some name) there u.s.made found,
-          by_among name (is_among u.summary.writes name) first refl found)
+      by_name (Some name) first found = (
+        named_below scope.style (passage u.summary) u.s.state (Some name) there u.s.made found,
+        by_among name (is_among u.summary.writes name) first refl found,
+      )
 
   -- the places of the post's own symbols
   abbrev pub own_list : List (Sym × Sym)

@@ -43,8 +43,8 @@ use Rattle.cert_check.proofs.LeftPlaces.{name_below}
 use Rattle.cert_check.proofs.OwnEnd.{EndOf, Used, end_holds, end_values, name_valued, own_list, own_open, own_scope, own_start, with_own}
 use Rattle.cert_check.proofs.OwnFacts.{gives_each, kind_facts, kind_rows, renamed_facts, renamed_rows}
 use Rattle.cert_check.proofs.OwnFrame.{name_kept, same_visited}
-use Rattle.cert_check.proofs.OwnStart.{below_pre, came_is, nothing_under}
-use Rattle.cert_check.proofs.Safety.{Reaches, Remains, agrees_on}
+use Rattle.cert_check.proofs.OwnStart.{came_is, nothing_under}
+use Rattle.cert_check.proofs.Safety.{Reaches, Remains, agrees_on, onward, spot_at}
 use Rattle.cert_check.proofs.Symbols.{bound_last, by_symbols, not_among}
 
 first_of : (a b : Bool) → a ≡ true → (a || b) ≡ true
@@ -119,18 +119,9 @@ module _ (scope : Scope) (list : EntryList) (u : Used scope list) (e : EndOf sco
 
   -- each written variable has a value of its kind at the end
   abbrev end_spot : Spot
-  end_spot = record {
-    style = scope.style;
-    admits = scope.cert.cond;
-    list = list;
-    v = e.w;
-    state = e.end;
-    c = e.d;
-    below = below_pre scope list u.s u.summary.pre;
-    place = record { line = 1; column = 1 };
-    made = e.reached.follows.made;
-    stands = e.reached.stands;
-  }
+  end_spot =
+      spot_at (own_scope scope u.summary) list (onward (own_scope scope u.summary) list e.frames (own_start scope list u) e.end e.w e.d e.reached)
+      (record { line = 1; column = 1 })
 
   one_has : (name : NameId) (found : Option Kind) → kind_of scope.style name ≡ found → option_map_or (is_variable u.summary.entry) found false ≡ true
       → HasValue scope.style scope.cert.cond e.d.globals (visited_entry e.d) name
@@ -144,7 +135,7 @@ module _ (scope : Scope) (list : EntryList) (u : Used scope list) (e : EndOf sco
   written_have [] all = tt
   written_have (name ∷ names) all = (
     one_has name (kind_of scope.style name) refl
-    (All-head (λ (name : NameId). option_map_or (is_variable u.summary.entry) (kind_of scope.style name) false ≡ true) name names all),
+        (All-head (λ (name : NameId). option_map_or (is_variable u.summary.entry) (kind_of scope.style name) false ≡ true) name names all),
     written_have names (All-tail (λ (name : NameId). option_map_or (is_variable u.summary.entry) (kind_of scope.style name) false ≡ true) name names all),
   )
 

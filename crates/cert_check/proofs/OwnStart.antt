@@ -41,7 +41,7 @@ use Rattle.cert_check.specs.Certified.{IsSummaryOf}
 use Rattle.cert_check.specs.Uses.{Passage, comes_by, fits, fits_stack, passage}
 use Rattle.cert_check.specs.Walks.{Scope}
 use Rattle.cert_check.proofs.Having.{have_values}
-use Rattle.cert_check.proofs.Safety.{Start}
+use Rattle.cert_check.proofs.Safety.{Start, spot_at}
 
 -- a list of which each element stays
 map_same : {X : Type 0} (f : X → X) (xs : List X) → ((x : X) → f x ≡ x) → map f xs ≡ xs
@@ -162,18 +162,7 @@ own_stands scope list s summary hints left is came =
     let fit = came_is scope (passage summary) summary.pre s.state hints left came in
     let v : Valuation = through (match_of s.state summary.pre 0) s.v in
     let holds = shown_piece_holds scope.style scope.cert.cond list s.v s.state s.c s.below summary.pre 0 hints left fit.shown s.stands in
-    let spot : Spot = record {
-      style = scope.style;
-      admits = scope.cert.cond;
-      list = list;
-      v = s.v;
-      state = s.state;
-      c = s.c;
-      below = s.below;
-      place = record { line = 1; column = 1 };
-      made = s.made;
-      stands = s.stands;
-    } in
+    let spot : Spot = spot_at scope list s (record { line = 1; column = 1 }) in
     opened scope.style scope.cert.cond list v (summary.pre ∷ []) summary.whole summary.entry s.c (below_pre scope list s summary.pre)
     (All-cons IsNumbered summary.pre [] is.numbered (All-nil IsNumbered)) (record {
       values = λ n. s.stands.satisfied.values (match_of s.state summary.pre 0 n);

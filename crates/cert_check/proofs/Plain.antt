@@ -37,7 +37,7 @@ use Rattle.cert_check.specs.Courses.{Course, gives, placed}
 use Rattle.cert_check.specs.Walks.{Scope, confined, is_within, plain, written_by}
 use Rattle.cert_check.proofs.Inverted.{confined_ok, placed_ok}
 use Rattle.cert_check.proofs.Keeping.{Told, effect_follows}
-use Rattle.cert_check.proofs.Safety.{SafeAfter, SafeFor, Start}
+use Rattle.cert_check.proofs.Safety.{SafeAfter, SafeFor, Start, spot_at}
 use Rattle.cert_check.proofs.Tokens.{covered_reached, given_among}
 
 -- the top symbol's exact function is a variable that has a value
@@ -167,18 +167,7 @@ plain_safe scope list n s o place at course after told is formed e safe =
     let effect = confined (is_within scope (written_by o s.state)) (effect_of scope.style scope.cert.cond s.state o course.hints) in
     let mid = then_ok (placed place effect) (λ given. gives place given.state (record course { hints = given.hints })) after e in
     let inside = confined_ok (is_within scope (written_by o s.state)) (effect_of scope.style scope.cert.cond s.state o course.hints) mid.0 (placed_ok place effect mid.0 mid.1) in
-    let covers = effect_covers (record {
-      style = scope.style;
-      admits = scope.cert.cond;
-      list = list;
-      v = s.v;
-      state = s.state;
-      c = s.c;
-      below = s.below;
-      place = at;
-      made = s.made;
-      stands = s.stands;
-    }) o course.hints mid.0 inside.1 in
+    let covers = effect_covers (spot_at scope list s at) o course.hints mid.0 inside.1 in
     safe mid.0.state covers.assignment (with_effect scope.style (built_in o (context_of scope.style s.c) s.c.stack) at s.c)
     (given_among place mid.0.state (record course { hints = mid.0.hints }) after mid.2)
     (covered_reached scope list s o at mid.0.state is (effect_follows scope s.state o course.hints mid.0 told s.made inside.0 inside.1)

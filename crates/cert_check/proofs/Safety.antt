@@ -20,6 +20,7 @@ use Rattle.sym_state.specs.State.{State}
 use Rattle.sym_state.specs.Stands.{Stands}
 use Rattle.sym_state.specs.Symbols.{Agrees, Valuation}
 use Rattle.sym_state.specs.WellMade.{WellMade}
+use Rattle.sym_state.proofs.Spots.{Spot}
 use Rattle.refinements.specs.Covered.{IsAmong}
 use Rattle.cert_check.specs.Walks.{Scope}
 pub use Rattle.cert_check.specs.Safely.{Remains, SafeFor}
@@ -107,6 +108,21 @@ pub record Start (scope : Scope) (list : EntryList) : Type 0 where
   pub goes : c.stopped ≡ None
   pub formed : IsWellFormed scope.style list c
   pub stands : Stands scope.style scope.cert.cond list v state c below
+
+-- a start at a place, as rules on states have it
+abbrev pub spot_at : (scope : Scope) (list : EntryList) → Start scope list → Place → Spot
+spot_at scope list s at = record {
+  style = scope.style;
+  admits = scope.cert.cond;
+  list = list;
+  v = s.v;
+  state = s.state;
+  c = s.c;
+  below = s.below;
+  place = at;
+  made = s.made;
+  stands = s.stands;
+}
 
 -- a state that follows a start, by an assignment that agrees on the symbols that were there, above the same values
 pub record Reaches (scope : Scope) (list : EntryList) (frames : List Frame) (s : Start scope list) (after : State) (w : Valuation) (d : Config) : Type 0 where

@@ -22,7 +22,7 @@ same_self n = grind (arith, nat_tests)
 turned : (a b : ℕ) → nat_eq a b ≡ false → nat_eq b a ≡ false
 turned a b e = grind (arith, nat_tests)
 
-same_name : (a b : NameId) → nat_eq a.0 b.0 ≡ true → a ≡ b
+pub same_name : (a b : NameId) → nat_eq a.0 b.0 ≡ true → a ≡ b
 same_name a b e = ap (λ (n : ℕ). let name : NameId = record { 0 = n } in name) (numbers a.0 b.0 e)
   where
     numbers : (m n : ℕ) → nat_eq m n ≡ true → m ≡ n

@@ -56,7 +56,7 @@ use Rattle.cert_check.specs.Walks.{Enter, Scope, literal, number_of, split, test
 use Rattle.cert_check.proofs.Inverted.{gives_all_ok, gives_ok, placed_ok}
 use Rattle.cert_check.proofs.Followed.{Follows}
 use Rattle.cert_check.proofs.Keeping.{Told, bound_below, number_is, of_text, split_follow, test_fits, token_follows, top_follows}
-use Rattle.cert_check.proofs.Safety.{Reaches, SafeAfter, SafeFor, Start, remains_framed}
+use Rattle.cert_check.proofs.Safety.{Reaches, SafeAfter, SafeFor, Start, remains_framed, spot_at}
 
 -- a value is put on top: the state with the new symbol is reached
 put_reached : (scope : Scope) (list : EntryList) (s : Start scope list) (kind : Kinds) (said : Fact) (x : Value) → IsValue x → has_kind kind x ≡ true
@@ -256,18 +256,7 @@ pub test_safe : (scope : Scope) (list : EntryList) (n : ℕ) (s : Start scope li
 test_safe scope list n s o asked place at course after is formed e safe =
     let t = tested o asked is in
     let mid = then_ok (placed place (split_of scope.cert.cond s.state asked course.hints)) (λ cases. gives_all place cases.states (record course { hints = cases.hints })) after e in
-    let one = test_found (record {
-      style = scope.style;
-      admits = scope.cert.cond;
-      list = list;
-      v = s.v;
-      state = s.state;
-      c = s.c;
-      below = s.below;
-      place = at;
-      made = s.made;
-      stands = s.stands;
-    }) asked o course.hints mid.0 t.function (placed_ok place (split_of scope.cert.cond s.state asked course.hints) mid.0 mid.1) in
+    let one = test_found (spot_at scope list s at) asked o course.hints mid.0 t.function (placed_ok place (split_of scope.cert.cond s.state asked course.hints) mid.0 mid.1) in
     let given = gives_all_ok place mid.0.states (record course { hints = mid.0.hints }) after mid.2 in
     safe one.after one.covers.assignment (with_effect scope.style (built_in o (context_of scope.style s.c) s.c.stack) at s.c)
     (subst (λ (c : Course). IsAmong one.after c.given) (sym given) (among_later one.after course.given mid.0.states one.among))
