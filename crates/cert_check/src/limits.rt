@@ -9,6 +9,3 @@ pub const MOST_COUNT: u32 = 1000000;
 
 /// The most bodies that are walked one in the other, the unit's own included.
 pub const MOST_DEPTH: u32 = 256;
-
-/// The most symbols that a state gets for each that counts.
-pub const MOST_SYMBOLS: u32 = 65;
