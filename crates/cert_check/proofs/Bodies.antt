@@ -11,17 +11,14 @@ use Rattle.name_table.specs.declared.style.Style.{Style}
 use Rattle.name_table.specs.declared.style.Token.{Token}
 use Rattle.name_table.specs.declared.style.TokenAt.{TokenAt}
 use Rattle.bst_meaning.specs.StyleParts.{kind_of, tokens_of}
-use Rattle.bst_meaning.specs.declared.condition.Cond.{Cond}
 use Rattle.bst_meaning.specs.declared.entry.EntryList.{EntryList}
-use Rattle.bst_meaning.specs.declared.value.Value.{Value}
 use Rattle.bst_meaning.specs.Config.{Config, Frame, Whole}
 use Rattle.bst_meaning.specs.Entries.{Fits}
 use Rattle.bst_meaning.specs.Invariant.{IsFrameSound, IsWellFormed}
 use Rattle.bst_meaning.specs.Machine.{call_step, token_step, with_frame}
 use Rattle.sym_state.specs.State.{State}
-use Rattle.sym_state.specs.Stands.{Stands}
-use Rattle.sym_state.specs.Symbols.{Valuation}
 use Rattle.sym_state.proofs.Frames.{agrees_self}
+use Rattle.sym_state.proofs.Pushing.{stands_framed}
 use Rattle.refinements.specs.Covered.{IsAmong}
 use Rattle.refinements.proofs.Covering.{among_later}
 use Rattle.cert_check.specs.Courses.{Course, counts, gives_all}
@@ -29,65 +26,43 @@ use Rattle.cert_check.specs.Walks.{Enter, Scope, body_walked, chosen_in, named, 
 use Rattle.cert_check.proofs.Followed.{Follows, follows_self}
 use Rattle.cert_check.proofs.Inverted.{gives_all_ok}
 use Rattle.cert_check.proofs.Keeping.{Told}
-use Rattle.cert_check.proofs.Safety.{Framed, SafeAfter, SafeFor, Start, among_sooner, formed_step, framed_fine, less, one_before, onward, remains_framed, safe_less, safe_on}
+use Rattle.cert_check.proofs.Safety.{Framed, Reaches, SafeAfter, SafeFor, Start, among_sooner, formed_step, framed_fine, less, one_before, onward, remains_framed, safe_less, safe_on}
 use Rattle.cert_check.proofs.Tokens.{token_safe}
 use Rattle.cert_check.proofs.Walked.{AreSound, Enters, body_moved, body_sound, taken_from_moved}
 
--- other frames
-pub stands_framed : (style : Style) (cond : Cond) (list : EntryList) (v : Valuation) (state : State) (c : Config) (below : List Value) (frames : List Frame)
-    → Stands style cond list v state c below → Stands style cond list v state (record c { frames = frames }) below
-stands_framed style cond list v state c below frames h = record {
-  satisfied = h.satisfied;
-  has_list = record {
-    fits = h.has_list.fits;
-    meets = h.has_list.meets;
-    preamble = h.has_list.preamble;
-    entries = h.has_list.entries;
-    count = h.has_list.count;
-  };
-  visiting = λ entered. let there = h.visiting entered in
-      record { entry = there.entry; is_visited = there.is_visited; visit = there.visit; goes_on = there.goes_on; before = there.before };
-  stack = h.stack;
-  whole = h.whole;
-  vars = h.vars;
-  fields = h.fields;
-}
-
--- the same start with other frames
-abbrev pub framed_start : (scope : Scope) (list : EntryList) (s : Start scope list) (frames : List Frame)
-    → IsWellFormed scope.style list (record s.c { frames = frames }) → Start scope list
-framed_start scope list s frames formed = record {
-  laws = s.laws;
-  v = s.v;
-  state = s.state;
-  c = record s.c { frames = frames };
-  below = s.below;
-  made = s.made;
-  goes = s.goes;
+-- the same state with other frames
+pub framed_reached : (scope : Scope) (list : EntryList) (s : Start scope list) (frames : List Frame)
+    → IsWellFormed scope.style list (record s.c { frames = frames }) → Reaches scope list frames s s.state s.v (record s.c { frames = frames })
+framed_reached scope list s frames formed = record {
+  follows = follows_self scope s.state s.made;
+  agrees = agrees_self s.state.next s.v;
+  remains = remains_framed s.state.at_entry frames s.c (record s.c { frames = frames }) s.goes refl refl refl refl refl;
   formed = formed;
   stands = stands_framed scope.style scope.cert.cond list s.v s.state s.c s.below frames s.stands;
 }
 
+abbrev pub framed_start : (scope : Scope) (list : EntryList) (s : Start scope list) (frames : List Frame)
+    → IsWellFormed scope.style list (record s.c { frames = frames }) → Start scope list
+framed_start scope list s frames formed = onward scope list frames s s.state s.v (record s.c { frames = frames }) (framed_reached scope list s frames formed)
+
 pub safe_framed : (scope : Scope) (list : EntryList) (n : ℕ) (s : Start scope list) (frames waiting : List Frame) (states : List State)
     (formed : IsWellFormed scope.style list (record s.c { frames = frames })) → SafeAfter scope list n waiting s states
     → SafeAfter scope list n waiting (framed_start scope list s frames formed) states
-safe_framed scope list n s frames waiting states formed safe = λ after w d among reached.
-    safe after w d among (record {
-      follows = reached.follows;
-      agrees = reached.agrees;
-      remains = record {
-        goes = reached.remains.goes;
-        waiting = reached.remains.waiting;
-        commands = reached.remains.commands;
-        running = reached.remains.running;
-        visit = reached.remains.visit;
-        order = reached.remains.order;
-        others = reached.remains.others;
-        entries = reached.remains.entries;
-      };
-      formed = reached.formed;
-      stands = reached.stands;
-    })
+safe_framed scope list n s frames waiting states formed =
+    safe_on scope list n frames waiting s s.state s.v (record s.c { frames = frames }) states (framed_reached scope list s frames formed)
+
+-- a configuration of a run with other frames that are sound
+pub formed_framed : (style : Style) (list : EntryList) (c : Config) (frames : List Frame) → IsWellFormed style list c → AllByRecursion (IsFrameSound style) frames
+    → IsWellFormed style list (record c { frames = frames })
+formed_framed style list c frames h sound = record {
+  preamble = h.preamble;
+  commands = h.commands;
+  frames = sound;
+  stack = h.stack;
+  globals = h.globals;
+  entries = h.entries;
+  order = h.order;
+}
 
 -- fewer tokens of the innermost frame
 fewer_tokens : (style : Style) (list : EntryList) (c : Config) (t : TokenAt) (tokens : List TokenAt) (at : Place) (frames : List Frame) → IsWellFormed style list c
@@ -95,15 +70,7 @@ fewer_tokens : (style : Style) (list : EntryList) (c : Config) (t : TokenAt) (to
     → IsWellFormed style list (record c { frames = record { tokens = tokens; place = at; part = Whole } ∷ frames })
 fewer_tokens style list c t tokens at frames h e =
     let all = subst (AllByRecursion (IsFrameSound style)) e h.frames in
-    record {
-      preamble = h.preamble;
-      commands = h.commands;
-      frames = (record { tokens = all.0.tokens.1; part = tt }, all.1);
-      stack = h.stack;
-      globals = h.globals;
-      entries = h.entries;
-      order = h.order;
-    }
+    formed_framed style list c (record { tokens = tokens; place = at; part = Whole } ∷ frames) h (record { tokens = all.0.tokens.1; part = tt }, all.1)
 
 -- the call of a name is safe where what comes after it is
 abbrev pub NamesSafe : Scope → EntryList → ℕ → Enter → Type 0
@@ -156,13 +123,7 @@ tokens_safe scope list n enter told fits enters names [] at frames start s cours
     one_before scope.style frame frames n s.c here
     (safe_less scope list n frames s after.given safe s.state s.v left
     (subst (λ (c : Course). IsAmong s.state c.given) (sym (ok_is course after e)) among)
-    (record {
-      follows = follows_self scope s.state s.made;
-      agrees = agrees_self s.state.next s.v;
-      remains = remains_framed s.state.at_entry frames s.c left s.goes refl refl refl refl refl;
-      formed = formed_step s.laws scope list frame frames s.c told.sound fits here s.formed;
-      stands = stands_framed scope.style scope.cert.cond list s.v s.state s.c s.below frames s.stands;
-    }))
+    (framed_reached scope list s frames (formed_step s.laws scope list frame frames s.c told.sound fits here s.formed)))
 tokens_safe scope list n enter told fits enters names (t ∷ tokens) at frames start s course after sound follow among framed e safe =
     let frame : Frame = record { tokens = t ∷ tokens; place = at; part = Whole } in
     let rest : Frame = record { tokens = tokens; place = at; part = Whole } in

@@ -27,7 +27,7 @@ use Rattle.sym_state.specs.declared.hint.Hint.{Hint}
 use Rattle.refinements.specs.Covered.{IsAmong}
 use Rattle.cert_check.specs.Certified.{IsCertified}
 use Rattle.cert_check.specs.Courses.{Course}
-use Rattle.cert_check.specs.Safely.{EntersSafely, IsAllChecked, IsAt, SafeFor, target_step}
+use Rattle.cert_check.specs.Safely.{EntersSafely, IsAllChecked, IsAt, IsLeft, SafeFor, target_step}
 use Rattle.cert_check.specs.Units.{beginning, call_walked, everywhere, summary_checked, target_entered, target_from}
 use Rattle.cert_check.specs.Walks.{Scope, body_walked, chosen_in, is_target, summary_used}
 use Rattle.cert_check.specs.declared.limits.TheConstants.{MOST_DEPTH}
@@ -35,7 +35,7 @@ use Rattle.cert_check.proofs.Branching.{Levels}
 use Rattle.cert_check.proofs.Choosing.{name_safe}
 use Rattle.cert_check.proofs.Entering.{OnwardSafe, UseSafe, entered_safe}
 use Rattle.cert_check.proofs.Keeping.{Told}
-use Rattle.cert_check.proofs.Safety.{Laws, SafeAfter, Start, safe_fewer}
+use Rattle.cert_check.proofs.Safety.{Laws, Reaches, SafeAfter, Start, safe_fewer}
 use Rattle.cert_check.proofs.Using.{IsChecked, uses_safe}
 use Rattle.cert_check.proofs.Walked.{Moves, body_moved, chosen_moved, entered_moved, name_moved}
 use Rattle.cert_check.proofs.Walking.{bodies_safe, chosen_safe}
@@ -131,6 +131,12 @@ start_at laws scope list v state target at c below made is = record {
   stands = is.stands;
 }
 
+-- a state that is reached from a start is one that its walk leaves
+left_by : (scope : Scope) (list : EntryList) (s : Start scope list) (after : State) (w : Valuation) (d : Config) → Reaches scope list s.c.frames s after w d
+    → IsLeft scope list s.v s.state s.c s.below after w d
+left_by scope list s after w d reached =
+    record { follows = reached.follows; agrees = reached.agrees; remains = reached.remains; formed = reached.formed; stands = reached.stands }
+
 each_checked : (style : Style) (cert : Cert) → IsAllChecked style cert → (k : ℕ) (summary : Summary) → slice_get cert.summaries k ≡ Some summary
     → IsChecked style cert summary
 each_checked style cert checked k summary there = record {
@@ -149,15 +155,10 @@ pub call_safe : (laws : Laws) (style : Style) (cert : Cert) (list : EntryList) (
 call_safe laws style cert list states target place at hints after n sound fits certified checked made e state v c below among is safe =
     let scope : Scope = everywhere style cert in
     let told : Told scope = told_by scope sound certified in
-    from_safe scope list n target place at (start_at laws scope list v state target at c below (among_made style state states made among) is) states (beginning hints) after
+    let start = start_at laws scope list v state target at c below (among_made style state states made among) is in
+    from_safe scope list n target place at start states (beginning hints) after
     told fits (uses_safe scope list told fits (each_checked style cert checked)) is.enters made among e
-    (λ end w d given reached. safe end w d given (record {
-      follows = reached.follows;
-      agrees = reached.agrees;
-      remains = reached.remains;
-      formed = reached.formed;
-      stands = reached.stands;
-    }))
+    (λ end w d given reached. safe end w d given (left_by scope list start end w d reached))
 
 same_self : (n : ℕ) → nat_eq n n ≡ true
 same_self n = grind (arith, nat_tests)
@@ -174,16 +175,10 @@ pub use_safe : (laws : Laws) (scope : Scope) (list : EntryList) (k : ℕ) (summa
 use_safe laws scope list k summary first place at course after n sound fits certified checked there made e state v c below among is safe =
     let told : Told scope = told_by scope sound certified in
     let only = same_one among in
-    uses_safe scope list told fits (each_checked scope.style scope.cert checked) n summary.body k summary place at
-    (start_at laws scope list v state summary.body at c below (subst (WellMade scope.style) (sym only) made) is) there (target_self summary.body) is.enters course after
+    let start = start_at laws scope list v state summary.body at c below (subst (WellMade scope.style) (sym only) made) is in
+    uses_safe scope list told fits (each_checked scope.style scope.cert checked) n summary.body k summary place at start there (target_self summary.body) is.enters course after
     (subst (λ (x : State). summary_used scope place summary x course ≡ Ok after) (sym only) e)
-    (λ end w d given reached. safe end w d given (record {
-      follows = reached.follows;
-      agrees = reached.agrees;
-      remains = reached.remains;
-      formed = reached.formed;
-      stands = reached.stands;
-    }))
+    (λ end w d given reached. safe end w d given (left_by scope list start end w d reached))
   where
     same_one : IsAmong state (first ∷ []) → state ≡ first
     same_one (inl same) = same

@@ -23,10 +23,10 @@ use Rattle.sym_state.specs.declared.symbol.Sym.{Sym}
 use Rattle.refinements.specs.Covered.{IsAmong}
 use Rattle.cert_check.specs.Courses.{Course, counts}
 use Rattle.cert_check.specs.Walks.{Call, Enter, Onward, Scope, cases_entered, entered, entering, exact_target, function_entered, is_wizard, name_entered, named}
-use Rattle.cert_check.proofs.Bodies.{EnterSafe, framed_start, safe_framed, stands_framed}
+use Rattle.cert_check.proofs.Bodies.{EnterSafe, formed_framed, framed_reached, framed_start, safe_framed}
 use Rattle.cert_check.proofs.Entering.{OnwardSafe, UseSafe, after_function, entered_safe, named_safe}
 use Rattle.cert_check.proofs.Keeping.{Told}
-use Rattle.cert_check.proofs.Safety.{Framed, SafeAfter, SafeFor, Start, formed_step, framed_fine, less, one_before, safe_less}
+use Rattle.cert_check.proofs.Safety.{Framed, SafeAfter, SafeFor, Start, formed_step, framed_fine, less, one_before, onward, safe_less, safe_on}
 use Rattle.cert_check.proofs.Walked.{Calls, CaseFollows, Enters, cases_moved}
 
 -- a frame with no token left is returned from
@@ -37,22 +37,11 @@ returned scope list n at frames s states told fits safe = λ after w d among rea
     let frame : Frame = record { tokens = []; place = at; part = Whole } in
     let here : Framed frame frames d = record { goes = reached.remains.goes; framed = reached.remains.waiting } in
     let left : Config = record d { frames = frames } in
-    less scope.style n d (one_before scope.style frame frames n d here (safe after w left among (record {
-      follows = reached.follows;
-      agrees = reached.agrees;
-      remains = record {
-        goes = reached.remains.goes;
-        waiting = refl;
-        commands = reached.remains.commands;
-        running = reached.remains.running;
-        visit = reached.remains.visit;
-        order = reached.remains.order;
-        others = reached.remains.others;
-        entries = reached.remains.entries;
-      };
-      formed = formed_step s.laws scope list frame frames d told.sound fits here reached.formed;
-      stands = stands_framed scope.style scope.cert.cond list w after d s.below frames reached.stands;
-    })))
+    let last = onward scope list (frame ∷ frames) s after w d reached in
+    less scope.style n d
+    (one_before scope.style frame frames n d here
+    (safe_on scope list n (frame ∷ frames) frames s after w d states reached safe after w left among
+    (framed_reached scope list last frames (formed_step s.laws scope list frame frames d told.sound fits here reached.formed))))
 
 -- a name is entered that counts, where the machine calls it
 pub name_safe : (scope : Scope) (list : EntryList) (n : ℕ) (enter : Enter) (other : Onward) (name : NameId) (place at : Place) (s : Start scope list) → Told scope
@@ -85,15 +74,8 @@ frame_safe scope list (suc m) call name at s told fits formed calls course after
     let rest : Frame = record { tokens = []; place = at; part = Whole } in
     let d : Config = with_frame (entered_tokens scope.style (Named name) at) at Whole s.c in
     let here : Framed frame s.c.frames d = record { goes = s.goes; framed = refl } in
-    let empty : IsWellFormed scope.style list (record s.c { frames = rest ∷ s.c.frames }) = record {
-      preamble = formed.preamble;
-      commands = formed.commands;
-      frames = (record { tokens = tt; part = tt }, formed.frames.1);
-      stack = formed.stack;
-      globals = formed.globals;
-      entries = formed.entries;
-      order = formed.order;
-    } in
+    let empty : IsWellFormed scope.style list (record s.c { frames = rest ∷ s.c.frames }) =
+    formed_framed scope.style list s.c (rest ∷ s.c.frames) s.formed (record { tokens = tt; part = tt }, s.formed.frames) in
     let inner : Start scope list = framed_start scope list s (rest ∷ s.c.frames) empty in
     one_before scope.style frame s.c.frames m d here
     (calls m refl inner refl (formed_step s.laws scope list frame s.c.frames d told.sound fits here formed) course after e

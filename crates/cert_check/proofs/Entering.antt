@@ -120,15 +120,5 @@ named_safe scope list n enter other (Some (kind.Wizard body)) name place at s to
     subst (SafeFor scope.style n) there
     (entered_safe scope list n place at (Named name) (enter place body) s uses (subst (IsWellFormed scope.style list) (sym there) formed)
     (λ begun ended walk safe_then. subst (SafeFor scope.style n) (sym there) (enters place at body s begun ended walk formed safe_then)) course after e safe)
-named_safe scope list n enter other (Some kind.Field) name place at s told is enters uses formed chosen course after e safe =
-    by_variable scope list n name place at s course after (Some kind.Field) is formed e safe
-named_safe scope list n enter other (Some kind.IntEntry) name place at s told is enters uses formed chosen course after e safe =
-    by_variable scope list n name place at s course after (Some kind.IntEntry) is formed e safe
-named_safe scope list n enter other (Some kind.StrEntry) name place at s told is enters uses formed chosen course after e safe =
-    by_variable scope list n name place at s course after (Some kind.StrEntry) is formed e safe
-named_safe scope list n enter other (Some kind.IntGlobal) name place at s told is enters uses formed chosen course after e safe =
-    by_variable scope list n name place at s course after (Some kind.IntGlobal) is formed e safe
-named_safe scope list n enter other (Some kind.StrGlobal) name place at s told is enters uses formed chosen course after e safe =
-    by_variable scope list n name place at s course after (Some kind.StrGlobal) is formed e safe
-named_safe scope list n enter other None name place at s told is enters uses formed chosen course after e safe =
-    by_variable scope list n name place at s course after None is formed e safe
+named_safe scope list n enter other _ name place at s told is enters uses formed chosen course after e safe =
+    by_variable scope list n name place at s course after _ is formed e safe

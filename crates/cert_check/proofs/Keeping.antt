@@ -120,20 +120,12 @@ split_moved scope asked place state course after made fits e =
 
 -- no built-in function is the test of a symbol that is named
 pub test_fits : (o : Builtin) (state : State) (asked : Test) → test_of o ≡ Some asked → IsTestOf state asked
-test_fits o state test.Empty e = tt
-test_fits o state test.Missing e = tt
-test_fits o state test.Equal e = tt
-test_fits o state test.Less e = tt
-test_fits o state test.Greater e = tt
 test_fits o state (test.Above s) e = no_above o e
   where
     no_above : (b : Builtin) → test_of b ≡ Some (test.Above s) → s.0 < state.next
     no_above op.Empty e = absurd (cc)
-    no_above op.Missing e = absurd (cc)
-    no_above op.Equal e = absurd (cc)
-    no_above op.Less e = absurd (cc)
-    no_above op.Greater e = absurd (cc)
     no_above _ e = absurd (cc)
+test_fits o state _ e = tt
 
 pub nothing_entered : (scope : Scope) (o : Builtin) (asked : Option Test) (place : Place) (state : State) (course after : Course) → Told scope
     → WellMade scope.style state → test_of o ≡ asked → entering_nothing scope o asked place state course ≡ Ok after → Moved scope state course after

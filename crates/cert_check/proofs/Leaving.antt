@@ -30,20 +30,24 @@ fields_bound (b ∷ written) state none =
     moved [] all same = tt
     moved (c ∷ bs) all same = (ap (symbol_at c.name) same ∙ all.0, moved bs all.1 same)
 
--- facts, rows and what symbols there are stay
+-- what no binding changes stays under all of them
+part_bound : {X : Type 0} (part : State → X) → ((b : Bind) (state : State) → part (with_bind b.name b.sym state) ≡ part state) → (written : List Bind) (state : State)
+    → part (with_binds written state) ≡ part state
+part_bound part same [] state = refl
+part_bound part same (b ∷ written) state = part_bound part same written (with_bind b.name b.sym state) ∙ same b state
+
+-- facts and rows stay, the stack and whether all of it is known, and whether an entry is visited
 pub facts_bound : (written : List Bind) (state : State) → (with_binds written state).facts ≡ state.facts
-facts_bound [] state = refl
-facts_bound (b ∷ written) state = facts_bound written (with_bind b.name b.sym state)
+facts_bound = part_bound (λ state. state.facts) (λ b state. refl)
 
 pub rows_bound : (written : List Bind) (state : State) → (with_binds written state).rows ≡ state.rows
-rows_bound [] state = refl
-rows_bound (b ∷ written) state = rows_bound written (with_bind b.name b.sym state)
+rows_bound = part_bound (λ state. state.rows) (λ b state. refl)
 
--- whether the whole stack is known and whether an entry is visited stay
+pub stack_bound : (written : List Bind) (state : State) → (with_binds written state).stack ≡ state.stack
+stack_bound = part_bound (λ state. state.stack) (λ b state. refl)
+
 pub whole_bound : (written : List Bind) (state : State) → (with_binds written state).whole ≡ state.whole
-whole_bound [] state = refl
-whole_bound (b ∷ written) state = whole_bound written (with_bind b.name b.sym state)
+whole_bound = part_bound (λ state. state.whole) (λ b state. refl)
 
 pub entry_bound : (written : List Bind) (state : State) → (with_binds written state).at_entry ≡ state.at_entry
-entry_bound [] state = refl
-entry_bound (b ∷ written) state = entry_bound written (with_bind b.name b.sym state)
+entry_bound = part_bound (λ state. state.at_entry) (λ b state. refl)

@@ -38,13 +38,13 @@ use Rattle.cert_check.specs.Walks.{Scope, may_write}
 use Rattle.cert_check.proofs.Having.{have_value}
 use Rattle.cert_check.proofs.LeftFollowing.{post_follows, written_unbound}
 use Rattle.cert_check.proofs.LeftFramed.{seats_all}
-use Rattle.cert_check.proofs.Leaving.{entry_bound, facts_bound, fields_bound, rows_bound, whole_bound}
+use Rattle.cert_check.proofs.Leaving.{entry_bound, facts_bound, fields_bound, rows_bound, stack_bound, whole_bound}
 use Rattle.cert_check.proofs.LeftPlaces.{name_below}
 use Rattle.cert_check.proofs.OwnEnd.{EndOf, Used, end_holds, end_values, name_valued, own_list, own_open, own_scope, own_start, with_own}
 use Rattle.cert_check.proofs.OwnFacts.{gives_each, kind_facts, kind_rows, renamed_facts, renamed_rows}
 use Rattle.cert_check.proofs.OwnFrame.{name_kept, same_visited}
 use Rattle.cert_check.proofs.OwnStart.{came_is, nothing_under}
-use Rattle.cert_check.proofs.Safety.{Reaches, Remains, agrees_on, onward, spot_at}
+use Rattle.cert_check.proofs.Safety.{Reaches, Remains, agrees_on, onward, remains_where, spot_at}
 use Rattle.cert_check.proofs.Symbols.{bound_last, by_symbols, not_among}
 
 first_of : (a b : Bool) → a ≡ true → (a || b) ≡ true
@@ -59,11 +59,6 @@ seat_names binds first (name ∷ names) =
       | Some s ↦ ap (λ (ns : List NameId). name ∷ ns) (seat_names binds first names)
       | None ↦ ap (λ (ns : List NameId). name ∷ ns) (seat_names binds (suc first) names)
     ]
-
--- bindings leave the stack
-stack_bound : (written : List Bind) (state : State) → (with_binds written state).stack ≡ state.stack
-stack_bound [] state = refl
-stack_bound (b ∷ written) state = stack_bound written _
 
 -- renamed symbols have the values through the names
 values_renamed : (w : Valuation) (name : ℕ → ℕ) (stack : List Sym) → values_of w (map (sym_renamed name) stack) ≡ values_of (through name w) stack
@@ -296,16 +291,7 @@ module _ (scope : Scope) (list : EntryList) (u : Used scope list) (e : EndOf sco
 
   -- what stays of a configuration stays while the summary is used
   left_remains : Remains u.s.state.at_entry e.frames u.s.c e.d
-  left_remains = record {
-    goes = e.reached.remains.goes;
-    waiting = e.reached.remains.waiting;
-    commands = e.reached.remains.commands;
-    running = e.reached.remains.running;
-    visit = e.reached.remains.visit;
-    order = e.reached.remains.order;
-    others = e.reached.remains.others;
-    entries = λ outside. e.reached.remains.entries (not_there u.summary.entry refl outside);
-  }
+  left_remains = remains_where u.summary.entry u.s.state.at_entry e.frames u.s.c e.d (not_there u.summary.entry refl) e.reached.remains
     where
       not_there : (t : Bool) → u.summary.entry ≡ t → u.s.state.at_entry ≡ false → u.summary.entry ≡ false
       not_there false entry outside = entry

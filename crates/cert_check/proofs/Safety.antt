@@ -1,5 +1,5 @@
 -- A configuration that is fine for so many steps, and what waits behind a walk as a continuation.
-use Rattle.std.proofs.Common.{◌≡◌, ℕ, zero, suc, ◌≤◌, Bool, cond, List, [], ◌∷◌, ◌++◌, length, map, slice_get, option_map, Option, None, Some, Ok, sym, ap, subst, ◌∙◌, arith, inl, inr}
+use Rattle.std.proofs.Common.{◌≡◌, ℕ, zero, suc, ◌≤◌, Bool, false, cond, List, [], ◌∷◌, ◌++◌, length, map, slice_get, option_map, Option, None, Some, Ok, sym, ap, subst, ◌∙◌, arith, inl, inr}
 use Rattle.std.proofs.lemmas.List.{length-map}
 use Rattle.name_table.specs.Sound.{IsSound, block_of}
 use Rattle.name_table.specs.declared.style.BodyId.{BodyId}
@@ -73,6 +73,19 @@ remains_twice at_entry first second b c d one other = record {
   order = other.order ∙ one.order;
   others = λ at elsewhere. other.others at (λ there. elsewhere (sym (same_index b c one.running one.visit one.order) ∙ there)) ∙ one.others at elsewhere;
   entries = λ outside. other.entries outside ∙ one.entries outside;
+}
+
+-- what stays, with an entry at more states
+pub remains_where : (inner outer : Bool) (frames : List Frame) (c d : Config) → (outer ≡ false → inner ≡ false) → Remains inner frames c d → Remains outer frames c d
+remains_where inner outer frames c d within r = record {
+  goes = r.goes;
+  waiting = r.waiting;
+  commands = r.commands;
+  running = r.running;
+  visit = r.visit;
+  order = r.order;
+  others = r.others;
+  entries = λ outside. r.entries (within outside);
 }
 
 -- the frames alone change

@@ -145,13 +145,9 @@ bound_value scope list s name there e =
 -- the machine pushes the value of a name that has one
 value_step : (style : Style) (found : Option Kind) (name : NameId) (at : Place) (c : Config) (x : Value)
     → value_by found name c.globals (visited_entry c) ≡ Some x → call_step style found name at c ≡ with_value x c
-value_step style (Some kind.Field) name at c x e = ap (λ (o : Option Value). with_found o at c) e
-value_step style (Some kind.IntEntry) name at c x e = ap (λ (o : Option Value). with_found o at c) e
-value_step style (Some kind.StrEntry) name at c x e = ap (λ (o : Option Value). with_found o at c) e
-value_step style (Some kind.IntGlobal) name at c x e = ap (λ (o : Option Value). with_found o at c) e
-value_step style (Some kind.StrGlobal) name at c x e = ap (λ (o : Option Value). with_found o at c) e
 value_step style (Some (kind.Builtin o)) name at c x e = absurd (cc)
 value_step style (Some (kind.Wizard body)) name at c x e = absurd (cc)
+value_step style (Some _) name at c x e = ap (λ (o : Option Value). with_found o at c) e
 value_step style None name at c x e = absurd (cc)
 
 pub variable_safe : (scope : Scope) (list : EntryList) (n : ℕ) (s : Start scope list) (name : NameId) (place at : Place) (course after : Course)
@@ -226,27 +222,15 @@ record IsTested (o : Builtin) (asked : Test) : Type 0 where
   pub plain : is_plain o ≡ true
   pub still : is_assign o ≡ false
 
+tested_by : (o : Builtin) (first asked : Test) → IsTested o first → first ≡ asked → IsTested o asked
+tested_by o first asked its is = subst (IsTested o) is its
+
 tested : (o : Builtin) (asked : Test) → test_of o ≡ Some asked → IsTested o asked
-tested op.Empty asked e = by (cc)
-  where
-    by : test.Empty ≡ asked → IsTested op.Empty asked
-    by is = subst (IsTested op.Empty) is (record { function = refl; plain = refl; still = refl })
-tested op.Missing asked e = by (cc)
-  where
-    by : test.Missing ≡ asked → IsTested op.Missing asked
-    by is = subst (IsTested op.Missing) is (record { function = refl; plain = refl; still = refl })
-tested op.Equal asked e = by (cc)
-  where
-    by : test.Equal ≡ asked → IsTested op.Equal asked
-    by is = subst (IsTested op.Equal) is (record { function = refl; plain = refl; still = refl })
-tested op.Less asked e = by (cc)
-  where
-    by : test.Less ≡ asked → IsTested op.Less asked
-    by is = subst (IsTested op.Less) is (record { function = refl; plain = refl; still = refl })
-tested op.Greater asked e = by (cc)
-  where
-    by : test.Greater ≡ asked → IsTested op.Greater asked
-    by is = subst (IsTested op.Greater) is (record { function = refl; plain = refl; still = refl })
+tested op.Empty asked e = tested_by op.Empty test.Empty asked (record { function = refl; plain = refl; still = refl }) (cc)
+tested op.Missing asked e = tested_by op.Missing test.Missing asked (record { function = refl; plain = refl; still = refl }) (cc)
+tested op.Equal asked e = tested_by op.Equal test.Equal asked (record { function = refl; plain = refl; still = refl }) (cc)
+tested op.Less asked e = tested_by op.Less test.Less asked (record { function = refl; plain = refl; still = refl }) (cc)
+tested op.Greater asked e = tested_by op.Greater test.Greater asked (record { function = refl; plain = refl; still = refl }) (cc)
 tested _ asked e = absurd (cc)
 
 pub test_safe : (scope : Scope) (list : EntryList) (n : ℕ) (s : Start scope list) (o : Builtin) (asked : Test) (place at : Place) (course after : Course)

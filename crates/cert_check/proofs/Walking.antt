@@ -1,5 +1,5 @@
 -- Bodies that are walked are safe where the uses of summaries are, for fewer steps.
-use Rattle.std.proofs.Common.{◌≡◌, ℕ, zero, suc, ◌<◌, reverse, Option, None, Some, Ok, refl, sym, subst, arith}
+use Rattle.std.proofs.Common.{◌≡◌, ℕ, zero, suc, ◌<◌, reverse, Option, Some, Ok, refl, sym, subst, arith}
 use Rattle.bv_base.specs.declared.place.Place.{Place}
 use Rattle.name_table.specs.declared.builtin.Builtin.{Builtin}
 use Rattle.name_table.specs.declared.builtin.Builtin.TheVariants as op
@@ -62,23 +62,8 @@ own_named scope list n (Some (kind.Builtin o)) name place at s told fits levels 
     built_in_safe scope list n (chosen_in scope (body_walked scope MOST_DEPTH) place) o place at s told formed
     (λ same. chosen_safe scope list n (body_walked scope MOST_DEPTH) place at s o told fits (body_moved scope MOST_DEPTH told) levels same formed) course after
     (subst (λ (k : Option Kind). named scope (body_walked scope MOST_DEPTH) (chosen_in scope (body_walked scope MOST_DEPTH) place) k name place s.state course ≡ Ok after) is e) safe
-own_named scope list n (Some kind.Field) name place at s told fits levels is formed course after e safe =
-    by_variable scope list n name place at s course after (Some kind.Field) is formed
-    (subst (λ (k : Option Kind). named scope (body_walked scope MOST_DEPTH) (chosen_in scope (body_walked scope MOST_DEPTH) place) k name place s.state course ≡ Ok after) is e) safe
-own_named scope list n (Some kind.IntEntry) name place at s told fits levels is formed course after e safe =
-    by_variable scope list n name place at s course after (Some kind.IntEntry) is formed
-    (subst (λ (k : Option Kind). named scope (body_walked scope MOST_DEPTH) (chosen_in scope (body_walked scope MOST_DEPTH) place) k name place s.state course ≡ Ok after) is e) safe
-own_named scope list n (Some kind.StrEntry) name place at s told fits levels is formed course after e safe =
-    by_variable scope list n name place at s course after (Some kind.StrEntry) is formed
-    (subst (λ (k : Option Kind). named scope (body_walked scope MOST_DEPTH) (chosen_in scope (body_walked scope MOST_DEPTH) place) k name place s.state course ≡ Ok after) is e) safe
-own_named scope list n (Some kind.IntGlobal) name place at s told fits levels is formed course after e safe =
-    by_variable scope list n name place at s course after (Some kind.IntGlobal) is formed
-    (subst (λ (k : Option Kind). named scope (body_walked scope MOST_DEPTH) (chosen_in scope (body_walked scope MOST_DEPTH) place) k name place s.state course ≡ Ok after) is e) safe
-own_named scope list n (Some kind.StrGlobal) name place at s told fits levels is formed course after e safe =
-    by_variable scope list n name place at s course after (Some kind.StrGlobal) is formed
-    (subst (λ (k : Option Kind). named scope (body_walked scope MOST_DEPTH) (chosen_in scope (body_walked scope MOST_DEPTH) place) k name place s.state course ≡ Ok after) is e) safe
-own_named scope list n None name place at s told fits levels is formed course after e safe =
-    by_variable scope list n name place at s course after None is formed
+own_named scope list n _ name place at s told fits levels is formed course after e safe =
+    by_variable scope list n name place at s course after _ is formed
     (subst (λ (k : Option Kind). named scope (body_walked scope MOST_DEPTH) (chosen_in scope (body_walked scope MOST_DEPTH) place) k name place s.state course ≡ Ok after) is e) safe
 
 -- a unit's own body is safe, of a name that isn't a function of the style its call
