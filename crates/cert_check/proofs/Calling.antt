@@ -119,17 +119,8 @@ among_made style state (first ∷ all) fine (inr later) = among_made style state
 -- a state that stands for a configuration is where a walk may start
 abbrev start_at : (laws : Laws) (scope : Scope) (list : EntryList) (v : Valuation) (state : State) (target : Target) (at : Place) (c : Config) (below : List Value)
     → WellMade scope.style state → IsAt scope.style scope.cert.cond list v state target at c below → Start scope list
-start_at laws scope list v state target at c below made is = record {
-  laws = laws;
-  v = v;
-  state = state;
-  c = c;
-  below = below;
-  made = made;
-  goes = is.goes;
-  formed = is.formed;
-  stands = is.stands;
-}
+start_at laws scope list v state target at c below made is =
+    record { laws = laws; v = v; state = state; c = c; below = below; made = made; goes = is.goes; formed = is.formed; stands = is.stands }
 
 -- a state that is reached from a start is one that its walk leaves
 left_by : (scope : Scope) (list : EntryList) (s : Start scope list) (after : State) (w : Valuation) (d : Config) → Reaches scope list s.c.frames s after w d

@@ -37,7 +37,7 @@ use Rattle.sym_state.specs.declared.test.Test.{Test}
 use Rattle.sym_state.specs.declared.test.Test.TheVariants as test
 use Rattle.sym_state.proofs.Leaving.{added, moved}
 use Rattle.sym_state.proofs.Making.{found_below}
-use Rattle.sym_state.proofs.Resulting.{one_fits, result_made, top_made}
+use Rattle.sym_state.proofs.Resulting.{Fits, one_fits, result_made, top_made}
 use Rattle.builtin_effects.proofs.Framing.{effect_framed}
 use Rattle.builtin_effects.proofs.Keeping.{effects_keep}
 use Rattle.refinements.proofs.Framing.{split_left}
@@ -155,8 +155,10 @@ variable_moved scope name place state course after made e = by_bound (bound name
 
 -- literals
 literal_follows : (scope : Scope) (kind : Kinds) (said : Fact) (state : State) → WellMade scope.style state
-    → WellMade scope.style (literal kind said state) → Follows scope state (literal kind said state)
-literal_follows scope kind said state made after = left_follows scope state (literal kind said state) after (added state _ _ _ _ (omega arith) (omega arith))
+    → Fits scope.style (state.next + 1) (said ∷ []) [] → Follows scope state (literal kind said state)
+literal_follows scope kind said state made fits =
+    left_follows scope state (literal kind said state) (result_made scope.style state kind (said ∷ []) [] made fits)
+    (added state _ _ _ _ (omega arith) (omega arith))
 
 pub of_text : (P : List ℕ → Type 0) (o : Option (List ℕ)) → IfSome o P → P [] → P (option_map_or (λ bytes. bytes) o [])
 of_text P (Some bytes) h none = h
@@ -170,13 +172,13 @@ pub token_follows : (scope : Scope) (t : Token) (state : State) → Told scope �
     → IsTokenSound scope.style.names scope.style.bodies scope.style.texts t → Follows scope state (literal_state scope.style t state)
 token_follows scope (token.Int n) state told made sound =
     literal_follows scope Int (fact.Int (next_of state) n) state made
-    (result_made scope.style state Int (fact.Int (next_of state) n ∷ []) [] made (one_fits scope.style (state.next + 1) (fact.Int (next_of state) n) (omega arith) tt sound tt tt))
+    (one_fits scope.style (state.next + 1) (fact.Int (next_of state) n) (omega arith) tt sound tt tt)
 token_follows scope (token.Str text) state told made sound =
     let said = fact.Text (next_of state) (text_of scope.style text) in
     literal_follows scope Str said state made
-    (result_made scope.style state Str (said ∷ []) [] made (one_fits scope.style (state.next + 1) said (omega arith) tt tt
+    (one_fits scope.style (state.next + 1) said (omega arith) tt tt
     (of_text IsByteList (slice_get scope.style.texts text.0) (got IsByteList scope.style.texts text.0 told.sound.byte_texts) tt)
-    (short_text scope.style text told.sound)))
+    (short_text scope.style text told.sound))
   where
     short_text : (style : Style) (id : TextId) → IsSound style → length (text_of style id) ≤ 2 ^ 45
     short_text style id sound =
@@ -185,12 +187,12 @@ token_follows scope (token.Str text) state told made sound =
         omega (arith, few)
 token_follows scope (token.Quote name) state told made sound =
     literal_follows scope Func (fact.Call (next_of state) name) state made
-    (result_made scope.style state Func (fact.Call (next_of state) name ∷ []) [] made (one_fits scope.style (state.next + 1) (fact.Call (next_of state) name) (omega arith) sound tt tt tt))
+    (one_fits scope.style (state.next + 1) (fact.Call (next_of state) name) (omega arith) sound tt tt tt)
 token_follows scope (token.Block body) state told made sound =
     let said = fact.Block (next_of state) (number_of scope.style body) in
     literal_follows scope Func said state made
-    (result_made scope.style state Func (said ∷ []) [] made (one_fits scope.style (state.next + 1) said (omega arith)
-    (body, sound.1 ∙ ap (λ (n : ℕ). Some (Some n)) (sym (number_is scope.style (block_of body scope.style.bodies) sound.0 sound.1))) tt tt tt))
+    (one_fits scope.style (state.next + 1) said (omega arith)
+    (body, sound.1 ∙ ap (λ (n : ℕ). Some (Some n)) (sym (number_is scope.style (block_of body scope.style.bodies) sound.0 sound.1))) tt tt tt)
 token_follows scope (token.Call name) state told made sound =
     left_follows scope state state made (moved state state.stack)
 

@@ -1,13 +1,14 @@
 -- A summary's own check ends in a post: the post's symbols have values in the state that came to the summary.
-use Rattle.std.proofs.Common.{◌≡◌, ℕ, ◌≤◌, ◌<◌, Bool, true, false, cond, nat_eq, nat_lt, max, List, [], ◌∷◌, ◌++◌, length, Option, None, Some, Ok, refl, sym, ap, subst, ◌∙◌, arith}
-use Rattle.std.specs.List.{AllByRecursion, list_any}
+use Rattle.std.proofs.Common.{◌≡◌, ℕ, zero, suc, ◌≤◌, ◌<◌, Bool, true, false, cond, nat_eq, nat_lt, max, List, [], ◌∷◌, ◌++◌, length, slice_get, Option, None, Some, Ok, refl, sym, ap, subst, ◌∙◌, arith}
+use Rattle.std.specs.List.{All, AllByRecursion, list_any}
 use Rattle.std.specs.Option.{option_and_then, option_or}
 use Rattle.std.proofs.lemmas.Bool.Decides.{nat_tests}
-use Rattle.std.proofs.lemmas.List.Elements.{All-cons, All-nil}
+use Rattle.std.proofs.lemmas.List.Elements.{All-cons, All-head, All-nil, All-tail}
 use Rattle.name_table.specs.declared.names.NameId.{NameId}
-use Rattle.bst_meaning.specs.Config.{Config, Frame}
+use Rattle.bst_meaning.specs.Config.{Config}
 use Rattle.bst_meaning.specs.Machine.{visited_entry}
 use Rattle.bst_meaning.specs.StyleParts.{kind_of}
+use Rattle.bst_meaning.specs.declared.condition.Cond.{Cond}
 use Rattle.bst_meaning.specs.declared.entry.EntryList.{EntryList}
 use Rattle.cert_format.specs.declared.cert.Summary.{Summary}
 use Rattle.sym_state.specs.State.{State}
@@ -27,7 +28,7 @@ use Rattle.sym_state.specs.declared.symbol.Sym.{Sym}
 use Rattle.sym_state.proofs.Entailed.{lines_pass}
 use Rattle.sym_state.proofs.Keeping.{started_well_made}
 use Rattle.sym_state.proofs.ShownPieces.{shown_parts, shown_piece_holds}
-use Rattle.cert_check.specs.Certified.{IsPostOf, IsSummaryOf}
+use Rattle.cert_check.specs.Certified.{IsSummaryOf}
 use Rattle.cert_check.specs.Uses.{comes_by, first_name, is_among, name_at, own_count, own_places, passage, post_match, unchanged, unwritten}
 use Rattle.cert_check.specs.Walks.{Scope}
 use Rattle.cert_check.proofs.LeftPlaces.{matched_below, named_below, own_has, places_below, pre_has}
@@ -71,19 +72,29 @@ own_start scope list u = record {
   stands = (own_open scope list u).stands;
 }
 
+-- an element that is there
+pub element : {X : Type 0} (P : X → Type 0) (xs : List X) (k : ℕ) (x : X) → All P xs → slice_get xs k ≡ Some x → P x
+element P [] k x all e = absurd (cc)
+element P (y ∷ xs) zero x all e = let same : y ≡ x = cc in subst P same (All-head P y xs all)
+element P (y ∷ xs) (suc k) x all e = element P xs k x (All-tail P y xs all) e
+
+-- a state at a unit's end shows one of its posts
+pub record EndsIn (admits : Cond) (kept : ℕ) (posts : List Piece) (end : State) : Type 0 where
+  pub k : ℕ
+  pub post : Piece
+  pub there : slice_get posts k ≡ Some post
+  pub hints : List Hint
+  pub left : List Hint
+  pub shown : piece_by admits end post kept hints ≡ Ok left
+  pub same : length end.stack ≡ length post.stack
+
 -- its end, where a state shows a post whose stack is as long
 pub record EndOf (scope : Scope) (list : EntryList) (u : Used scope list) : Type 0 where
-  pub post : Piece
-  pub one : IsPostOf scope.style u.summary post
-  pub frames : List Frame
   pub end : State
   pub w : Valuation
   pub d : Config
-  pub reached : Reaches (own_scope scope u.summary) list frames (own_start scope list u) end w d
-  pub hints : List Hint
-  pub left : List Hint
-  pub shown : piece_by scope.cert.cond end post (symbols_of u.summary.pre) hints ≡ Ok left
-  pub same : length end.stack ≡ length post.stack
+  pub reached : Reaches (own_scope scope u.summary) list u.s.c.frames (own_start scope list u) end w d
+  pub found : EndsIn scope.cert.cond (symbols_of u.summary.pre) u.summary.posts end
 
 -- what holds of bindings holds of the name at a symbol's place
 name_at_has : (P : NameId → ℕ → Type 0) (x : ℕ) (binds : List Bind) (name : NameId) → name_at x binds ≡ Some name
@@ -116,30 +127,30 @@ first_name_has P x piece name e vars fields =
 module _ (scope : Scope) (list : EntryList) (u : Used scope list) (e : EndOf scope list u) where
   -- the values of a post's symbols at the end
   abbrev pub end_values : Valuation
-  end_values = through (match_of e.end e.post (symbols_of u.summary.pre)) e.w
+  end_values = through (match_of e.end e.found.post (symbols_of u.summary.pre)) e.w
 
-  pub end_holds : PieceHolds scope.style end_values e.post e.d (values_of e.w (under e.end e.post) ++ below_pre scope list u.s u.summary.pre)
-  end_holds = shown_piece_holds scope.style scope.cert.cond list e.w e.end e.d (below_pre scope list u.s u.summary.pre) e.post (symbols_of u.summary.pre) e.hints e.left
-      e.shown e.reached.stands
+  pub end_holds : PieceHolds scope.style end_values e.found.post e.d (values_of e.w (under e.end e.found.post) ++ below_pre scope list u.s u.summary.pre)
+  end_holds = shown_piece_holds scope.style scope.cert.cond list e.w e.end e.d (below_pre scope list u.s u.summary.pre) e.found.post (symbols_of u.summary.pre) e.found.hints e.found.left
+      e.found.shown e.reached.stands
 
   -- a post's own symbol that stands for one of the state's has its value
-  stays : (x : ℕ) (there : Sym) → unchanged (passage u.summary) u.s.state e.post x ≡ Some there
+  stays : (x : ℕ) (there : Sym) → unchanged (passage u.summary) u.s.state e.found.post x ≡ Some there
       → (there.0 < u.s.state.next) × (u.s.v.value there.0 ≡ end_values.value x)
-  stays x there is = by_name (first_name x e.post) refl is
+  stays x there is = by_name (first_name x e.found.post) refl is
     where
-      by_among : (name : NameId) (t : Bool) → first_name x e.post ≡ Some name → is_among u.summary.writes name ≡ t
+      by_among : (name : NameId) (t : Bool) → first_name x e.found.post ≡ Some name → is_among u.summary.writes name ≡ t
           → (let found : Option Sym = cond t None (bound name u.s.state) in found) ≡ Some there → u.s.v.value there.0 ≡ end_values.value x
       by_among name true first among found = absurd (cc)
       by_among name false first among found =
           let before = bound_value scope list u.s name there found in
-          let kept = name_kept (own_scope scope u.summary) list e.frames (own_start scope list u) e.end e.w e.d e.reached name among in
+          let kept = name_kept (own_scope scope u.summary) list u.s.c.frames (own_start scope list u) e.end e.w e.d e.reached name among in
           let after = first_name_has
-          (λ (n : NameId) (y : ℕ). value_by (kind_of scope.style n) n e.d.globals (visited_entry e.d) ≡ Some (end_values.value y)) x e.post name first
+          (λ (n : NameId) (y : ℕ). value_by (kind_of scope.style n) n e.d.globals (visited_entry e.d) ≡ Some (end_values.value y)) x e.found.post name first
           end_holds.met.vars end_holds.met.fields in
           let both : Some (u.s.v.value there.0) ≡ Some (end_values.value x) = sym before ∙ sym kept ∙ after in
           cc
 
-      by_name : (o : Option NameId) → first_name x e.post ≡ o → option_and_then (unwritten (passage u.summary) u.s.state) o ≡ Some there
+      by_name : (o : Option NameId) → first_name x e.found.post ≡ o → option_and_then (unwritten (passage u.summary) u.s.state) o ≡ Some there
           → (there.0 < u.s.state.next) × (u.s.v.value there.0 ≡ end_values.value x)
       by_name None first found = absurd (cc)
       by_name (Some name) first found = (
@@ -149,16 +160,16 @@ module _ (scope : Scope) (list : EntryList) (u : Used scope list) (e : EndOf sco
 
   -- the places of the post's own symbols
   abbrev pub own_list : List (Sym × Sym)
-  own_list = own_places (passage u.summary) u.s.state e.post (symbols_of u.summary.pre) (own_count e.post (symbols_of u.summary.pre)) u.s.state.next
+  own_list = own_places (passage u.summary) u.s.state e.found.post (symbols_of u.summary.pre) (own_count e.found.post (symbols_of u.summary.pre)) u.s.state.next
 
   -- the values of the state's symbols, and of the post's own
   pub with_own : Valued u.s.state.next u.s.v (λ x. end_values.value x) own_list
   with_own =
-      own_valued (passage u.summary) u.s.state e.post (λ x. end_values.value x) (symbols_of u.summary.pre) (own_count e.post (symbols_of u.summary.pre)) u.s.state.next
-      u.s.state.next u.s.v (omega arith) (λ x. e.reached.stands.satisfied.values (match_of e.end e.post (symbols_of u.summary.pre) x)) u.s.stands.satisfied.values stays
+      own_valued (passage u.summary) u.s.state e.found.post (λ x. end_values.value x) (symbols_of u.summary.pre) (own_count e.found.post (symbols_of u.summary.pre)) u.s.state.next
+      u.s.state.next u.s.v (omega arith) (λ x. e.reached.stands.satisfied.values (match_of e.end e.found.post (symbols_of u.summary.pre) x)) u.s.stands.satisfied.values stays
 
   -- the state's symbol for a symbol of the post has the value that this has at the end
-  pub name_valued : (x : ℕ) → x < max (symbols_of u.summary.pre) (symbols_of e.post)
+  pub name_valued : (x : ℕ) → x < max (symbols_of u.summary.pre) (symbols_of e.found.post)
       → with_own.assignment.value (post_match own_list u.s.state u.summary.pre x) ≡ end_values.value x
   name_valued x less = by_kept (nat_lt x (symbols_of u.summary.pre)) refl
     where
@@ -183,16 +194,16 @@ module _ (scope : Scope) (list : EntryList) (u : Used scope list) (e : EndOf sco
           let old : there < u.s.state.next = matched_below u.s.state.next (places u.s.state u.summary.pre) x (places_below scope.style u.s.state u.summary.pre u.s.made) has in
           let where_is : post_match own_list u.s.state u.summary.pre x ≡ there =
           at_first
-          ∙ own_passed (passage u.summary) u.s.state e.post (symbols_of u.summary.pre) (own_count e.post (symbols_of u.summary.pre)) u.s.state.next x (places u.s.state u.summary.pre) few
+          ∙ own_passed (passage u.summary) u.s.state e.found.post (symbols_of u.summary.pre) (own_count e.found.post (symbols_of u.summary.pre)) u.s.state.next x (places u.s.state u.summary.pre) few
           ∙ sym (none_kept (places u.s.state u.summary.pre) x) in
           let opened = own_open scope list u in
           ap (λ (n : ℕ). with_own.assignment.value n) where_is
           ∙ with_own.agrees.value there old
           ∙ sym (opened.agrees.value x (omega (arith, few)))
           ∙ sym (e.reached.agrees.value x (omega (arith, few)))
-          ∙ ap (λ (n : ℕ). e.w.value n) (sym (one_kept (symbols_of u.summary.pre) (places e.end e.post) x few))
+          ∙ ap (λ (n : ℕ). e.w.value n) (sym (one_kept (symbols_of u.summary.pre) (places e.end e.found.post) x few))
       by_kept false is =
           let high = above is in
           ap (λ (n : ℕ). with_own.assignment.value n) at_first
           ∙ first_valued (λ y. end_values.value y) with_own.assignment own_list (places u.s.state u.summary.pre) x with_own.placed
-          (own_has (passage u.summary) u.s.state e.post (symbols_of u.summary.pre) (own_count e.post (symbols_of u.summary.pre)) u.s.state.next x high (omega (arith, high, less)))
+          (own_has (passage u.summary) u.s.state e.found.post (symbols_of u.summary.pre) (own_count e.found.post (symbols_of u.summary.pre)) u.s.state.next x high (omega (arith, high, less)))

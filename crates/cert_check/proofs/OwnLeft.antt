@@ -33,6 +33,7 @@ use Rattle.sym_state.proofs.Opened.{Seated, seated}
 use Rattle.sym_state.proofs.ShownPieces.{shown_parts}
 use Rattle.sym_state.proofs.Spots.{Spot}
 use Rattle.builtin_effects.proofs.Rebinding.{each_once}
+use Rattle.cert_check.specs.Certified.{IsPostOf}
 use Rattle.cert_check.specs.Uses.{facts_left, is_among, left_state, new_symbols, own_count, passage, post_match, rows_left, with_binds}
 use Rattle.cert_check.specs.Walks.{Scope, may_write}
 use Rattle.cert_check.proofs.Having.{have_value}
@@ -40,7 +41,7 @@ use Rattle.cert_check.proofs.LeftFollowing.{post_follows, written_unbound}
 use Rattle.cert_check.proofs.LeftFramed.{seats_all}
 use Rattle.cert_check.proofs.Leaving.{entry_bound, facts_bound, fields_bound, rows_bound, stack_bound, whole_bound}
 use Rattle.cert_check.proofs.LeftPlaces.{name_below}
-use Rattle.cert_check.proofs.OwnEnd.{EndOf, Used, end_holds, end_values, name_valued, own_list, own_open, own_scope, own_start, with_own}
+use Rattle.cert_check.proofs.OwnEnd.{EndOf, Used, element, end_holds, end_values, name_valued, own_list, own_open, own_scope, own_start, with_own}
 use Rattle.cert_check.proofs.OwnFacts.{gives_each, kind_facts, kind_rows, renamed_facts, renamed_rows}
 use Rattle.cert_check.proofs.OwnFrame.{name_kept, same_visited}
 use Rattle.cert_check.proofs.OwnStart.{came_is, nothing_under}
@@ -68,40 +69,44 @@ values_renamed w name (s ∷ stack) =
     ∙ ap (λ (l : List Value). l ++ w.value (name s.0) ∷ []) (values_renamed w name stack)
     ∙ sym (one_more (through name w) s stack)
 
+-- the post in which the own check ends is one of the summary's
+one_post : (scope : Scope) (list : EntryList) (u : Used scope list) (e : EndOf scope list u) → IsPostOf scope.style u.summary e.found.post
+one_post scope list u e = element (IsPostOf scope.style u.summary) u.summary.posts e.found.k e.found.post u.is.posts e.found.there
+
 module _ (scope : Scope) (list : EntryList) (u : Used scope list) (e : EndOf scope list u) where
   -- the state's symbol for a post's, how many there are with the post's own, and the written variables with their symbols
   abbrev pub left_name : ℕ → ℕ
   left_name = post_match (own_list scope list u e) u.s.state u.summary.pre
 
   abbrev pub left_first : ℕ
-  left_first = u.s.state.next + new_symbols (passage u.summary) u.s.state e.post (symbols_of u.summary.pre) (own_count e.post (symbols_of u.summary.pre))
+  left_first = u.s.state.next + new_symbols (passage u.summary) u.s.state e.found.post (symbols_of u.summary.pre) (own_count e.found.post (symbols_of u.summary.pre))
 
   abbrev pub left_binds : List Bind
-  left_binds = map (bind_renamed left_name) e.post.vars
+  left_binds = map (bind_renamed left_name) e.found.post.vars
 
   abbrev pub left_written : List Bind
   left_written = seats left_binds left_first u.summary.writes
 
   abbrev most : ℕ
-  most = max (symbols_of u.summary.pre) (symbols_of e.post)
+  most = max (symbols_of u.summary.pre) (symbols_of e.found.post)
 
   -- each is one of those
   below_first : (x : ℕ) → x < most → left_name x < left_first
   below_first x less =
       let fit = came_is scope (passage u.summary) u.summary.pre u.s.state u.hints u.left u.came in
       let parts = shown_parts scope.cert.cond u.s.state u.summary.pre 0 u.hints u.left fit.shown in
-      name_below scope.style (passage u.summary) (match_of u.s.state u.summary.pre 0) u.s.state u.summary.pre e.post (symbols_of u.summary.pre) x u.s.made parts.few
+      name_below scope.style (passage u.summary) (match_of u.s.state u.summary.pre 0) u.s.state u.summary.pre e.found.post (symbols_of u.summary.pre) x u.s.made parts.few
       (lines_pass (match_of u.s.state u.summary.pre 0) u.s.state u.summary.pre parts.lines) u.is.places less
 
-  post_vars : All (λ (b : Bind). b.sym.0 < most) e.post.vars
+  post_vars : All (λ (b : Bind). b.sym.0 < most) e.found.post.vars
   post_vars =
-      All-weaker (λ (b : Bind). b.sym.0 < symbols_of e.post) (λ (b : Bind). b.sym.0 < most) (λ b h. omega (arith, h)) e.post.vars
-      (vars_below (symbols_of e.post) e.post (omega arith))
+      All-weaker (λ (b : Bind). b.sym.0 < symbols_of e.found.post) (λ (b : Bind). b.sym.0 < most) (λ b h. omega (arith, h)) e.found.post.vars
+      (vars_below (symbols_of e.found.post) e.found.post (omega arith))
 
   binds_below_first : All (λ (b : Bind). b.sym.0 < left_first) left_binds
   binds_below_first =
-      All-map (λ (b : Bind). b.sym.0 < left_first) (bind_renamed left_name) e.post.vars
-      (All-weaker (λ (b : Bind). b.sym.0 < most) (λ (b : Bind). left_name b.sym.0 < left_first) (λ b h. below_first b.sym.0 h) e.post.vars post_vars)
+      All-map (λ (b : Bind). b.sym.0 < left_first) (bind_renamed left_name) e.found.post.vars
+      (All-weaker (λ (b : Bind). b.sym.0 < most) (λ (b : Bind). left_name b.sym.0 < left_first) (λ b h. below_first b.sym.0 h) e.found.post.vars post_vars)
 
   binds_hold : (vars : List Bind) → All (λ (b : Bind). b.sym.0 < most) vars
       → AllByRecursion (IsBound scope.style (end_values scope list u e) e.d.globals (visited_entry e.d)) vars
@@ -115,7 +120,7 @@ module _ (scope : Scope) (list : EntryList) (u : Used scope list) (e : EndOf sco
   -- each written variable has a value of its kind at the end
   abbrev end_spot : Spot
   end_spot =
-      spot_at (own_scope scope u.summary) list (onward (own_scope scope u.summary) list e.frames (own_start scope list u) e.end e.w e.d e.reached)
+      spot_at (own_scope scope u.summary) list (onward (own_scope scope u.summary) list u.s.c.frames (own_start scope list u) e.end e.w e.d e.reached)
       (record { line = 1; column = 1 })
 
   one_has : (name : NameId) (found : Option Kind) → kind_of scope.style name ≡ found → option_map_or (is_variable u.summary.entry) found false ≡ true
@@ -138,7 +143,7 @@ module _ (scope : Scope) (list : EntryList) (u : Used scope list) (e : EndOf sco
   pub seat_values : Seated scope.style scope.cert.cond e.d left_first (with_own scope list u e).assignment left_written
   seat_values =
       seated scope.style scope.cert.cond e.d left_first (with_own scope list u e).assignment left_binds u.summary.writes (with_own scope list u e).values binds_below_first
-      (binds_hold e.post.vars post_vars (end_holds scope list u e).met.vars) (written_have u.summary.writes e.one.placed.writes)
+      (binds_hold e.found.post.vars post_vars (end_holds scope list u e).met.vars) (written_have u.summary.writes (one_post scope list u e).placed.writes)
 
   abbrev pub left_values : Valuation
   left_values = seat_values.assignment
@@ -155,49 +160,49 @@ module _ (scope : Scope) (list : EntryList) (u : Used scope list) (e : EndOf sco
   }
 
   abbrev left_facts : List Fact
-  left_facts = facts_left scope.style scope.cert.cond left_name left_written e.post
+  left_facts = facts_left scope.style scope.cert.cond left_name left_written e.found.post
 
   left_facts_hold : AllByRecursion (FactHolds scope.style left_values) (u.s.state.facts ++ left_facts)
   left_facts_hold =
       joined (FactHolds scope.style left_values) u.s.state.facts left_facts
       (facts_agree scope.style u.s.state.next u.s.v left_values u.s.state.facts old_agree u.s.made.facts u.s.stands.satisfied.facts)
-      (joined (FactHolds scope.style left_values) (flat_map (λ b. own_facts scope.cert.cond (kind_of scope.style b.name) b) left_written) (map (fact_renamed left_name) e.post.facts)
+      (joined (FactHolds scope.style left_values) (flat_map (λ b. own_facts scope.cert.cond (kind_of scope.style b.name) b) left_written) (map (fact_renamed left_name) e.found.post.facts)
       (gives_each (FactHolds scope.style left_values) (λ b. own_facts scope.cert.cond (kind_of scope.style b.name) b)
       (λ b. IsOfItsKind scope.cert.cond (kind_of scope.style b.name) b.name (left_values.value b.sym.0)) left_written
       (λ b h. kind_facts scope.style scope.cert.cond left_values (kind_of scope.style b.name) b h) seat_values.kinds)
-      (renamed_facts scope.style left_values left_name e.post.facts
-      (facts_agree scope.style most (end_values scope list u e) (through left_name left_values) e.post.facts post_agree e.one.fits.facts (end_holds scope list u e).met.facts)))
+      (renamed_facts scope.style left_values left_name e.found.post.facts
+      (facts_agree scope.style most (end_values scope list u e) (through left_name left_values) e.found.post.facts post_agree (one_post scope list u e).fits.facts (end_holds scope list u e).met.facts)))
 
   abbrev left_rows : List Row
-  left_rows = rows_left scope.style scope.cert.cond left_name left_written e.post
+  left_rows = rows_left scope.style scope.cert.cond left_name left_written e.found.post
 
   left_rows_hold : AllByRecursion (Holds (numbers left_values)) (u.s.state.rows ++ left_rows)
   left_rows_hold =
       joined (Holds (numbers left_values)) u.s.state.rows left_rows
       (rows_agree u.s.state.next u.s.v left_values u.s.state.rows old_agree u.s.made.rows u.s.stands.satisfied.rows)
-      (joined (Holds (numbers left_values)) (flat_map (λ b. own_rows scope.cert.cond (kind_of scope.style b.name) b) left_written) (map (row_renamed left_name) e.post.rows)
+      (joined (Holds (numbers left_values)) (flat_map (λ b. own_rows scope.cert.cond (kind_of scope.style b.name) b) left_written) (map (row_renamed left_name) e.found.post.rows)
       (gives_each (Holds (numbers left_values)) (λ b. own_rows scope.cert.cond (kind_of scope.style b.name) b)
       (λ b. IsOfItsKind scope.cert.cond (kind_of scope.style b.name) b.name (left_values.value b.sym.0)) left_written
       (λ b h. kind_rows scope.cert.cond left_values (kind_of scope.style b.name) b h) seat_values.kinds)
-      (renamed_rows left_values left_name e.post.rows
-      (rows_agree most (end_values scope list u e) (through left_name left_values) e.post.rows post_agree e.one.fits.rows (end_holds scope list u e).met.rows)))
+      (renamed_rows left_values left_name e.found.post.rows
+      (rows_agree most (end_values scope list u e) (through left_name left_values) e.found.post.rows post_agree (one_post scope list u e).fits.rows (end_holds scope list u e).met.rows)))
 
   -- the stack
-  left_stack : e.d.stack ≡ values_of left_values (under u.s.state u.summary.pre ++ map (sym_renamed left_name) e.post.stack) ++ u.s.below
+  left_stack : e.d.stack ≡ values_of left_values (under u.s.state u.summary.pre ++ map (sym_renamed left_name) e.found.post.stack) ++ u.s.below
   left_stack =
       let lower : List Sym = under u.s.state u.summary.pre in
-      let upper : List Sym = map (sym_renamed left_name) e.post.stack in
-      let stack : All (λ (s : Sym). s.0 < most) e.post.stack =
-      All-weaker (λ (s : Sym). s.0 < symbols_of e.post) (λ (s : Sym). s.0 < most) (λ s h. omega (arith, h)) e.post.stack
-      (stack_below (symbols_of e.post) e.post (omega arith)) in
-      let above : values_of left_values upper ≡ values_of (end_values scope list u e) e.post.stack =
-      values_renamed left_values left_name e.post.stack
-      ∙ list_agrees most (end_values scope list u e) (through left_name left_values) (reverse e.post.stack) post_agree (all_reversed most e.post.stack stack) in
+      let upper : List Sym = map (sym_renamed left_name) e.found.post.stack in
+      let stack : All (λ (s : Sym). s.0 < most) e.found.post.stack =
+      All-weaker (λ (s : Sym). s.0 < symbols_of e.found.post) (λ (s : Sym). s.0 < most) (λ s h. omega (arith, h)) e.found.post.stack
+      (stack_below (symbols_of e.found.post) e.found.post (omega arith)) in
+      let above : values_of left_values upper ≡ values_of (end_values scope list u e) e.found.post.stack =
+      values_renamed left_values left_name e.found.post.stack
+      ∙ list_agrees most (end_values scope list u e) (through left_name left_values) (reverse e.found.post.stack) post_agree (all_reversed most e.found.post.stack stack) in
       let old : values_of left_values lower ≡ values_of u.s.v lower =
       list_agrees u.s.state.next u.s.v left_values (reverse lower) old_agree
       (all_reversed u.s.state.next lower (All-take (λ (s : Sym). s.0 < u.s.state.next) (length u.s.state.stack - length u.summary.pre.stack) u.s.state.stack u.s.made.stack)) in
       (end_holds scope list u e).stack
-      ∙ ap (λ (l : List Sym). values_of (end_values scope list u e) e.post.stack ++ (values_of e.w l ++ (values_of u.s.v lower ++ u.s.below))) (nothing_under e.end e.post e.same)
+      ∙ ap (λ (l : List Sym). values_of (end_values scope list u e) e.found.post.stack ++ (values_of e.w l ++ (values_of u.s.v lower ++ u.s.below))) (nothing_under e.end e.found.post e.found.same)
       ∙ ap (λ (l : List Value). l ++ (values_of u.s.v lower ++ u.s.below)) (sym above)
       ∙ ap (λ (l : List Value). values_of left_values upper ++ (l ++ u.s.below)) (sym old)
       ∙ sym (append_assoc (values_of left_values upper) (values_of left_values lower) u.s.below)
@@ -211,7 +216,7 @@ module _ (scope : Scope) (list : EntryList) (u : Used scope list) (e : EndOf sco
       → AllByRecursion (IsBound scope.style u.s.v u.s.c.globals (visited_entry u.s.c)) binds → (name : NameId) (s : Sym) → symbol_at name binds ≡ Some s
       → is_among u.summary.writes name ≡ false → NameHolds name s
   old_holds binds below hold name s found not =
-      name_kept (own_scope scope u.summary) list e.frames (own_start scope list u) e.end e.w e.d e.reached name not
+      name_kept (own_scope scope u.summary) list u.s.c.frames (own_start scope list u) e.end e.w e.d e.reached name not
       ∙ found_value scope.style u.s.v u.s.c name binds s hold found
       ∙ ap Some (sym (old_agree.value s.0 (found_below u.s.state.next name binds s below found)))
 
@@ -219,11 +224,11 @@ module _ (scope : Scope) (list : EntryList) (u : Used scope list) (e : EndOf sco
   fields_hold =
       by_symbols NameHolds u.s.state.fields (each_once (is_field u.s.state.at_entry) 0 scope.style.names u.s.state.fields u.s.made.binds_fields)
       (λ name s found. old_holds u.s.state.fields u.s.made.fields u.s.stands.fields name s found
-      (not_among u.summary.writes u.s.state.fields name s (written_unbound scope.style u.s.state u.summary.entry u.summary.writes u.s.made e.one.placed.writes) found))
+      (not_among u.summary.writes u.s.state.fields name s (written_unbound scope.style u.s.state u.summary.entry u.summary.writes u.s.made (one_post scope list u e).placed.writes) found))
 
   abbrev left_told : State
   left_told = record u.s.state {
-    stack = under u.s.state u.summary.pre ++ map (sym_renamed left_name) e.post.stack;
+    stack = under u.s.state u.summary.pre ++ map (sym_renamed left_name) e.found.post.stack;
     facts = u.s.state.facts ++ left_facts;
     rows = u.s.state.rows ++ left_rows;
     next = left_first + unbound left_binds u.summary.writes;
@@ -251,7 +256,7 @@ module _ (scope : Scope) (list : EntryList) (u : Used scope list) (e : EndOf sco
   visits false entry here =
       let at = u.s.stands.visiting here in record {
         entry = at.entry;
-        is_visited = same_visited (own_scope scope u.summary) list e.frames (own_start scope list u) e.end e.w e.d e.reached entry ∙ at.is_visited;
+        is_visited = same_visited (own_scope scope u.summary) list u.s.c.frames (own_start scope list u) e.end e.w e.d e.reached entry ∙ at.is_visited;
         visit = at.visit;
         goes_on = e.reached.remains.visit ∙ at.goes_on;
         before = old_agree.position ∙ at.before;
@@ -263,7 +268,7 @@ module _ (scope : Scope) (list : EntryList) (u : Used scope list) (e : EndOf sco
   left_stands made =
       let after : State = with_binds left_written left_told in
       let at : after.at_entry ≡ u.s.state.at_entry = entry_bound left_written left_told in
-      let none = written_unbound scope.style u.s.state u.summary.entry u.summary.writes u.s.made e.one.placed.writes in
+      let none = written_unbound scope.style u.s.state u.summary.entry u.summary.writes u.s.made (one_post scope list u e).placed.writes in
       let same_fields : after.fields ≡ u.s.state.fields =
       fields_bound left_written left_told (seats_all (λ (name : NameId). symbol_at name u.s.state.fields ≡ None) left_binds left_first u.summary.writes none) in
       record {
@@ -290,8 +295,8 @@ module _ (scope : Scope) (list : EntryList) (u : Used scope list) (e : EndOf sco
       }
 
   -- what stays of a configuration stays while the summary is used
-  left_remains : Remains u.s.state.at_entry e.frames u.s.c e.d
-  left_remains = remains_where u.summary.entry u.s.state.at_entry e.frames u.s.c e.d (not_there u.summary.entry refl) e.reached.remains
+  left_remains : Remains u.s.state.at_entry u.s.c.frames u.s.c e.d
+  left_remains = remains_where u.summary.entry u.s.state.at_entry u.s.c.frames u.s.c e.d (not_there u.summary.entry refl) e.reached.remains
     where
       not_there : (t : Bool) → u.summary.entry ≡ t → u.s.state.at_entry ≡ false → u.summary.entry ≡ false
       not_there false entry outside = entry
@@ -303,11 +308,11 @@ module _ (scope : Scope) (list : EntryList) (u : Used scope list) (e : EndOf sco
 
 -- the state that a summary leaves by the post in which its own check ends is reached
 pub left_reached : (scope : Scope) (list : EntryList) (u : Used scope list) (e : EndOf scope list u) → list_all (may_write scope) u.summary.writes ≡ true
-    → Reaches scope list e.frames u.s (left_state scope.style scope.cert.cond (passage u.summary) u.summary.pre (symbols_of u.summary.pre) u.s.state e.post)
+    → Reaches scope list u.s.c.frames u.s (left_state scope.style scope.cert.cond (passage u.summary) u.summary.pre (symbols_of u.summary.pre) u.s.state e.found.post)
     (left_values scope list u e) e.d
 unfolding left_state
 left_reached scope list u e may =
-    let follows = post_follows scope u.summary u.s.state e.post u.hints u.left u.small u.is e.one u.s.made u.came may in
+    let follows = post_follows scope u.summary u.s.state e.found.post u.hints u.left u.small u.is (one_post scope list u e) u.s.made u.came may in
     record {
       follows = follows;
       agrees = old_agree scope list u e;

@@ -1,5 +1,5 @@
 -- A step of the machine where a token is taken from a state: it comes to a state that the token gives.
-use Rattle.std.proofs.Common.{◌≡◌, ℕ, ◌<◌, true, false, List, [], ◌∷◌, ◌++◌, reverse, slice_get, Option, None, Some, Ok, Err, refl, sym, ap, subst, ◌∙◌, inl, inr}
+use Rattle.std.proofs.Common.{◌≡◌, ℕ, ◌<◌, Bool, true, false, List, [], ◌∷◌, ◌++◌, reverse, slice_get, Option, None, Some, Ok, Err, refl, sym, ap, subst, ◌∙◌, inl, inr}
 use Rattle.std.specs.List.{All}
 use Rattle.std.specs.Option.{option_map_or, option_or}
 use Rattle.std.proofs.lemmas.List.{reverse-append}
@@ -26,7 +26,7 @@ use Rattle.bst_meaning.specs.Builtins.{built_in}
 use Rattle.bst_meaning.specs.Config.{Config, Variable}
 use Rattle.bst_meaning.specs.Effect.{Effect, Entered}
 use Rattle.bst_meaning.specs.Invariant.{IsWellFormed}
-use Rattle.bst_meaning.specs.Keeping.{is_assign, is_plain}
+use Rattle.bst_meaning.specs.Keeping.{IsKept, is_assign, is_plain}
 use Rattle.bst_meaning.specs.Machine.{assigned_by, call_step, context_of, token_step, visited_entry, with_assigned, with_effect, with_entered, with_found, with_value}
 use Rattle.sym_state.specs.State.{State}
 use Rattle.sym_state.specs.Cases.{split_of}
@@ -56,7 +56,7 @@ use Rattle.cert_check.specs.Walks.{Enter, Scope, literal, number_of, split, test
 use Rattle.cert_check.proofs.Inverted.{gives_all_ok, gives_ok, placed_ok}
 use Rattle.cert_check.proofs.Followed.{Follows}
 use Rattle.cert_check.proofs.Keeping.{Told, bound_below, number_is, of_text, split_follow, test_fits, token_follows, top_follows}
-use Rattle.cert_check.proofs.Safety.{Reaches, SafeAfter, SafeFor, Start, remains_framed, spot_at}
+use Rattle.cert_check.proofs.Safety.{Reaches, Remains, SafeAfter, SafeFor, Start, remains_framed, spot_at}
 
 -- a value is put on top: the state with the new symbol is reached
 put_reached : (scope : Scope) (list : EntryList) (s : Start scope list) (kind : Kinds) (said : Fact) (x : Value) → IsValue x → has_kind kind x ≡ true
@@ -183,6 +183,12 @@ effect_goes style effect at c goes =
     let written : Config = record c { stack = effect.stack; events = c.events ++ effect.wrote; log = c.log ++ effect.logged } in
     entered_goes style effect.entered at (with_assigned style effect.assigned written) ∙ assigned_goes style effect.assigned written ∙ goes
 
+-- what stays of a configuration where such a function keeps what it doesn't change
+remains_kept : (at_entry : Bool) (o : Builtin) (c d : Config) → is_plain o ≡ true → d.stopped ≡ None → (at_entry ≡ false → d.entries ≡ c.entries) → IsKept o c d
+    → Remains at_entry c.frames c d
+remains_kept at_entry o c d plain goes entries is =
+    record { goes = goes; waiting = is.frames plain; commands = is.commands; running = is.running; visit = is.visit; order = is.order; others = is.other_entries; entries = entries }
+
 -- what a built-in function that enters nothing does where a state covers it
 pub covered_reached : (scope : Scope) (list : EntryList) (s : Start scope list) (o : Builtin) (at : Place) (after : State) → is_plain o ≡ true → Follows scope s.state after
     → (s.state.at_entry ≡ false → (with_effect scope.style (built_in o (context_of scope.style s.c) s.c.stack) at s.c).entries ≡ s.c.entries)
@@ -190,22 +196,13 @@ pub covered_reached : (scope : Scope) (list : EntryList) (s : Start scope list) 
     → (covers : Covers scope.style scope.cert.cond list s.v s.state s.c s.below at o after)
     → Reaches scope list s.c.frames s after covers.assignment (with_effect scope.style (built_in o (context_of scope.style s.c) s.c.stack) at s.c)
 covered_reached scope list s o at after plain follows entries formed covers =
-    let is = s.laws.kept scope.style o at s.c in
     let gives : with_effect scope.style (Ok covers.effect) at s.c ≡ with_effect scope.style (built_in o (context_of scope.style s.c) s.c.stack) at s.c =
     ap (λ r. with_effect scope.style r at s.c) (sym covers.gives) in
     record {
       follows = follows;
       agrees = covers.agrees;
-      remains = record {
-        goes = subst (λ (d : Config). d.stopped ≡ None) gives (effect_goes scope.style covers.effect at s.c s.goes);
-        waiting = is.frames plain;
-        commands = is.commands;
-        running = is.running;
-        visit = is.visit;
-        order = is.order;
-        others = is.other_entries;
-        entries = entries;
-      };
+      remains = remains_kept s.state.at_entry o s.c (with_effect scope.style (built_in o (context_of scope.style s.c) s.c.stack) at s.c) plain
+          (subst (λ (d : Config). d.stopped ≡ None) gives (effect_goes scope.style covers.effect at s.c s.goes)) entries (s.laws.kept scope.style o at s.c);
       formed = formed;
       stands = subst (λ (d : Config). Stands scope.style scope.cert.cond list covers.assignment after d s.below) gives covers.stands;
     }

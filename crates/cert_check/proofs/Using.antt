@@ -1,8 +1,7 @@
 -- The use of a summary whose own check is Ok is safe.
 use Rattle.std.proofs.Common.{◌≡◌, ℕ, zero, suc, ◌<◌, Bool, true, false, cond, nat_eq, List, [], ◌∷◌, length, map, slice_get, Option, None, Some, Ok, Err, refl, sym, ap, subst, arith, inl, inr}
-use Rattle.std.specs.List.{All, list_all}
+use Rattle.std.specs.List.{list_all}
 use Rattle.std.proofs.lemmas.Bool.Decides.{nat_tests}
-use Rattle.std.proofs.lemmas.List.Elements.{All-head, All-tail}
 use Rattle.bv_base.specs.Answers.{then_do}
 use Rattle.bv_base.specs.declared.place.Place.{Place}
 use Rattle.bv_base.proofs.ThenLemmas.{then_ok, where_ok}
@@ -26,7 +25,7 @@ use Rattle.sym_state.specs.declared.hint.Hint.TheVariants as hint
 use Rattle.sym_state.specs.declared.piece.Piece.{Piece}
 use Rattle.refinements.specs.Covered.{IsAmong}
 use Rattle.refinements.proofs.Covering.{among_later}
-use Rattle.cert_check.specs.Certified.{IsPostOf, IsSummaryOf}
+use Rattle.cert_check.specs.Certified.{IsSummaryOf}
 use Rattle.cert_check.specs.Courses.{Course, counts, gives_all, placed}
 use Rattle.cert_check.specs.declared.limits.TheConstants.{MOST_DEPTH}
 use Rattle.cert_check.specs.Units.{all_end, beginning, body_of, ends, ends_by, none_left, own_walked, place_of, summary_checked}
@@ -35,17 +34,11 @@ use Rattle.cert_check.specs.Walks.{Scope, is_target, leaves, may_write}
 use Rattle.cert_check.proofs.Entering.{OnwardSafe, UseSafe, target_step}
 use Rattle.cert_check.proofs.Inverted.{gives_all_ok, placed_ok}
 use Rattle.cert_check.proofs.Keeping.{Told}
-use Rattle.cert_check.proofs.OwnEnd.{EndOf, Used, own_scope, own_start}
+use Rattle.cert_check.proofs.OwnEnd.{EndOf, EndsIn, Used, element, own_scope, own_start}
 use Rattle.cert_check.proofs.OwnLeft.{left_reached, left_values}
 use Rattle.cert_check.proofs.OwnStart.{own_state}
 use Rattle.cert_check.proofs.Safety.{SafeAfter, SafeFor, Start}
 use Rattle.cert_check.proofs.Walking.{bodies_safe, own_safe}
-
--- an element that is there
-element : {X : Type 0} (P : X → Type 0) (xs : List X) (k : ℕ) (x : X) → All P xs → slice_get xs k ≡ Some x → P x
-element P [] k x all e = absurd (cc)
-element P (y ∷ xs) zero x all e = let same : y ≡ x = cc in subst P same (All-head P y xs all)
-element P (y ∷ xs) (suc k) x all e = element P xs k x (All-tail P y xs all) e
 
 -- what it gives is among what all give
 given_there : {X : Type 0} (f : X → State) (xs : List X) (k : ℕ) (x : X) → slice_get xs k ≡ Some x → IsAmong (f x) (map f xs)
@@ -67,16 +60,6 @@ target_same (Block a) (Block b) e =
     numbers m n e = grind (arith, nat_tests)
 target_same (Named a) (Block b) e = absurd (cc)
 target_same (Block a) (Named b) e = absurd (cc)
-
--- a state at a unit's end shows one of its posts
-record EndsIn (admits : Cond) (kept : ℕ) (posts : List Piece) (end : State) : Type 0 where
-  k : ℕ
-  post : Piece
-  there : slice_get posts k ≡ Some post
-  hints : List Hint
-  left : List Hint
-  shown : piece_by admits end post kept hints ≡ Ok left
-  same : length end.stack ≡ length post.stack
 
 post_ends : (admits : Cond) (kept : ℕ) (posts : List Piece) (end : State) (k : ℕ) (found : Option Piece) (hints left : List Hint) → slice_get posts k ≡ found
     → ends_by admits kept found end hints ≡ Ok left → EndsIn admits kept posts end
@@ -139,19 +122,7 @@ used_safe scope list n place at u course after told checked own may formed e saf
     own u.summary here at (own_start scope list u) formed (beginning u.summary.hints) walked.0 walked.1
     (λ end w d among reached.
     let found = each_ends scope.cert.cond kept u.summary.posts walked.0.given end walked.0.hints ended.0 all among in
-    let last : EndOf scope list u = record {
-      post = found.post;
-      one = element (IsPostOf scope.style u.summary) u.summary.posts found.k found.post u.is.posts found.there;
-      frames = u.s.c.frames;
-      end = end;
-      w = w;
-      d = d;
-      reached = reached;
-      hints = found.hints;
-      left = found.left;
-      shown = found.shown;
-      same = found.same;
-    } in
+    let last : EndOf scope list u = record { end = end; w = w; d = d; reached = reached; found = found } in
     safe (leave found.post) (left_values scope list u last) d
     (subst (λ (c : Course). IsAmong (leave found.post) c.given) (sym (gives_all_ok place (map leave u.summary.posts) course after e))
     (among_later (leave found.post) course.given (map leave u.summary.posts) (given_there leave u.summary.posts found.k found.post found.there)))
