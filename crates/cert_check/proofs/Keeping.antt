@@ -23,13 +23,13 @@ use Rattle.sym_state.specs.Changes.{bound, symbol_at}
 use Rattle.sym_state.specs.Decided.{exact_function, name_of}
 use Rattle.sym_state.specs.Demands.{After}
 use Rattle.sym_state.specs.Effects.{effect_of}
+use Rattle.sym_state.specs.Fitting.{FactFits}
 use Rattle.sym_state.specs.Frames.{Assigns, LeavesVariables}
-use Rattle.sym_state.specs.Results.{next_of, with_top}
+use Rattle.sym_state.specs.Results.{with_top}
 use Rattle.sym_state.specs.Starting.{symbols_of}
 use Rattle.sym_state.specs.WellMade.{HasSmallFields, HasSmallLimits, WellMade}
 use Rattle.sym_state.specs.declared.hint.Hint.{Hint}
 use Rattle.sym_state.specs.declared.symbol.Fact.{Fact}
-use Rattle.sym_state.specs.declared.symbol.Fact.TheVariants as fact
 use Rattle.sym_state.specs.declared.symbol.Kinds.{Kinds}
 use Rattle.sym_state.specs.declared.symbol.Kinds.TheVariants.{Int, Str, Func}
 use Rattle.sym_state.specs.declared.symbol.Sym.{Sym}
@@ -37,7 +37,7 @@ use Rattle.sym_state.specs.declared.test.Test.{Test}
 use Rattle.sym_state.specs.declared.test.Test.TheVariants as test
 use Rattle.sym_state.proofs.Leaving.{added, moved}
 use Rattle.sym_state.proofs.Making.{found_below}
-use Rattle.sym_state.proofs.Resulting.{Fits, one_fits, result_made, top_made}
+use Rattle.sym_state.proofs.Resulting.{one_fits, result_made, top_made}
 use Rattle.builtin_effects.proofs.Framing.{effect_framed}
 use Rattle.builtin_effects.proofs.Keeping.{effects_keep}
 use Rattle.refinements.proofs.Framing.{split_left}
@@ -46,7 +46,7 @@ use Rattle.cert_check.specs.declared.refusal.Refusal.{Refusal}
 use Rattle.cert_check.specs.Courses.{Course, counts, gives, gives_all, placed}
 use Rattle.cert_check.specs.Certified.{IsSummaryOf}
 use Rattle.cert_check.specs.Uses.{comes_by, left_state, passage}
-use Rattle.cert_check.specs.Walks.{Scope, confined, entering_nothing, is_within, leaves, literal, literal_state, may_write, number_of, plain, split, summary_used, test_of, variable, written_by}
+use Rattle.cert_check.specs.Walks.{Scope, confined, entering_nothing, is_within, leaves, literal, literal_state, may_write, plain, split, summary_used, test_of, variable, written_by}
 use Rattle.cert_check.proofs.Followed.{Follows, Moved, all_given, counts_moved, grows_of, left_follows, moved_twice, one_given, rehinted}
 use Rattle.cert_check.proofs.Inverted.{confined_ok, placed_ok}
 use Rattle.cert_check.proofs.LeftFollowing.{summary_follows}
@@ -154,9 +154,10 @@ variable_moved scope name place state course after made e = by_bound (bound name
     by_bound None refusal is found = absurd (cc)
 
 -- literals
-literal_follows : (scope : Scope) (kind : Kinds) (said : Fact) (state : State) → WellMade scope.style state
-    → Fits scope.style (state.next + 1) (said ∷ []) [] → Follows scope state (literal kind said state)
-literal_follows scope kind said state made fits =
+literal_follows : (scope : Scope) (kind : Kinds) (said : Fact) (state : State) → WellMade scope.style state → FactFits scope.style (state.next + 1) said
+    → Follows scope state (literal kind said state)
+literal_follows scope kind said state made f =
+    let fits = one_fits scope.style (state.next + 1) said f.below f.of_style f.integer f.bytes f.short in
     left_follows scope state (literal kind said state) (result_made scope.style state kind (said ∷ []) [] made fits)
     (added state _ _ _ _ (omega arith) (omega arith))
 
@@ -171,14 +172,15 @@ number_is style o number e = ap (λ (p : Option (Option ℕ)). option_map_or (λ
 pub token_follows : (scope : Scope) (t : Token) (state : State) → Told scope → WellMade scope.style state
     → IsTokenSound scope.style.names scope.style.bodies scope.style.texts t → Follows scope state (literal_state scope.style t state)
 token_follows scope (token.Int n) state told made sound =
-    literal_follows scope Int (fact.Int (next_of state) n) state made
-    (one_fits scope.style (state.next + 1) (fact.Int (next_of state) n) (omega arith) tt sound tt tt)
+    literal_follows scope Int _ state made (record { below = omega arith; of_style = tt; integer = sound; bytes = tt; short = tt })
 token_follows scope (token.Str text) state told made sound =
-    let said = fact.Text (next_of state) (text_of scope.style text) in
-    literal_follows scope Str said state made
-    (one_fits scope.style (state.next + 1) said (omega arith) tt tt
-    (of_text IsByteList (slice_get scope.style.texts text.0) (got IsByteList scope.style.texts text.0 told.sound.byte_texts) tt)
-    (short_text scope.style text told.sound))
+    literal_follows scope Str _ state made (record {
+      below = omega arith;
+      of_style = tt;
+      integer = tt;
+      bytes = of_text IsByteList (slice_get scope.style.texts text.0) (got IsByteList scope.style.texts text.0 told.sound.byte_texts) tt;
+      short = short_text scope.style text told.sound;
+    })
   where
     short_text : (style : Style) (id : TextId) → IsSound style → length (text_of style id) ≤ 2 ^ 45
     short_text style id sound =
@@ -186,13 +188,10 @@ token_follows scope (token.Str text) state told made sound =
         (got (λ (bytes : List ℕ). length bytes ≤ 4194304) style.texts id.0 sound.short_texts) (omega arith) in
         omega (arith, few)
 token_follows scope (token.Quote name) state told made sound =
-    literal_follows scope Func (fact.Call (next_of state) name) state made
-    (one_fits scope.style (state.next + 1) (fact.Call (next_of state) name) (omega arith) sound tt tt tt)
+    literal_follows scope Func _ state made (record { below = omega arith; of_style = sound; integer = tt; bytes = tt; short = tt })
 token_follows scope (token.Block body) state told made sound =
-    let said = fact.Block (next_of state) (number_of scope.style body) in
-    literal_follows scope Func said state made
-    (one_fits scope.style (state.next + 1) said (omega arith)
-    (body, sound.1 ∙ ap (λ (n : ℕ). Some (Some n)) (sym (number_is scope.style (block_of body scope.style.bodies) sound.0 sound.1))) tt tt tt)
+    let numbered = sound.1 ∙ ap (λ (n : ℕ). Some (Some n)) (sym (number_is scope.style (block_of body scope.style.bodies) sound.0 sound.1)) in
+    literal_follows scope Func _ state made (record { below = omega arith; of_style = (body, numbered); integer = tt; bytes = tt; short = tt })
 token_follows scope (token.Call name) state told made sound =
     left_follows scope state state made (moved state state.stack)
 
