@@ -20,12 +20,14 @@ class Stood:
         if self.command:
             self.function = self.command.groups[0].inside[0].text.lower()
             self.calls, self.values = ["%s at %d:%d" % (text(self.command.word.text.upper()), *answer.place), text(self.function)], []
-            ended = self.probe.trace(at_token=False)[2]
+            calls, _, ended = self.probe.trace(at_token=False)
+            self.reached = bool(calls)
             if self.function == b"call.type$" and ended:
                 self.calls.append(text(ended))
         else:
             self.function = self.lexeme.text.lower()
             self.calls, reached, _ = self.probe.trace()
+            self.reached = reached > 0
             self.values = self.probe.stack(reached) if reached else []
             self.enter()
 
@@ -65,6 +67,10 @@ def explain_run(block, style, answer, program):
     """What stood at an execution error."""
     stood = Stood(style, answer, program)
     show_head(block, style, stood.command or style.command_at(stood.offset), stood.offset)
+    if answer.kind == "refused" and not stood.reached:
+        block.mark(style, stood.offset, len(stood.lexeme.text), "^")
+        block.note("why", "by the checker's rules a run may come to this, and the certificate doesn't rule it out")
+        return
     if answer.name not in ("EmptyPop", "WrongKind"):
         # The kinds are looked at first, so here they are right.
         block.taken_as = dict(enumerate(OPERANDS.get(stood.function, ())))
@@ -83,7 +89,7 @@ def explain_run(block, style, answer, program):
             block.note("entry", f"{answer.rest}, @{text(it.kind)} at {block.called(name)}:{line}, " + (
                 "with " + ", ".join(it.fields) if it.fields else "without fields"))
     if answer.kind == "refused":
-        block.note("why", "every run of this style comes to this place, whatever the database holds")
+        block.note("why", "a run of this style over no entries comes to this place")
 
 
 def function_name(stood):

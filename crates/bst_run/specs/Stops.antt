@@ -28,21 +28,24 @@ abbrev pub Decides : {A : Type 0} → Result A Outcome → Result A Stop → Typ
 Decides wanted (Ok value) = wanted ≡ Ok value
 Decides wanted (Err stop) = IfSome (outcome_of stop) (λ outcome. wanted ≡ Err outcome)
 
--- a status that the bytes of the files decide, and neither the words nor the outside
+-- a status that the bytes of the files decide, and neither the words nor the outside; NotBuilt is one that no answer has
 abbrev pub IsDecided : Status → Type 0
 IsDecided status.Usage = ⊥
 IsDecided status.NoFile = ⊥
 IsDecided status.ReadFailed = ⊥
 IsDecided status.WriteFailed = ⊥
 IsDecided status.NoMemory = ⊥
+IsDecided status.NotBuilt = ⊥
 IsDecided _ = Unit {0}
 
--- one of them that isn't Done
+-- one of them that isn't the answer of a certificate that is accepted or of a run
 abbrev pub IsRefusing : Status → Type 0
 IsRefusing status.Done = ⊥
+IsRefusing status.Fault = ⊥
+IsRefusing status.Budget = ⊥
 IsRefusing given = IsDecided given
 
--- an outcome that the bytes of the files decide, which isn't Done and has nothing for standard output
+-- an outcome that the bytes of the files decide, which stops a command and has nothing for standard output
 abbrev pub IsRefusal : Outcome → Type 0
 IsRefusal outcome = (outcome.out ≡ []) × IsRefusing outcome.status
 

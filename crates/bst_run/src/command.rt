@@ -15,6 +15,7 @@ use crate::outcome::Outcome;
 use crate::report::{absent, too_long, unread, usage};
 use crate::run::run;
 use crate::stop::Stop;
+use crate::under::run_under;
 use crate::words::{Form, form_of};
 use bv_base::files::Files;
 use bv_base::memory::NoMemory;
@@ -22,8 +23,8 @@ use bv_base::sink::Sink;
 use bv_base::status::Status;
 use std::alloc::Global;
 
-/// Decides the certificate of the words `check STYLE CERT`, or takes the first steps of the words `run AUX N`, and
-/// answers by the status, a text on `out`, and a text on `err` that ends with the last line.
+/// Decides the certificate of the words `check STYLE CERT`, or takes the first steps of the words `run AUX N` or
+/// `run AUX N CERT`, and answers by the status, a text on `out`, and a text on `err` that ends with the last line.
 pub fn command<F: Files, O: Sink, E: Sink>(
     alloc: Global,
     words: &[String],
@@ -56,6 +57,8 @@ pub fn command<F: Files, O: Sink, E: Sink>(
     // Where `check` is done, the style is safe under the condition of the certificate, whatever `out` tells.
     ensures done { result ≡ Status.Done → IfSome (forms.form_of words.now) (λ form. IfSome (F.told files.old) (λ told. top.IsDoneWell told form)) }
     // Whatever `check` put on `out`, the style is safe under the condition that is printed.
+    // Where a run under a certificate told that the entries meet its condition, the run came to no execution error.
+    ensures inside { IfSome (forms.form_of words.now) (λ form. top.IsInside form (sunk ⟦<E as Sink>⟧ err.old err.new) → result ≢ Status.Fault) }
     ensures safe { O.written out.new ≢ O.written out.old → IfSome (forms.form_of words.now) (λ form. IfSome (F.told files.old) (λ told.
         top.IsPromised told form (sunk ⟦<O as Sink>⟧ out.old out.new))) }
 {
@@ -94,6 +97,7 @@ fn carry_out<F: Files, O: Sink, E: Sink>(
     ensures begun { IfSome (F.told files.old) (λ told. HasBegun ⟦<F as Files>⟧ files.old files.new (files_begun told (forms.form_in form.entry)) result) }
     ensures sinks { TellsOfSinks result (sunk ⟦<O as Sink>⟧ out.old out.new) (sunk ⟦<E as Sink>⟧ err.old err.new) }
     ensures done { result ≡ Status.Done → IfSome (F.told files.old) (λ told. top.IsDoneWell told (forms.form_in form.entry)) }
+    ensures inside { top.IsInside (forms.form_in form.entry) (sunk ⟦<E as Sink>⟧ err.old err.new) → result ≢ Status.Fault }
     ensures safe { O.written out.new ≢ O.written out.old → IfSome (F.told files.old) (λ told.
         top.IsPromised told (forms.form_in form.entry) (sunk ⟦<O as Sink>⟧ out.old out.new)) }
 {
@@ -109,6 +113,7 @@ fn answer<F: Files>(alloc: Global, form: Form<'_>, files: &mut F) -> Result<Outc
     match form {
         Form::Check(style, cert) => answer_check(alloc, style, cert, files),
         Form::Run(aux, steps) => answer_run(alloc, aux, steps, files),
+        Form::RunUnder(aux, steps, cert) => answer_run_under(alloc, aux, steps, cert, files),
     }
 }
 
@@ -137,6 +142,22 @@ fn answer_run<F: Files>(
     ensures begun { IfSome (F.told files.old) (λ told. HasBegun ⟦<F as Files>⟧ files.old files.new (files_begun told (forms.Run aux.now steps)) (given_of result)) }
 {
     let found = run(alloc, files, aux, steps);
+    told(alloc, found)
+}
+
+/// What the words `run AUX N CERT` come to.
+fn answer_run_under<F: Files>(
+    alloc: Global,
+    aux: &str,
+    steps: u32,
+    cert: &str,
+    files: &mut F,
+) -> Result<Outcome, NoMemory>
+    ensures answer { IfOk result (λ outcome. top.IsAnswer ⟦<F as Files>⟧ files.old files.new (forms.RunUnder aux.now steps cert.now) outcome) }
+    ensures begun { IfSome (F.told files.old) (λ told.
+        HasBegun ⟦<F as Files>⟧ files.old files.new (files_begun told (forms.RunUnder aux.now steps cert.now)) (given_of result)) }
+{
+    let found = run_under(alloc, files, aux, steps, cert);
     told(alloc, found)
 }
 
