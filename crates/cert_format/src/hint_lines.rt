@@ -122,7 +122,9 @@ fn is_out(times: &[u8], reference: &[u8]) -> bool
     ensures { result ≡ hints.is_out times.now reference.now }
 {
     let times = number(times);
-    times == 0 || times > u64::from(MOST_NUMBER) || number(after_first(reference)) > u64::from(MOST_NUMBER)
+    times == 0
+        || times > u64::from(MOST_NUMBER)
+        || number(after_first(reference)) > u64::from(MOST_NUMBER)
 }
 
 /// The reference of a letter and digits; a number that is too great is told as the greatest.
