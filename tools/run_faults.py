@@ -69,6 +69,7 @@ def explain_run(block, style, answer, program):
     show_head(block, style, stood.command or style.command_at(stood.offset), stood.offset)
     if answer.kind == "refused" and not stood.reached:
         block.mark(style, stood.offset, len(stood.lexeme.text), "^")
+        may_be_missing(block, stood)
         block.note("why", "by the checker's rules a run may come to this, and the certificate doesn't rule it out")
         return
     if answer.name not in ("EmptyPop", "WrongKind"):
@@ -112,6 +113,23 @@ def empty_pop(block, stood):
     return ""
 
 
+def tested_first(block, stood, field):
+    """A missing field is tested before it is taken."""
+    token = text(stood.lexeme.text)
+    block.note("help", f"test it first:  {field} empty$ 'skip$ {{ {field} {token} }} if$" if len(OPERANDS.get(stood.function, ())) == 1
+               else f"test `{field}` with empty$ or missing$ first")
+
+
+def may_be_missing(block, stood):
+    """Where the checker refuses the top of the stack, and a field stands directly before the function that takes it."""
+    before = stood.style.lexeme_at(stood.offset)[1]
+    takes_text = OPERANDS.get(stood.function, ())[:1] == ("string",)
+    if (stood.answer.name, stood.answer.rest) == ("WrongKind", "1") and takes_text and before and stood.style.kind_of(before.text) == "field":
+        field = text(before.text)
+        block.sentence = f"{function_name(stood)} takes a string, and the field `{field}` may be missing"
+        tested_first(block, stood, field)
+
+
 def wrong_kind(block, stood):
     if stood.test:
         block.sentence = "`while$` takes an integer from its test, and the test leaves another value on the top"
@@ -137,9 +155,7 @@ def wrong_kind(block, stood):
         field = text(value[len(b"missing "):])
         block.short = f"'{field}' is a missing field, not {kind}"
         block.note("why", "a field that an entry lacks is no string; only empty$, missing$, pop$, duplicate$, swap$, top$ and stack$ take it")
-        token = text(stood.lexeme.text)
-        block.note("help", f"test it first:  {field} empty$ 'skip$ {{ {field} {token} }} if$" if len(OPERANDS.get(stood.function, ())) == 1
-                   else f"test `{field}` with empty$ or missing$ first")
+        tested_first(block, stood, field)
     elif as_kind == "integer":
         block.note("help", "write `int.to.str$` behind the integer to make a string of it")
 
