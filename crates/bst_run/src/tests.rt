@@ -104,6 +104,7 @@ macro_rules! judged {
 mod begun;
 mod check;
 mod data;
+mod loops;
 mod refusals;
 mod run;
 mod under;
@@ -114,6 +115,7 @@ use crate::tests::check::{
     CERTIFICATES, CHECKS, CONDITIONS, FAILING_CHECKS, HINTED, LONG_STYLES, NO_ENTRIES,
 };
 use crate::tests::data::{BAD_AUX, BAD_DATABASES, NESTED};
+use crate::tests::loops::{AROUND, LONG_TURNS, TURNS};
 use crate::tests::refusals::{COUNTS, DEMANDS, UNITS, USES};
 use crate::tests::run::{FAILING_RUNS, FAULTS, RUNS};
 use crate::tests::under::UNDER;
@@ -208,6 +210,21 @@ fn demands_and_limits_have_their_places(rt: HostRuntime) -> Result<(), Fail> {
 #[test]
 fn walks_count_to_their_limit(rt: HostRuntime) -> Result<(), Fail> {
     compare_judged(&rt, rt.alloc(), &COUNTS)
+}
+
+#[test]
+fn loops_are_checked_turn_by_turn(rt: HostRuntime) -> Result<(), Fail> {
+    compare_judged(&rt, rt.alloc(), &TURNS)
+}
+
+#[test]
+fn turns_count_on_to_the_limit(rt: HostRuntime) -> Result<(), Fail> {
+    compare_judged(&rt, rt.alloc(), &LONG_TURNS)
+}
+
+#[test]
+fn used_loops_leave_by_their_exits(rt: HostRuntime) -> Result<(), Fail> {
+    compare_judged(&rt, rt.alloc(), &AROUND)
 }
 
 #[test]
