@@ -4,7 +4,7 @@
 use crate::tests::Judged;
 
 /// Hints, and pieces that are entailed.
-pub static UNITS: [Judged; 18] = [
+pub static UNITS: [Judged; 24] = [
     // No hint is left for a name that has a summary.
     judged!("ENTRY{}{}{} FUNCTION{g}{pop$} FUNCTION{f}{\"a\" g} READ EXECUTE{f}", "summary g\npre\nstack 0\npost\nhints\ncase 0\nend\n" => "refused 1:47 HintsShort"),
     // A name that has a summary takes another hint.
@@ -41,10 +41,22 @@ pub static UNITS: [Judged; 18] = [
     judged!("ENTRY{}{}{} FUNCTION{g}{pop$} FUNCTION{f}{\"a\" g} READ EXECUTE{f}", "summary g\npre\nstack 0\nrow -1 1 length:0\npost\nhints\ncase 0\nend\ncommand 4\nhints\nuse 0\nplain\nend\n" => "refused 1:47 WrongHint"),
     // A row's step is missing.
     judged!("ENTRY{}{}{} FUNCTION{g}{pop$} FUNCTION{f}{\"a\" g} READ EXECUTE{f}", "summary g\npre\nstack 0\nrow -1 1 length:0\npost\nhints\ncase 0\nend\ncommand 4\nhints\nuse 0\nend\n" => "refused 1:47 HintsShort"),
+    // Two places of a pre with one symbol, and two values.
+    judged!("ENTRY{}{}{} FUNCTION{g}{pop$ pop$} FUNCTION{f}{#1 #1 g} READ EXECUTE{f}", "summary g\npre\nstack 0 0\npost\nhints\ncase 0\nend\ncommand 4\nhints\nuse 0\nend\n" => "refused 1:54 NotEntailed 1"),
+    // One value in both places.
+    judged!("ENTRY{}{}{} FUNCTION{g}{pop$ pop$} FUNCTION{f}{#1 duplicate$ g} READ EXECUTE{f}", "summary g\npre\nstack 0 0\npost\nhints\ncase 0\nend\ncommand 4\nhints\nuse 0\nend\n" => "accepted"),
+    // A variable with another value than the one on the stack.
+    judged!("ENTRY{}{}{} INTEGERS{n} FUNCTION{g}{pop$} FUNCTION{f}{#1 g} READ EXECUTE{f}", "summary g\npre\nstack 0\nvar n 0\npost\nhints\ncase 0\nend\ncommand 5\nhints\nuse 0\nend\n" => "refused 1:58 NotEntailed 2"),
+    // The variable's value is on the stack.
+    judged!("ENTRY{}{}{} INTEGERS{n} FUNCTION{g}{pop$} FUNCTION{f}{n g} READ EXECUTE{f}", "summary g\npre\nstack 0\nvar n 0\npost\nhints\ncase 0\nend\ncommand 5\nhints\nuse 0\nend\n" => "accepted"),
+    // A variable with another value than the pre says.
+    judged!("ENTRY{}{}{} INTEGERS{n} FUNCTION{g}{} FUNCTION{f}{#1 'n := g} READ EXECUTE{f}", "summary g\npre\nvar n 0\nint 0 5\npost\nhints\ncase 0\nend\ncommand 5\nhints\nuse 0\nend\n" => "refused 1:60 NotEntailed 2"),
+    // A call of the certificate's second summary of a function.
+    judged!("ENTRY{}{}{} FUNCTION{g}{pop$} FUNCTION{f}{#1 g} READ EXECUTE{f}", "summary g\npre\nstack 0\nis 0 str\npost\nhints\ncase 0\nend\nsummary g\npre\nstack 0\nis 0 int\npost\nhints\ncase 0\nend\ncommand 4\nhints\nuse 1\nend\n" => "accepted"),
 ];
 
 /// What a used summary leaves, and what is entered.
-pub static USES: [Judged; 29] = [
+pub static USES: [Judged; 38] = [
     // A post shares the symbols of its pre.
     judged!("ENTRY{}{}{} FUNCTION{g}{swap$} FUNCTION{f}{\"a\" #1 g write$ #1 + pop$} READ EXECUTE{f}", "summary g\npre\nstack 0 1\npost\nstack 1 0\nhints\ncase 0\nend\ncommand 4\nhints\nuse 0\nend\n" => "accepted"),
     // A post's new symbols keep nothing.
@@ -103,10 +115,28 @@ pub static USES: [Judged; 29] = [
     judged!("ENTRY{}{}{} INTEGERS{n} FUNCTION{g}{#1 'n :=} FUNCTION{f}{g n 'skip$ {pop$} if$} READ EXECUTE{f}", "summary g\nwrites n\npre\npost\nvar n 0\nrow -1 1 value:0\nhints\ncase 0\nstep 1 1:e3\nend\ncommand 5\nhints\nuse 0\nkeep\ndrop 1 1:r0\nend\n" => "refused 1:77 NotEntailed 0"),
     // A case that is kept.
     judged!("ENTRY{}{}{} INTEGERS{n} FUNCTION{g}{#1 'n :=} FUNCTION{f}{g n 'skip$ {pop$} if$} READ EXECUTE{f}", "summary g\nwrites n\npre\npost\nvar n 0\nrow -1 1 value:0\nhints\ncase 0\nstep 1 1:e3\nend\ncommand 5\nhints\nuse 0\nkeep\nkeep\nend\n" => "refused 1:71 EmptyPop 1"),
+    // A summary that is used inside itself.
+    judged!("ENTRY{}{}{} FUNCTION{g}{duplicate$ preamble$ empty$ swap$ 'skip$ if$} FUNCTION{f}{'g g pop$} READ EXECUTE{f}", "summary g\npre\nstack 0\ncall 0 g\npost\nstack 0\nhints\nuse 0\ncase 0\ncase 0\nend\ncommand 4\nhints\nuse 0\nend\n" => "accepted"),
+    // Inside itself it takes its hint.
+    judged!("ENTRY{}{}{} FUNCTION{g}{duplicate$ preamble$ empty$ swap$ 'skip$ if$} FUNCTION{f}{'g g pop$} READ EXECUTE{f}", "summary g\npre\nstack 0\ncall 0 g\npost\nstack 0\nhints\ncase 0\ncase 0\nend\ncommand 4\nhints\nuse 0\nend\n" => "refused 1:66 WrongHint"),
+    // Inside itself too few symbols are left for its pre.
+    judged!("ENTRY{}{}{} FUNCTION{g}{swap$ pop$ duplicate$ preamble$ empty$ swap$ 'skip$ if$} FUNCTION{f}{\"a\" 'g g pop$} READ EXECUTE{f}", "summary g\npre\nstack 0 1\ncall 1 g\npost\nstack 1\nhints\nuse 0\ncase 0\ncase 0\nend\ncommand 4\nhints\nuse 0\nend\n" => "refused 1:77 NotEntailed 0"),
+    // A summary at an entry, used at an entry.
+    judged!("ENTRY{}{}{} FUNCTION{g}{cite$ pop$} FUNCTION{f}{g} READ ITERATE{f}", "summary g\nentry\npre\npost\nhints\ncase 0\nend\ncommand 4\nhints\nuse 0\nend\n" => "accepted"),
+    // One that asks for no entry, used at an entry.
+    judged!("ENTRY{}{}{} FUNCTION{g}{pop$} FUNCTION{f}{cite$ g} READ ITERATE{f}", "summary g\npre\nstack 0\npost\nhints\ncase 0\nend\ncommand 4\nhints\nuse 0\nend\n" => "accepted"),
+    // A variable of an entry is bound by the post.
+    judged!("ENTRY{}{n}{} FUNCTION{g}{#1 'n :=} FUNCTION{f}{g n #1 = 'skip$ {#1 #1 *} if$} READ ITERATE{f}", "summary g\nentry\nwrites n\npre\npost\nvar n 0\nint 0 1\nhints\ncase 0\nend\ncommand 4\nhints\nuse 0\nend\n" => "accepted"),
+    // A variable of an entry that isn't bound is new.
+    judged!("ENTRY{}{n}{} FUNCTION{g}{#1 'n :=} FUNCTION{f}{g n #1 = 'skip$ {#1 #1 *} if$} READ ITERATE{f}", "summary g\nentry\nwrites n\npre\npost\nhints\ncase 0\nend\ncommand 4\nhints\nuse 0\nend\n" => "refused 1:55 HintsShort"),
+    // What isn't written comes before the hint of a string.
+    judged!("ENTRY{}{}{} STRINGS{s} FUNCTION{g}{preamble$ 's :=} FUNCTION{f}{g} READ EXECUTE{f}", "summary g\npre\npost\nhints\nend\n" => "refused 1:49 NotEntailed 0"),
+    // A demand comes before what isn't written.
+    judged!("ENTRY{}{}{} STRINGS{s} FUNCTION{g}{#1 's :=} FUNCTION{f}{g} READ EXECUTE{f}", "summary g\npre\npost\nhints\nend\n" => "refused 1:42 WrongKind 2"),
 ];
 
 /// Records of commands, demands and the number of states.
-pub static DEMANDS: [Judged; 18] = [
+pub static DEMANDS: [Judged; 32] = [
     // A record for READ.
     judged!("ENTRY{}{}{} FUNCTION{f}{} READ EXECUTE{f}", "command 2\nhints\nend\n" => "refused 1:27 CommandShape"),
     // A record for a declaration.
@@ -143,6 +173,34 @@ pub static DEMANDS: [Judged; 18] = [
     judged!("ENTRY{}{}{} FUNCTION{f}{preamble$ empty$ pop$ preamble$ empty$ pop$ preamble$ empty$ pop$ preamble$ empty$ pop$ preamble$ empty$ pop$ preamble$ empty$ pop$ preamble$ empty$ pop$ preamble$ empty$ pop$ preamble$ empty$ pop$ } READ EXECUTE{f}", "" => "refused 1:211 TooManyCases"),
     // 257 states.
     judged!("ENTRY{}{}{} FUNCTION{f}{preamble$ empty$ {preamble$ empty$ pop$ preamble$ empty$ pop$ preamble$ empty$ pop$ preamble$ empty$ pop$ preamble$ empty$ pop$ preamble$ empty$ pop$ preamble$ empty$ pop$ preamble$ empty$ pop$ } 'skip$ if$} READ EXECUTE{f}", "" => "refused 1:228 TooManyCases"),
+    // A variable of an entry is written where none is visited.
+    judged!("ENTRY{}{n}{} FUNCTION{f}{#1 'n :=} READ EXECUTE{f}", "" => "refused 1:32 NoEntry"),
+    // A string that may be cut takes a hint.
+    judged!("ENTRY{}{}{} STRINGS{s} FUNCTION{f}{preamble$ 's :=} READ EXECUTE{f}", "" => "refused 1:49 HintsShort"),
+    // It is cut.
+    judged!("ENTRY{}{}{} STRINGS{s} FUNCTION{f}{preamble$ 's :=} READ EXECUTE{f}", "command 4\nhints\nplain\nend\n" => "accepted"),
+    // It isn't too long.
+    judged!("ENTRY{}{}{} STRINGS{s} FUNCTION{f}{preamble$ 's :=} READ EXECUTE{f}", "command 4\nhints\nstep 1 1:r1\nend\n" => "accepted"),
+    // A step that doesn't show that.
+    judged!("ENTRY{}{}{} STRINGS{s} FUNCTION{f}{preamble$ 's :=} READ EXECUTE{f}", "command 4\nhints\nstep 1 1:r0\nend\n" => "refused 1:49 NotEntailed 0"),
+    // Another hint.
+    judged!("ENTRY{}{}{} STRINGS{s} FUNCTION{f}{preamble$ 's :=} READ EXECUTE{f}", "command 4\nhints\nkeep\nend\n" => "refused 1:49 WrongHint"),
+    // A part within a string.
+    judged!("ENTRY{}{}{} FUNCTION{f}{\"abc\" #1 #2 substring$ pop$} READ EXECUTE{f}", "command 3\nhints\nstep 1 1:t2\nend\n" => "accepted"),
+    // A part that reaches beyond it.
+    judged!("ENTRY{}{}{} FUNCTION{f}{\"abc\" #1 #4 substring$ pop$} READ EXECUTE{f}", "command 3\nhints\nstep 1 1:t2\nend\n" => "refused 1:37 NotEntailed 0"),
+    // A part from place 0 has no step.
+    judged!("ENTRY{}{}{} FUNCTION{f}{\"abc\" #0 #2 substring$ pop$} READ EXECUTE{f}", "command 3\nhints\nstep 1 1:t2\nend\n" => "refused 1:37 WrongHint"),
+    // It has the rule of all parts.
+    judged!("ENTRY{}{}{} FUNCTION{f}{\"abc\" #0 #2 substring$ pop$} READ EXECUTE{f}", "command 3\nhints\nplain\nend\n" => "accepted"),
+    // 256 bodies, one in the other: g enters itself until its number is 0.
+    judged!("ENTRY{}{}{} INTEGERS{n} FUNCTION{g}{swap$ #1 - duplicate$ 'n := swap$ duplicate$ n swap$ 'skip$ if$} FUNCTION{f}{#255 'g g pop$ pop$} READ EXECUTE{f}", "" => "accepted"),
+    // 257 bodies.
+    judged!("ENTRY{}{}{} INTEGERS{n} FUNCTION{g}{swap$ #1 - duplicate$ 'n := swap$ duplicate$ n swap$ 'skip$ if$} FUNCTION{f}{#256 'g g pop$ pop$} READ EXECUTE{f}", "" => "refused 1:97 WalkTooDeep"),
+    // 256 bodies with that of a summary.
+    judged!("ENTRY{}{}{} INTEGERS{n} FUNCTION{g}{swap$ #1 - duplicate$ 'n := swap$ duplicate$ n swap$ 'skip$ if$} FUNCTION{f}{#255 'g g pop$ pop$} READ EXECUTE{f}", "summary f\nwrites n\npre\npost\nhints\ncase 0\nend\ncommand 5\nhints\nuse 0\nend\n" => "accepted"),
+    // 257 bodies with that of a summary.
+    judged!("ENTRY{}{}{} INTEGERS{n} FUNCTION{g}{swap$ #1 - duplicate$ 'n := swap$ duplicate$ n swap$ 'skip$ if$} FUNCTION{f}{#256 'g g pop$ pop$} READ EXECUTE{f}", "summary f\nwrites n\npre\npost\nhints\ncase 0\nend\ncommand 5\nhints\nuse 0\nend\n" => "refused 1:97 WalkTooDeep"),
 ];
 
 /// The longest walk that is taken, and one that is longer.
