@@ -90,10 +90,11 @@ macro_rules! nested {
     };
 }
 
-/// What is answered for a style and a certificate with these lines behind its condition, which has a nine for each number.
-macro_rules! judged {
-    ($style:expr, $lines:expr => $answer:expr) => {
+/// What is answered for a style and a certificate with these lines of its condition, and these behind it.
+macro_rules! judged_under {
+    ($condition:expr, $style:expr, $lines:expr => $answer:expr) => {
         Judged {
+            condition: $condition,
             style: $style,
             lines: $lines,
             answer: $answer,
@@ -101,8 +102,16 @@ macro_rules! judged {
     };
 }
 
+/// What is answered for a style and a certificate with these lines behind its condition, which has a nine for each number.
+macro_rules! judged {
+    ($style:expr, $lines:expr => $answer:expr) => {
+        judged_under!("entries 9\nkey 9\npreamble 9\nlength 9\nothertype yes\n", $style, $lines => $answer)
+    };
+}
+
 mod begun;
 mod check;
+mod commands;
 mod data;
 mod loops;
 mod refusals;
@@ -114,11 +123,12 @@ use crate::command::command;
 use crate::tests::check::{
     CERTIFICATES, CHECKS, CONDITIONS, FAILING_CHECKS, HINTED, LONG_STYLES, NO_ENTRIES,
 };
+use crate::tests::commands::{COUNTED, EXECUTED, SHAPED, TYPED, VISITED};
 use crate::tests::data::{BAD_AUX, BAD_DATABASES, NESTED};
 use crate::tests::loops::{AROUND, LONG_TURNS, TURNS};
 use crate::tests::refusals::{COUNTS, DEMANDS, UNITS, USES};
 use crate::tests::run::{FAILING_RUNS, FAULTS, RUNS};
-use crate::tests::under::UNDER;
+use crate::tests::under::{UNDER, UNMET};
 use crate::tests::words::{STEPS, WORDS};
 use bv_base::mem_files::MemFiles;
 use bv_base::mem_sink::MemSink;
@@ -159,9 +169,10 @@ pub struct Example {
     err: &'static str,
 }
 
-/// A style, the lines of a certificate behind its condition, and the answer: `accepted`, or the last line.
+/// A certificate's lines of its condition and those behind it, the style, and the answer: `accepted`, or the last line.
 #[derive(Clone, Copy)]
 pub struct Judged {
+    condition: &'static str,
     style: &'static str,
     lines: &'static str,
     answer: &'static str,
@@ -228,6 +239,31 @@ fn used_loops_leave_by_their_exits(rt: HostRuntime) -> Result<(), Fail> {
 }
 
 #[test]
+fn what_a_visit_keeps_is_known_at_the_next(rt: HostRuntime) -> Result<(), Fail> {
+    compare_judged(&rt, rt.alloc(), &VISITED)
+}
+
+#[test]
+fn visits_are_counted(rt: HostRuntime) -> Result<(), Fail> {
+    compare_judged(&rt, rt.alloc(), &COUNTED)
+}
+
+#[test]
+fn what_a_call_says_is_known_behind_it(rt: HostRuntime) -> Result<(), Fail> {
+    compare_judged(&rt, rt.alloc(), &EXECUTED)
+}
+
+#[test]
+fn types_of_the_condition_are_entered(rt: HostRuntime) -> Result<(), Fail> {
+    compare_judged(&rt, rt.alloc(), &TYPED)
+}
+
+#[test]
+fn records_fit_their_commands(rt: HostRuntime) -> Result<(), Fail> {
+    compare_judged(&rt, rt.alloc(), &SHAPED)
+}
+
+#[test]
 fn words_and_missing_files_are_named(rt: HostRuntime) -> Result<(), Fail> {
     compare(&rt, rt.alloc(), &WORDS)
 }
@@ -251,6 +287,11 @@ fn a_run_writes_its_lines_and_its_log(rt: HostRuntime) -> Result<(), Fail> {
 #[test]
 fn a_run_under_a_certificate_tells_of_its_condition(rt: HostRuntime) -> Result<(), Fail> {
     compare(&rt, rt.alloc(), &UNDER)
+}
+
+#[test]
+fn the_first_line_that_is_not_kept_is_told(rt: HostRuntime) -> Result<(), Fail> {
+    compare(&rt, rt.alloc(), &UNMET)
 }
 
 #[test]
@@ -295,10 +336,9 @@ fn compare_long(rt: &impl Abort, alloc: Global, rows: &[(usize, Example)]) -> Re
 /// Asserts what is answered for each style and the lines of a certificate.
 fn compare_judged(rt: &impl Abort, alloc: Global, rows: &[Judged]) -> Result<(), Fail> {
     for row in rows {
+        let condition = row.condition;
         let lines = row.lines;
-        let cert = format!(in alloc;
-            "bstcert 1\nentries 9\nkey 9\npreamble 9\nlength 9\nothertype yes\nend\n{lines}done\n"
-        )?;
+        let cert = format!(in alloc; "bstcert 1\n{condition}end\n{lines}done\n")?;
         let mut files = MemFiles::new(alloc);
         files.add("a.bst", row.style.as_bytes())?;
         files.add("b.cert", cert.as_bytes())?;
