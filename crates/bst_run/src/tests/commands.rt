@@ -4,7 +4,7 @@
 use crate::tests::Judged;
 
 /// What a visit keeps is known at the next, and nothing else is.
-pub static VISITED: [Judged; 27] = [
+pub static VISITED: [Judged; 28] = [
     // Before a first visit the variables of an entry have the values with which they open, also behind SORT.
     judged!("ENTRY{}{n}{} FUNCTION{f}{n #0 = 'skip$ {#1 #1 *} if$ sort.key$ \"\" = 'skip$ {#1 #1 *} if$} READ SORT ITERATE{f}", "" => "accepted"),
     // What a visit keeps holds at the next, also behind SORT.
@@ -39,6 +39,8 @@ pub static VISITED: [Judged; 27] = [
     judged!("ENTRY{}{n}{} FUNCTION{p}{#1 'n :=} FUNCTION{f}{n #1 = 'skip$ {#1 #1 *} if$} READ ITERATE{p} ITERATE{skip$} ITERATE{f}", "command 4\nkeeps\nvar n 0\nint 0 1\nhints\nend\n" => "refused 1:53 HintsShort"),
     // It keeps it anew.
     judged!("ENTRY{}{n}{} FUNCTION{p}{#1 'n :=} FUNCTION{f}{n #1 = 'skip$ {#1 #1 *} if$} READ ITERATE{p} ITERATE{skip$} ITERATE{f}", "command 4\nkeeps\nvar n 0\nint 0 1\nhints\nend\ncommand 5\nkeeps\nvar n 0\nint 0 1\nhints\nend\n" => "accepted"),
+    // What isn't known before a visit that writes nothing isn't kept by it.
+    judged!("ENTRY{}{n}{} READ ITERATE{skip$}", "command 2\nkeeps\nvar n 0\nint 0 1\nhints\nend\n" => "refused 1:19 NotEntailed 2"),
     // EXECUTE takes nothing away that is known of entries.
     judged!("ENTRY{}{n}{} FUNCTION{p}{#1 'n :=} FUNCTION{f}{n #1 = 'skip$ {#1 #1 *} if$} READ ITERATE{p} EXECUTE{skip$} ITERATE{f}", "command 4\nkeeps\nvar n 0\nint 0 1\nhints\nend\n" => "accepted"),
     // A stack that isn't empty comes before what isn't kept.
@@ -94,9 +96,11 @@ pub static COUNTED: [Judged; 14] = [
 ];
 
 /// What holds of the global variables behind EXECUTE.
-pub static EXECUTED: [Judged; 6] = [
+pub static EXECUTED: [Judged; 7] = [
     // Before the first command each variable has the value with which it opens.
     judged!("ENTRY{}{}{} INTEGERS{n} FUNCTION{f}{n {pop$} 'skip$ if$} READ EXECUTE{f}", "" => "accepted"),
+    // The numbers of bytes that strings may have are variables too.
+    judged!("ENTRY{}{}{} FUNCTION{f}{entry.max$ #250 = 'skip$ {#1 #1 *} if$ global.max$ #20000 = 'skip$ {#1 #1 *} if$} READ EXECUTE{f}", "" => "accepted"),
     // Behind EXECUTE nothing is known that it doesn't say.
     judged!("ENTRY{}{}{} INTEGERS{n} FUNCTION{f}{n {pop$} 'skip$ if$} READ EXECUTE{f} EXECUTE{f}", "" => "refused 1:53 HintsShort"),
     // What holds after EXECUTE is there for the next command.
