@@ -32,6 +32,14 @@ pub fn command<F: Files, O: Sink, E: Sink>(
     out: &mut O,
     err: &mut E,
 ) -> Status
+    // Whatever `check` put on `out`, the style is safe: over every entry list that fits it and meets the condition that is printed,
+    // no number of steps comes to an execution error, and each call that ends leaves the literal stack empty.
+    ensures safe { O.written out.new ≢ O.written out.old → IfSome (forms.form_of words.now) (λ form. IfSome (F.told files.old) (λ told.
+        top.IsPromised told form (sunk ⟦<O as Sink>⟧ out.old out.new))) }
+    // Where `check` is done it is safe under the condition of the certificate, whatever `out` tells.
+    ensures done { result ≡ Status.Done → IfSome (forms.form_of words.now) (λ form. IfSome (F.told files.old) (λ told. top.IsDoneWell told form)) }
+    // Where a run under a certificate told that the entries meet its condition, the run came to no execution error.
+    ensures inside { IfSome (forms.form_of words.now) (λ form. top.IsInside form (sunk ⟦<E as Sink>⟧ err.old err.new) → result ≢ Status.Fault) }
     // The words have none of the forms exactly where the answer is Usage.
     ensures usage { forms.form_of words.now ≡ None →
         IsDelivered report.usage result (sunk ⟦<O as Sink>⟧ out.old out.new) (sunk ⟦<E as Sink>⟧ err.old err.new) }
@@ -54,13 +62,6 @@ pub fn command<F: Files, O: Sink, E: Sink>(
     ensures out_failed { O.faults out.new ≢ O.faults out.old → result ≡ Status.WriteFailed }
     ensures err_failed { E.faults err.new ≢ E.faults err.old → result ≡ Status.WriteFailed }
     ensures out_first { O.faults out.new ≢ O.faults out.old → E.written err.new ≡ E.written err.old }
-    // Where `check` is done, the style is safe under the condition of the certificate, whatever `out` tells.
-    ensures done { result ≡ Status.Done → IfSome (forms.form_of words.now) (λ form. IfSome (F.told files.old) (λ told. top.IsDoneWell told form)) }
-    // Whatever `check` put on `out`, the style is safe under the condition that is printed.
-    // Where a run under a certificate told that the entries meet its condition, the run came to no execution error.
-    ensures inside { IfSome (forms.form_of words.now) (λ form. top.IsInside form (sunk ⟦<E as Sink>⟧ err.old err.new) → result ≢ Status.Fault) }
-    ensures safe { O.written out.new ≢ O.written out.old → IfSome (forms.form_of words.now) (λ form. IfSome (F.told files.old) (λ told.
-        top.IsPromised told form (sunk ⟦<O as Sink>⟧ out.old out.new))) }
 {
     match form_of(words) {
         Some(form) => carry_out(alloc, form, files, out, err),
