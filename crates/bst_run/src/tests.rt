@@ -125,7 +125,7 @@ use crate::tests::check::{
 };
 use crate::tests::commands::{COUNTED, EXECUTED, SHAPED, TYPED, VISITED};
 use crate::tests::data::{BAD_AUX, BAD_DATABASES, NESTED};
-use crate::tests::loops::{AROUND, LONG_TURNS, TURNS};
+use crate::tests::loops::{AROUND, LEAVING, LONG_TURNS, TURNS};
 use crate::tests::refusals::{COUNTS, DEMANDS, UNITS, USES};
 use crate::tests::run::{FAILING_RUNS, FAULTS, RUNS};
 use crate::tests::under::{UNDER, UNMET};
@@ -234,8 +234,13 @@ fn turns_count_on_to_the_limit(rt: HostRuntime) -> Result<(), Fail> {
 }
 
 #[test]
-fn used_loops_leave_by_their_exits(rt: HostRuntime) -> Result<(), Fail> {
+fn a_state_comes_to_a_loop_by_a_case(rt: HostRuntime) -> Result<(), Fail> {
     compare_judged(&rt, rt.alloc(), &AROUND)
+}
+
+#[test]
+fn used_loops_leave_by_their_exits(rt: HostRuntime) -> Result<(), Fail> {
+    compare_judged(&rt, rt.alloc(), &LEAVING)
 }
 
 #[test]

@@ -92,9 +92,9 @@ pub static TURNS: [Judged; 42] = [
     judged!("ENTRY{}{}{} FUNCTION{f}{{}} READ", "loop while$ #0\ncase\nstack 0 0\ncall 0 skip$\nhints\nloop 0\nend\n" => "refused 1:25 NoInvariant"),
 ];
 
-/// What a `while$` asks and what the loop leaves: loops in summaries, in loops and in the function that they enter, exits, what a
-/// loop may write, and the loop over names.
-pub static AROUND: [Judged; 49] = [
+/// What a `while$` asks of a state: loops in summaries, in loops and in the function that they enter, the hints, and the case by
+/// which a state comes.
+pub static AROUND: [Judged; 26] = [
     // A loop in a summary that two calls and two commands use.
     judged!("ENTRY{}{}{} INTEGERS{n} FUNCTION{g}{#3 'n := {n} {n #1 - 'n :=} while$} FUNCTION{f}{g g} READ EXECUTE{f} EXECUTE{g}", "summary g\nwrites n\npre\npost\nvar n 0\nrow 0 -1 value:0\nhints\nloop 0\ncase 0\ncase 0\nstep 1 1:r0\nend\nloop #0 #1\nwrites n\ncase\nvar n 0\nexit\nvar n 0\nrow 0 -1 value:0\nhints\nkeep\nkeep\nstep 1 1:r0 1:f3\nstep 1 1:w0 1:e3\ncase 0\ncase 0\nstep 1 1:r0\nend\ncommand 5\nhints\nuse 0\nuse 0\nend\ncommand 6\nhints\nuse 0\nend\n" => "accepted"),
     // Two calls walk the same body, and each uses the loop.
@@ -147,6 +147,10 @@ pub static AROUND: [Judged; 49] = [
     judged!("ENTRY{}{}{} FUNCTION{f}{{stack$ #0} 'skip$ while$} READ EXECUTE{f}", "loop #0 skip$\nwhole\ncase\nexit\nhints\ncase 0\nend\ncommand 3\nhints\nloop 0\ncase 0\nend\n" => "accepted"),
     // It isn't known to be whole.
     judged!("ENTRY{}{}{} FUNCTION{f}{{stack$ #0} 'skip$ while$} READ EXECUTE{f}", "loop #0 skip$\ncase\nexit\nhints\ncase 0\nend\ncommand 3\nhints\nloop 0\ncase 0\nend\n" => "refused 1:26 WholeStack"),
+];
+
+/// What is entered at a `while$` and in a loop's own check, what an exit leaves, what a loop may write, and the loop over names.
+pub static LEAVING: [Judged; 23] = [
     // The test isn't known exactly, and no hint is looked at.
     judged!("ENTRY{}{}{} FUNCTION{g}{'skip$} FUNCTION{f}{g 'skip$ while$} READ EXECUTE{f}", "summary g\npre\npost\nstack 0\nis 0 func\nhints\ncase 0\nend\ncommand 4\nhints\nuse 0\nend\n" => "refused 1:54 UnknownFunction"),
     // Nor is the body.
