@@ -1,0 +1,5 @@
+pub mod Lists
+pub mod Looked
+pub mod Numbered
+pub mod Rooms
+pub mod Searched
