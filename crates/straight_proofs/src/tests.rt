@@ -15,8 +15,8 @@ use lin_facts::row::{Part, Row, Term};
 use std::alloc::Global;
 use std::process::Abort;
 use sym_state::proof::Reference::{
-    CountHigh, CountLow, ExactHigh, ExactLow, LengthLow, NamesHigh, NamesLow, NonblankLength,
-    NonblankNames, PosHigh, PosLow, TextHigh, TextLow, ValueHigh, ValueLow,
+    CountHigh, CountLow, ExactHigh, ExactLow, LengthLow, NamesHigh, NamesLow, NonblankNames,
+    PosHigh, PosLow, TextHigh, TextLow, ValueHigh, ValueLow,
 };
 use sym_state::proof::{Proof, Reference};
 use sym_state::state::{Parts, State};
@@ -127,7 +127,7 @@ static GOALS: [Example; 19] = [
         [Nonblank(0)],
         [],
         line!(-1, 1 Length(0)),
-        [NonblankLength(Sym(0))]
+        [NamesHigh(Sym(0)), NonblankNames(Sym(0))]
     ),
     shown!(
         false,
