@@ -1,3 +1,4 @@
+pub mod AddingUp
 pub mod Lists
 pub mod Looked
 pub mod Numbered

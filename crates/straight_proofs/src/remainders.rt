@@ -15,7 +15,7 @@ use lin_facts::row::{Part, Row, Term};
 use std::alloc::Global;
 
 /// The row that never holds: -1 is at least 0.
-pub(crate) fn absurdity(alloc: Global) -> Row
+pub(crate) fn never(alloc: Global) -> Row
     ensures said { result ≡ absurdity }
     ensures room { HasRoom 8 result }
 {

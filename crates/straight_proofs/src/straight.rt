@@ -1,11 +1,13 @@
 //! The straight proofs of a goal and of an absurdity (docs/STATES.md, "Straight proofs").
 
-ghost use Rattle.std.specs.Prelude.{◌≡◌, map, option_map, reverse, IfOk};
+ghost use Rattle.std.specs.Prelude.{◌≡◌, ◌≤◌, true, length, map, option_map, reverse, IfOk, IfSome};
+ghost use Rattle.sym_state.specs.Cases.{absurdity};
+ghost use Rattle.sym_state.specs.References.{shows};
 ghost use Rattle.sym_state.specs.WellMade.{HasBounds, IsBounded};
 ghost use Rattle.straight_proofs.specs.Straight as rule;
 
 use crate::lookup::references;
-use crate::remainders::absurdity;
+use crate::remainders::never;
 use crate::search::{first_list, list_within};
 use bst_meaning::condition::Cond;
 use bv_base::memory::NoMemory;
@@ -28,6 +30,33 @@ pub fn straight_proof(
 ) -> Result<Option<Proof>, NoMemory>
     requires state { HasBounds state.now }
     requires goal { IsBounded goal.now }
+    ensures first { IfOk result (λ found. found ≡ rule.straight_proof cond.now state.now goal.now) }
+    ensures shown { IfOk result (λ found. IfSome found (λ proof. shows cond.now state.now proof goal.now ≡ true)) }
+    ensures few { IfOk result (λ found. IfSome found (λ proof. length proof.uses ≤ MOST_REFERENCES)) }
+{
+    first_proof(alloc, state, cond, goal)
+}
+
+/// The straight proof that a case can't come about, which shows that -1 is at least 0: its first reference may be any that
+/// is there. `None` comes exactly where there is none.
+pub fn drop_proof(alloc: Global, state: &State, cond: &Cond) -> Result<Option<Proof>, NoMemory>
+    requires { HasBounds state.now }
+    ensures first { IfOk result (λ found. found ≡ rule.drop_proof cond.now state.now) }
+    ensures shown { IfOk result (λ found. IfSome found (λ proof. shows cond.now state.now proof absurdity ≡ true)) }
+    ensures few { IfOk result (λ found. IfSome found (λ proof. length proof.uses ≤ MOST_REFERENCES)) }
+{
+    first_drop(alloc, state, cond)
+}
+
+/// The proof of the first list that shows a goal.
+fn first_proof(
+    alloc: Global,
+    state: &State,
+    cond: &Cond,
+    goal: &Row,
+) -> Result<Option<Proof>, NoMemory>
+    requires state { HasBounds state.now }
+    requires goal { IsBounded goal.now }
     ensures { IfOk result (λ found. found ≡ rule.straight_proof cond.now state.now goal.now) }
 {
     match list_within(alloc, state, cond, goal, MOST_REFERENCES)? {
@@ -36,9 +65,8 @@ pub fn straight_proof(
     }
 }
 
-/// The straight proof that a case can't come about, which shows that -1 is at least 0: its first reference may be any that
-/// is there. `None` comes exactly where there is none.
-pub fn drop_proof(alloc: Global, state: &State, cond: &Cond) -> Result<Option<Proof>, NoMemory>
+/// The proof of the first list that shows that a case can't come about.
+fn first_drop(alloc: Global, state: &State, cond: &Cond) -> Result<Option<Proof>, NoMemory>
     requires { HasBounds state.now }
     ensures { IfOk result (λ found. found ≡ rule.drop_proof cond.now state.now) }
 {
@@ -53,7 +81,7 @@ fn drop_list(alloc: Global, state: &State, cond: &Cond) -> Result<Option<Vec<Ref
     requires { HasBounds state.now }
     ensures { IfOk result (λ found. option_map (λ list. reverse list.items) found ≡ rule.drop_list cond.now state.now) }
 {
-    let goal = absurdity(alloc);
+    let goal = never(alloc);
     let all = references(alloc, state)?;
     first_list(
         alloc,

@@ -14,6 +14,6 @@ returns c =
     (left_behind c.args.cond.now c.args.state.now None row r)) in
     subst (λ (wanted : Option (List Reference)). IfOk c.first_list.result
     (λ result. option_map (λ (list : Vec Reference Global). reverse list.items) result ≡ wanted))
-    (ap (λ (row : Row). found row c.as_slice.result.now) c.absurdity-goal.ensures.said
+    (ap (λ (row : Row). found row c.as_slice.result.now) c.never-goal.ensures.said
     ∙ ap (found absurdity) (c.as_slice.ensures.value ∙ c.in_ok-all.ensures))
     c.first_list.ensures
