@@ -1,6 +1,6 @@
 -- The rows of a straight proof add up to the goal: what is found shows it.
-use Rattle.std.proofs.Common.{◌≡◌, ◌⊎◌, ℕ, zero, suc, ◌+◌, ◌<◌, ◌≤◌, Bool, true, false, cond, List, [], ◌∷◌, ◌++◌, length, map, slice_get, Option, None, Some, Result, Ok, Err, IfOk, inl, inr, ap, sym, ◌∙◌, refl, subst, arith}
-use Rattle.std.specs.Prelude.{ℤ, pos, negsuc, ◌+ℤ◌, ◌-ℤ◌, ◌*ℤ◌, ◌≤ℤ◌, ◌<ℤ◌, neg_ℤ, int_lt}
+use Rattle.std.proofs.Common.{◌≡◌, ◌⊎◌, ℕ, zero, suc, ◌+◌, ◌<◌, ◌≤◌, Bool, true, false, cond, List, [], ◌∷◌, length, map, Option, None, Some, Result, Ok, Err, IfOk, inl, inr, ap, sym, ◌∙◌, refl, subst, arith}
+use Rattle.std.specs.Prelude.{ℤ, pos, negsuc, ◌+ℤ◌, ◌*ℤ◌, ◌≤ℤ◌, ◌<ℤ◌, neg_ℤ, int_lt}
 use Rattle.std.specs.List.{All, fold}
 use Rattle.std.specs.Option.{IfSome, option_and_then, option_map, option_map_or}
 use Rattle.std.specs.Ordering.{int_eq}
@@ -9,7 +9,7 @@ use Rattle.std.proofs.lemmas.Bool.Decides.{Decides-int_eq}
 use Rattle.std.proofs.lemmas.Int.{ints}
 use Rattle.std.proofs.lemmas.List.Elements.{All-nil, All-cons}
 use Rattle.lin_facts.specs.Rows.{coefficient_of, same_term}
-use Rattle.lin_facts.specs.Follows.{entry, follows, Follows, left_over, row_at, summed}
+use Rattle.lin_facts.specs.Follows.{entry, follows, left_over, row_at, summed}
 use Rattle.lin_facts.specs.declared.row.Part.{Part}
 use Rattle.lin_facts.specs.declared.row.Row.{Row}
 use Rattle.lin_facts.specs.declared.row.Step.{Step}
@@ -25,7 +25,7 @@ use Rattle.sym_state.specs.declared.proof.Proof.{Proof}
 use Rattle.sym_state.specs.declared.proof.Reference.{Reference}
 use Rattle.straight_proofs.specs.declared.straight.TheConstants.{MOST_REFERENCES}
 use Rattle.straight_proofs.specs.Remainders.{counted_in, fits, higher, lead, minus, turned}
-use Rattle.straight_proofs.specs.Straight.{drop_list, drop_proof, ended, first_list, left_behind, list_within, once, proof_of, references, straight_proof}
+use Rattle.straight_proofs.specs.Straight.{drop_list, drop_proof, first_list, left_behind, list_within, once, proof_of, references, straight_proof}
 use Rattle.straight_proofs.proofs.Lists.{at_end, none_left, one_more}
 
 -- a number of each row, added up

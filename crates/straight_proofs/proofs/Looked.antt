@@ -1,8 +1,8 @@
 -- What is found by look-up is what is found among all references.
-use Rattle.std.proofs.Common.{◌≡◌, ◌≢◌, ℕ, zero, suc, ◌+◌, ◌-◌, ◌<◌, ◌≤◌, ◌⊎◌, Bool, true, false, cond, ◌&&◌, ◌||◌, List, [], ◌∷◌, ◌++◌, length, map, take, drop, min, slice_get, Option, None, Some, ap, sym, ◌∙◌, refl, subst, arith, append_assoc, nat_eq, nat_lt, inl, inr, ltb-true, ltb-false}
+use Rattle.std.proofs.Common.{◌≡◌, ◌≢◌, ℕ, zero, suc, ◌+◌, ◌<◌, ◌≤◌, ◌⊎◌, Bool, true, false, cond, ◌&&◌, ◌||◌, List, [], ◌∷◌, ◌++◌, length, map, take, slice_get, Option, None, Some, ap, sym, ◌∙◌, refl, subst, arith, append_assoc, nat_eq, nat_lt, inl, inr, ltb-true, ltb-false}
 use Rattle.std.specs.Prelude.{ℤ, pos, negsuc, ◌+ℤ◌, int_lt}
 use Rattle.std.specs.List.{AllByRecursion, flat_map, range_with_len}
-use Rattle.std.specs.Option.{IfSome, option_and_then, option_map, option_map_or}
+use Rattle.std.specs.Option.{IfSome, option_and_then, option_map}
 use Rattle.std.proofs.lemmas.Bool.{ne_eqb}
 use Rattle.std.proofs.lemmas.Bool.Decides.{eqb_tells}
 use Rattle.std.proofs.lemmas.List.{append-nil}
@@ -12,7 +12,7 @@ use Rattle.lin_facts.specs.declared.row.Term.{Term}
 use Rattle.lin_facts.specs.declared.row.Term.TheVariants.{Value, Length, Names, Pos, Count}
 use Rattle.bst_meaning.specs.declared.condition.Cond.{Cond}
 use Rattle.sym_state.specs.Decided.{exact_integer, exact_text, is_known_nonblank}
-use Rattle.sym_state.specs.References.{at_least, at_most, exceeds, on_symbol, row_said}
+use Rattle.sym_state.specs.References.{at_least, at_most, exceeds, row_said}
 use Rattle.sym_state.specs.State.{State}
 use Rattle.sym_state.specs.declared.proof.Reference.{Reference}
 use Rattle.sym_state.specs.declared.proof.Reference.TheVariants as ref
@@ -415,7 +415,7 @@ finds_rows c state t remainder next rest [] n (suc m) h few = absurd (omega arit
 finds_rows c state t remainder next rest (row ∷ rows) n zero h few = refl
 finds_rows c state t remainder next rest (row ∷ rows) n (suc m) h few =
     let b = behind c state t remainder next in
-    let one = row_on t remainder n (Some row) in
+    let one = row_on t remainder n row in
     let more = rows_on t remainder (suc n) (take m rows) in
     let here : slice_get state.rows n ≡ Some row = ap (slice_get state.rows) (omega arith) ∙ h 0 in
     let later : (k : ℕ) → slice_get state.rows (suc n + k) ≡ slice_get rows k = λ k. ap (slice_get state.rows) (omega arith) ∙ h (suc k) in

@@ -1,43 +1,48 @@
--- Rows that may be subtracted, one after the other.
-use Rattle.std.proofs.Common.{◌≡◌, ℕ, zero, suc, ◌+◌, List, [], ◌∷◌, ◌++◌, take, map, slice_get, Option, None, Some, ap, sym, ◌∙◌, refl, arith, append_assoc}
-use Rattle.std.proofs.lemmas.List.{append-nil}
+-- The rows that references can name, and all references, one after the other.
+use Rattle.std.proofs.Common.{◌≡◌, ℕ, zero, suc, ◌+◌, ◌≤◌, ◌^◌, List, [], ◌∷◌, ◌++◌, length, take, map, slice_get, Option, ap, sym, ◌∙◌, refl, subst, arith, append_assoc}
+use Rattle.std.proofs.lemmas.List.{length-take}
+use Rattle.std.proofs.lemmas.List.Elements.{All-nil, All-cons, All-head, All-tail}
 use Rattle.std.proofs.lemmas.List.FromFn.{map-range_with_len_more}
-use Rattle.std.specs.List.{flat_map, range_with_len}
+use Rattle.std.specs.List.{All, flat_map, range_with_len}
+use Rattle.std.specs.Option.{option_to_list}
+use Rattle.lin_facts.specs.Rows.{IsSmall}
 use Rattle.lin_facts.specs.declared.row.Row.{Row}
-use Rattle.lin_facts.specs.declared.row.Term.{Term}
+use Rattle.sym_state.specs.WellMade.{IsBounded}
+use Rattle.sym_state.proofs.Bounds.{small_row}
 use Rattle.sym_state.specs.declared.proof.Reference.{Reference}
 use Rattle.sym_state.specs.declared.proof.Reference.TheVariants as ref
 use Rattle.sym_state.specs.State.{State}
 use Rattle.straight_proofs.specs.declared.lookup.Kind.{Kind}
 use Rattle.straight_proofs.specs.declared.lookup.Kind.TheVariants as kind
-use Rattle.straight_proofs.specs.Lookup.{each_below, row_on, rows_on}
+use Rattle.straight_proofs.specs.Lookup.{each_below, rows_in_reach}
 use Rattle.straight_proofs.specs.Straight.{kinds, on_entries, on_symbols, references, rows_named}
 
--- one row more
-pub row_more : (t : Term) (remainder : Row) (n k : ℕ) (rows : List Row)
-    → rows_on t remainder n (take (suc k) rows) ≡ rows_on t remainder n (take k rows) ++ row_on t remainder (n + k) (slice_get rows k)
-row_more t remainder n zero [] = refl
-row_more t remainder n (suc k) [] = refl
-row_more t remainder n zero (row ∷ rows) =
-    append-nil (row_on t remainder n (Some row)) ∙ ap (λ (m : ℕ). row_on t remainder m (Some row)) (omega arith)
-row_more t remainder n (suc k) (row ∷ rows) =
-    ap (λ (more : List Reference). row_on t remainder n (Some row) ++ more)
-    (row_more t remainder (suc n) k rows
-    ∙ ap (λ (m : ℕ). rows_on t remainder (suc n) (take k rows) ++ row_on t remainder m (slice_get rows k)) (omega arith))
-    ∙ sym (append_assoc (row_on t remainder n (Some row)) (rows_on t remainder (suc n) (take k rows)) (row_on t remainder (n + suc k) (slice_get rows k)))
+row_more : (k : ℕ) (rows : List Row) → take (suc k) rows ≡ take k rows ++ option_to_list (slice_get rows k)
+row_more zero [] = refl
+row_more (suc k) [] = refl
+row_more zero (row ∷ rows) = refl
+row_more (suc k) (row ∷ rows) = ap (λ (more : List Row). row ∷ more) (row_more k rows)
 
--- one row more behind others
-pub row_added : (t : Term) (remainder : Row) (k : ℕ) (rows : List Row) (initial old new : List Reference)
-    → old ≡ initial ++ rows_on t remainder 0 (take k rows) → new ≡ old ++ row_on t remainder k (slice_get rows k)
-    → new ≡ initial ++ rows_on t remainder 0 (take (k + 1) rows)
-row_added t remainder k rows initial old new e f =
-    let here : k ≡ 0 + k = omega arith in
-    let more : suc k ≡ k + 1 = omega arith in
-    f ∙ ap (λ (front : List Reference). front ++ row_on t remainder k (slice_get rows k)) e
-    ∙ append_assoc initial (rows_on t remainder 0 (take k rows)) (row_on t remainder k (slice_get rows k))
-    ∙ ap (λ (m : ℕ). initial ++ (rows_on t remainder 0 (take k rows) ++ row_on t remainder m (slice_get rows k))) here
-    ∙ ap (λ (rest : List Reference). initial ++ rest) (sym (row_more t remainder 0 k rows))
-    ∙ ap (λ (m : ℕ). initial ++ rows_on t remainder 0 (take m rows)) more
+front_small : (n : ℕ) (rows : List Row) → All IsBounded rows → All IsSmall (take n rows)
+front_small zero rows h = All-nil IsSmall
+front_small (suc n) [] h = All-nil IsSmall
+front_small (suc n) (row ∷ rows) h =
+    All-cons IsSmall row (take n rows) (small_row row (All-head IsBounded row rows h)) (front_small n rows (All-tail IsBounded row rows h))
+
+-- one row more of those in reach
+pub row_added : (k : ℕ) (rows old new : List Row) (row : Option Row)
+    → old ≡ take k rows → row ≡ slice_get rows k → new ≡ old ++ option_to_list row → new ≡ take (k + 1) rows
+row_added k rows old new row e f g =
+    let next : suc k ≡ k + 1 = omega arith in
+    g ∙ ap (λ (front : List Row). front ++ option_to_list row) e ∙ ap (λ (one : Option Row). take k rows ++ option_to_list one) f ∙ sym (row_more k rows)
+    ∙ ap (λ (n : ℕ). take n rows) next
+
+-- the rows in reach are within their bounds, and can be named
+pub reach_small : (state : State) (rows : List Row) → All IsBounded state.rows → rows ≡ rows_in_reach state → All IsSmall rows
+reach_small state rows h e = subst (λ (all : List Row). All IsSmall all) (sym e) (front_small (rows_named state) state.rows h)
+
+pub reach_few : (state : State) (rows : List Row) → rows ≡ rows_in_reach state → length rows ≤ 2 ^ 32
+reach_few state rows e = omega (arith, ap length e, length-take (rows_named state) state.rows)
 
 -- one number more behind others
 pub number_added : (made : ℕ → Reference) (k : ℕ) (initial old new : List Reference)

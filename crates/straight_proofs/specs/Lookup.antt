@@ -1,7 +1,6 @@
 -- Where the references are that may lead to a proof (docs/STATES.md, "Straight proofs"): those whose rows have a term.
-use Rattle.std.specs.Prelude.{ℕ, suc, false, if◌then◌else◌, List, [], ◌∷◌, ◌++◌, map, take, Option, Some}
+use Rattle.std.specs.Prelude.{ℕ, suc, if◌then◌else◌, List, [], ◌∷◌, ◌++◌, map, take, Some}
 use Rattle.std.specs.List.{range_with_len}
-use Rattle.std.specs.Option.{option_map_or}
 use Rattle.lin_facts.specs.declared.row.Row.{Row}
 use Rattle.lin_facts.specs.declared.row.Term.{Term}
 use Rattle.lin_facts.specs.declared.row.Term.TheVariants.{Value, Length, Names, Pos, Count}
@@ -27,18 +26,22 @@ on_term (Names s) = ref.NamesLow (sym s) ∷ ref.NamesHigh (sym s) ∷ ref.Nonbl
 on_term Pos = ref.PosLow ∷ ref.PosHigh ∷ []
 on_term Count = ref.PosHigh ∷ ref.CountLow ∷ ref.CountHigh ∷ []
 
--- a row, where it is there and may be subtracted where a term leads
-abbrev pub row_on : Term → Row → ℕ → Option Row → List Reference
-row_on term remainder k row = if option_map_or (fits (Some term) remainder) row false then ref.Row k ∷ [] else []
+-- a row, where it may be subtracted where a term leads
+abbrev pub row_on : Term → Row → ℕ → Row → List Reference
+row_on term remainder k row = if fits (Some term) remainder row then ref.Row k ∷ [] else []
 
 -- those of some rows, numbered from here, that may be subtracted where a term leads
 abbrev pub rows_on : Term → Row → ℕ → List Row → List Reference
 rows_on term remainder k [] = []
-rows_on term remainder k (row ∷ rows) = row_on term remainder k (Some row) ++ rows_on term remainder (suc k) rows
+rows_on term remainder k (row ∷ rows) = row_on term remainder k row ++ rows_on term remainder (suc k) rows
+
+-- the rows of a state that references can name
+abbrev pub rows_in_reach : State → List Row
+rows_in_reach state = take (rows_named state) state.rows
 
 -- the references that may lead to a proof where a term leads, in their order
 abbrev pub references_to : State → Row → Term → List Reference
-references_to state remainder term = rows_on term remainder 0 (take (rows_named state) state.rows) ++ on_term term
+references_to state remainder term = rows_on term remainder 0 (rows_in_reach state) ++ on_term term
 
 -- the reference of a kind to a symbol
 abbrev pub reference_of : Kind → Sym → Reference

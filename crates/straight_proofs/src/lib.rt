@@ -1,6 +1,7 @@
 //! Straight proofs: proofs of rows that are found without a search over summaries or loops.
 #![tactic(auto)]
 
+mod known;
 mod lookup;
 mod remainders;
 mod said;

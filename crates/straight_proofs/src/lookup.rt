@@ -1,15 +1,17 @@
 //! The references that a search goes over.
 
-ghost use Rattle.std.specs.Prelude.{◌≡◌, ◌≤◌, ◌++◌, ◌^◌, false, map, take, slice_get, Some, IfOk, OnOk};
-ghost use Rattle.std.specs.List.{flat_map, range_with_len};
-ghost use Rattle.std.specs.Option.{option_map_or};
+ghost use Rattle.std.specs.Prelude.{◌≡◌, ◌≤◌, ◌++◌, ◌^◌, length, map, option_map, IfOk, OnOk};
+ghost use Rattle.std.specs.List.{All, flat_map, range_with_len};
+ghost use Rattle.std.specs.Option.{option_to_list};
+ghost use Rattle.lin_facts.specs.Rows.{IsSmall};
 ghost use Rattle.sym_state.specs.WellMade.{HasBounds};
 ghost use Rattle.straight_proofs.specs.Lookup as rule;
-ghost use Rattle.straight_proofs.specs.Remainders as left;
 ghost use Rattle.straight_proofs.specs.Remainders.{HasRoom};
 ghost use Rattle.straight_proofs.specs.Straight as order;
 
+use crate::known::Known;
 use crate::remainders::fits;
+use bv_base::copied::Copied;
 use bv_base::memory::NoMemory;
 use lin_facts::row::{Row, Term};
 use std::alloc::Global;
@@ -17,39 +19,59 @@ use sym_state::proof::Reference;
 use sym_state::state::State;
 use sym_state::symbol::Sym;
 
+/// The rows of a state that references can name, copied once for a search that goes over them again and again.
+#[tactic(auto, using(crate::proofs::Numbered::row_added))]
+pub(crate) fn rows_in_reach(alloc: Global, state: &State) -> Result<Vec<Row>, NoMemory>
+    ensures { IfOk result (λ rows. rows.items ≡ rule.rows_in_reach state.now) }
+{
+    let mut rows = Vec::new(alloc);
+    for k in 0..named(state) {
+        push_copy(alloc, &mut rows, state.row(k))?;
+    }
+    Ok(rows)
+}
+
+/// Adds a copy of a row, where there is one.
+fn push_copy(alloc: Global, rows: &mut Vec<Row>, row: Option<&Row>) -> Result<(), NoMemory>
+    ensures { OnOk result (rows.new.items ≡ rows.old.items ++ option_to_list (option_map (λ row. row.now) row.entry)) }
+{
+    if let Some(row) = row {
+        rows.push(row.copied(alloc)?)?;
+    }
+    Ok(())
+}
+
 /// The references whose rows may be subtracted from a remainder where this term leads, in order.
 pub(crate) fn references_to(
-    alloc: Global,
-    state: &State,
+    known: &Known,
     remainder: &Row,
     term: Term,
 ) -> Result<Vec<Reference>, NoMemory>
-    requires state { HasBounds state.now }
+    requires state { HasBounds known.now.state.now }
+    requires rows { known.now.rows.now ≡ rule.rows_in_reach known.now.state.now }
     requires room { HasRoom 0 remainder.now }
-    ensures { IfOk result (λ all. all.items ≡ rule.references_to state.now remainder.now term) }
+    ensures { IfOk result (λ all. all.items ≡ rule.references_to known.now.state.now remainder.now term) }
 {
-    let mut all = Vec::new(alloc);
-    push_rows_on(&mut all, state, remainder, term, named(state))?;
+    let mut all = Vec::new(known.alloc);
+    push_rows_on(&mut all, known.rows, remainder, term)?;
     push_on_term(&mut all, term)?;
     Ok(all)
 }
 
-/// Adds those of the first rows that may be subtracted from a remainder where this term leads.
-#[tactic(auto, using(crate::proofs::Numbered::row_added))]
+/// Adds those of some rows that may be subtracted from a remainder where this term leads.
 fn push_rows_on(
     all: &mut Vec<Reference>,
-    state: &State,
+    rows: &[Row],
     remainder: &Row,
     term: Term,
-    rows: u64,
 ) -> Result<(), NoMemory>
-    requires state { HasBounds state.now }
+    requires few { length rows.now ≤ 2 ^ 32 }
+    requires small { All IsSmall rows.now }
     requires room { HasRoom 0 remainder.now }
-    requires few { rows ≤ 2 ^ 32 }
-    ensures { OnOk result (all.new.items ≡ all.old.items ++ rule.rows_on term remainder.now 0 (take rows state.now.rows)) }
+    ensures { OnOk result (all.new.items ≡ all.old.items ++ rule.rows_on term remainder.now 0 rows.now) }
 {
-    for k in 0..rows {
-        push_row_on(all, state, remainder, term, k as u32)?;
+    for (k, row) in rows.iter().enumerate() {
+        push_row_on(all, row, remainder, term, k as u32)?;
     }
     Ok(())
 }
@@ -57,31 +79,19 @@ fn push_rows_on(
 /// Adds a row that may be subtracted from a remainder where this term leads.
 fn push_row_on(
     all: &mut Vec<Reference>,
-    state: &State,
+    row: &Row,
     remainder: &Row,
     term: Term,
     k: u32,
 ) -> Result<(), NoMemory>
-    requires state { HasBounds state.now }
+    requires small { IsSmall row.now }
     requires room { HasRoom 0 remainder.now }
-    ensures { OnOk result (all.new.items ≡ all.old.items ++ rule.row_on term remainder.now k (slice_get state.now.rows k)) }
+    ensures { OnOk result (all.new.items ≡ all.old.items ++ rule.row_on term remainder.now k row.now) }
 {
-    if fits_row(state, remainder, term, k) {
+    if fits(Some(term), remainder, row) {
         all.push(Reference::Row(k))?;
     }
     Ok(())
-}
-
-/// Whether a row of the state may be subtracted from a remainder where this term leads.
-fn fits_row(state: &State, remainder: &Row, term: Term, k: u32) -> bool
-    requires state { HasBounds state.now }
-    requires room { HasRoom 0 remainder.now }
-    ensures { result ≡ option_map_or (left.fits (Some term) remainder.now) (slice_get state.now.rows k) false }
-{
-    match state.row(k as u64) {
-        Some(row) => fits(Some(term), remainder, row),
-        None => false,
-    }
 }
 
 /// How many rows of a state references can name.

@@ -4,49 +4,40 @@ ghost use Rattle.std.specs.Prelude.{◌≡◌, ℕ, ◌+◌, None, Some, reverse
 ghost use Rattle.std.specs.Option.{option_and_then};
 ghost use Rattle.lin_facts.specs.Rows.{IsSmall};
 ghost use Rattle.sym_state.specs.WellMade.{HasBounds};
-ghost use Rattle.straight_proofs.specs.Remainders as rows;
+ghost use Rattle.straight_proofs.specs.Lookup.{rows_in_reach};
+ghost use Rattle.straight_proofs.specs.Remainders as subtracting;
 ghost use Rattle.straight_proofs.specs.Remainders.{HasRoom};
 ghost use Rattle.straight_proofs.specs.Straight as rule;
 
+use crate::known::Known;
 use crate::lookup::references_to;
 use crate::remainders::{fits, lead, minus};
 use crate::said::row_said;
-use bst_meaning::condition::Cond;
 use bv_base::memory::NoMemory;
 use lin_facts::row::{Row, Term};
 use std::alloc::Global;
 use sym_state::proof::Reference;
-use sym_state::state::State;
 
 /// The first list of at most so many references that shows a remainder, its last reference first.
 #[cycle(search)]
 pub(crate) fn list_within(
-    alloc: Global,
-    state: &State,
-    cond: &Cond,
+    known: &Known,
     remainder: &Row,
     most: u32,
 ) -> Result<Option<Vec<Reference>>, NoMemory>
-    requires state { HasBounds state.now }
+    requires state { HasBounds known.now.state.now }
+    requires rows { known.now.rows.now ≡ rows_in_reach known.now.state.now }
     requires room { HasRoom most remainder.now }
-    ensures { IfOk result (λ found. option_map (λ list. reverse list.items) found ≡ rule.list_within most cond.now state.now remainder.now) }
+    ensures { IfOk result (λ found. option_map (λ list. reverse list.items) found ≡ rule.list_within most known.now.cond.now known.now.state.now remainder.now) }
 {
     match lead(remainder) {
-        None => Ok(ended(alloc, remainder)),
+        None => Ok(ended(known.alloc, remainder)),
         Some(term) => {
             if most == 0 {
                 Ok(None)
             } else {
-                let there = references_to(alloc, state, remainder, term)?;
-                first_list(
-                    alloc,
-                    state,
-                    cond,
-                    Some(term),
-                    remainder,
-                    most - 1,
-                    there.as_slice(),
-                )
+                let there = references_to(known, remainder, term)?;
+                first_list(known, Some(term), remainder, most - 1, there.as_slice())
             }
         }
     }
@@ -55,22 +46,21 @@ pub(crate) fn list_within(
 /// The list of the first of some references behind which a list goes on, its last reference first.
 #[cycle(search)]
 pub(crate) fn first_list(
-    alloc: Global,
-    state: &State,
-    cond: &Cond,
+    known: &Known,
     leads: Option<Term>,
     remainder: &Row,
     most: u32,
     references: &[Reference],
 ) -> Result<Option<Vec<Reference>>, NoMemory>
-    requires state { HasBounds state.now }
+    requires state { HasBounds known.now.state.now }
+    requires rows { known.now.rows.now ≡ rows_in_reach known.now.state.now }
     requires room { HasRoom (most + 1) remainder.now }
     ensures { IfOk result (λ found. option_map (λ list. reverse list.items) found
-        ≡ rule.first_list (λ r. option_and_then (rule.list_within most cond.now state.now)
-        (rule.left_behind cond.now state.now leads remainder.now r)) references.now) }
+        ≡ rule.first_list (λ r. option_and_then (rule.list_within most known.now.cond.now known.now.state.now)
+        (rule.left_behind known.now.cond.now known.now.state.now leads remainder.now r)) references.now) }
 {
     for reference in references {
-        if let Some(list) = list_behind(alloc, state, cond, leads, remainder, most, *reference)? {
+        if let Some(list) = list_behind(known, leads, remainder, most, *reference)? {
             let mut list = list;
             list.push(*reference)?;
             return Ok(Some(list));
@@ -82,22 +72,21 @@ pub(crate) fn first_list(
 /// The list that goes on behind a reference.
 #[cycle(search)]
 fn list_behind(
-    alloc: Global,
-    state: &State,
-    cond: &Cond,
+    known: &Known,
     leads: Option<Term>,
     remainder: &Row,
     most: u32,
     reference: Reference,
 ) -> Result<Option<Vec<Reference>>, NoMemory>
-    requires state { HasBounds state.now }
+    requires state { HasBounds known.now.state.now }
+    requires rows { known.now.rows.now ≡ rows_in_reach known.now.state.now }
     requires room { HasRoom (most + 1) remainder.now }
     ensures { IfOk result (λ found. option_map (λ list. reverse list.items) found
-        ≡ option_and_then (rule.list_within most cond.now state.now)
-        (rule.left_behind cond.now state.now leads remainder.now reference)) }
+        ≡ option_and_then (rule.list_within most known.now.cond.now known.now.state.now)
+        (rule.left_behind known.now.cond.now known.now.state.now leads remainder.now reference)) }
 {
-    match left_behind(alloc, state, cond, leads, remainder, reference)? {
-        Some(left) => list_within(alloc, state, cond, &left, most),
+    match left_behind(known, leads, remainder, reference)? {
+        Some(left) => list_within(known, &left, most),
         None => Ok(None),
     }
 }
@@ -115,20 +104,19 @@ fn ended(alloc: Global, remainder: &Row) -> Option<Vec<Reference>>
 
 /// What is left of a remainder behind a reference.
 fn left_behind(
-    alloc: Global,
-    state: &State,
-    cond: &Cond,
+    known: &Known,
     leads: Option<Term>,
     remainder: &Row,
     reference: Reference,
 ) -> Result<Option<Row>, NoMemory>
-    requires state { HasBounds state.now }
+    requires state { HasBounds known.now.state.now }
+    requires rows { known.now.rows.now ≡ rows_in_reach known.now.state.now }
     requires room { HasRoom 1 remainder.now }
-    ensures said { IfOk result (λ left. left ≡ rule.left_behind cond.now state.now leads remainder.now reference) }
+    ensures said { IfOk result (λ left. left ≡ rule.left_behind known.now.cond.now known.now.state.now leads remainder.now reference) }
     ensures room { (more : ℕ) → HasRoom (more + 1) remainder.now → IfOk result (λ left. IfSome left (HasRoom more)) }
 {
-    match row_said(alloc, state, cond, reference)? {
-        Some(row) => less(alloc, leads, remainder, &row),
+    match row_said(known.alloc, known.state, known.cond, reference)? {
+        Some(row) => less(known.alloc, leads, remainder, &row),
         None => Ok(None),
     }
 }
@@ -142,8 +130,8 @@ fn less(
 ) -> Result<Option<Row>, NoMemory>
     requires remainder { HasRoom 1 remainder.now }
     requires row { IsSmall row.now }
-    ensures said { IfOk result (λ left. left ≡ (if rows.fits leads remainder.now row.now
-        then Some (rows.minus remainder.now row.now) else None)) }
+    ensures said { IfOk result (λ left. left ≡ (if subtracting.fits leads remainder.now row.now
+        then Some (subtracting.minus remainder.now row.now) else None)) }
     ensures room { (more : ℕ) → HasRoom (more + 1) remainder.now → IfOk result (λ left. IfSome left (HasRoom more)) }
 {
     if fits(leads, remainder, row) {

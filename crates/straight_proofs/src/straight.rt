@@ -4,9 +4,11 @@ ghost use Rattle.std.specs.Prelude.{◌≡◌, ◌≤◌, true, length, map, opt
 ghost use Rattle.sym_state.specs.Cases.{absurdity};
 ghost use Rattle.sym_state.specs.References.{shows};
 ghost use Rattle.sym_state.specs.WellMade.{HasBounds, IsBounded};
+ghost use Rattle.straight_proofs.specs.Lookup as reach;
 ghost use Rattle.straight_proofs.specs.Straight as rule;
 
-use crate::lookup::references;
+use crate::known::Known;
+use crate::lookup::{references, rows_in_reach};
 use crate::remainders::never;
 use crate::search::{first_list, list_within};
 use bst_meaning::condition::Cond;
@@ -59,10 +61,32 @@ fn first_proof(
     requires goal { IsBounded goal.now }
     ensures { IfOk result (λ found. found ≡ rule.straight_proof cond.now state.now goal.now) }
 {
-    match list_within(alloc, state, cond, goal, MOST_REFERENCES)? {
+    match first_list_of(alloc, state, cond, goal)? {
         Some(list) => Ok(Some(proof_of(alloc, list.as_slice())?)),
         None => Ok(None),
     }
+}
+
+/// The first list that shows a goal, its last reference first.
+fn first_list_of(
+    alloc: Global,
+    state: &State,
+    cond: &Cond,
+    goal: &Row,
+) -> Result<Option<Vec<Reference>>, NoMemory>
+    requires state { HasBounds state.now }
+    requires goal { IsBounded goal.now }
+    ensures { IfOk result (λ found. option_map (λ list. reverse list.items) found
+        ≡ rule.list_within MOST_REFERENCES cond.now state.now goal.now) }
+{
+    let rows = rows_in_reach(alloc, state)?;
+    let known = Known {
+        alloc,
+        state,
+        cond,
+        rows: rows.as_slice(),
+    };
+    list_within(&known, goal, MOST_REFERENCES)
 }
 
 /// The proof of the first list that shows that a case can't come about.
@@ -81,17 +105,26 @@ fn drop_list(alloc: Global, state: &State, cond: &Cond) -> Result<Option<Vec<Ref
     requires { HasBounds state.now }
     ensures { IfOk result (λ found. option_map (λ list. reverse list.items) found ≡ rule.drop_list cond.now state.now) }
 {
-    let goal = never(alloc);
-    let all = references(alloc, state)?;
-    first_list(
+    let rows = rows_in_reach(alloc, state)?;
+    let known = Known {
         alloc,
         state,
         cond,
-        None,
-        &goal,
-        MOST_REFERENCES - 1,
-        all.as_slice(),
-    )
+        rows: rows.as_slice(),
+    };
+    list_among_all(&known)
+}
+
+/// The same, where the rows are known.
+fn list_among_all(known: &Known) -> Result<Option<Vec<Reference>>, NoMemory>
+    requires state { HasBounds known.now.state.now }
+    requires rows { known.now.rows.now ≡ reach.rows_in_reach known.now.state.now }
+    ensures { IfOk result (λ found. option_map (λ list. reverse list.items) found
+        ≡ rule.drop_list known.now.cond.now known.now.state.now) }
+{
+    let goal = never(known.alloc);
+    let all = references(known.alloc, known.state)?;
+    first_list(known, None, &goal, MOST_REFERENCES - 1, all.as_slice())
 }
 
 /// The proof that takes each of these references once, the last of them first.

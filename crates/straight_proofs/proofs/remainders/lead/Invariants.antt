@@ -2,7 +2,7 @@
 use Rattle.std.proofs.Common.{◌≡◌, drop, None}
 use Rattle.std.specs.List.{fold}
 use Rattle.lin_facts.specs.Rows.{coefficient_of}
-use Rattle.straight_proofs.specs.Remainders.{counted_in, lead}
+use Rattle.straight_proofs.specs.Remainders.{counted_in}
 use Rattle.straight_proofs.proofs.remainders.lead.Given as goal
 
 abbrev pub invariant-loop-part : goal.invariant-loop-part

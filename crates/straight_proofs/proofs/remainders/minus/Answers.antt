@@ -1,7 +1,5 @@
 -- What is left is the remainder less the row, and has room for one row less.
-use Rattle.std.proofs.Common.{◌≡◌, ℕ, sym, subst, rules}
-use Rattle.lin_facts.specs.declared.row.Row.{Row}
-use Rattle.straight_proofs.specs.Remainders.{HasRoom, minus}
+use Rattle.std.proofs.Common.{rules}
 use Rattle.straight_proofs.proofs.Rooms.{room_of}
 use Rattle.straight_proofs.proofs.remainders.minus.Goals as goal
 

@@ -16,5 +16,5 @@ decreases-list_behind l = 3 * l.most + 1
 -- the first list is that of the references that are left
 abbrev pub invariant-first_list-loop-reference : goal.invariant-first_list-loop-reference
 invariant-first_list-loop-reference l =
-    first_list (λ r. option_and_then (list_within l.most l.cond l.state) (left_behind l.cond l.state l.leads l.remainder r)) (drop l.reference-index l.references)
-    ≡ first_list (λ r. option_and_then (list_within l.most l.cond l.state) (left_behind l.cond l.state l.leads l.remainder r)) l.references
+    first_list (λ r. option_and_then (list_within l.most l.known.cond.now l.known.state.now) (left_behind l.known.cond.now l.known.state.now l.leads l.remainder r)) (drop l.reference-index l.references)
+    ≡ first_list (λ r. option_and_then (list_within l.most l.known.cond.now l.known.state.now) (left_behind l.known.cond.now l.known.state.now l.leads l.remainder r)) l.references
