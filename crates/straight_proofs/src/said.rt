@@ -1,11 +1,10 @@
 //! The rows that references say (docs/STATES.md, "References").
 
-ghost use Rattle.std.specs.Prelude.{◌≡◌, ◌≤◌, ◌^◌, None, Some, length, pos, slice_get, option_map, if◌then◌else◌, IfOk, IfSome};
-ghost use Rattle.std.specs.List.{All};
+ghost use Rattle.std.specs.Prelude.{◌≡◌, ◌^◌, None, Some, length, pos, slice_get, option_map, if◌then◌else◌, IfOk, IfSome};
 ghost use Rattle.lin_facts.specs.Rows.{IsSmall, IsWithin};
 ghost use Rattle.sym_state.specs.Decided as decided;
 ghost use Rattle.sym_state.specs.References as rule;
-ghost use Rattle.sym_state.specs.WellMade.{HasBounds, HasShortText};
+ghost use Rattle.sym_state.specs.WellMade.{HasBounds};
 
 use bst_meaning::condition::Cond;
 use bv_base::copied::Copied;
