@@ -28,7 +28,6 @@ decided_cause status.NoFile outcome begun f f' decided = absurd decided
 decided_cause status.ReadFailed outcome begun f f' decided = absurd decided
 decided_cause status.WriteFailed outcome begun f f' decided = absurd decided
 decided_cause status.NoMemory outcome begun f f' decided = absurd decided
-decided_cause status.NotBuilt outcome begun f f' decided = absurd decided
 decided_cause _ outcome begun f f' decided = tt
 
 -- a status of a refusal is one that the files decide

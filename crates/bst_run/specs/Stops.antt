@@ -28,14 +28,13 @@ abbrev pub Decides : {A : Type 0} → Result A Outcome → Result A Stop → Typ
 Decides wanted (Ok value) = wanted ≡ Ok value
 Decides wanted (Err stop) = IfSome (outcome_of stop) (λ outcome. wanted ≡ Err outcome)
 
--- a status that the bytes of the files decide, and neither the words nor the outside; NotBuilt is one that no answer has
+-- a status that the bytes of the files decide, and neither the words nor the outside
 abbrev pub IsDecided : Status → Type 0
 IsDecided status.Usage = ⊥
 IsDecided status.NoFile = ⊥
 IsDecided status.ReadFailed = ⊥
 IsDecided status.WriteFailed = ⊥
 IsDecided status.NoMemory = ⊥
-IsDecided status.NotBuilt = ⊥
 IsDecided _ = Unit {0}
 
 -- one of them that isn't the answer of a certificate that is accepted or of a run

@@ -103,7 +103,6 @@ CausedBy status.ReadFailed outcome begun faults faults' =
 CausedBy status.Usage outcome begun faults faults' = ⊥
 CausedBy status.WriteFailed outcome begun faults faults' = ⊥
 CausedBy status.NoMemory outcome begun faults faults' = ⊥
-CausedBy status.NotBuilt outcome begun faults faults' = ⊥
 CausedBy _ outcome begun faults faults' = Unit {0}
 
 -- an outcome is what the words and the files decide, or a file couldn't be read
