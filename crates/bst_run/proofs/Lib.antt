@@ -6,8 +6,10 @@ pub mod DeliveryLemmas
 pub mod CommandLemmas
 pub mod ReadsLemmas
 pub mod BegunLemmas
-pub mod RunLemmas
+pub mod ReadingLemmas
 pub mod RefusalPlaces
+pub mod RunLemmas
 pub mod SitePlaces
+pub mod Sound
+pub mod StraightLemmas
 pub mod TreeLemmas
-pub mod UnderLemmas

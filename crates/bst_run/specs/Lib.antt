@@ -1,3 +1,7 @@
+pub mod Certificate
+pub mod Reading
+pub mod Straight
+pub mod Walk
 pub mod DataFaults
 pub mod Refusals
 pub mod Report
@@ -12,7 +16,6 @@ pub mod AuxChain
 pub mod InputTrees
 pub mod Sources
 pub mod Ran
-pub mod Under
 pub mod FilesBegun
 pub mod Delivery
 pub mod Top

@@ -1,6 +1,7 @@
 //! The program: it reads the words, decides or runs, and ends with the answer's number.
 #![tactic(auto)]
 
+mod certificate;
 mod check;
 mod command;
 mod data_fault;
@@ -12,9 +13,10 @@ mod refusal;
 mod report;
 mod run;
 mod stop;
+mod straight;
 #[cfg(test)]
 mod tests;
-mod under;
+mod walk;
 mod words;
 
 use crate::command::command;

@@ -1,7 +1,0 @@
-pub mod Between
-pub mod Moments
-pub mod Commands
-pub mod Checks
-pub mod Places
-pub mod Ready
-pub mod Records
