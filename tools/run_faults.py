@@ -20,12 +20,14 @@ class Stood:
         if self.command:
             self.function = self.command.groups[0].inside[0].text.lower()
             self.calls, self.values = ["%s at %d:%d" % (text(self.command.word.text.upper()), *answer.place), text(self.function)], []
-            ended = self.probe.trace(at_token=False)[2]
+            calls, _, ended = self.probe.trace(at_token=False)
+            self.reached = bool(calls)
             if self.function == b"call.type$" and ended:
                 self.calls.append(text(ended))
         else:
             self.function = self.lexeme.text.lower()
             self.calls, reached, _ = self.probe.trace()
+            self.reached = reached > 0
             self.values = self.probe.stack(reached) if reached else []
             self.enter()
 
@@ -65,6 +67,11 @@ def explain_run(block, style, answer, program):
     """What stood at an execution error."""
     stood = Stood(style, answer, program)
     show_head(block, style, stood.command or style.command_at(stood.offset), stood.offset)
+    if answer.kind == "refused" and not stood.reached:
+        block.mark(style, stood.offset, len(stood.lexeme.text), "^")
+        may_be_missing(block, stood)
+        block.note("why", "by the checker's rules a run may come to this, and the certificate doesn't rule it out")
+        return
     if answer.name not in ("EmptyPop", "WrongKind"):
         # The kinds are looked at first, so here they are right.
         block.taken_as = dict(enumerate(OPERANDS.get(stood.function, ())))
@@ -83,7 +90,7 @@ def explain_run(block, style, answer, program):
             block.note("entry", f"{answer.rest}, @{text(it.kind)} at {block.called(name)}:{line}, " + (
                 "with " + ", ".join(it.fields) if it.fields else "without fields"))
     if answer.kind == "refused":
-        block.note("why", "every run of this style comes to this place, whatever the database holds")
+        block.note("why", "a run of this style over no entries comes to this place")
 
 
 def function_name(stood):
@@ -104,6 +111,23 @@ def empty_pop(block, stood):
         block.note("help", f"push {push} before {name}, or take {name} away")
         return f"operand {count + 1}, {WHERE[count]}, isn't there" if len(kinds) > 1 else ""
     return ""
+
+
+def tested_first(block, stood, field):
+    """A missing field is tested before it is taken."""
+    token = text(stood.lexeme.text)
+    block.note("help", f"test it first:  {field} empty$ 'skip$ {{ {field} {token} }} if$" if len(OPERANDS.get(stood.function, ())) == 1
+               else f"test `{field}` with empty$ or missing$ first")
+
+
+def may_be_missing(block, stood):
+    """Where the checker refuses the top of the stack, and a field stands directly before the function that takes it."""
+    before = stood.style.lexeme_at(stood.offset)[1]
+    takes_text = OPERANDS.get(stood.function, ())[:1] == ("string",)
+    if (stood.answer.name, stood.answer.rest) == ("WrongKind", "1") and takes_text and before and stood.style.kind_of(before.text) == "field":
+        field = text(before.text)
+        block.sentence = f"{function_name(stood)} takes a string, and the field `{field}` may be missing"
+        tested_first(block, stood, field)
 
 
 def wrong_kind(block, stood):
@@ -131,9 +155,7 @@ def wrong_kind(block, stood):
         field = text(value[len(b"missing "):])
         block.short = f"'{field}' is a missing field, not {kind}"
         block.note("why", "a field that an entry lacks is no string; only empty$, missing$, pop$, duplicate$, swap$, top$ and stack$ take it")
-        token = text(stood.lexeme.text)
-        block.note("help", f"test it first:  {field} empty$ 'skip$ {{ {field} {token} }} if$" if len(OPERANDS.get(stood.function, ())) == 1
-                   else f"test `{field}` with empty$ or missing$ first")
+        tested_first(block, stood, field)
     elif as_kind == "integer":
         block.note("help", "write `int.to.str$` behind the integer to make a string of it")
 

@@ -1,56 +1,43 @@
 -- From the two files to the decision.
-use Rattle.std.proofs.Common.{◌≡◌, ℕ, ◌≤◌, true, false, ◌||◌, not, nat_lt, cond, List, length, Option, None, Some, Result, Ok, Err, refl, ◌∙◌, ap, subst, arith}
+use Rattle.std.proofs.Common.{◌≡◌, ℕ, true, false, cond, nat_lt, List, length, Option, None, Some, Result, Ok, Err, refl, ap, subst}
 use Rattle.std.specs.Prelude.{IfSome, IfOk, IfErr}
 use Rattle.std.specs.FinMap.{get}
-use Rattle.std.proofs.lemmas.Bool.Decides.{nat_tests}
+use Rattle.bv_base.specs.Answers.{then_do}
 use Rattle.bv_base.specs.Outside.{Listing}
 use Rattle.bv_base.specs.declared.files.Begun.{Begun}
 use Rattle.bv_base.specs.declared.files.Files.{Ghosts}
+use Rattle.bv_base.specs.declared.limits.TheConstants.{STYLE_BYTES}
 use Rattle.name_table.specs.declared.style.Style.{Style}
 use Rattle.bst_parse.specs.declared.fault.StyleFault.{StyleFault}
 use Rattle.bst_parse.specs.Reading.{style_of}
-use Rattle.bst_meaning.specs.declared.condition.Cond.{Cond}
+use Rattle.cert_format.specs.Texts.{cert_of}
+use Rattle.cert_format.specs.declared.cert.Cert.{Cert}
+use Rattle.bst_run.specs.declared.outcome.Outcome.{Outcome}
 use Rattle.bst_run.specs.declared.stop.Stop.{Stop}
-use Rattle.bst_run.specs.Straight.{is_straight}
-use Rattle.bst_run.specs.Walk.{first_refusal}
-use Rattle.bst_run.specs.Report.{not_built, too_long}
-use Rattle.bst_run.specs.Reading.{certificate_of}
-use Rattle.bv_base.specs.Answers.{then_do}
-use Rattle.bv_base.specs.declared.limits.TheConstants.{STYLE_BYTES}
 use Rattle.bst_run.specs.Files.{whole_file, file_in}
-use Rattle.bst_run.specs.Sources.{read_style}
 use Rattle.bst_run.specs.FilesBegun.{Begins, check_begun, file_begun, then_begun}
 use Rattle.bst_run.specs.Reads.{Reads}
+use Rattle.bst_run.specs.Report.{too_long}
+use Rattle.bst_run.specs.Sources.{read_style}
 use Rattle.bst_run.specs.Stops.{Gives, Decides, IsInside}
-use Rattle.bst_run.specs.Top.{judged, decided, after_style, condition_in, IsDecidedWell, IsAccepted}
+use Rattle.bst_run.specs.Top.{after_style, check_outcome, text_judged, IsAcceptance, IsTextJudgedWell, IsJudgedWell}
 use Rattle.bst_run.proofs.BegunLemmas.{begins_after, begins_next, begins_refused, begins_stopped}
 use Rattle.bst_run.proofs.ReadsLemmas.{reads_next, reads_nothing}
 
--- a straight style that isn't too long and a short certificate are decided by the rules
-pub decides : (bytes : List ℕ) (style : Style) (found : Option Cond) (condition : Cond) → found ≡ Some condition
-    → length bytes ≤ 65536 → is_straight style ≡ true → judged bytes style found ≡ decided condition (first_refusal style)
-decides bytes style None condition is small straight = absurd (cc)
-decides bytes style (Some c) condition is small straight =
-    let short : nat_lt 65536 (length bytes) ≡ false = grind (arith, nat_tests) in
-    let same : c ≡ condition = cc in
-    ap (λ b. cond b (Err not_built) (decided c (first_refusal style))) (ap (λ b. b || not (is_straight style)) short ∙ ap not straight)
-    ∙ ap (λ x. decided x (first_refusal style)) same
-
 -- the files are read in turn
-pub condition_reads : {F : Type 0} (see : Ghosts F) (old mid new : F) (style_name cert_name bytes bytes' bytes'' text text' : List ℕ) (style : Style) (result : Result Cond Stop)
-    → bytes' ≡ bytes → bytes'' ≡ bytes → text' ≡ text
+pub check_reads : {F : Type 0} (see : Ghosts F) (old mid new : F) (style_name cert_name bytes bytes' text text' : List ℕ) (style : Style) (result : Result Outcome Stop)
+    → bytes' ≡ bytes → text' ≡ text
     → Reads {F = F} {A = List ℕ} see old mid (λ t. file_in t STYLE_BYTES style_name) (Ok bytes) → Decides {A = Style} (read_style (style_of bytes')) (Ok style)
     → Reads {F = F} {A = List ℕ} see mid new (λ t. file_in t STYLE_BYTES cert_name) (Ok text)
-    → Decides {A = Cond} (judged bytes'' style (certificate_of text')) result → IfErr result IsInside
-    → Reads {F = F} {A = Cond} see old new (λ t. condition_in t style_name cert_name) result
-condition_reads see old mid new style_name cert_name bytes bytes' bytes'' text text' style result e e' f style_file read cert_file decides inside =
-    reads_next see old mid new (λ t. file_in t STYLE_BYTES style_name) bytes (λ t b. then_do (read_style (style_of b)) (after_style t cert_name b)) result style_file
-    (reads_next see mid mid new (λ t. read_style (style_of bytes)) style (λ t. after_style t cert_name bytes) result
+    → Decides {A = Outcome} (text_judged style text') result → IfErr result IsInside
+    → Reads {F = F} {A = Outcome} see old new (λ t. check_outcome t style_name cert_name) result
+check_reads see old mid new style_name cert_name bytes bytes' text text' style result e f style_file read cert_file decides inside =
+    reads_next see old mid new (λ t. file_in t STYLE_BYTES style_name) bytes (λ t b. then_do (read_style (style_of b)) (after_style t cert_name)) result style_file
+    (reads_next see mid mid new (λ t. read_style (style_of bytes)) style (λ t. after_style t cert_name) result
     (reads_nothing see mid (read_style (style_of bytes)) (Ok style) (subst (λ (b : List ℕ). Decides {A = Style} (read_style (style_of b)) (Ok style)) e read) tt)
-    (reads_next see mid new new (λ t. file_in t STYLE_BYTES cert_name) text (λ t x. judged bytes style (certificate_of x)) result cert_file
-    (reads_nothing see new (judged bytes style (certificate_of text)) result
-    (subst (λ (b : List ℕ). Decides {A = Cond} (judged b style (certificate_of text)) result) e'
-    (subst (λ (x : List ℕ). Decides {A = Cond} (judged bytes'' style (certificate_of x)) result) f decides)) inside)))
+    (reads_next see mid new new (λ t. file_in t STYLE_BYTES cert_name) text (λ t. text_judged style) result cert_file
+    (reads_nothing see new (text_judged style text) result
+    (subst (λ (x : List ℕ). Decides {A = Outcome} (text_judged style x) result) f decides) inside)))
 
 -- a file that was read is there
 there : (name bytes : List ℕ) (file : Option (List ℕ)) → whole_file STYLE_BYTES name file ≡ Ok bytes → file ≡ Some bytes
@@ -68,31 +55,39 @@ is_style (Ok s) style is =
     ap Ok same
 is_style (Err fault) style is = absurd (cc)
 
-pub accepts : (told told' : Option Listing) (style_name cert_name bytes bytes' bytes'' text text' : List ℕ) (style : Style) (result : Result Cond Stop)
-    → told' ≡ told → bytes' ≡ bytes → bytes'' ≡ bytes → text' ≡ text
+-- a text that is judged well is accepted
+pub accepts : (told told' : Option Listing) (style_name cert_name bytes bytes' text text' : List ℕ) (style : Style) (result : Result Outcome Stop)
+    → told' ≡ told → bytes' ≡ bytes → text' ≡ text
     → Gives {A = List ℕ} told (λ t. file_in t STYLE_BYTES style_name) (Ok bytes) → Decides {A = Style} (read_style (style_of bytes')) (Ok style)
     → Gives {A = List ℕ} told' (λ t. file_in t STYLE_BYTES cert_name) (Ok text)
-    → Gives {A = Cond} told (λ t. condition_in t style_name cert_name) result
-    → IfOk result (IsDecidedWell bytes'' style text')
-    → IfOk result (λ c. IfSome told (λ t. IsAccepted t style_name cert_name c))
-accepts told told' style_name cert_name bytes bytes' bytes'' text text' style (Err stop) same e e' f style_file read cert_file given well = tt
-accepts None told' style_name cert_name bytes bytes' bytes'' text text' style (Ok c) same e e' f style_file read cert_file given well = tt
-accepts (Some t) told' style_name cert_name bytes bytes' bytes'' text text' style (Ok c) same e e' f style_file read cert_file given well =
+    → IfOk result (IsTextJudgedWell style text')
+    → IfOk result (λ outcome. IfSome told (λ t. IsAcceptance t style_name cert_name outcome))
+accepts told told' style_name cert_name bytes bytes' text text' style (Err stop) same e f style_file read cert_file well = tt
+accepts None told' style_name cert_name bytes bytes' text text' style (Ok outcome) same e f style_file read cert_file well = tt
+accepts (Some t) told' style_name cert_name bytes bytes' text text' style (Ok outcome) same e f style_file read cert_file well =
     let there_now : Gives {A = List ℕ} (Some t) (λ u. file_in u STYLE_BYTES cert_name) (Ok text) =
     subst (λ (o : Option Listing). Gives {A = List ℕ} o (λ u. file_in u STYLE_BYTES cert_name) (Ok text)) same cert_file in
-    let decided_well : IsDecidedWell bytes style text c =
-    subst (λ (b : List ℕ). IsDecidedWell b style text c) e' (subst (λ (x : List ℕ). IsDecidedWell bytes'' style x c) f well) in
     record {
-      answered = given;
-      bytes = bytes;
-      style_file = there style_name bytes (get t style_name) style_file;
-      style = style;
-      style_read = is_style (style_of bytes) style (subst (λ (b : List ℕ). read_style (style_of b) ≡ Ok style) e read);
-      text = text;
-      cert_file = there cert_name text (get t cert_name) there_now;
-      cert_read = decided_well.cert_read;
-      safe = decided_well.safe;
+      found = record {
+        bytes = bytes;
+        style_file = there style_name bytes (get t style_name) style_file;
+        style = style;
+        style_read = is_style (style_of bytes) style (subst (λ (b : List ℕ). read_style (style_of b) ≡ Ok style) e read);
+        text = text;
+        cert_file = there cert_name text (get t cert_name) there_now;
+        cert = well.cert;
+        cert_read = subst (λ (x : List ℕ). cert_of style x ≡ Ok well.cert) f well.cert_read;
+        holds = well.judged_well.holds;
+        safe = well.judged_well.safe;
+      };
+      printed = well.judged_well.printed;
     }
+
+-- a text is judged well where the certificate that it is was
+pub text_judged_well : (style : Style) (text : List ℕ) (cert : Cert) (result : Result Outcome Stop) → cert_of style text ≡ Ok cert
+    → IfOk result (IsJudgedWell style cert) → IfOk result (IsTextJudgedWell style text)
+text_judged_well style text cert (Ok outcome) is well = record { cert = cert; cert_read = is; judged_well = well }
+text_judged_well style text cert (Err stop) is well = tt
 
 -- the style isn't read, and the certificate isn't begun
 pub style_unread_begun : (B : Type 0) (told : Option Listing) (style_name cert_name : List ℕ) (old new : List Begun) (stop : Stop)

@@ -1,5 +1,5 @@
 -- From what a command's words come to and what was delivered to what is promised of a call.
-use Rattle.std.proofs.Common.{◌≡◌, ◌≢◌, ℕ, ◌⊎◌, List, [], Bool, true, false, Option, None, Some, Result, Ok, Err, refl, sym, ◌∙◌, ap, subst, inl, inr}
+use Rattle.std.proofs.Common.{◌≡◌, ◌≢◌, ℕ, ◌⊎◌, List, [], Bool, true, false, ◌∷◌, ◌++◌, codes, get_or, nat_eq, Option, None, Some, Result, Ok, Err, refl, sym, ◌∙◌, ap, subst, inl, inr}
 use Rattle.std.specs.Prelude.{IfSome, IsSomeAnd, IfOk, IfErr}
 use Rattle.std.specs.String.{string_bytes}
 use Rattle.bv_base.specs.Outside.{Listing, Rose, appended, last_begun}
@@ -12,11 +12,13 @@ use Rattle.bst_run.specs.declared.outcome.Outcome.{Outcome}
 use Rattle.bst_run.specs.declared.stop.Stop.{Stop}
 use Rattle.bst_run.specs.declared.stop.Stop.TheVariants.{Told, Absent, Failed, TooLong, NoMemory as Wanting}
 use Rattle.bst_run.specs.Delivery.{Sunk, IsFront, IsDelivered, Whole, OutFailed, ErrFailed, OutWanting, ErrWanting, Delivers}
-use Rattle.bst_run.specs.Forms.{Form, Check, Run}
+use Rattle.bst_run.specs.Forms.{Form, Check, Run, RunUnder}
 use Rattle.bst_run.specs.Reads.{Reads}
 use Rattle.bst_run.specs.Report.{usage, absent, unread, too_long}
 use Rattle.bst_run.specs.Stops.{Gives, HasCause, IsDecided, IsRefusing, told_of}
-use Rattle.bst_run.specs.Top.{CausedBy, IsWanted, IsAnswer, IsAnswered, Promises, IsPromised, IsDoneWell, SaysDone, ended, outcome_in}
+use Rattle.bst_run.specs.Top.{CausedBy, IsWanted, IsAnswer, IsAnswered, Promises, IsPromised, IsDoneWell, IsInside, IsUnder, SaysDone, ended, outcome_in}
+use Rattle.bst_run.specs.Under.{FaultsOutside}
+use Rattle.std.proofs.lemmas.List.{append_cancel_left}
 use Rattle.bst_run.proofs.DeliveryLemmas.{appended_nothing, delivered_front, silent, wanting}
 
 -- a status that the files decide has no cause outside
@@ -31,6 +33,8 @@ decided_cause _ outcome begun f f' decided = tt
 -- a status of a refusal is one that the files decide
 refusing_decided : (given : Status) → IsRefusing given → IsDecided given
 refusing_decided status.Done refusing = absurd refusing
+refusing_decided status.Fault refusing = absurd refusing
+refusing_decided status.Budget refusing = absurd refusing
 refusing_decided _ refusing = refusing
 
 -- what the outside shows of a command's result, it shows of the outcome
@@ -106,22 +110,52 @@ told_safe (Some t) form (Err (TooLong name)) outcome begun f f' is cause safe =
     λ says. absurd (says_nothing (too_long (string_bytes name)) outcome same refl (λ done. absurd (cc)) says)
 told_safe (Some t) form (Err Wanting) outcome begun f f' is cause safe = absurd (cc)
 
+-- no stop is an execution error, so what holds of those of a command's result holds of those of its outcome
+told_outside : (result : Result Outcome Stop) (outcome : Outcome) (begun : Option Begun) (f f' : ℕ) → told_of result ≡ Some outcome
+    → IfErr result (λ stop. HasCause stop begun f f') → IfOk result FaultsOutside → FaultsOutside outcome
+told_outside (Ok o) outcome begun f f' is cause outside =
+    let same : o ≡ outcome = cc in
+    subst FaultsOutside same outside
+told_outside (Err (Told o)) outcome begun f f' is cause outside =
+    let same : o ≡ outcome = cc in
+    λ fault. absurd (subst IsRefusing (ap (λ (x : Outcome). x.status) same ∙ fault) cause.1)
+told_outside (Err (Absent name)) outcome begun f f' is cause outside =
+    let same : absent (string_bytes name) ≡ outcome = cc in
+    λ fault. absurd (no_file_fault (ap (λ (x : Outcome). x.status) same ∙ fault))
+  where
+    no_file_fault : status.NoFile ≡ status.Fault → ⊥
+    no_file_fault is = cc
+told_outside (Err (Failed name)) outcome begun f f' is cause outside =
+    let same : unread (string_bytes name) ≡ outcome = cc in
+    λ fault. absurd (failed_fault (ap (λ (x : Outcome). x.status) same ∙ fault))
+  where
+    failed_fault : status.ReadFailed ≡ status.Fault → ⊥
+    failed_fault is = cc
+told_outside (Err (TooLong name)) outcome begun f f' is cause outside =
+    let same : too_long (string_bytes name) ≡ outcome = cc in
+    λ fault. absurd (long_fault (ap (λ (x : Outcome). x.status) same ∙ fault))
+  where
+    long_fault : status.TooLong ≡ status.Fault → ⊥
+    long_fault is = cc
+told_outside (Err Wanting) outcome begun f f' is cause outside = absurd (cc)
+
 -- what the words of a form come to
 pub told_answer : {F : Type 0} (see : Ghosts F) (old new : F) (form : Form) (wanted : Listing → Result Outcome Outcome) (result : Result Outcome Stop) (found : Result Outcome NoMemory)
     → Reads {F = F} {A = Outcome} see old new wanted result → IfOk result (λ o. IsDecided o.status)
     → IfOk result (λ o. IfSome (see.told old) (λ told. Promises told form o))
-    → ((t : Listing) → ended (wanted t) ≡ outcome_in t form)
+    → (IsUnder form → IfOk result FaultsOutside) → ((t : Listing) → ended (wanted t) ≡ outcome_in t form)
     → IfOk found (λ o. told_of result ≡ Some o) → IfOk found (λ o. IsAnswer {F = F} see old new form o)
-told_answer see old new form wanted result (Ok o) reads decided safe same is = record {
+told_answer see old new form wanted result (Ok o) reads decided safe outside same is = record {
   wanted = as_wanted (see.told old) (told_wanted (see.told old) wanted result o is reads.gives);
   cause = told_cause result o (last_begun (see.begun new)) (see.faults old) (see.faults new) is decided reads.cause;
   safe = told_safe (see.told old) form result o (last_begun (see.begun new)) (see.faults old) (see.faults new) is reads.cause safe;
+  outside = λ under. told_outside result o (last_begun (see.begun new)) (see.faults old) (see.faults new) is reads.cause (outside under);
 }
   where
     as_wanted : (t : Option Listing) → IfSome t (λ told. IsWanted (ended (wanted told)) o) → IfSome t (λ told. IsWanted (outcome_in told form) o)
     as_wanted None w = tt
     as_wanted (Some t) w = subst (λ (x : Outcome). IsWanted x o) (same t) w
-told_answer see old new form wanted result (Err refused) reads decided safe same is = tt
+told_answer see old new form wanted result (Err refused) reads decided safe outside same is = tt
 
 -- the words have no form
 pub usage_delivered : (found : Result Outcome NoMemory) (given : Status) (out err : Sunk) → IfOk found (λ o. o ≡ usage) → Delivers found given out err → IsDelivered usage given out err
@@ -203,11 +237,11 @@ form_not_usage see old new form (Ok o) given out err answer (ErrWanting e put fr
 -- what an outcome promises, a front of its text on standard output promises
 promised : (told : Listing) (form : Form) (o : Outcome) (out : Sunk) → IsFront o.out out → Promises told form o → IsPromised told form out
 promised told (Check style cert) o out front acceptance = record {
-  cond = acceptance.cond;
-  decided = acceptance.decided;
+  found = acceptance.found;
   printed = subst (λ (x : Outcome). IsFront x.out out) acceptance.printed front;
 }
 promised told (Run aux steps) o out front acceptance = tt
+promised told (RunUnder aux steps cert) o out front acceptance = tt
 
 -- a text on standard output promises what the outcome does
 pub form_safe : {F : Type 0} (see : Ghosts F) (old new : F) (form : Form) (found : Result Outcome NoMemory) (given : Status) (out err : Sunk)
@@ -226,8 +260,9 @@ form_safe see old new form (Ok o) given out err answer delivered more =
 
 -- what an outcome promises, Done promises
 done_well : (told : Listing) (form : Form) (o : Outcome) → Promises told form o → IsDoneWell told form
-done_well told (Check style cert) o acceptance = (acceptance.cond, acceptance.decided)
+done_well told (Check style cert) o acceptance = acceptance.found
 done_well told (Run aux steps) o acceptance = tt
+done_well told (RunUnder aux steps cert) o acceptance = tt
 
 -- the answer Done promises what the outcome does
 pub form_done : {F : Type 0} (see : Ghosts F) (old new : F) (form : Form) (found : Result Outcome NoMemory) (given : Status) (out err : Sunk)
@@ -244,11 +279,48 @@ form_done see old new form (Ok o) given out err answer (ErrFailed e put cut) is 
 form_done see old new form (Ok o) given out err answer (OutWanting e front last) is = absurd (cc)
 form_done see old new form (Ok o) given out err answer (ErrWanting e put front) is = absurd (cc)
 
+-- two logs behind the same bytes of which one begins with `inside` and the other with `outside`
+apart : (before inside outside : List ℕ) (log : List ℕ) → log ≡ codes "outside\n" ++ outside
+    → Some (before ++ log) ≡ Some (before ++ (codes "inside\n" ++ inside)) → ⊥
+apart before inside outside log is same =
+    differ (sym is ∙ append_cancel_left before log (codes "inside\n" ++ inside) (unwrapped same))
+  where
+    unwrapped : {x y : List ℕ} → Some x ≡ Some y → x ≡ y
+    unwrapped e = cc
+
+    is_o : List ℕ → Bool
+    is_o log = nat_eq (get_or log 0 0) 111
+
+    differ : codes "outside\n" ++ outside ≡ codes "inside\n" ++ inside → ⊥
+    differ e =
+        let both : true ≡ false = ap is_o e in
+        cc
+
+-- where a log was put that begins with `inside`, the answer is no execution error
+pub form_inside : {F : Type 0} (see : Ghosts F) (old new : F) (form : Form) (found : Result Outcome NoMemory) (given : Status) (out err : Sunk)
+    → IfOk found (λ o. IsAnswer {F = F} see old new form o) → Delivers found given out err → IsInside form err → given ≡ status.Fault → ⊥
+form_inside see old new form (Err refused) given out err answer delivered inside is = let e = delivered.0 in cc
+form_inside see old new form (Ok o) given out err answer (Whole e put last) inside is =
+    let log = answer.outside inside.under (sym e ∙ is) in
+    apart inside.before inside.rest log.0 o.err log.1
+    (ap (λ (b : Option (List ℕ)). appended b o.err) (sym inside.was) ∙ sym last.taken ∙ inside.is)
+form_inside see old new form (Ok o) given out err answer (OutFailed e cut last) inside is = cc
+form_inside see old new form (Ok o) given out err answer (ErrFailed e put cut) inside is = cc
+form_inside see old new form (Ok o) given out err answer (OutWanting e front last) inside is = cc
+form_inside see old new form (Ok o) given out err answer (ErrWanting e put front) inside is = cc
+
 -- the words `run AUX N` promise nothing of a text
 pub run_promises : (t : Option Listing) (aux : List ℕ) (steps : ℕ) (result : Result Outcome Stop) → IfOk result (λ o. IfSome t (λ told. Promises told (Run aux steps) o))
 run_promises None aux steps (Ok o) = tt
 run_promises (Some t) aux steps (Ok o) = tt
 run_promises t aux steps (Err stop) = tt
+
+-- neither do the words `run AUX N CERT`
+pub under_promises : (t : Option Listing) (aux : List ℕ) (steps : ℕ) (cert : List ℕ) (result : Result Outcome Stop)
+    → IfOk result (λ o. IfSome t (λ told. Promises told (RunUnder aux steps cert) o))
+under_promises None aux steps cert (Ok o) = tt
+under_promises (Some t) aux steps cert (Ok o) = tt
+under_promises t aux steps cert (Err stop) = tt
 
 -- words of no form are answered by Usage, or the sinks decide
 pub usage_given : (given : Status) (out err : Sunk) → IsDelivered usage given out err

@@ -6,10 +6,8 @@ pub mod DeliveryLemmas
 pub mod CommandLemmas
 pub mod ReadsLemmas
 pub mod BegunLemmas
-pub mod ReadingLemmas
-pub mod RefusalPlaces
 pub mod RunLemmas
+pub mod RefusalPlaces
 pub mod SitePlaces
-pub mod Sound
-pub mod StraightLemmas
 pub mod TreeLemmas
+pub mod UnderLemmas

@@ -6,7 +6,7 @@ use Rattle.bv_base.specs.Outside.{Listing, Rose, last_begun}
 use Rattle.bv_base.specs.declared.files.Begun.{Begun}
 use Rattle.bv_base.specs.declared.files.Files.{Ghosts}
 use Rattle.bst_run.specs.declared.stop.Stop.{Stop}
-use Rattle.bst_run.specs.declared.stop.Stop.TheVariants.{Told, Absent, Failed, TooLong, NoMemory}
+use Rattle.bst_run.specs.declared.stop.Stop.TheVariants.{Told, Failed, NoMemory}
 use Rattle.bst_run.specs.declared.outcome.Outcome.{Outcome}
 use Rattle.bv_base.specs.Answers.{then_do}
 use Rattle.bst_run.specs.Reads.{Reads}
@@ -48,6 +48,12 @@ decided_given None wanted (Ok value) h = tt
 decided_given None wanted (Err stop) h = tt
 decided_given (Some t) wanted (Ok value) h = h
 decided_given (Some t) wanted (Err stop) h = h
+
+-- a value that needs no files, and then what is wanted of it
+pub then_decided : {A B : Type 0} (first : Result A Outcome) (value : A) (next : A → Result B Outcome) (result : Result B Stop)
+    → Decides {A = A} first (Ok value) → Decides {A = B} (next value) result → Decides {A = B} (then_do first next) result
+then_decided first value next (Ok b) e h = rw e h
+then_decided first value next (Err stop) e h = rw e h
 
 -- a count that rose later rose
 rose_later : (f0 f1 f2 : ℕ) → f0 ≤ f1 → Rose f1 f2 → Rose f0 f2

@@ -1,6 +1,7 @@
 -- The fault of a run of a style that was read stands at a byte of its text.
 use Rattle.std.proofs.Common.{◌≡◌, ℕ, zero, suc, Bool, true, false, cond, nat_lt, List, [], ◌∷◌, length, filter, Option, None, Some, Result, Ok, Err, subst}
 use Rattle.std.specs.Prelude.{IfSome, slice_get}
+use Rattle.std.specs.Option.{option_map_or}
 use Rattle.bv_base.specs.declared.place.Place.{Place}
 use Rattle.name_table.specs.Sound.{Each}
 use Rattle.name_table.specs.declared.names.NameId.{NameId}
@@ -9,6 +10,7 @@ use Rattle.name_table.specs.declared.names.Kind.TheVariants.{Builtin as BuiltinK
 use Rattle.name_table.specs.declared.style.Token.{Token}
 use Rattle.name_table.specs.declared.style.Token.TheVariants.{Int as IntToken, Str as StrToken, Quote, Block as BlockToken, Call}
 use Rattle.name_table.specs.declared.style.TokenAt.{TokenAt}
+use Rattle.name_table.specs.declared.style.Body.{Body}
 use Rattle.name_table.specs.declared.style.BodyId.{BodyId}
 use Rattle.name_table.specs.declared.style.Command.{Command}
 use Rattle.name_table.specs.declared.style.Command.TheVariants.{Execute, Iterate, Read, Reverse, Sort}
@@ -29,7 +31,6 @@ use Rattle.bst_meaning.specs.Operands.{is_positive}
 use Rattle.bst_meaning.specs.Builtins.{built_in}
 use Rattle.bst_meaning.specs.Machine.{assigned_by, call_end_step, call_ended, call_step, command_step, context_of, frame_step, going_step, outer_step, return_step, run, step, steps, stopped_by, test_ended, token_step, unless_stopped, visit_of, visit_step, with_assigned, with_call, with_effect, with_entered, with_found, with_frame, with_value}
 use Rattle.name_table.proofs.Within.{each_kept, got}
-use Rattle.bst_run.proofs.RefusalPlaces.{body_tokens}
 
 module _ (source : List ℕ) where
   -- a frame and each token that it has left stand at a byte
@@ -51,9 +52,14 @@ module _ (source : List ℕ) where
   frame_stands tokens place part c each at s =
       record { commands = s.commands; frames = (record { place = at; tokens = each }, s.frames); stopped = s.stopped }
 
+  -- the tokens of a body that was got
+  body_tokens : (body : Option Body) → IfSome body (BodyStands source) → Each (λ t. IsOfByte source t.place) (option_map_or (λ b. b.tokens) body [])
+  body_tokens None stands = tt
+  body_tokens (Some body) stands = stands.tokens
+
   module _ (style : Style) (stands : PlacesStand source style) where
     tokens_stand : (body : BodyId) → Each (λ t. IsOfByte source t.place) (tokens_of style body)
-    tokens_stand body = body_tokens source (slice_get style.bodies body.0) (got (BodyStands source) style.bodies body.0 stands.bodies)
+    tokens_stand body = body_tokens (slice_get style.bodies body.0) (got (BodyStands source) style.bodies body.0 stands.bodies)
 
     entered_stand : (target : Target) (place : Place) → IsOfByte source place → Each (λ t. IsOfByte source t.place) (entered_tokens style target place)
     entered_stand (Named name) place at = (at, tt)

@@ -22,9 +22,9 @@ use Rattle.bst_run.specs.declared.outcome.Outcome.{Outcome}
 use Rattle.bst_run.specs.declared.stop.Stop.{Stop}
 use Rattle.bst_run.specs.AuxChain.{aux_in, aux_file, needs_of, take_input, with_item, with_names}
 use Rattle.bst_run.specs.Files.{file_in, with_ending}
-use Rattle.bst_run.specs.Forms.{Form, Check, Run}
+use Rattle.bst_run.specs.Forms.{Form, Check, Run, RunUnder}
 use Rattle.bst_run.specs.Requests.{fault_after, nothing}
-use Rattle.bst_run.specs.Sources.{database_named, read_style, style_named}
+use Rattle.bst_run.specs.Sources.{database_named, read_style, sources_of, style_named}
 use Rattle.bst_run.specs.Stops.{outcome_of}
 
 -- a name is begun, which a file has or none
@@ -99,10 +99,15 @@ check_begun told style cert =
     file_begun told style
     ++ then_begun (file_in told STYLE_BYTES style) (λ bytes. then_begun (read_style (style_of bytes)) (λ _. file_begun told cert))
 
+-- what a run reads, and then the certificate
+abbrev pub under_begun : Listing → List ℕ → List ℕ → List Begun
+under_begun told aux cert = sources_begun told aux ++ then_begun (sources_of told aux) (λ _. file_begun told cert)
+
 -- what the words of a form begin, over these files
 abbrev pub files_begun : Listing → Form → List Begun
 files_begun told (Check style cert) = check_begun told style cert
 files_begun told (Run aux steps) = sources_begun told aux
+files_begun told (RunUnder aux steps cert) = under_begun told aux cert
 
 -- these have the first names of those
 abbrev pub AreFirst : List Begun → List Begun → Type 0

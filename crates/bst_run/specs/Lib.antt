@@ -1,7 +1,3 @@
-pub mod Certificate
-pub mod Reading
-pub mod Straight
-pub mod Walk
 pub mod DataFaults
 pub mod Refusals
 pub mod Report
@@ -16,6 +12,7 @@ pub mod AuxChain
 pub mod InputTrees
 pub mod Sources
 pub mod Ran
+pub mod Under
 pub mod FilesBegun
 pub mod Delivery
 pub mod Top

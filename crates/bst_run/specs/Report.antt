@@ -1,6 +1,6 @@
 -- The outcomes that are told (docs/COMMANDS.md, "Statuses"): the status, the text for standard output and the text for standard
 -- error of each.
-use Rattle.std.specs.Prelude.{ℕ, List, [], ◌++◌, codes}
+use Rattle.std.specs.Prelude.{ℕ, List, [], ◌++◌, codes, Result, Ok, Err}
 use Rattle.std.specs.Fmt.{decimal}
 use Rattle.bv_base.specs.declared.place.Place.{Place}
 use Rattle.bv_base.specs.declared.status.Status.{Status}
@@ -10,10 +10,13 @@ use Rattle.bst_parse.specs.Fault as style
 use Rattle.bst_meaning.specs.declared.condition.Cond.{Cond}
 use Rattle.bst_meaning.specs.declared.fault.Fault.{Fault}
 use Rattle.bst_meaning.specs.Faults as run
+use Rattle.name_table.specs.declared.style.Style.{Style}
+use Rattle.cert_format.specs.declared.fault.CertFault.{CertFault}
+use Rattle.cert_format.specs.Faults as cert
+use Rattle.cert_format.specs.Spelling.{cond_items, text_of}
+use Rattle.cert_check.specs.declared.refusal.Refusal.{Refusal}
 use Rattle.bst_run.specs.declared.outcome.Outcome.{Outcome}
 use Rattle.bst_run.specs.declared.data_fault.DataFault.{DataFault}
-use Rattle.bst_run.specs.declared.refusal.Refusal.{Refusal}
-use Rattle.bst_run.specs.Certificate.{condition_text}
 use Rattle.bst_run.specs.DataFaults.{name_of, place_of}
 use Rattle.bst_run.specs.Refusals.{reason_text}
 
@@ -50,23 +53,23 @@ fault_line fault place key =
 abbrev pub budget_line : ℕ → List ℕ
 budget_line steps = codes "budget " ++ (decimal steps ++ codes "\n")
 
--- the line for a style at fault
-abbrev pub bad_style_line : StyleFault → List ℕ
-bad_style_line fault = codes "bad style " ++ (place_text (style.place_of fault) ++ (codes " " ++ (style.name_of fault ++ codes "\n")))
+-- the line for a text at fault at a place
+abbrev pub placed_line : List ℕ → Place → List ℕ → List ℕ
+placed_line words place name = words ++ (codes " " ++ (place_text place ++ (codes " " ++ (name ++ codes "\n"))))
 
 -- the bytes of a style are at fault
 abbrev pub bad_style : StyleFault → Outcome
-bad_style fault = last_line status.BadStyle (bad_style_line fault)
+bad_style fault = last_line status.BadStyle (placed_line (codes "bad style") (style.place_of fault) (style.name_of fault))
+
+-- the bytes of a certificate are at fault
+abbrev pub bad_cert : CertFault → Outcome
+bad_cert fault = last_line status.BadCert (placed_line (codes "bad certificate") (cert.place_of fault) (cert.name_of fault))
 
 -- the data file of this name is at fault
 abbrev pub bad_data : List ℕ → DataFault → Outcome
 bad_data name fault =
     last_line status.BadData
     (codes "bad data " ++ (name ++ (codes " " ++ (place_text (place_of fault) ++ (codes " " ++ (name_of fault ++ codes "\n"))))))
-
--- the checker for the style or the certificate isn't built yet
-abbrev pub not_built : Outcome
-not_built = last_line status.NotBuilt (codes "not built\n")
 
 -- the line for a rule that fails
 abbrev pub refused_line : Refusal → List ℕ
@@ -77,5 +80,14 @@ abbrev pub refused : Refusal → Outcome
 refused refusal = last_line status.Refused (refused_line refusal)
 
 -- the rules hold: the style is safe under the condition that is printed
-abbrev pub accepted : Cond → Outcome
-accepted cond = record { status = status.Done; out = codes "accepted\nlist 1\n" ++ condition_text cond; err = [] }
+abbrev pub accepted : Style → Cond → Outcome
+accepted style cond = record {
+  status = status.Done;
+  out = codes "accepted\nlist 1\n" ++ text_of (cond_items style.names cond);
+  err = [];
+}
+
+-- the rules hold, or the first that fails is told
+abbrev pub holding : {A : Type 0} → Result A Refusal → Result (Unit {0}) Outcome
+holding (Ok left) = Ok tt
+holding (Err refusal) = Err (refused refusal)

@@ -7,6 +7,8 @@ use Rattle.bib_read.specs.declared.fault.BibFault.{BibFault}
 use Rattle.bib_read.specs.Reading.{opening, database_of}
 use Rattle.bst_parse.specs.declared.fault.StyleFault.{StyleFault}
 use Rattle.bst_parse.specs.Reading.{style_of}
+use Rattle.cert_format.specs.declared.cert.Cert.{Cert}
+use Rattle.cert_format.specs.declared.fault.CertFault.{CertFault}
 use Rattle.bv_base.specs.Answers.{then_do}
 use Rattle.bv_base.specs.declared.limits.TheConstants.{DATA_BYTES, STYLE_BYTES}
 use Rattle.bst_run.specs.declared.data_fault.DataFault.TheVariants.{Bib}
@@ -15,12 +17,17 @@ use Rattle.bst_run.specs.declared.files.sources.Sources.{Sources}
 use Rattle.bst_run.specs.AuxChain.{needs_of}
 use Rattle.bst_run.specs.Files.{file_in, with_ending}
 use Rattle.bst_run.specs.declared.outcome.Outcome.{Outcome}
-use Rattle.bst_run.specs.Report.{bad_style, bad_data}
+use Rattle.bst_run.specs.Report.{bad_cert, bad_data, bad_style}
 
 -- the style that was read
 abbrev pub read_style : Result Style StyleFault → Result Style Outcome
 read_style (Ok style) = Ok style
 read_style (Err fault) = Err (bad_style fault)
+
+-- the certificate that was read, or its first fault
+abbrev pub read_cert : Result Cert CertFault → Result Cert Outcome
+read_cert (Ok cert) = Ok cert
+read_cert (Err fault) = Err (bad_cert fault)
 
 -- the style of this name
 abbrev pub style_named : Listing → List ℕ → Result Style Outcome

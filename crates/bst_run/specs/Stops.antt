@@ -37,12 +37,14 @@ IsDecided status.WriteFailed = ⊥
 IsDecided status.NoMemory = ⊥
 IsDecided _ = Unit {0}
 
--- one of them that isn't Done
+-- one of them that isn't the answer of a certificate that is accepted or of a run
 abbrev pub IsRefusing : Status → Type 0
 IsRefusing status.Done = ⊥
+IsRefusing status.Fault = ⊥
+IsRefusing status.Budget = ⊥
 IsRefusing given = IsDecided given
 
--- an outcome that the bytes of the files decide, which isn't Done and has nothing for standard output
+-- an outcome that the bytes of the files decide, which stops a command and has nothing for standard output
 abbrev pub IsRefusal : Outcome → Type 0
 IsRefusal outcome = (outcome.out ≡ []) × IsRefusing outcome.status
 

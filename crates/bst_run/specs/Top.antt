@@ -1,53 +1,44 @@
 -- The whole command line (docs/COMMANDS.md): from the words and the files to the answer, and what an answer means.
-use Rattle.std.specs.Prelude.{◌≡◌, ◌≢◌, ℕ, ◌⊎◌, true, false, ◌||◌, not, nat_lt, if◌then◌else◌, List, [], length, Option, None, Some, IfSome, IsSomeAnd, Result, Ok, Err}
+use Rattle.std.specs.Prelude.{◌≡◌, ◌≢◌, ℕ, ◌⊎◌, true, false, List, [], ◌++◌, codes, Option, Some, IfSome, IsSomeAnd, Result, Ok, Err}
 use Rattle.std.specs.FinMap.{get}
+use Rattle.bv_base.specs.Answers.{then_do}
 use Rattle.bv_base.specs.Outside.{Listing, Rose, last_begun}
 use Rattle.bv_base.specs.declared.files.Begun.{Begun}
 use Rattle.bv_base.specs.declared.files.Files.{Ghosts}
+use Rattle.bv_base.specs.declared.limits.TheConstants.{STYLE_BYTES}
 use Rattle.bv_base.specs.declared.status.Status.{Status}
 use Rattle.bv_base.specs.declared.status.Status.TheVariants as status
 use Rattle.name_table.specs.declared.style.Style.{Style}
 use Rattle.bst_parse.specs.Reading.{style_of}
-use Rattle.bst_meaning.specs.declared.condition.Cond.{Cond}
 use Rattle.bst_meaning.specs.Safe.{Safe}
-use Rattle.bv_base.specs.Answers.{then_do}
-use Rattle.bv_base.specs.declared.limits.TheConstants.{STYLE_BYTES}
+use Rattle.cert_format.specs.Texts.{cert_of}
+use Rattle.cert_format.specs.declared.cert.Cert.{Cert}
+use Rattle.command_flow.specs.Checks.{checked}
 use Rattle.bst_run.specs.declared.outcome.Outcome.{Outcome}
-use Rattle.bst_run.specs.declared.refusal.Refusal.{Refusal}
-use Rattle.bst_run.specs.Certificate.{IsCertificate}
-use Rattle.bst_run.specs.Files.{file_in}
-use Rattle.bst_run.specs.Forms.{Form, Check, Run}
-use Rattle.bst_run.specs.Ran.{run_outcome}
-use Rattle.bst_run.specs.Reading.{certificate_of}
-use Rattle.bst_run.specs.Sources.{read_style}
-use Rattle.bst_run.specs.Straight.{is_straight}
-use Rattle.bst_run.specs.Walk.{first_refusal}
-use Rattle.bst_run.specs.Report.{absent, unread, not_built, refused, accepted}
 use Rattle.bst_run.specs.Delivery.{Sunk, IsFront, IsDelivered}
+use Rattle.bst_run.specs.Files.{file_in}
+use Rattle.bst_run.specs.Forms.{Form, Check, Run, RunUnder}
+use Rattle.bst_run.specs.Ran.{run_outcome}
+use Rattle.bst_run.specs.Report.{absent, accepted, holding, unread}
+use Rattle.bst_run.specs.Sources.{read_cert, read_style}
+use Rattle.bst_run.specs.Under.{FaultsOutside, IsBegunBy, under_outcome}
 
--- the first refusal, or the condition
-abbrev pub decided : Cond → Option Refusal → Result Cond Outcome
-decided cond None = Ok cond
-decided cond (Some refusal) = Err (refused refusal)
+-- the rules decide a style and a certificate
+abbrev pub judged : Style → Cert → Result Outcome Outcome
+judged style cert = then_do (holding (checked style cert)) (λ held. Ok (accepted style cert.cond))
 
--- a straight style of at most 65536 bytes and a short certificate are decided
-abbrev pub judged : List ℕ → Style → Option Cond → Result Cond Outcome
-judged bytes style None = Err not_built
-judged bytes style (Some cond) =
-    if nat_lt 65536 (length bytes) || not (is_straight style) then Err not_built else decided cond (first_refusal style)
+-- a certificate's text is read for a style, and decided
+abbrev pub text_judged : Style → List ℕ → Result Outcome Outcome
+text_judged style text = then_do (read_cert (cert_of style text)) (judged style)
 
 -- the style is read, and then the certificate
-abbrev pub after_style : Listing → List ℕ → List ℕ → Style → Result Cond Outcome
-after_style told cert bytes style = then_do (file_in told STYLE_BYTES cert) (λ text. judged bytes style (certificate_of text))
-
--- the condition of a certificate whose rules hold
-abbrev pub condition_in : Listing → List ℕ → List ℕ → Result Cond Outcome
-condition_in told style cert =
-    then_do (file_in told STYLE_BYTES style) (λ bytes. then_do (read_style (style_of bytes)) (after_style told cert bytes))
+abbrev pub after_style : Listing → List ℕ → Style → Result Outcome Outcome
+after_style told cert style = then_do (file_in told STYLE_BYTES cert) (text_judged style)
 
 -- the words `check STYLE CERT`
 abbrev pub check_outcome : Listing → List ℕ → List ℕ → Result Outcome Outcome
-check_outcome told style cert = then_do (condition_in told style cert) (λ cond. Ok (accepted cond))
+check_outcome told style cert =
+    then_do (file_in told STYLE_BYTES style) (λ bytes. then_do (read_style (style_of bytes)) (after_style told cert))
 
 -- an outcome that stops a command is told too
 abbrev pub ended : Result Outcome Outcome → Outcome
@@ -58,30 +49,37 @@ ended (Err outcome) = outcome
 abbrev pub outcome_in : Listing → Form → Outcome
 outcome_in told (Check style cert) = ended (check_outcome told style cert)
 outcome_in told (Run aux steps) = ended (run_outcome told aux steps)
+outcome_in told (RunUnder aux steps cert) = ended (under_outcome told aux steps cert)
 
--- a style and a certificate's text for which the rules hold: the style is safe under the certificate's condition
-pub record IsDecidedWell (bytes : List ℕ) (style : Style) (text : List ℕ) (cond : Cond) : Type 0 where
-  pub answered : judged bytes style (certificate_of text) ≡ Ok cond
-  pub cert_read : IsCertificate text cond
-  pub safe : Safe style cond
+-- the rules hold of a style and a certificate: the style is safe under its condition, which the outcome prints
+pub record IsJudgedWell (style : Style) (cert : Cert) (outcome : Outcome) : Type 0 where
+  pub holds : checked style cert ≡ Ok []
+  pub safe : Safe style cert.cond
+  pub printed : outcome ≡ accepted style cert.cond
 
--- two files for which the rules hold
-pub record IsAccepted (told : Listing) (style_name cert_name : List ℕ) (cond : Cond) : Type 0 where
-  pub answered : condition_in told style_name cert_name ≡ Ok cond
+-- they hold of the certificate that a text is
+pub record IsTextJudgedWell (style : Style) (text : List ℕ) (outcome : Outcome) : Type 0 where
+  pub cert : Cert
+  pub cert_read : cert_of style text ≡ Ok cert
+  pub judged_well : IsJudgedWell style cert outcome
+
+-- two files for which the rules hold: the first holds a style and the second a certificate, under whose condition the style is safe
+pub record IsAccepted (told : Listing) (style_name cert_name : List ℕ) : Type 0 where
   pub bytes : List ℕ
   pub style_file : get told style_name ≡ Some bytes
   pub style : Style
   pub style_read : style_of bytes ≡ Ok style
   pub text : List ℕ
   pub cert_file : get told cert_name ≡ Some text
-  pub cert_read : IsCertificate text cond
-  pub safe : Safe style cond
+  pub cert : Cert
+  pub cert_read : cert_of style text ≡ Ok cert
+  pub holds : checked style cert ≡ Ok []
+  pub safe : Safe style cert.cond
 
--- an outcome accepts the style that the first file holds, which is safe under the condition of the second
-pub record IsAcceptance (told : Listing) (style cert : List ℕ) (outcome : Outcome) : Type 0 where
-  pub cond : Cond
-  pub decided : IsAccepted told style cert cond
-  pub printed : outcome ≡ accepted cond
+-- an outcome accepts the style that the first file holds, and prints the condition of the certificate that the second holds
+pub record IsAcceptance (told : Listing) (style_name cert_name : List ℕ) (outcome : Outcome) : Type 0 where
+  pub found : IsAccepted told style_name cert_name
+  pub printed : outcome ≡ accepted found.style found.cert.cond
 
 -- an outcome says that something was done: its status is Done, or it has a text for standard output
 abbrev pub SaysDone : Outcome → Type 0
@@ -90,7 +88,12 @@ SaysDone outcome = (outcome.status ≡ status.Done) ⊎ (outcome.out ≢ [])
 -- what such an outcome promises
 abbrev pub Promises : Listing → Form → Outcome → Type 0
 Promises told (Check style cert) outcome = IsAcceptance told style cert outcome
-Promises told (Run aux steps) outcome = Unit {0}
+Promises told _ outcome = Unit {0}
+
+-- the words `run AUX N CERT`
+abbrev pub IsUnder : Form → Type 0
+IsUnder (RunUnder aux steps cert) = Unit {0}
+IsUnder _ = ⊥
 
 -- what the outside shows of an outcome with this status, and that neither the words nor a sink decide it
 abbrev pub CausedBy : Status → Outcome → Option Begun → ℕ → ℕ → Type 0
@@ -111,26 +114,34 @@ pub record IsAnswer {F : Type 0} (see : Ghosts F) (old new : F) (form : Form) (o
   pub wanted : IfSome (see.told old) (λ told. IsWanted (outcome_in told form) outcome)
   pub cause : CausedBy outcome.status outcome (last_begun (see.begun new)) (see.faults old) (see.faults new)
   pub safe : IfSome (see.told old) (λ told. SaysDone outcome → Promises told form outcome)
+  pub outside : IsUnder form → FaultsOutside outcome
 
 -- what a call answers and leaves on its sinks where the words and the files decide this outcome: it is delivered, or the
 -- outcome of a file that couldn't be read
 abbrev pub IsAnswered : Outcome → Status → Sunk → Sunk → Type 0
 IsAnswered wanted given out err = IsDelivered wanted given out err ⊎ ((name : List ℕ) × IsDelivered (unread name) given out err)
 
--- the style that the first file holds is safe under the condition of the second, and what was put on standard output is a front
--- of the text that accepts it and prints that condition
-pub record IsSafelyAccepted (told : Listing) (style cert : List ℕ) (out : Sunk) : Type 0 where
-  pub cond : Cond
-  pub decided : IsAccepted told style cert cond
-  pub printed : IsFront (accepted cond).out out
+-- the style that the first file holds is safe under the condition of the certificate that the second holds, and what was put on
+-- standard output is a front of the text that accepts it and prints that condition
+pub record IsSafelyAccepted (told : Listing) (style_name cert_name : List ℕ) (out : Sunk) : Type 0 where
+  pub found : IsAccepted told style_name cert_name
+  pub printed : IsFront (accepted found.style found.cert.cond).out out
 
 -- what the status Done promises: for the words `check STYLE CERT` that the style that the first file holds is safe under the
--- condition of the second
+-- condition of the certificate that the second holds
 abbrev pub IsDoneWell : Listing → Form → Type 0
-IsDoneWell told (Check style cert) = (cond : Cond) × IsAccepted told style cert cond
-IsDoneWell told (Run aux steps) = Unit {0}
+IsDoneWell told (Check style cert) = IsAccepted told style cert
+IsDoneWell told _ = Unit {0}
 
 -- what a text on standard output promises: for the words `check STYLE CERT` that the style is safe
 abbrev pub IsPromised : Listing → Form → Sunk → Type 0
 IsPromised told (Check style cert) out = IsSafelyAccepted told style cert out
-IsPromised told (Run aux steps) out = Unit {0}
+IsPromised told _ out = Unit {0}
+
+-- by the words `run AUX N CERT` a log was put that begins with `inside`
+pub record IsInside (form : Form) (err : Sunk) : Type 0 where
+  pub under : IsUnder form
+  pub before : List ℕ
+  pub was : err.before ≡ Some before
+  pub rest : List ℕ
+  pub is : err.after ≡ Some (before ++ (codes "inside\n" ++ rest))

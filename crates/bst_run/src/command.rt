@@ -15,6 +15,7 @@ use crate::outcome::Outcome;
 use crate::report::{absent, too_long, unread, usage};
 use crate::run::run;
 use crate::stop::Stop;
+use crate::under::run_under;
 use crate::words::{Form, form_of};
 use bv_base::files::Files;
 use bv_base::memory::NoMemory;
@@ -22,8 +23,8 @@ use bv_base::sink::Sink;
 use bv_base::status::Status;
 use std::alloc::Global;
 
-/// Decides the certificate of the words `check STYLE CERT`, or takes the first steps of the words `run AUX N`, and
-/// answers by the status, a text on `out`, and a text on `err` that ends with the last line.
+/// Decides the certificate of the words `check STYLE CERT`, or takes the first steps of the words `run AUX N` or
+/// `run AUX N CERT`, and answers by the status, a text on `out`, and a text on `err` that ends with the last line.
 pub fn command<F: Files, O: Sink, E: Sink>(
     alloc: Global,
     words: &[String],
@@ -31,6 +32,14 @@ pub fn command<F: Files, O: Sink, E: Sink>(
     out: &mut O,
     err: &mut E,
 ) -> Status
+    // Whatever `check` put on `out`, the style is safe: over every entry list that fits it and meets the condition that is printed,
+    // no number of steps comes to an execution error, and each call that ends leaves the literal stack empty.
+    ensures safe { O.written out.new ≢ O.written out.old → IfSome (forms.form_of words.now) (λ form. IfSome (F.told files.old) (λ told.
+        top.IsPromised told form (sunk ⟦<O as Sink>⟧ out.old out.new))) }
+    // Where `check` is done it is safe under the condition of the certificate, whatever `out` tells.
+    ensures done { result ≡ Status.Done → IfSome (forms.form_of words.now) (λ form. IfSome (F.told files.old) (λ told. top.IsDoneWell told form)) }
+    // Where a run under a certificate told that the entries meet its condition, the run came to no execution error.
+    ensures inside { IfSome (forms.form_of words.now) (λ form. top.IsInside form (sunk ⟦<E as Sink>⟧ err.old err.new) → result ≢ Status.Fault) }
     // The words have none of the forms exactly where the answer is Usage.
     ensures usage { forms.form_of words.now ≡ None →
         IsDelivered report.usage result (sunk ⟦<O as Sink>⟧ out.old out.new) (sunk ⟦<E as Sink>⟧ err.old err.new) }
@@ -53,11 +62,6 @@ pub fn command<F: Files, O: Sink, E: Sink>(
     ensures out_failed { O.faults out.new ≢ O.faults out.old → result ≡ Status.WriteFailed }
     ensures err_failed { E.faults err.new ≢ E.faults err.old → result ≡ Status.WriteFailed }
     ensures out_first { O.faults out.new ≢ O.faults out.old → E.written err.new ≡ E.written err.old }
-    // Where `check` is done, the style is safe under the condition of the certificate, whatever `out` tells.
-    ensures done { result ≡ Status.Done → IfSome (forms.form_of words.now) (λ form. IfSome (F.told files.old) (λ told. top.IsDoneWell told form)) }
-    // Whatever `check` put on `out`, the style is safe under the condition that is printed.
-    ensures safe { O.written out.new ≢ O.written out.old → IfSome (forms.form_of words.now) (λ form. IfSome (F.told files.old) (λ told.
-        top.IsPromised told form (sunk ⟦<O as Sink>⟧ out.old out.new))) }
 {
     match form_of(words) {
         Some(form) => carry_out(alloc, form, files, out, err),
@@ -94,6 +98,7 @@ fn carry_out<F: Files, O: Sink, E: Sink>(
     ensures begun { IfSome (F.told files.old) (λ told. HasBegun ⟦<F as Files>⟧ files.old files.new (files_begun told (forms.form_in form.entry)) result) }
     ensures sinks { TellsOfSinks result (sunk ⟦<O as Sink>⟧ out.old out.new) (sunk ⟦<E as Sink>⟧ err.old err.new) }
     ensures done { result ≡ Status.Done → IfSome (F.told files.old) (λ told. top.IsDoneWell told (forms.form_in form.entry)) }
+    ensures inside { top.IsInside (forms.form_in form.entry) (sunk ⟦<E as Sink>⟧ err.old err.new) → result ≢ Status.Fault }
     ensures safe { O.written out.new ≢ O.written out.old → IfSome (F.told files.old) (λ told.
         top.IsPromised told (forms.form_in form.entry) (sunk ⟦<O as Sink>⟧ out.old out.new)) }
 {
@@ -109,6 +114,7 @@ fn answer<F: Files>(alloc: Global, form: Form<'_>, files: &mut F) -> Result<Outc
     match form {
         Form::Check(style, cert) => answer_check(alloc, style, cert, files),
         Form::Run(aux, steps) => answer_run(alloc, aux, steps, files),
+        Form::RunUnder(aux, steps, cert) => answer_run_under(alloc, aux, steps, cert, files),
     }
 }
 
@@ -137,6 +143,22 @@ fn answer_run<F: Files>(
     ensures begun { IfSome (F.told files.old) (λ told. HasBegun ⟦<F as Files>⟧ files.old files.new (files_begun told (forms.Run aux.now steps)) (given_of result)) }
 {
     let found = run(alloc, files, aux, steps);
+    told(alloc, found)
+}
+
+/// What the words `run AUX N CERT` come to.
+fn answer_run_under<F: Files>(
+    alloc: Global,
+    aux: &str,
+    steps: u32,
+    cert: &str,
+    files: &mut F,
+) -> Result<Outcome, NoMemory>
+    ensures answer { IfOk result (λ outcome. top.IsAnswer ⟦<F as Files>⟧ files.old files.new (forms.RunUnder aux.now steps cert.now) outcome) }
+    ensures begun { IfSome (F.told files.old) (λ told.
+        HasBegun ⟦<F as Files>⟧ files.old files.new (files_begun told (forms.RunUnder aux.now steps cert.now)) (given_of result)) }
+{
+    let found = run_under(alloc, files, aux, steps, cert);
     told(alloc, found)
 }
 

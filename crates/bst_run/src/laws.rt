@@ -1,22 +1,25 @@
-//! What holds of every style that is checked and of the files of every run.
+//! What holds of every style that is checked or run and of the files of every run.
 
 ghost use Rattle.std.specs.Prelude.{◌≡◌, ◌↔◌, ℕ, List, Some, Ok, Err};
 ghost use Rattle.bv_base.specs.Outside.{Listing};
+ghost use Rattle.bv_base.specs.Places.{StandsIn};
 ghost use Rattle.bst_meaning.specs.Config.{Stopped};
 ghost use Rattle.bst_meaning.specs.Machine.{run};
 ghost use Rattle.bst_meaning.specs.declared.entry.EntryList.{EntryList};
 ghost use Rattle.bst_parse.specs.PlacesStand.{IsOfByte};
 ghost use Rattle.bst_parse.specs.Reading.{style_of};
 ghost use Rattle.name_table.specs.declared.style.Style.{Style};
+ghost use Rattle.cert_check.specs.declared.refusal.Refusal.{Refusal};
+ghost use Rattle.cert_format.specs.declared.cert.Cert.{Cert};
+ghost use Rattle.command_flow.specs.Checks.{checked};
 ghost use Rattle.bst_run.specs.AuxChain.{needs_after, needs_of};
 ghost use Rattle.bst_run.specs.FileFaults.{IsFileFault};
 ghost use Rattle.bst_run.specs.InputTrees.{NeedsRead};
-ghost use Rattle.bst_run.specs.Walk.{first_refusal};
 ghost use Rattle.bst_run.specs.declared.files.requests.Needs.{Needs};
 ghost use Rattle.bst_run.specs.declared.outcome.Outcome.{Outcome};
-ghost use Rattle.bst_run.specs.declared.refusal.Refusal.{Refusal};
 
 use bst_parse::laws::places_in_the_text;
+use command_flow::laws::refusals_in_the_style;
 
 /// A first `.aux` file and its inputs are what a run needs exactly where there is a tree of inputs that nests at most 16
 /// deep: each is there and is read by the grammar, their citations stand where they are named, and one style and one line
@@ -25,11 +28,13 @@ pub fn inputs_as_the_tree()
     ensures { (told : Listing) (name text : List ℕ) (needs : Needs) → (needs_after told name text ≡ Ok needs) ↔ NeedsRead told text needs }
 {}
 
-/// The first rule that fails on a style that was read stands at a byte of the style's text.
+/// The first rule that fails of a certificate for a style that was read stands at a byte of the style's text, or at its end.
 pub fn refusals_in_the_text(source: &[u8])
-    ensures { (style : Style) (refusal : Refusal) → style_of source.now ≡ Ok style → first_refusal style ≡ Some refusal → IsOfByte source.now refusal.place }
+    ensures { (style : Style) (cert : Cert) (refusal : Refusal) → style_of source.now ≡ Ok style → checked style cert ≡ Err refusal
+        → StandsIn source.now refusal.place }
 {
     places_in_the_text(source);
+    refusals_in_the_style();
 }
 
 /// An execution error of a style that was read stands at a byte of the style's text, over every list of entries.

@@ -1,7 +1,6 @@
 //! The program: it reads the words, decides or runs, and ends with the answer's number.
 #![tactic(auto)]
 
-mod certificate;
 mod check;
 mod command;
 mod data_fault;
@@ -13,10 +12,9 @@ mod refusal;
 mod report;
 mod run;
 mod stop;
-mod straight;
 #[cfg(test)]
 mod tests;
-mod walk;
+mod under;
 mod words;
 
 use crate::command::command;

@@ -4,16 +4,20 @@ ghost use Rattle.std.specs.Prelude.{◌≡◌, IfOk};
 ghost use Rattle.std.specs.String.{string_bytes};
 ghost use Rattle.bst_run.specs.Report as report;
 
-use crate::certificate::Short;
 use crate::data_fault::DataFault;
 use crate::outcome::Outcome;
-use crate::refusal::{Reason, Refusal};
+use crate::refusal::{name_of, number_of};
+use bst_meaning::condition::Cond;
 use bst_meaning::fault::Fault;
 use bst_parse::fault::StyleFault;
 use bv_base::memory::NoMemory;
 use bv_base::place::Place;
 use bv_base::status::Status;
 use bv_base::text::Text;
+use cert_check::refusal::Refusal;
+use cert_format::fault::CertFault;
+use cert_format::print::print_cond;
+use name_table::style::Style;
 use std::alloc::Global;
 
 /// The line for words of none of the forms.
@@ -56,18 +60,25 @@ pub fn too_long(alloc: Global, name: &str) -> Result<Outcome, NoMemory>
 pub fn bad_style(alloc: Global, fault: StyleFault) -> Result<Outcome, NoMemory>
     ensures { IfOk result (λ outcome. outcome ≡ report.bad_style fault) }
 {
-    let line = bad_style_line(alloc, fault)?;
+    let line = placed_line(alloc, "bad style", fault.place(), fault.name())?;
     Ok(last_line(alloc, Status::BadStyle, line))
 }
 
-fn bad_style_line(alloc: Global, fault: StyleFault) -> Result<String, NoMemory>
-    ensures { IfOk result (λ text. string_bytes text ≡ report.bad_style_line fault) }
+/// The bytes of a certificate are at fault.
+pub fn bad_cert(alloc: Global, fault: CertFault) -> Result<Outcome, NoMemory>
+    ensures { IfOk result (λ outcome. outcome ≡ report.bad_cert fault) }
 {
-    let place = fault.place();
+    let line = placed_line(alloc, "bad certificate", fault.place(), fault.name())?;
+    Ok(last_line(alloc, Status::BadCert, line))
+}
+
+/// The line for a text at fault at a place.
+fn placed_line(alloc: Global, words: &str, place: Place, name: &str) -> Result<String, NoMemory>
+    ensures { IfOk result (λ text. string_bytes text ≡ report.placed_line words.now place name.now) }
+{
     let line = place.line;
     let column = place.column;
-    let name = fault.name();
-    Ok(format!(in alloc; "bad style {line}:{column} {name}\n")?)
+    Ok(format!(in alloc; "{words} {line}:{column} {name}\n")?)
 }
 
 /// A data file is at fault.
@@ -80,14 +91,6 @@ pub fn bad_data(alloc: Global, name: &str, fault: DataFault) -> Result<Outcome, 
     let fault = fault.name();
     let line = format!(in alloc; "bad data {name} {line}:{column} {fault}\n")?;
     Ok(last_line(alloc, Status::BadData, line))
-}
-
-/// The checker for the style or the certificate isn't built yet.
-pub fn not_built(alloc: Global) -> Result<Outcome, NoMemory>
-    ensures { IfOk result (λ outcome. outcome ≡ report.not_built) }
-{
-    let line = String::from_str(alloc, "not built\n")?;
-    Ok(last_line(alloc, Status::NotBuilt, line))
 }
 
 /// A rule fails.
@@ -103,24 +106,23 @@ fn refused_line(alloc: Global, refusal: Refusal) -> Result<String, NoMemory>
 {
     let line = refusal.place.line;
     let column = refusal.place.column;
-    let name = refusal.reason.name();
-    match refusal.reason {
-        Reason::EmptyPop(operand) => {
-            Ok(format!(in alloc; "refused {line}:{column} {name} {operand}\n")?)
-        }
-        Reason::StackLeft => Ok(format!(in alloc; "refused {line}:{column} {name}\n")?),
+    let name = name_of(refusal.reason);
+    match number_of(refusal.reason) {
+        Some(number) => Ok(format!(in alloc; "refused {line}:{column} {name} {number}\n")?),
+        None => Ok(format!(in alloc; "refused {line}:{column} {name}\n")?),
     }
 }
 
 /// The rules hold: the style is safe under the condition that is printed.
-pub fn accepted(alloc: Global, short: &Short) -> Result<Outcome, NoMemory>
-    ensures { IfOk result (λ outcome. outcome ≡ report.accepted short.now) }
+pub fn accepted(alloc: Global, style: &Style, cond: &Cond) -> Result<Outcome, NoMemory>
+    ensures { IfOk result (λ outcome. outcome ≡ report.accepted style.now cond.now) }
 {
-    let condition = short.lines();
-    let text = format!(in alloc; "accepted\nlist 1\n{condition}")?;
+    let condition = print_cond(alloc, cond, style)?;
+    let mut text = String::from_str(alloc, "accepted\nlist 1\n")?.into_bytes();
+    text.extend_from_slice(condition.as_slice())?;
     Ok(Outcome {
         status: Status::Done,
-        out: Text::from_vec(text.into_bytes()),
+        out: Text::from_vec(text),
         err: Text::from_vec(Vec::new(alloc)),
     })
 }

@@ -2,6 +2,7 @@
 
 ghost use Rattle.std.specs.Prelude.{◌≡◌, ◌++◌, IfOk, OnOk};
 ghost use Rattle.bib_read.specs.Additions.{AreKeyed};
+ghost use Rattle.bst_meaning.specs.Entries.{Fits};
 ghost use Rattle.bst_step.specs.Machine.{configuration};
 ghost use Rattle.entry_list.specs.Joining.{joined};
 ghost use Rattle.entry_list.specs.Keys.{AreCitations};
@@ -54,7 +55,7 @@ fn run_over(alloc: Global, sources: Sources, steps: u32) -> Result<Outcome, NoMe
 
 /// The joined entries, and the warnings of the databases. What was read of the databases ends here, so that no run
 /// holds it.
-fn join_all(
+pub fn join_all(
     alloc: Global,
     style: &Style,
     items: Seq<AuxItem>,
@@ -64,6 +65,7 @@ fn join_all(
     requires keyed { AreKeyed database.entries }
     ensures found { IfOk result (λ both. both.0 ≡ joined style.now items database) }
     ensures reading { IfOk result (λ both. both.1 ≡ database.warnings) }
+    ensures fits { IfOk result (λ both. Fits style.now both.0.list) }
 {
     let found = join(alloc, style, items.as_slice(), &database)?;
     let Database { warnings, .. } = database;
@@ -71,7 +73,7 @@ fn join_all(
 }
 
 /// Takes the first steps of the style over the joined entries.
-fn run_joined(
+pub fn run_joined(
     alloc: Global,
     style: &Style,
     reading: &[Text],

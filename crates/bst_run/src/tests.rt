@@ -90,16 +90,45 @@ macro_rules! nested {
     };
 }
 
+/// What is answered for a style and a certificate with these lines of its condition, and these behind it.
+macro_rules! judged_under {
+    ($condition:expr, $style:expr, $lines:expr => $answer:expr) => {
+        Judged {
+            condition: $condition,
+            style: $style,
+            lines: $lines,
+            answer: $answer,
+        }
+    };
+}
+
+/// What is answered for a style and a certificate with these lines behind its condition, which has a nine for each number.
+macro_rules! judged {
+    ($style:expr, $lines:expr => $answer:expr) => {
+        judged_under!("entries 9\nkey 9\npreamble 9\nlength 9\nothertype yes\n", $style, $lines => $answer)
+    };
+}
+
 mod begun;
 mod check;
+mod commands;
 mod data;
+mod loops;
+mod refusals;
 mod run;
+mod under;
 mod words;
 
 use crate::command::command;
-use crate::tests::check::{CERTIFICATES, CHECKS, FAILING_CHECKS, LONG_STYLES, NO_ENTRIES};
+use crate::tests::check::{
+    CERTIFICATES, CHECKS, CONDITIONS, FAILING_CHECKS, HINTED, LONG_STYLES, NO_ENTRIES,
+};
+use crate::tests::commands::{COUNTED, EXECUTED, SHAPED, TYPED, VISITED};
 use crate::tests::data::{BAD_AUX, BAD_DATABASES, NESTED};
+use crate::tests::loops::{AROUND, LEAVING, LONG_TURNS, TURNS};
+use crate::tests::refusals::{COUNTS, DEMANDS, UNITS, USES};
 use crate::tests::run::{FAILING_RUNS, FAULTS, RUNS};
+use crate::tests::under::{UNDER, UNMET};
 use crate::tests::words::{STEPS, WORDS};
 use bv_base::mem_files::MemFiles;
 use bv_base::mem_sink::MemSink;
@@ -140,6 +169,15 @@ pub struct Example {
     err: &'static str,
 }
 
+/// A certificate's lines of its condition and those behind it, the style, and the answer: `accepted`, or the last line.
+#[derive(Clone, Copy)]
+pub struct Judged {
+    condition: &'static str,
+    style: &'static str,
+    lines: &'static str,
+    answer: &'static str,
+}
+
 #[test]
 fn check_gives_the_worked_answers(rt: HostRuntime) -> Result<(), Fail> {
     compare(&rt, rt.alloc(), &CHECKS)
@@ -151,8 +189,83 @@ fn certificates_have_one_spelling(rt: HostRuntime) -> Result<(), Fail> {
 }
 
 #[test]
+fn conditions_are_printed_as_they_stand(rt: HostRuntime) -> Result<(), Fail> {
+    compare(&rt, rt.alloc(), &CONDITIONS)
+}
+
+#[test]
+fn hints_and_summaries_decide(rt: HostRuntime) -> Result<(), Fail> {
+    compare(&rt, rt.alloc(), &HINTED)
+}
+
+#[test]
 fn long_styles_are_refused_by_their_length(rt: HostRuntime) -> Result<(), Fail> {
     compare_long(&rt, rt.alloc(), &LONG_STYLES)
+}
+
+#[test]
+fn hints_and_entailment_have_their_places(rt: HostRuntime) -> Result<(), Fail> {
+    compare_judged(&rt, rt.alloc(), &UNITS)
+}
+
+#[test]
+fn used_summaries_leave_what_they_say(rt: HostRuntime) -> Result<(), Fail> {
+    compare_judged(&rt, rt.alloc(), &USES)
+}
+
+#[test]
+fn demands_and_limits_have_their_places(rt: HostRuntime) -> Result<(), Fail> {
+    compare_judged(&rt, rt.alloc(), &DEMANDS)
+}
+
+#[test]
+fn walks_count_to_their_limit(rt: HostRuntime) -> Result<(), Fail> {
+    compare_judged(&rt, rt.alloc(), &COUNTS)
+}
+
+#[test]
+fn loops_are_checked_turn_by_turn(rt: HostRuntime) -> Result<(), Fail> {
+    compare_judged(&rt, rt.alloc(), &TURNS)
+}
+
+#[test]
+fn turns_count_on_to_the_limit(rt: HostRuntime) -> Result<(), Fail> {
+    compare_judged(&rt, rt.alloc(), &LONG_TURNS)
+}
+
+#[test]
+fn a_state_comes_to_a_loop_by_a_case(rt: HostRuntime) -> Result<(), Fail> {
+    compare_judged(&rt, rt.alloc(), &AROUND)
+}
+
+#[test]
+fn used_loops_leave_by_their_exits(rt: HostRuntime) -> Result<(), Fail> {
+    compare_judged(&rt, rt.alloc(), &LEAVING)
+}
+
+#[test]
+fn what_a_visit_keeps_is_known_at_the_next(rt: HostRuntime) -> Result<(), Fail> {
+    compare_judged(&rt, rt.alloc(), &VISITED)
+}
+
+#[test]
+fn visits_are_counted(rt: HostRuntime) -> Result<(), Fail> {
+    compare_judged(&rt, rt.alloc(), &COUNTED)
+}
+
+#[test]
+fn what_a_call_says_is_known_behind_it(rt: HostRuntime) -> Result<(), Fail> {
+    compare_judged(&rt, rt.alloc(), &EXECUTED)
+}
+
+#[test]
+fn types_of_the_condition_are_entered(rt: HostRuntime) -> Result<(), Fail> {
+    compare_judged(&rt, rt.alloc(), &TYPED)
+}
+
+#[test]
+fn records_fit_their_commands(rt: HostRuntime) -> Result<(), Fail> {
+    compare_judged(&rt, rt.alloc(), &SHAPED)
 }
 
 #[test]
@@ -174,6 +287,16 @@ fn failing_files_and_sinks_are_named(rt: HostRuntime) -> Result<(), Fail> {
 #[test]
 fn a_run_writes_its_lines_and_its_log(rt: HostRuntime) -> Result<(), Fail> {
     compare(&rt, rt.alloc(), &RUNS)
+}
+
+#[test]
+fn a_run_under_a_certificate_tells_of_its_condition(rt: HostRuntime) -> Result<(), Fail> {
+    compare(&rt, rt.alloc(), &UNDER)
+}
+
+#[test]
+fn the_first_line_that_is_not_kept_is_told(rt: HostRuntime) -> Result<(), Fail> {
+    compare(&rt, rt.alloc(), &UNMET)
 }
 
 #[test]
@@ -213,6 +336,36 @@ fn compare_long(rt: &impl Abort, alloc: Global, rows: &[(usize, Example)]) -> Re
         compare_over(rt, alloc, example, &mut files)?;
     }
     Ok(())
+}
+
+/// Asserts what is answered for each style and the lines of a certificate.
+fn compare_judged(rt: &impl Abort, alloc: Global, rows: &[Judged]) -> Result<(), Fail> {
+    for row in rows {
+        let condition = row.condition;
+        let lines = row.lines;
+        let cert = format!(in alloc; "bstcert 1\n{condition}end\n{lines}done\n")?;
+        let mut files = MemFiles::new(alloc);
+        files.add("a.bst", row.style.as_bytes())?;
+        files.add("b.cert", cert.as_bytes())?;
+        let said = judged_by(alloc, &mut files)?;
+        assert_eq!(rt; said.as_str(), row.answer);
+    }
+    Ok(())
+}
+
+/// The first line of what `check` says: `accepted`, or the last line of its answer.
+fn judged_by(alloc: Global, files: &mut MemFiles) -> Result<String, Fail> {
+    let words = owned(alloc, &["check", "a.bst", "b.cert"])?;
+    let mut out = MemSink::new(alloc);
+    let mut err = MemSink::new(alloc);
+    let status = command(alloc, words.as_slice(), files, &mut out, &mut err);
+    let said = if status == Status::Done {
+        out.bytes()
+    } else {
+        err.bytes()
+    };
+    let end = said.iter().position(|byte| *byte == b'\n').unwrap_or(0);
+    Ok(String::from_utf8(said[..end].to_vec(alloc)?)?)
 }
 
 /// Asserts what an example is answered over these files.

@@ -2,9 +2,15 @@
 
 ghost use Rattle.std.specs.Prelude.{◌≡◌, ◌<◌, IfSome};
 ghost use Rattle.std.specs.Option.{option_map};
+ghost use Rattle.std.specs.List.{list_all};
+ghost use Rattle.bv_base.specs.Runs.{is_digit as digit};
+ghost use Rattle.cert_format.specs.Items as items;
 ghost use Rattle.bst_run.specs.Forms as forms;
 
-use crate::certificate::number;
+use bv_base::runs::{is_digit, number};
+
+/// The most steps of a run: the greatest number of nine digits.
+pub const MOST_STEPS: u64 = 999_999_999;
 
 /// What some words ask for. The names of files are used as they stand.
 #[derive(Clone, Copy)]
@@ -13,6 +19,8 @@ pub enum Form<'a> {
     Check(&'a str, &'a str),
     /// Run this many steps of the style that the `.aux` file names.
     Run(&'a str, u32),
+    /// The same under the certificate in the last file.
+    RunUnder(&'a str, u32, &'a str),
 }
 
 /// The form that words have, and `None` where they have none.
@@ -25,6 +33,9 @@ pub fn form_of(words: &[String]) -> Option<Form<'_>>
             "run" => run_form(first.as_str(), second.as_bytes()),
             _ => None,
         },
+        [word, aux, steps, cert] if word.as_str() == "run" => {
+            under_form(aux.as_str(), steps.as_bytes(), cert.as_str())
+        }
         _ => None,
     }
 }
@@ -36,21 +47,43 @@ fn run_form<'a>(aux: &'a str, steps: &[u8]) -> Option<Form<'a>>
     Some(Form::Run(aux, steps_of(steps)?))
 }
 
+/// The form `run AUX N CERT`.
+fn under_form<'a>(aux: &'a str, steps: &[u8], cert: &'a str) -> Option<Form<'a>>
+    ensures { option_map forms.form_in result ≡ forms.under_form aux.now steps.now cert.now }
+{
+    Some(Form::RunUnder(aux, steps_of(steps)?, cert))
+}
+
 /// A number of one to nine digits without a leading zero, or 0.
 fn steps_of(word: &[u8]) -> Option<u32>
     ensures { result ≡ forms.steps_of word.now }
 {
-    if word.is_empty() || word.len() > 9 || has_leading_zero(word) {
+    if !is_numeral(word) || has_leading_zero(word) {
         return None;
     }
-    match number(word) {
-        Some((steps, [])) => Some(steps),
-        _ => None,
+    let steps = number(word);
+    if steps > MOST_STEPS {
+        return None;
     }
+    Some(steps as u32)
+}
+
+/// One digit or more.
+fn is_numeral(word: &[u8]) -> bool
+    ensures { result ≡ items.is_numeral word.now }
+{
+    !word.is_empty() && are_digits(word)
+}
+
+/// Digits alone.
+fn are_digits(word: &[u8]) -> bool
+    ensures { result ≡ list_all digit word.now }
+{
+    word.iter().all(|b| is_digit(*b))
 }
 
 fn has_leading_zero(word: &[u8]) -> bool
-    ensures { result ≡ forms.has_leading_zero word.now }
+    ensures { result ≡ items.has_leading_zero word.now }
 {
     matches!(word, [b'0', _, ..])
 }

@@ -1,7 +1,7 @@
 -- The exit status of each answer (docs/COMMANDS.md, "Statuses").
 use Rattle.std.specs.Prelude.{ℕ}
 use Rattle.bv_base.specs.declared.status.Status.{Status}
-use Rattle.bv_base.specs.declared.status.Status.TheVariants.{Done, Refused, Usage, NoFile, ReadFailed, WriteFailed, NoMemory, BadStyle, BadCert, BadData, Fault, Budget, TooLong, Unknown, NotBuilt}
+use Rattle.bv_base.specs.declared.status.Status.TheVariants.{Done, Refused, Usage, NoFile, ReadFailed, WriteFailed, NoMemory, BadStyle, BadCert, BadData, Fault, Budget, TooLong, Unknown}
 
 -- the number with which the program ends
 abbrev pub number_of : Status → ℕ
@@ -19,4 +19,3 @@ number_of Fault = 10
 number_of Budget = 11
 number_of TooLong = 12
 number_of Unknown = 13
-number_of NotBuilt = 14

@@ -34,8 +34,6 @@ pub enum Status {
     TooLong = 12,
     /// No certificate is shown.
     Unknown = 13,
-    /// The checker for this style or certificate isn't built yet.
-    NotBuilt = 14,
 }
 
 impl Status {

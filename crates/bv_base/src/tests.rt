@@ -41,7 +41,7 @@ fn letters_are_lowered(rt: HostRuntime) {
 #[test]
 fn statuses_have_their_numbers(rt: HostRuntime) {
     assert_eq!(rt; Status::Refused.number(), 1);
-    assert_eq!(rt; Status::NotBuilt.number(), 14);
+    assert_eq!(rt; Status::Unknown.number(), 13);
 }
 
 #[test]

@@ -1,5 +1,5 @@
 -- `if$` is safe where what it enters is: bodies and uses for as many steps, calls of names for fewer.
-use Rattle.std.proofs.Common.{◌≡◌, ℕ, ◌<◌, ◌≤◌, Bool, true, false, cond, List, [], ◌∷◌, ◌++◌, reverse, Option, None, Some, Ok, refl, sym, ap, subst, ◌∙◌, arith}
+use Rattle.std.proofs.Common.{◌≡◌, ℕ, ◌<◌, Bool, true, false, cond, List, [], ◌∷◌, ◌++◌, reverse, Option, None, Some, Ok, refl, sym, ap, subst, ◌∙◌, arith}
 use Rattle.std.specs.Prelude.{ℤ}
 use Rattle.std.specs.Option.{option_map_or}
 use Rattle.std.proofs.lemmas.List.{reverse-reverse}
@@ -9,18 +9,17 @@ use Rattle.bv_base.proofs.ThenLemmas.{then_ok}
 use Rattle.name_table.specs.declared.builtin.Builtin.{Builtin}
 use Rattle.name_table.specs.declared.builtin.Builtin.TheVariants as op
 use Rattle.name_table.specs.declared.names.Kind.{Kind}
-use Rattle.name_table.specs.declared.names.Kind.TheVariants as kind
-use Rattle.name_table.specs.declared.style.BodyId.{BodyId}
 use Rattle.bst_meaning.specs.StyleParts.{entered_tokens}
 use Rattle.bst_meaning.specs.declared.entry.EntryList.{EntryList}
 use Rattle.bst_meaning.specs.declared.value.Target.{Target}
-use Rattle.bst_meaning.specs.declared.value.Target.TheVariants.{Named, Block}
+use Rattle.bst_meaning.specs.declared.value.Target.TheVariants.{Named}
 use Rattle.bst_meaning.specs.declared.value.Value.{Value}
 use Rattle.bst_meaning.specs.declared.value.Value.TheVariants as value
 use Rattle.bst_meaning.specs.Config.{Config, Whole}
 use Rattle.bst_meaning.specs.Effect.{Effect, left}
 use Rattle.bst_meaning.specs.Entries.{Fits}
 use Rattle.bst_meaning.specs.Invariant.{IsWellFormed}
+use Rattle.bst_meaning.specs.Keeping.{is_plain}
 use Rattle.bst_meaning.specs.Machine.{call_step, with_effect, with_frame}
 use Rattle.bst_meaning.specs.Operands.{is_positive}
 use Rattle.sym_state.specs.State.{State}
@@ -41,29 +40,19 @@ use Rattle.refinements.proofs.Framing.{above_left}
 use Rattle.refinements.proofs.Kept.{above_made}
 use Rattle.refinements.proofs.Signs.{labelled_sign_found}
 use Rattle.cert_check.specs.Courses.{placed}
-use Rattle.cert_check.specs.Walks.{Call, Enter, Scope, cases_entered, choice, if_else, name_entered}
-use Rattle.cert_check.proofs.Bodies.{EnterSafe}
+use Rattle.cert_check.specs.Walks.{Call, Enter, Onward, Scope, built_in, cases_entered, choice, if_else, name_entered}
+use Rattle.cert_check.proofs.Bodies.{returned, unframed}
 use Rattle.cert_check.proofs.Choosing.{case_entered, function_safe, name_safe}
-use Rattle.cert_check.proofs.Entering.{OnwardSafe, UseSafe, after_function}
+use Rattle.cert_check.proofs.Entering.{OnwardSafe, after_function}
 use Rattle.cert_check.proofs.Exactly.{exact_is}
 use Rattle.cert_check.proofs.Inverted.{placed_ok}
 use Rattle.cert_check.proofs.Keeping.{Told}
+use Rattle.cert_check.proofs.Levels.{Levels, lower_levels}
+use Rattle.cert_check.proofs.Looping.{repeated_safe}
 use Rattle.cert_check.proofs.Safety.{Reaches, SafeFor, Start, onward, remains_framed, safe_fewer, safe_on, spot_at}
-use Rattle.cert_check.proofs.Tokens.{among_all}
+use Rattle.cert_check.proofs.Followed.{among_all}
+use Rattle.cert_check.proofs.Typing.{typed_safe}
 use Rattle.cert_check.proofs.Walked.{Calls, CaseFollows, Enters, cases_follow, if_else_moved, name_moved, three_ok}
-
--- what is safe for how many steps
-pub record Levels (scope : Scope) (list : EntryList) (n : ℕ) (enter : Enter) : Type 0 where
-  pub enters : (m : ℕ) → m ≤ n → EnterSafe scope list m enter
-  pub blocks : (m : ℕ) → m ≤ n → (body : BodyId) → UseSafe scope list m (Block body)
-  pub uses : (m : ℕ) → m < n → (target : Target) → UseSafe scope list m target
-
-pub lower_levels : (scope : Scope) (list : EntryList) (m n : ℕ) (enter : Enter) → m < n → Levels scope list n enter → Levels scope list m enter
-lower_levels scope list m n enter less levels = record {
-  enters = λ k few. levels.enters k (omega (arith, less, few));
-  blocks = λ k few. levels.blocks k (omega (arith, less, few));
-  uses = λ k few. levels.uses k (omega (arith, less, few));
-}
 
 -- a case has the stack of the state
 above_stack : (state : State) (a : Sym) (positive : Bool) → (above_case state a positive).stack ≡ state.stack
@@ -79,10 +68,22 @@ picked : (v : Valuation) (b c : Sym) (first other : Target) (positive : Bool) �
 picked v b c first other true e f = e
 picked v b c first other false e f = f
 
+-- a built-in function that enters others
+pub functions_safe : (scope : Scope) (list : EntryList) (n : ℕ) (enter : Enter) (other : Onward) (o : Builtin) (place at : Place) (s : Start scope list) → Told scope
+    → Fits scope.style list → Enters scope enter → Levels scope list n enter → is_plain o ≡ false → IsWellFormed scope.style list (after_function scope list o at s)
+    → (o ≡ op.IfElse → OnwardSafe scope list n s.c.frames other s (after_function scope list o at s))
+    → OnwardSafe scope list n s.c.frames (built_in scope enter other o place) s (after_function scope list o at s)
+functions_safe scope list n enter other op.IfElse place at s told fits moves levels is formed chosen course after e safe = chosen refl course after e safe
+functions_safe scope list n enter other op.WhileDo place at s told fits moves levels is formed chosen course after e safe =
+    repeated_safe scope list n enter place at s told levels formed course after e safe
+functions_safe scope list n enter other op.CallType place at s told fits moves levels is formed chosen course after e safe =
+    typed_safe scope list n enter place at s told fits moves levels formed course after e safe
+functions_safe scope list n enter other _ place at s told fits moves levels is formed chosen course after e safe = absurd (cc)
+
 pub if_else_safe : (scope : Scope) (list : EntryList) (enter : Enter) (place at : Place) (stack : List Sym) (n : ℕ) (s : Start scope list) → Told scope
     → Fits scope.style list → Enters scope enter → Levels scope list n enter → reverse s.state.stack ≡ stack
     → IsWellFormed scope.style list (after_function scope list op.IfElse at s)
-    → OnwardSafe scope list n (if_else scope enter place stack) s (after_function scope list op.IfElse at s)
+    → OnwardSafe scope list n s.c.frames (if_else scope enter place stack) s (after_function scope list op.IfElse at s)
 if_else_safe scope list enter place at [] n s told fits moves levels tops formed course after e safe = absurd (cc)
 if_else_safe scope list enter place at (c ∷ []) n s told fits moves levels tops formed course after e safe = absurd (cc)
 if_else_safe scope list enter place at (c ∷ (b ∷ [])) n s told fits moves levels tops formed course after e safe = absurd (cc)
@@ -117,15 +118,8 @@ if_else_safe scope list enter place at (c ∷ (b ∷ (a ∷ rest))) n s told fit
     let there : after_function scope list op.IfElse at s ≡ with_frame (entered_tokens scope.style machine at) at Whole bare =
     ap (λ r. with_effect scope.style r at s.c) gives in
     let fine = subst (IsWellFormed scope.style list) there formed in
-    let bare_fine : IsWellFormed scope.style list bare = record {
-      preamble = fine.preamble;
-      commands = fine.commands;
-      frames = fine.frames.1;
-      stack = fine.stack;
-      globals = fine.globals;
-      entries = fine.entries;
-      order = fine.order;
-    } in
+    let bare_fine : IsWellFormed scope.style list bare =
+    unframed scope.style list (entered_tokens scope.style machine at) at Whole bare fine in
     let one = labelled_sign_found scope.style scope.cert.cond list s.v popped bare s.below a lowest.0 course.hints split.0
     (moved scope.style scope.cert.cond list s.v s.state s.c s.below rest (reverse rest) (s.c.events ++ []) (s.c.log ++ []) s.stands (reverse-reverse rest)) lowest.1 cases in
     let state : State = above_case popped a positive in
@@ -144,12 +138,17 @@ if_else_safe scope list enter place at (c ∷ (b ∷ (a ∷ rest))) n s told fit
     let waits = safe_fewer scope list n s.c.frames start entered.middle.given entered.more after.given entered.given
     (safe_on scope list n s.c.frames s.c.frames s state s.v bare after.given reached safe) in
     subst (SafeFor scope.style n) (sym there)
-    (function_safe scope list n enter call place at _ machine start told fits (levels.enters n (omega arith)) (levels.blocks n (omega arith))
+    (function_safe scope list n enter call place at Whole _ machine start told fits (levels.enters n (omega arith)) (levels.blocks n (omega arith))
     (λ t is. exact_is scope.style s.laws s.v state (cond positive b c) t machine told.sound one.stands.satisfied.facts is (picked s.v b c middle.0 top.0 positive middle.1 top.1))
     fine
-    (λ name m is t same fine_call. name_safe scope list m enter (if_else scope enter place rest) name place at t told (levels.enters m (omega (arith, is))) (levels.uses m (omega (arith, is)) (Named name)) fine_call
-    (λ o known is_if. subst (λ (x : Builtin). OnwardSafe scope list m (if_else scope enter place rest) t (after_function scope list x at t)) (sym is_if)
-    (if_else_safe scope list enter place at rest m t told fits moves (lower_levels scope list m n enter (omega (arith, is)) levels)
+    (λ name m is t same fine_call. name_safe scope list m enter (if_else scope enter place rest) name place at t told fits (levels.enters m (omega (arith, is)))
+    (levels.uses m (omega (arith, is)) (Named name)) fine_call
+    (λ o known enters_one.
+    let lower_ones = lower_levels scope list m n enter (omega (arith, is)) levels in
+    let called = subst (λ (k : Option Kind). IsWellFormed scope.style list (call_step scope.style k name at t.c)) known fine_call in
+    functions_safe scope list m enter (if_else scope enter place rest) o place at t told fits moves lower_ones enters_one called
+    (λ is_if. subst (λ (x : Builtin). OnwardSafe scope list m t.c.frames (if_else scope enter place rest) t (after_function scope list x at t)) (sym is_if)
+    (if_else_safe scope list enter place at rest m t told fits moves lower_ones
     (ap (λ (x : State). reverse x.stack) same ∙ ap (λ (l : List Sym). reverse l) (above_stack popped a positive) ∙ reverse-reverse rest)
-    (subst (λ (k : Option Kind). IsWellFormed scope.style list (call_step scope.style k name at t.c)) (known ∙ ap (λ (x : Builtin). Some (kind.Builtin x)) is_if) fine_call))))
-    entered.before entered.middle entered.entered waits)
+    (subst (λ (x : Builtin). IsWellFormed scope.style list (after_function scope list x at t)) is_if called)))))
+    entered.before entered.middle entered.entered (returned scope list n at s.c.frames start entered.middle.given told fits waits))

@@ -1,5 +1,5 @@
--- The call of a command that is walked is safe where all summaries are checked.
-use Rattle.std.proofs.Common.{◌≡◌, ℕ, true, nat_eq, List, [], ◌∷◌, ◌++◌, slice_get, Option, Some, Ok, sym, ap, subst, ◌∙◌, append_assoc, arith, inl, inr}
+-- The call of a command that is walked is safe where all units are checked.
+use Rattle.std.proofs.Common.{◌≡◌, ℕ, suc, true, nat_eq, List, [], ◌∷◌, ◌++◌, slice_get, Option, None, Some, Ok, refl, sym, ap, subst, ◌∙◌, append_assoc, arith, inl, inr}
 use Rattle.std.specs.List.{All}
 use Rattle.std.specs.Option.{option_map_or}
 use Rattle.std.proofs.lemmas.Bool.Decides.{nat_tests}
@@ -10,7 +10,7 @@ use Rattle.bv_base.proofs.ThenLemmas.{ok_is, then_ok}
 use Rattle.name_table.specs.Sound.{IsSound}
 use Rattle.name_table.specs.declared.names.Kind.{Kind}
 use Rattle.name_table.specs.declared.style.Style.{Style}
-use Rattle.bst_meaning.specs.Config.{Config}
+use Rattle.bst_meaning.specs.Config.{Config, Whole}
 use Rattle.bst_meaning.specs.Entries.{Fits}
 use Rattle.bst_meaning.specs.Invariant.{IsWellFormed}
 use Rattle.bst_meaning.specs.Machine.{call_step}
@@ -19,6 +19,7 @@ use Rattle.bst_meaning.specs.declared.value.Target.{Target}
 use Rattle.bst_meaning.specs.declared.value.Target.TheVariants.{Named, Block}
 use Rattle.bst_meaning.specs.declared.value.Value.{Value}
 use Rattle.cert_format.specs.declared.cert.Cert.{Cert}
+use Rattle.cert_format.specs.declared.cert.Loop.{Loop}
 use Rattle.cert_format.specs.declared.cert.Summary.{Summary}
 use Rattle.sym_state.specs.State.{State}
 use Rattle.sym_state.specs.Symbols.{Valuation}
@@ -27,51 +28,51 @@ use Rattle.sym_state.specs.declared.hint.Hint.{Hint}
 use Rattle.refinements.specs.Covered.{IsAmong}
 use Rattle.cert_check.specs.Certified.{IsCertified}
 use Rattle.cert_check.specs.Courses.{Course}
-use Rattle.cert_check.specs.Safely.{EntersSafely, IsAllChecked, IsAt, IsLeft, SafeFor, target_step}
-use Rattle.cert_check.specs.Units.{beginning, call_walked, everywhere, summary_checked, target_entered, target_from}
-use Rattle.cert_check.specs.Walks.{Scope, body_walked, chosen_in, is_target, summary_used}
+use Rattle.cert_check.specs.Safely.{EntersSafely, IsAllChecked, IsAt, IsLeft, RepeatsSafely, SafeFor, loop_step, target_step}
+use Rattle.cert_check.specs.Units.{beginning, call_walked, everywhere, loop_checked, summary_checked, target_entered, target_from}
+use Rattle.cert_check.specs.Walks.{Scope, body_walked, chosen_in, is_target, loop_used, summary_used}
 use Rattle.cert_check.specs.declared.limits.TheConstants.{MOST_DEPTH}
-use Rattle.cert_check.proofs.Branching.{Levels}
+use Rattle.cert_check.proofs.Bodies.{returned}
 use Rattle.cert_check.proofs.Choosing.{name_safe}
-use Rattle.cert_check.proofs.Entering.{OnwardSafe, UseSafe, entered_safe}
-use Rattle.cert_check.proofs.Keeping.{Told}
+use Rattle.cert_check.proofs.Entering.{OnwardSafe, entered_safe, entry_frames, entry_step}
+use Rattle.cert_check.proofs.Followed.{moved_within}
+use Rattle.cert_check.proofs.Keeping.{Told, told_by}
+use Rattle.cert_check.proofs.Levels.{Levels, UnitsSafe}
 use Rattle.cert_check.proofs.Safety.{Laws, Reaches, SafeAfter, Start, safe_fewer}
-use Rattle.cert_check.proofs.Using.{IsChecked, uses_safe}
-use Rattle.cert_check.proofs.Walked.{Moves, body_moved, chosen_moved, entered_moved, name_moved}
-use Rattle.cert_check.proofs.Walking.{bodies_safe, chosen_safe}
+use Rattle.cert_check.proofs.Using.{AllChecked, units_safe}
+use Rattle.cert_check.proofs.Walked.{Moves, body_entered, body_moved, chosen_moved, name_moved}
+use Rattle.cert_check.proofs.Walking.{chosen_safe, levels_below}
 
--- what is safe where the use of every summary is
-all_levels : (scope : Scope) (list : EntryList) (n : ℕ) → Told scope → Fits scope.style list → ((m : ℕ) (target : Target) → UseSafe scope list m target)
+-- what is safe where the use of every unit is
+all_levels : (scope : Scope) (list : EntryList) (n : ℕ) → Told scope → Fits scope.style list → ((m : ℕ) → UnitsSafe scope list m)
     → Levels scope list n (body_walked scope MOST_DEPTH)
-all_levels scope list n told fits uses = record {
-  enters = λ m few. bodies_safe scope list MOST_DEPTH m told fits (λ k less target. uses k target);
-  blocks = λ m few body. uses m (Block body);
-  uses = λ m less target. uses m target;
-}
+all_levels scope list n told fits units = levels_below scope list n (suc n) told fits (omega arith) (λ m less. units m)
 
 -- a target that is entered
 target_safe : (scope : Scope) (list : EntryList) (n : ℕ) (target : Target) (place at : Place) (s : Start scope list) → Told scope → Fits scope.style list
-    → ((m : ℕ) (target : Target) → UseSafe scope list m target) → IsWellFormed scope.style list (target_step scope.style target at s.c)
-    → OnwardSafe scope list n (target_entered scope place target) s (target_step scope.style target at s.c)
-target_safe scope list n (Named name) place at s told fits uses formed course after e safe =
-    let levels = all_levels scope list n told fits uses in
+    → ((m : ℕ) → UnitsSafe scope list m) → IsWellFormed scope.style list (target_step scope.style target at s.c)
+    → OnwardSafe scope list n s.c.frames (target_entered scope place target) s (target_step scope.style target at s.c)
+target_safe scope list n (Named name) place at s told fits units formed course after e safe =
+    let levels = all_levels scope list n told fits units in
     let enter = body_walked scope MOST_DEPTH in
-    name_safe scope list n enter (chosen_in scope enter place) name place at s told (levels.enters n (omega arith)) (uses n (Named name)) formed
+    name_safe scope list n enter (chosen_in scope enter place) name place at s told fits (levels.enters n (omega arith)) ((units n).uses (Named name)) formed
     (λ o known is. chosen_safe scope list n enter place at s o told fits (body_moved scope MOST_DEPTH told) levels is
     (subst (λ (k : Option Kind). IsWellFormed scope.style list (call_step scope.style k name at s.c)) known formed)) course after e safe
-target_safe scope list n (Block body) place at s told fits uses formed course after e safe =
-    let levels = all_levels scope list n told fits uses in
-    entered_safe scope list n place at (Block body) (body_walked scope MOST_DEPTH place body) s (uses n (Block body)) formed
-    (λ begun ended walk waits. levels.enters n (omega arith) place at body s begun ended walk formed waits) course after e safe
+target_safe scope list n (Block body) place at s told fits units formed course after e safe =
+    let levels = all_levels scope list n told fits units in
+    entered_safe scope list n place at Whole (Block body) (body_walked scope MOST_DEPTH place body) s ((units n).uses (Block body)) formed
+    (λ begun ended walk waits. levels.enters n (omega arith) place at Whole body s begun ended walk formed waits) course after e
+    (returned scope list n at s.c.frames s after.given told fits safe)
 
-target_moved : (scope : Scope) (target : Target) (place : Place) (state : State) → Told scope → WellMade scope.style state
-    → Moves scope (target_entered scope place target) state
-target_moved scope (Named name) place state told made =
+pub target_moved : (scope : Scope) (target : Target) (place : Place) (state : State) → Told scope → WellMade scope.style state
+    → Moves scope 64 (target_entered scope place target) state
+target_moved scope (Named name) place state told made course after e =
     let enter = body_walked scope MOST_DEPTH in
-    name_moved scope enter (chosen_in scope enter place) place name state told (body_moved scope MOST_DEPTH told) made
-    (chosen_moved scope enter place state told (body_moved scope MOST_DEPTH told) made)
-target_moved scope (Block body) place state told made =
-    entered_moved scope place (Block body) (body_walked scope MOST_DEPTH place body) state told made (body_moved scope MOST_DEPTH told place body state made)
+    moved_within scope 0 64 state course after (omega arith)
+    (name_moved scope enter (chosen_in scope enter place) place name state told (body_moved scope MOST_DEPTH told) made
+    (chosen_moved scope enter place state told (body_moved scope MOST_DEPTH told) made) course after e)
+target_moved scope (Block body) place state told made course after e =
+    body_entered scope (body_walked scope MOST_DEPTH) place (Block body) body state told (body_moved scope MOST_DEPTH told) made course after e
 
 -- what was given before stays before what later states give
 record GivesMore (before after : Course) : Type 0 where
@@ -93,21 +94,21 @@ from_more scope target place (state ∷ states) course after told made e =
 
 -- a target that is entered from one of these states
 from_safe : (scope : Scope) (list : EntryList) (n : ℕ) (target : Target) (place at : Place) (s : Start scope list) (states : List State) (course after : Course)
-    → Told scope → Fits scope.style list → ((m : ℕ) (target : Target) → UseSafe scope list m target)
+    → Told scope → Fits scope.style list → ((m : ℕ) → UnitsSafe scope list m)
     → IsWellFormed scope.style list (target_step scope.style target at s.c) → All (WellMade scope.style) states → IsAmong s.state states
     → target_from scope place target states course ≡ Ok after → SafeAfter scope list n s.c.frames s after.given
     → SafeFor scope.style n (target_step scope.style target at s.c)
-from_safe scope list n target place at s [] course after told fits uses formed made among e safe = absurd among
-from_safe scope list n target place at s (state ∷ states) course after told fits uses formed made among e safe =
+from_safe scope list n target place at s [] course after told fits units formed made among e safe = absurd among
+from_safe scope list n target place at s (state ∷ states) course after told fits units formed made among e safe =
     let first = then_ok (target_entered scope place target state course) (target_from scope place target states) after e in
     let later = All-tail (WellMade scope.style) state states made in
     elim among [
       | inl is ↦
           let rest = from_more scope target place states first.0 after told later first.2 in
-          target_safe scope list n target place at s told fits uses formed course first.0
+          target_safe scope list n target place at s told fits units formed course first.0
           (subst (λ (x : State). target_entered scope place target x course ≡ Ok first.0) (sym is) first.1)
           (safe_fewer scope list n s.c.frames s first.0.given rest.more after.given rest.given safe)
-      | inr there ↦ from_safe scope list n target place at s states first.0 after told fits uses formed later there first.2 safe
+      | inr there ↦ from_safe scope list n target place at s states first.0 after told fits units formed later there first.2 safe
     ]
 
 -- what holds of each holds of one among them
@@ -117,9 +118,9 @@ among_made style state (first ∷ all) fine (inl same) = subst (WellMade style) 
 among_made style state (first ∷ all) fine (inr later) = among_made style state all (All-tail (WellMade style) first all fine) later
 
 -- a state that stands for a configuration is where a walk may start
-abbrev start_at : (laws : Laws) (scope : Scope) (list : EntryList) (v : Valuation) (state : State) (target : Target) (at : Place) (c : Config) (below : List Value)
-    → WellMade scope.style state → IsAt scope.style scope.cert.cond list v state target at c below → Start scope list
-start_at laws scope list v state target at c below made is =
+abbrev start_at : (laws : Laws) (scope : Scope) (list : EntryList) (v : Valuation) (state : State) (enter : Config → Config) (c : Config) (below : List Value)
+    → WellMade scope.style state → IsAt scope.style scope.cert.cond list v state enter c below → Start scope list
+start_at laws scope list v state enter c below made is =
     record { laws = laws; v = v; state = state; c = c; below = below; made = made; goes = is.goes; formed = is.formed; stands = is.stands }
 
 -- a state that is reached from a start is one that its walk leaves
@@ -128,16 +129,21 @@ left_by : (scope : Scope) (list : EntryList) (s : Start scope list) (after : Sta
 left_by scope list s after w d reached =
     record { follows = reached.follows; agrees = reached.agrees; remains = reached.remains; formed = reached.formed; stands = reached.stands }
 
-each_checked : (style : Style) (cert : Cert) → IsAllChecked style cert → (k : ℕ) (summary : Summary) → slice_get cert.summaries k ≡ Some summary
-    → IsChecked style cert summary
-each_checked style cert checked k summary there = record {
-  left = [];
-  checked = sym (ap (λ (o : Option Summary). option_map_or (summary_checked style cert) o (Ok [])) there) ∙ checked k;
+-- what is told where all is checked
+all_told : (style : Style) (cert : Cert) (list : EntryList) → IsSound style → Fits style list → IsCertified style cert → IsAllChecked style cert
+    → AllChecked style cert list
+all_told style cert list sound fits certified checked = record {
+  told = λ writes. told_by (record { style = style; cert = cert; writes = writes }) sound certified;
+  fits = fits;
+  summaries = λ k summary there. record {
+    left = [];
+    checked = sym (ap (λ (o : Option Summary). option_map_or (summary_checked style cert) o (Ok [])) there) ∙ checked.summaries k;
+  };
+  loops = λ k one there. record {
+    left = [];
+    checked = sym (ap (λ (o : Option Loop). option_map_or (loop_checked style cert) o (Ok [])) there) ∙ checked.loops k;
+  };
 }
-
-told_by : (scope : Scope) → IsSound scope.style → IsCertified scope.style scope.cert → Told scope
-told_by scope sound certified =
-    record { sound = sound; limits = certified.limits; fields = certified.fields; summaries = certified.summaries }
 
 -- the call of a command
 pub call_safe : (laws : Laws) (style : Style) (cert : Cert) (list : EntryList) (states : List State) (target : Target) (place at : Place) (hints : List Hint)
@@ -146,9 +152,9 @@ pub call_safe : (laws : Laws) (style : Style) (cert : Cert) (list : EntryList) (
 call_safe laws style cert list states target place at hints after n sound fits certified checked made e state v c below among is safe =
     let scope : Scope = everywhere style cert in
     let told : Told scope = told_by scope sound certified in
-    let start = start_at laws scope list v state target at c below (among_made style state states made among) is in
+    let start = start_at laws scope list v state (target_step style target at) c below (among_made style state states made among) is in
     from_safe scope list n target place at start states (beginning hints) after
-    told fits (uses_safe scope list told fits (each_checked style cert checked)) is.enters made among e
+    told fits (λ m. units_safe style cert list (all_told style cert list sound fits certified checked) m None) is.enters made among e
     (λ end w d given reached. safe end w d given (left_by scope list start end w d reached))
 
 same_self : (n : ℕ) → nat_eq n n ≡ true
@@ -158,6 +164,21 @@ target_self : (target : Target) → is_target target target ≡ true
 target_self (Named name) = same_self name.0
 target_self (Block body) = same_self body.0
 
+-- a first state alone is the only one
+same_one : (state first : State) → IsAmong state (first ∷ []) → state ≡ first
+same_one state first (inl same) = same
+same_one state first (inr none) = absurd none
+
+-- where the machine enters a target
+entry_is : (style : Style) (target : Target) (at : Place) (c : Config) → entry_step style target at Whole c ≡ target_step style target at c
+entry_is style (Named name) at c = refl
+entry_is style (Block body) at c = refl
+
+waits_behind : (scope : Scope) (list : EntryList) (n : ℕ) (target : Target) (at : Place) (s : Start scope list) (states : List State) → Told scope → Fits scope.style list
+    → SafeAfter scope list n s.c.frames s states → SafeAfter scope list n (entry_frames target at Whole s.c.frames) s states
+waits_behind scope list n (Named name) at s states told fits safe = safe
+waits_behind scope list n (Block body) at s states told fits safe = returned scope list n at s.c.frames s states told fits safe
+
 -- the use of a summary
 pub use_safe : (laws : Laws) (scope : Scope) (list : EntryList) (k : ℕ) (summary : Summary) (first : State) (place at : Place) (course after : Course) (n : ℕ)
     → IsSound scope.style → Fits scope.style list → IsCertified scope.style scope.cert → IsAllChecked scope.style scope.cert
@@ -165,12 +186,24 @@ pub use_safe : (laws : Laws) (scope : Scope) (list : EntryList) (k : ℕ) (summa
     → EntersSafely scope list n summary.body at (first ∷ []) after.given
 use_safe laws scope list k summary first place at course after n sound fits certified checked there made e state v c below among is safe =
     let told : Told scope = told_by scope sound certified in
-    let only = same_one among in
-    let start = start_at laws scope list v state summary.body at c below (subst (WellMade scope.style) (sym only) made) is in
-    uses_safe scope list told fits (each_checked scope.style scope.cert checked) n summary.body k summary place at start there (target_self summary.body) is.enters course after
+    let only = same_one state first among in
+    let start = start_at laws scope list v state (target_step scope.style summary.body at) c below (subst (WellMade scope.style) (sym only) made) is in
+    let units = units_safe scope.style scope.cert list (all_told scope.style scope.cert list sound fits certified checked) n scope.writes in
+    let entry = entry_is scope.style summary.body at c in
+    subst (SafeFor scope.style n) entry
+    (units.uses summary.body k summary place at Whole start there (target_self summary.body) (subst (IsWellFormed scope.style list) (sym entry) is.enters) course after
     (subst (λ (x : State). summary_used scope place summary x course ≡ Ok after) (sym only) e)
+    (waits_behind scope list n summary.body at start after.given told fits
+    (λ end w d given reached. safe end w d given (left_by scope list start end w d reached))))
+
+-- the use of a loop
+pub loop_use_safe : (laws : Laws) (scope : Scope) (list : EntryList) (k : ℕ) (one : Loop) (first : State) (place at : Place) (course after : Course) (n : ℕ)
+    → IsSound scope.style → Fits scope.style list → IsCertified scope.style scope.cert → IsAllChecked scope.style scope.cert
+    → slice_get scope.cert.loops k ≡ Some one → WellMade scope.style first → loop_used scope place one first course ≡ Ok after
+    → RepeatsSafely scope list n one at (first ∷ []) after.given
+loop_use_safe laws scope list k one first place at course after n sound fits certified checked there made e state v c below among is safe =
+    let only = same_one state first among in
+    let start = start_at laws scope list v state (loop_step scope.style one at) c below (subst (WellMade scope.style) (sym only) made) is in
+    let units = units_safe scope.style scope.cert list (all_told scope.style scope.cert list sound fits certified checked) n scope.writes in
+    units.loops k one place at start there is.enters course after (subst (λ (x : State). loop_used scope place one x course ≡ Ok after) (sym only) e)
     (λ end w d given reached. safe end w d given (left_by scope list start end w d reached))
-  where
-    same_one : IsAmong state (first ∷ []) → state ≡ first
-    same_one (inl same) = same
-    same_one (inr none) = absurd none

@@ -1,5 +1,5 @@
 -- A target that is entered is safe where its walk is and the use of its summaries is.
-use Rattle.std.proofs.Common.{◌≡◌, ℕ, Bool, true, false, cond, List, [], ◌∷◌, Option, None, Some, slice_get, Ok, refl, sym, ap, subst, inl, inr, ◌⊎◌}
+use Rattle.std.proofs.Common.{◌≡◌, ℕ, Bool, true, false, cond, List, [], ◌∷◌, Option, None, Some, slice_get, Ok, refl, sym, ap, subst, ◌∙◌}
 use Rattle.bv_base.specs.declared.place.Place.{Place}
 use Rattle.bv_base.proofs.ThenLemmas.{where_ok}
 use Rattle.name_table.specs.declared.builtin.Builtin.{Builtin}
@@ -7,12 +7,15 @@ use Rattle.name_table.specs.declared.builtin.Builtin.TheVariants as op
 use Rattle.name_table.specs.declared.names.Kind.{Kind}
 use Rattle.name_table.specs.declared.names.Kind.TheVariants as kind
 use Rattle.name_table.specs.declared.names.NameId.{NameId}
+use Rattle.name_table.specs.declared.style.BodyId.{BodyId}
+use Rattle.name_table.specs.declared.style.Style.{Style}
 use Rattle.bst_meaning.specs.StyleParts.{kind_of, tokens_of}
 use Rattle.bst_meaning.specs.declared.entry.EntryList.{EntryList}
 use Rattle.bst_meaning.specs.declared.value.Target.{Target}
-use Rattle.bst_meaning.specs.declared.value.Target.TheVariants.{Named}
+use Rattle.bst_meaning.specs.declared.value.Target.TheVariants.{Named, Block}
 use Rattle.bst_meaning.specs.Builtins.{built_in as machine_gives}
-use Rattle.bst_meaning.specs.Config.{Config, Whole}
+use Rattle.bst_meaning.specs.Entries.{Fits}
+use Rattle.bst_meaning.specs.Config.{Config, Frame, Part, Whole}
 use Rattle.bst_meaning.specs.Invariant.{IsWellFormed}
 use Rattle.bst_meaning.specs.Keeping.{is_plain}
 use Rattle.bst_meaning.specs.Machine.{call_step, context_of, with_effect, with_frame}
@@ -23,51 +26,74 @@ use Rattle.sym_state.specs.declared.hint.Hint.TheVariants as hint
 use Rattle.sym_state.specs.declared.test.Test.{Test}
 use Rattle.cert_check.specs.Courses.{Course}
 use Rattle.cert_check.specs.Walks.{Enter, Onward, Scope, built_in, entered, entered_by, entering_nothing, has_summary, is_target, named, summary_used, test_of, use_of, variable}
-pub use Rattle.cert_check.specs.Safely.{target_step}
-use Rattle.cert_check.proofs.Bodies.{EnterSafe}
+use Rattle.cert_check.proofs.Bodies.{EnterSafe, returned}
 use Rattle.cert_check.proofs.Keeping.{Told}
 use Rattle.cert_check.proofs.Plain.{plain_safe}
-use Rattle.cert_check.proofs.Safety.{SafeAfter, SafeFor, Start}
+use Rattle.cert_check.proofs.Safety.{SafeAfter, SafeFor, Start, emptied}
 use Rattle.cert_check.proofs.Tokens.{test_safe, variable_safe}
 
--- a way on from a start is safe in a configuration that the machine comes to
-abbrev pub OnwardSafe : (scope : Scope) (list : EntryList) → ℕ → Onward → Start scope list → Config → Type 0
-OnwardSafe scope list n walk s d = (course after : Course) → walk s.state course ≡ Ok after → SafeAfter scope list n s.c.frames s after.given → SafeFor scope.style n d
+-- the machine enters a target in a frame of a part, where the frame of a name waits already
+abbrev pub entry_step : Style → Target → Place → Part → Config → Config
+entry_step style (Named name) at part c = call_step style (kind_of style name) name at c
+entry_step style (Block body) at part c = with_frame (tokens_of style body) at part c
+
+-- the frames that wait where it comes to the end
+abbrev pub entry_frames : Target → Place → Part → List Frame → List Frame
+entry_frames (Named name) at part frames = frames
+entry_frames (Block body) at part frames = emptied at part frames
+
+-- a way on from a start is safe in a configuration that the machine comes to, where these frames wait behind it
+abbrev pub OnwardSafe : (scope : Scope) (list : EntryList) → ℕ → List Frame → Onward → Start scope list → Config → Type 0
+OnwardSafe scope list n frames walk s d =
+    (course after : Course) → walk s.state course ≡ Ok after → SafeAfter scope list n frames s after.given → SafeFor scope.style n d
 
 -- a summary of the certificate that is one of the target's is used
 abbrev pub UseSafe : Scope → EntryList → ℕ → Target → Type 0
-UseSafe scope list n target = (k : ℕ) (summary : Summary) (place at : Place) (s : Start scope list) → slice_get scope.cert.summaries k ≡ Some summary
-    → is_target summary.body target ≡ true → IsWellFormed scope.style list (target_step scope.style target at s.c)
-    → OnwardSafe scope list n (summary_used scope place summary) s (target_step scope.style target at s.c)
+UseSafe scope list n target = (k : ℕ) (summary : Summary) (place at : Place) (part : Part) (s : Start scope list) → slice_get scope.cert.summaries k ≡ Some summary
+    → is_target summary.body target ≡ true → IsWellFormed scope.style list (entry_step scope.style target at part s.c)
+    → OnwardSafe scope list n (entry_frames target at part s.c.frames) (summary_used scope place summary) s (entry_step scope.style target at part s.c)
 
-use_safe : (scope : Scope) (list : EntryList) (n : ℕ) (place at : Place) (target : Target) (k : ℕ) (found : Option Summary) (s : Start scope list)
-    → slice_get scope.cert.summaries k ≡ found → UseSafe scope list n target → IsWellFormed scope.style list (target_step scope.style target at s.c)
-    → OnwardSafe scope list n (use_of scope place target found) s (target_step scope.style target at s.c)
-use_safe scope list n place at target k None s is uses formed course after e safe = absurd (cc)
-use_safe scope list n place at target k (Some summary) s is uses formed course after e safe =
+use_safe : (scope : Scope) (list : EntryList) (n : ℕ) (place at : Place) (part : Part) (target : Target) (k : ℕ) (found : Option Summary) (s : Start scope list)
+    → slice_get scope.cert.summaries k ≡ found → UseSafe scope list n target → IsWellFormed scope.style list (entry_step scope.style target at part s.c)
+    → OnwardSafe scope list n (entry_frames target at part s.c.frames) (use_of scope place target found) s (entry_step scope.style target at part s.c)
+use_safe scope list n place at part target k None s is uses formed course after e safe = absurd (cc)
+use_safe scope list n place at part target k (Some summary) s is uses formed course after e safe =
     let on = where_ok (is_target summary.body target) (summary_used scope place summary s.state course) _ after e in
-    uses k summary place at s is on.0 formed course after on.1 safe
+    uses k summary place at part s is on.0 formed course after on.1 safe
 
-hint_safe : (scope : Scope) (list : EntryList) (n : ℕ) (place at : Place) (target : Target) (walk : Onward) (s : Start scope list) (hints : List Hint) (course after : Course)
-    → UseSafe scope list n target → IsWellFormed scope.style list (target_step scope.style target at s.c)
-    → OnwardSafe scope list n walk s (target_step scope.style target at s.c) → entered_by scope place target walk s.state course hints ≡ Ok after
-    → SafeAfter scope list n s.c.frames s after.given → SafeFor scope.style n (target_step scope.style target at s.c)
-hint_safe scope list n place at target walk s [] course after uses formed walks e safe = absurd (cc)
-hint_safe scope list n place at target walk s (hint.Apply k ∷ hints) course after uses formed walks e safe =
-    use_safe scope list n place at target k (slice_get scope.cert.summaries k) s refl uses formed (record course { hints = hints }) after e safe
-hint_safe scope list n place at target walk s (hint.Walk ∷ hints) course after uses formed walks e safe = walks (record course { hints = hints }) after e safe
-hint_safe scope list n place at target walk s (_ ∷ hints) course after uses formed walks e safe = absurd (cc)
+hint_safe : (scope : Scope) (list : EntryList) (n : ℕ) (place at : Place) (part : Part) (target : Target) (walk : Onward) (s : Start scope list) (hints : List Hint)
+    (course after : Course) → UseSafe scope list n target → IsWellFormed scope.style list (entry_step scope.style target at part s.c)
+    → OnwardSafe scope list n (entry_frames target at part s.c.frames) walk s (entry_step scope.style target at part s.c)
+    → entered_by scope place target walk s.state course hints ≡ Ok after → SafeAfter scope list n (entry_frames target at part s.c.frames) s after.given
+    → SafeFor scope.style n (entry_step scope.style target at part s.c)
+hint_safe scope list n place at part target walk s [] course after uses formed walks e safe = absurd (cc)
+hint_safe scope list n place at part target walk s (hint.Apply k ∷ hints) course after uses formed walks e safe =
+    use_safe scope list n place at part target k (slice_get scope.cert.summaries k) s refl uses formed (record course { hints = hints }) after e safe
+hint_safe scope list n place at part target walk s (hint.Walk ∷ hints) course after uses formed walks e safe = walks (record course { hints = hints }) after e safe
+hint_safe scope list n place at part target walk s (_ ∷ hints) course after uses formed walks e safe = absurd (cc)
 
-pub entered_safe : (scope : Scope) (list : EntryList) (n : ℕ) (place at : Place) (target : Target) (walk : Onward) (s : Start scope list)
-    → UseSafe scope list n target → IsWellFormed scope.style list (target_step scope.style target at s.c)
-    → OnwardSafe scope list n walk s (target_step scope.style target at s.c)
-    → OnwardSafe scope list n (entered scope place target walk) s (target_step scope.style target at s.c)
-entered_safe scope list n place at target walk s uses formed walks course after e safe =
+pub entered_safe : (scope : Scope) (list : EntryList) (n : ℕ) (place at : Place) (part : Part) (target : Target) (walk : Onward) (s : Start scope list)
+    → UseSafe scope list n target → IsWellFormed scope.style list (entry_step scope.style target at part s.c)
+    → OnwardSafe scope list n (entry_frames target at part s.c.frames) walk s (entry_step scope.style target at part s.c)
+    → OnwardSafe scope list n (entry_frames target at part s.c.frames) (entered scope place target walk) s (entry_step scope.style target at part s.c)
+entered_safe scope list n place at part target walk s uses formed walks course after e safe =
     elim (has_summary scope.cert target) as (λ (t : Bool). cond t (entered_by scope place target walk s.state course course.hints) (walk s.state course) ≡ Ok after
-    → SafeFor scope.style n (target_step scope.style target at s.c)) [
-      | true ↦ λ used. hint_safe scope list n place at target walk s course.hints course after uses formed walks used safe
+    → SafeFor scope.style n (entry_step scope.style target at part s.c)) [
+      | true ↦ λ used. hint_safe scope list n place at part target walk s course.hints course after uses formed walks used safe
       | false ↦ λ walked. walks course after walked safe
     ] e
+
+-- a body that a name is entered by, which the machine calls
+pub called_safe : (scope : Scope) (list : EntryList) (n : ℕ) (enter : Enter) (name : NameId) (body : BodyId) (place at : Place) (s : Start scope list) → Told scope
+    → Fits scope.style list → kind_of scope.style name ≡ Some (kind.Wizard body) → EnterSafe scope list n enter
+    → IsWellFormed scope.style list (call_step scope.style (kind_of scope.style name) name at s.c)
+    → OnwardSafe scope list n s.c.frames (enter place body) s (call_step scope.style (kind_of scope.style name) name at s.c)
+called_safe scope list n enter name body place at s told fits is enters formed course after e safe =
+    let there : call_step scope.style (kind_of scope.style name) name at s.c ≡ with_frame (tokens_of scope.style body) at Whole s.c =
+    ap (λ (k : Option Kind). call_step scope.style k name at s.c) is in
+    subst (SafeFor scope.style n) (sym there)
+    (enters place at Whole body s course after e (subst (IsWellFormed scope.style list) there formed)
+    (returned scope list n at s.c.frames s after.given told fits safe))
 
 -- a variable, whose kind is told
 pub by_variable : (scope : Scope) (list : EntryList) (n : ℕ) (name : NameId) (place at : Place) (s : Start scope list) (course after : Course) (found : Option Kind)
@@ -84,41 +110,43 @@ after_function scope list o at s = with_effect scope.style (machine_gives o (con
 
 nothing_safe : (scope : Scope) (list : EntryList) (n : ℕ) (o : Builtin) (asked : Option Test) (place at : Place) (s : Start scope list) → Told scope → is_plain o ≡ true
     → test_of o ≡ asked → IsWellFormed scope.style list (after_function scope list o at s)
-    → OnwardSafe scope list n (entering_nothing scope o asked place) s (after_function scope list o at s)
+    → OnwardSafe scope list n s.c.frames (entering_nothing scope o asked place) s (after_function scope list o at s)
 nothing_safe scope list n o (Some asked) place at s told is tested formed course after e safe = test_safe scope list n s o asked place at course after tested formed e safe
 nothing_safe scope list n o None place at s told is tested formed course after e safe = plain_safe scope list n s o place at course after told is formed e safe
 
--- a built-in function is `if$`, or it enters nothing
-function_ok : (scope : Scope) (other : Onward) (o : Builtin) (place : Place) (state : State) (course after : Course) → built_in scope other o place state course ≡ Ok after
-    → ((o ≡ op.IfElse) × (other state course ≡ Ok after)) ⊎ ((is_plain o ≡ true) × (entering_nothing scope o (test_of o) place state course ≡ Ok after))
-function_ok scope other op.IfElse place state course after e = inl (refl, e)
-function_ok scope other op.WhileDo place state course after e = absurd (cc)
-function_ok scope other op.CallType place state course after e = absurd (cc)
-function_ok scope other _ place state course after e = inr (refl, e)
+plain_enters_nothing : (scope : Scope) (enter : Enter) (other : Onward) (o : Builtin) (place : Place) (state : State) (course : Course) → is_plain o ≡ true
+    → built_in scope enter other o place state course ≡ entering_nothing scope o (test_of o) place state course
+plain_enters_nothing scope enter other op.IfElse place state course is = absurd (cc)
+plain_enters_nothing scope enter other op.WhileDo place state course is = absurd (cc)
+plain_enters_nothing scope enter other op.CallType place state course is = absurd (cc)
+plain_enters_nothing scope enter other _ place state course is = refl
 
-pub built_in_safe : (scope : Scope) (list : EntryList) (n : ℕ) (other : Onward) (o : Builtin) (place at : Place) (s : Start scope list) → Told scope
+-- a built-in function is safe where those are that enter a function
+pub built_in_safe : (scope : Scope) (list : EntryList) (n : ℕ) (enter : Enter) (other : Onward) (o : Builtin) (place at : Place) (s : Start scope list) → Told scope
     → IsWellFormed scope.style list (after_function scope list o at s)
-    → (o ≡ op.IfElse → OnwardSafe scope list n other s (after_function scope list o at s))
-    → OnwardSafe scope list n (built_in scope other o place) s (after_function scope list o at s)
-built_in_safe scope list n other o place at s told formed chosen course after e safe =
-    elim (function_ok scope other o place s.state course after e) [
-      | inl is ↦ chosen is.0 course after is.1 safe
-      | inr is ↦ nothing_safe scope list n o (test_of o) place at s told is.0 refl formed course after is.1 safe
-    ]
+    → (is_plain o ≡ false → OnwardSafe scope list n s.c.frames (built_in scope enter other o place) s (after_function scope list o at s))
+    → OnwardSafe scope list n s.c.frames (built_in scope enter other o place) s (after_function scope list o at s)
+built_in_safe scope list n enter other o place at s told formed entering course after e safe =
+    elim (is_plain o) as (λ (t : Bool). is_plain o ≡ t → SafeFor scope.style n (after_function scope list o at s)) [
+      | true ↦ λ is. nothing_safe scope list n o (test_of o) place at s told is refl formed course after
+          (sym (plain_enters_nothing scope enter other o place s.state course is) ∙ e) safe
+      | false ↦ λ is. entering is course after e safe
+    ] refl
 
 -- the call of a name of a kind
 pub named_safe : (scope : Scope) (list : EntryList) (n : ℕ) (enter : Enter) (other : Onward) (found : Option Kind) (name : NameId) (place at : Place) (s : Start scope list)
-    → Told scope → kind_of scope.style name ≡ found → EnterSafe scope list n enter → UseSafe scope list n (Named name)
+    → Told scope → Fits scope.style list → kind_of scope.style name ≡ found → EnterSafe scope list n enter → UseSafe scope list n (Named name)
     → IsWellFormed scope.style list (call_step scope.style found name at s.c)
-    → ((o : Builtin) → found ≡ Some (kind.Builtin o) → o ≡ op.IfElse → OnwardSafe scope list n other s (after_function scope list o at s))
-    → OnwardSafe scope list n (named scope enter other found name place) s (call_step scope.style found name at s.c)
-named_safe scope list n enter other (Some (kind.Builtin o)) name place at s told is enters uses formed chosen course after e safe =
-    built_in_safe scope list n other o place at s told formed (chosen o refl) course after e safe
-named_safe scope list n enter other (Some (kind.Wizard body)) name place at s told is enters uses formed chosen course after e safe =
-    let there : target_step scope.style (Named name) at s.c ≡ with_frame (tokens_of scope.style body) at Whole s.c =
-    ap (λ (k : Option Kind). call_step scope.style k name at s.c) is in
+    → ((o : Builtin) → found ≡ Some (kind.Builtin o) → is_plain o ≡ false
+    → OnwardSafe scope list n s.c.frames (built_in scope enter other o place) s (after_function scope list o at s))
+    → OnwardSafe scope list n s.c.frames (named scope enter other found name place) s (call_step scope.style found name at s.c)
+named_safe scope list n enter other (Some (kind.Builtin o)) name place at s told fits is enters uses formed entering course after e safe =
+    built_in_safe scope list n enter other o place at s told formed (entering o refl) course after e safe
+named_safe scope list n enter other (Some (kind.Wizard body)) name place at s told fits is enters uses formed entering course after e safe =
+    let there = ap (λ (k : Option Kind). call_step scope.style k name at s.c) is in
+    let fine = subst (IsWellFormed scope.style list) (sym there) formed in
     subst (SafeFor scope.style n) there
-    (entered_safe scope list n place at (Named name) (enter place body) s uses (subst (IsWellFormed scope.style list) (sym there) formed)
-    (λ begun ended walk safe_then. subst (SafeFor scope.style n) (sym there) (enters place at body s begun ended walk formed safe_then)) course after e safe)
-named_safe scope list n enter other _ name place at s told is enters uses formed chosen course after e safe =
+    (entered_safe scope list n place at Whole (Named name) (enter place body) s uses fine
+    (called_safe scope list n enter name body place at s told fits is enters fine) course after e safe)
+named_safe scope list n enter other _ name place at s told fits is enters uses formed entering course after e safe =
     by_variable scope list n name place at s course after _ is formed e safe

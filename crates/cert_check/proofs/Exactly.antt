@@ -21,7 +21,7 @@ use Rattle.sym_state.specs.declared.symbol.Fact.TheVariants as fact
 use Rattle.sym_state.specs.declared.symbol.Sym.{Sym}
 use Rattle.sym_state.proofs.Deciding.{from_facts}
 use Rattle.sym_state.proofs.KnownKinds.{name_is}
-use Rattle.cert_check.specs.Walks.{block_body, exact_target, target_of}
+use Rattle.cert_check.specs.Walks.{block_body, exact_target, is_target, target_of}
 use Rattle.cert_check.proofs.Safety.{Laws}
 
 same_number : (a b : ℕ) → nat_eq a b ≡ true → a ≡ b
@@ -89,3 +89,18 @@ exact_is style laws v state s target machine sound all e is = by_function (exact
         block_one number (block_body number 0 style.bodies) machine refl e
         (subst (IsBlock style number) is (block_fact style (v.value s.0) source.fact number source.says source.holds))
     by_function None known e = absurd (cc)
+
+-- two targets that are the same
+pub target_same : (a b : Target) → is_target a b ≡ true → a ≡ b
+target_same (Named a) (Named b) e =
+    ap (λ (n : ℕ). let name : NameId = record { 0 = n } in Named name) (numbers a.0 b.0 e)
+  where
+    numbers : (m n : ℕ) → nat_eq m n ≡ true → m ≡ n
+    numbers m n e = grind (arith, nat_tests)
+target_same (Block a) (Block b) e =
+    ap (λ (n : ℕ). let body : BodyId = record { 0 = n } in Block body) (numbers a.0 b.0 e)
+  where
+    numbers : (m n : ℕ) → nat_eq m n ≡ true → m ≡ n
+    numbers m n e = grind (arith, nat_tests)
+target_same (Named a) (Block b) e = absurd (cc)
+target_same (Block a) (Named b) e = absurd (cc)

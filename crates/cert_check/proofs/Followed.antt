@@ -1,16 +1,18 @@
--- A state that follows another: it is well made, and it keeps what a unit may not change.
-use Rattle.std.proofs.Common.{◌≡◌, ℕ, ◌≤◌, List, [], ◌∷◌, ◌++◌, Ok, refl, sym, ap, subst, ◌∙◌, arith, append_assoc}
+-- A state that follows another: it is well made, and it keeps what a unit may not change. What a rule gives of a state.
+use Rattle.std.proofs.Common.{◌≡◌, ℕ, ◌+◌, ◌*◌, ◌≤◌, List, [], ◌∷◌, ◌++◌, Ok, refl, sym, ap, subst, ◌∙◌, arith, append_assoc, inl, inr}
 use Rattle.std.specs.List.{All}
 use Rattle.std.proofs.lemmas.List.{append-nil}
-use Rattle.std.proofs.lemmas.List.Elements.{All-append, All-cons, All-nil, All-weaker}
+use Rattle.std.proofs.lemmas.List.Elements.{All-append, All-cons, All-head, All-nil, All-tail, All-weaker}
 use Rattle.bv_base.specs.declared.place.Place.{Place}
 use Rattle.lin_facts.specs.declared.row.Row.{Row}
 use Rattle.sym_state.specs.State.{State}
 use Rattle.sym_state.specs.Changes.{symbol_at}
+use Rattle.sym_state.specs.Demands.{HasFewUses}
 use Rattle.sym_state.specs.Frames.{Extends, LeavesVariables}
 use Rattle.sym_state.specs.WellMade.{WellMade}
 use Rattle.sym_state.specs.declared.hint.Hint.{Hint}
 use Rattle.sym_state.specs.declared.symbol.Fact.{Fact}
+use Rattle.refinements.specs.Covered.{IsAmong}
 use Rattle.cert_check.specs.Courses.{Course, counts, gives, gives_all}
 use Rattle.cert_check.specs.Walks.{Scope}
 pub use Rattle.cert_check.specs.Safely.{Follows, Grows}
@@ -63,70 +65,137 @@ left_follows scope first second made left = record {
   vars = λ name not. ap (symbol_at name) left.vars;
 }
 
--- what a rule gives of a state: further states, each of which follows it, and what is counted doesn't fall
-pub record Moved (scope : Scope) (start : State) (before after : Course) : Type 0 where
+-- a state has few new symbols beside those of an earlier one: 65 at most for each that counts between these two counts, and so many
+-- more
+abbrev pub HasFewNew : ℕ → ℕ → ℕ → State → State → Type 0
+HasFewNew room before after start state = state.next + 65 * before ≤ start.next + (room + 65 * after)
+
+-- what holds of all states holds of one among them
+pub among_all : {X : Type 0} (P : X → Type 0) (x : X) (xs : List X) → IsAmong x xs → All P xs → P x
+among_all P x [] among all = absurd among
+among_all P x (first ∷ xs) (inl is) all = subst P (sym is) (All-head P first xs all)
+among_all P x (first ∷ xs) (inr later) all = among_all P x xs later (All-tail P first xs all)
+
+-- what a rule gives of a state: further states, each of which follows it; what is counted doesn't fall, each new symbol is one of
+-- those for which there is room beside what counts, and proofs stay short
+pub record Moved (scope : Scope) (room : ℕ) (start : State) (before after : Course) : Type 0 where
   pub more : List State
   pub given : after.given ≡ before.given ++ more
   pub follow : All (Follows scope start) more
+  pub few : All (HasFewNew room before.count after.count start) more
   pub count : before.count ≤ after.count
+  pub short : All HasFewUses before.hints → All HasFewUses after.hints
 
-pub moved_self : (scope : Scope) (start : State) (course : Course) → Moved scope start course course
-moved_self scope start course = record {
+-- each of these states has more room where more was counted
+counted_on : (room low middle high : ℕ) (start : State) (states : List State) → low ≤ middle → All (HasFewNew room middle high start) states
+    → All (HasFewNew room low high start) states
+counted_on room low middle high start states less few =
+    All-weaker (HasFewNew room middle high start) (HasFewNew room low high start) (λ state h. omega (arith, h, less)) states few
+
+ended_on : (room low middle high : ℕ) (start : State) (states : List State) → middle ≤ high → All (HasFewNew room low middle start) states
+    → All (HasFewNew room low high start) states
+ended_on room low middle high start states less few =
+    All-weaker (HasFewNew room low middle start) (HasFewNew room low high start) (λ state h. omega (arith, h, less)) states few
+
+pub moved_self : (scope : Scope) (room : ℕ) (start : State) (course : Course) → Moved scope room start course course
+moved_self scope room start course = record {
   more = [];
   given = sym (append-nil course.given);
   follow = All-nil (Follows scope start);
+  few = All-nil (HasFewNew room course.count course.count start);
   count = omega arith;
+  short = λ short. short;
 }
 
-pub moved_twice : (scope : Scope) (start : State) (first second third : Course) → Moved scope start first second → Moved scope start second third
-    → Moved scope start first third
-moved_twice scope start first second third one other = record {
+pub moved_twice : (scope : Scope) (room : ℕ) (start : State) (first second third : Course) → Moved scope room start first second
+    → Moved scope room start second third → Moved scope room start first third
+moved_twice scope room start first second third one other = record {
   more = one.more ++ other.more;
   given = other.given ∙ ap (λ (l : List State). l ++ other.more) one.given ∙ append_assoc first.given one.more other.more;
   follow = All-append (Follows scope start) one.more other.more one.follow other.follow;
+  few = All-append (HasFewNew room first.count third.count start) one.more other.more
+      (ended_on room first.count second.count third.count start one.more other.count one.few)
+      (counted_on room first.count second.count third.count start other.more one.count other.few);
   count = let low = one.count in let high = other.count in omega (arith, low, high);
+  short = λ short. other.short (one.short short);
 }
 
--- the states follow an earlier one
-pub moved_from : (scope : Scope) (start middle : State) (before after : Course) → Follows scope start middle → Moved scope middle before after
-    → Moved scope start before after
-moved_from scope start middle before after follows moved = record {
+-- the states follow an earlier one, that has no fewer symbols but for so many
+pub moved_from : (scope : Scope) (room more : ℕ) (start middle : State) (before after : Course) → Follows scope start middle
+    → middle.next + room ≤ start.next + more → Moved scope room middle before after → Moved scope more start before after
+moved_from scope room more start middle before after follows few moved = record {
   more = moved.more;
   given = moved.given;
   follow = All-weaker (Follows scope middle) (Follows scope start) (λ state h. follows_twice scope start middle state follows h) moved.more moved.follow;
+  few = All-weaker (HasFewNew room before.count after.count middle) (HasFewNew more before.count after.count start)
+      (λ state h. omega (arith, h, few)) moved.more moved.few;
   count = moved.count;
+  short = moved.short;
 }
 
--- hints don't matter
-pub rehinted : (scope : Scope) (start : State) (before after : Course) (hints : List Hint) → Moved scope start (record before { hints = hints }) after
-    → Moved scope start before after
-rehinted scope start before after hints moved =
-    record { more = moved.more; given = moved.given; follow = moved.follow; count = moved.count }
+-- there may be more room
+pub moved_within : (scope : Scope) (room more : ℕ) (start : State) (before after : Course) → room ≤ more → Moved scope room start before after
+    → Moved scope more start before after
+moved_within scope room more start before after less moved = record {
+  more = moved.more;
+  given = moved.given;
+  follow = moved.follow;
+  few = All-weaker (HasFewNew room before.count after.count start) (HasFewNew more before.count after.count start)
+      (λ state h. omega (arith, h, less)) moved.more moved.few;
+  count = moved.count;
+  short = moved.short;
+}
 
-pub counts_moved : (scope : Scope) (start : State) (n : ℕ) (place : Place) (course after : Course) → counts n place course ≡ Ok after
-    → Moved scope start course after
-counts_moved scope start n place course after e =
-    let is = counts_ok n place course after e in
-    subst (Moved scope start course) (sym is) (record {
-      more = [];
-      given = sym (append-nil course.given);
-      follow = All-nil (Follows scope start);
+-- hints that are taken don't matter
+pub rehinted : (scope : Scope) (room : ℕ) (start : State) (before after : Course) (hints : List Hint) → (All HasFewUses before.hints → All HasFewUses hints)
+    → Moved scope room start (record before { hints = hints }) after → Moved scope room start before after
+rehinted scope room start before after hints short moved = record {
+  short = λ all. moved.short (short all);
+  count = moved.count;
+  more = moved.more;
+  given = moved.given;
+  follow = moved.follow;
+  few = moved.few;
+}
+
+-- what counts makes room
+pub counted_moved : (scope : Scope) (n room : ℕ) (start : State) (place : Place) (course middle after : Course) → counts n place course ≡ Ok middle
+    → Moved scope (room + 65 * n) start middle after → Moved scope room start course after
+counted_moved scope n room start place course middle after e moved =
+    let is = counts_ok n place course middle e in
+    let count : middle.count ≡ course.count + n = ap (λ (c : Course). c.count) is in
+    record {
+      more = moved.more;
+      given = moved.given ∙ ap (λ (c : Course). c.given ++ moved.more) is;
+      follow = moved.follow;
+      few = All-weaker (HasFewNew (room + 65 * n) middle.count after.count start) (HasFewNew room course.count after.count start)
+          (λ state h. omega (arith, h, count)) moved.more moved.few;
+      count = let high = moved.count in omega (arith, high, count);
+      short = λ short. moved.short (subst (λ (c : Course). All HasFewUses c.hints) (sym is) short);
+    }
+
+pub all_given : (scope : Scope) (room : ℕ) (start : State) (place : Place) (states : List State) (course after : Course) → All (Follows scope start) states
+    → All (λ state. state.next ≤ start.next + room) states → gives_all place states course ≡ Ok after → Moved scope room start course after
+all_given scope room start place states course after follow few e =
+    let is = gives_all_ok place states course after e in
+    subst (Moved scope room start course) (sym is) (record {
+      more = states;
+      given = refl;
+      follow = follow;
+      few = All-weaker (λ (state : State). state.next ≤ start.next + room) (HasFewNew room course.count course.count start) (λ state h. omega (arith, h)) states few;
       count = omega arith;
+      short = λ short. short;
     })
 
-pub all_given : (scope : Scope) (start : State) (place : Place) (states : List State) (course after : Course) → All (Follows scope start) states
-    → gives_all place states course ≡ Ok after → Moved scope start course after
-all_given scope start place states course after follow e =
-    let is = gives_all_ok place states course after e in
-    subst (Moved scope start course) (sym is) (record { more = states; given = refl; follow = follow; count = omega arith })
-
-pub one_given : (scope : Scope) (start state : State) (place : Place) (course after : Course) → Follows scope start state
-    → gives place state course ≡ Ok after → Moved scope start course after
-one_given scope start state place course after follow e =
+pub one_given : (scope : Scope) (room : ℕ) (start state : State) (place : Place) (course after : Course) → Follows scope start state
+    → state.next ≤ start.next + room → gives place state course ≡ Ok after → Moved scope room start course after
+one_given scope room start state place course after follow few e =
     let is = gives_ok place state course after e in
-    subst (Moved scope start course) (sym is) (record {
+    subst (Moved scope room start course) (sym is) (record {
       more = state ∷ [];
       given = refl;
       follow = All-cons (Follows scope start) state [] follow (All-nil (Follows scope start));
+      few = All-cons (HasFewNew room course.count course.count start) state [] (omega (arith, few)) (All-nil (HasFewNew room course.count course.count start));
       count = omega arith;
+      short = λ short. short;
     })

@@ -12,7 +12,7 @@ use Rattle.name_table.specs.declared.names.Kind.TheVariants.{Field, IntEntry, St
 use Rattle.name_table.specs.declared.names.NameId.{NameId}
 use Rattle.name_table.specs.declared.style.Style.{Style}
 use Rattle.bst_meaning.specs.Condition.{EntryMeets, FieldHasNames, FieldIsNonblank, HasInk}
-use Rattle.bst_meaning.specs.Config.{EntryState, Variable}
+use Rattle.bst_meaning.specs.Config.{Config, EntryState, Variable}
 use Rattle.bst_meaning.specs.Entries.{EntryFits, IsByteList, field_ids_at, field_ids_from}
 use Rattle.bst_meaning.specs.Invariant.{IsEntrySound, IsWellFormed}
 use Rattle.bst_meaning.specs.Machine.{field_in, field_value, value_at, visited_entry, visited_index}
@@ -49,7 +49,7 @@ both_same : (a b c : ℕ) → nat_eq a c ≡ true → nat_eq b c ≡ true → na
 both_same a b c e f = grind (arith, nat_tests)
 
 -- what holds of each variable holds of one that has a value
-value_kind : (P : NameId → Value → Type 0) (id : ℕ) (variables : List Variable) (x : Value) → AllByRecursion (λ v. P v.name v.value) variables
+pub value_kind : (P : NameId → Value → Type 0) (id : ℕ) (variables : List Variable) (x : Value) → AllByRecursion (λ v. P v.name v.value) variables
     → value_at id variables ≡ Some x → P (record { 0 = id }) x
 value_kind P id [] x all e = absurd (cc)
 value_kind P id (v ∷ variables) x all e =
@@ -63,11 +63,11 @@ value_kind P id (v ∷ variables) x all e =
     ] refl e
 
 -- a value that can be there, of the kind of its name
-record ValueFits (admits : Cond) (found : Option Kind) (name : NameId) (x : Value) : Type 0 where
-  valid : IsValue x
-  kind : IsOfItsKind admits found name x
+pub record ValueFits (admits : Cond) (found : Option Kind) (name : NameId) (x : Value) : Type 0 where
+  pub valid : IsValue x
+  pub kind : IsOfItsKind admits found name x
 
-variable_fits : (admits : Cond) (found : Option Kind) (name : NameId) (x : Value) → IsOfKind found x → ValueFits admits found name x
+pub variable_fits : (admits : Cond) (found : Option Kind) (name : NameId) (x : Value) → IsOfKind found x → ValueFits admits found name x
 variable_fits admits (Some IntEntry) name (Int n) h = record { valid = h; kind = refl }
 variable_fits admits (Some IntGlobal) name (Int n) h = record { valid = h; kind = refl }
 variable_fits admits (Some StrEntry) name (Str bytes) h =
@@ -188,7 +188,7 @@ field_optional name None = refl
 field_optional name (Some bytes) = refl
 
 -- the value of a field is as the condition says
-field_fits : (style : Style) (admits : Cond) (name : NameId) (entry : Entry) → kind_of style name ≡ Some Field → EntryFits style entry
+pub field_fits : (style : Style) (admits : Cond) (name : NameId) (entry : Entry) → kind_of style name ≡ Some Field → EntryFits style entry
     → EntryMeets style admits entry → ValueFits admits (Some Field) name (field_in name entry.fields)
 field_fits style admits name entry is fits meets =
     let none : 0 + name.0 ≡ name.0 = omega arith in
@@ -283,11 +283,11 @@ all_ids P test id (name ∷ names) each =
       | false ↦ λ is. rest
     ] refl
 
--- all that have a value where a unit is entered have one of their kinds
-pub have_values : (s : Spot) (at_entry : Bool) → IsWellFormed s.style s.list s.c → (at_entry ≡ true → s.state.at_entry ≡ true)
-    → AllByRecursion (HasValue s.style s.admits s.c.globals (visited_entry s.c)) (names_in_play s.style at_entry)
-have_values s at_entry formed there =
-    all_ids (HasValue s.style s.admits s.c.globals (visited_entry s.c)) (takes_part at_entry) 0 s.style.names (λ i k is takes.
+-- all that take part have a value where each has
+pub have_all : (style : Style) (admits : Cond) (c : Config) (at_entry : Bool)
+    → ((name : NameId) (k : Kind) → kind_of style name ≡ Some k → takes_part at_entry k ≡ true → HasValue style admits c.globals (visited_entry c) name)
+    → AllByRecursion (HasValue style admits c.globals (visited_entry c)) (names_in_play style at_entry)
+have_all style admits c at_entry have =
+    all_ids (HasValue style admits c.globals (visited_entry c)) (takes_part at_entry) 0 style.names (λ i k is takes.
     let here : i ≡ 0 + i = omega arith in
-    subst (λ (n : ℕ). HasValue s.style s.admits s.c.globals (visited_entry s.c) (record { 0 = n })) here
-    (have_value s at_entry (record { 0 = i }) k formed there is takes))
+    subst (λ (n : ℕ). HasValue style admits c.globals (visited_entry c) (record { 0 = n })) here (have (record { 0 = i }) k is takes))

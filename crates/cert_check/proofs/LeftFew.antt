@@ -411,12 +411,3 @@ left_few style admits unit pre post kept state hints left made is came =
     let written = written_few unit.writes post.vars is.upwards in
     let next = next_few style admits unit pre post kept state in
     omega (arith, new, stack, vars, written, next)
-
--- it has room where there was room for what one count allows, and each variable that the unit writes counts
-pub left_room : (style : Style) (admits : Cond) (unit : Passage) (pre post : Piece) (kept : ℕ) (state : State) (hints left : List Hint) (count : ℕ)
-    → WellMade style state → IsPlaced style unit kept post → comes_by unit admits pre state hints ≡ Ok left → length post.stack ≤ 64
-    → state.next + 65 ≤ 2147483648 + 65 * count
-    → (left_state style admits unit pre kept state post).next ≤ 2147483648 + 65 * (count + length unit.writes)
-left_room style admits unit pre post kept state hints left count made is came short room =
-    let few = left_few style admits unit pre post kept state hints left made is came in
-    omega (arith, few, short, room)

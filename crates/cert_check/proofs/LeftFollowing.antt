@@ -1,4 +1,4 @@
--- Each state that a used summary leaves follows the state that came to it.
+-- Each state that a used unit leaves follows the state that came to it.
 use Rattle.std.proofs.Common.{◌≡◌, ℕ, ◌+◌, Bool, true, false, cond, nat_eq, List, [], ◌∷◌, map, Option, None, Some, Ok, refl, ap, subst, ◌∙◌, arith}
 use Rattle.std.specs.List.{All, AllByRecursion, list_all}
 use Rattle.std.specs.Option.{option_map_or}
@@ -8,22 +8,21 @@ use Rattle.name_table.specs.declared.names.Kind.TheVariants as kind
 use Rattle.name_table.specs.declared.names.NameId.{NameId}
 use Rattle.name_table.specs.declared.style.Style.{Style}
 use Rattle.bst_meaning.specs.StyleParts.{kind_of}
-use Rattle.cert_format.specs.declared.cert.Summary.{Summary}
 use Rattle.sym_state.specs.State.{State}
 use Rattle.sym_state.specs.Changes.{symbol_at}
-use Rattle.sym_state.specs.Starting.{symbols_of}
 use Rattle.sym_state.specs.WellMade.{HasSmallFields, WellMade, ids_from, is_field, is_variable}
 use Rattle.sym_state.specs.declared.hint.Hint.{Hint}
 use Rattle.sym_state.specs.declared.piece.Piece.{Piece}
 use Rattle.sym_state.specs.declared.symbol.Bind.{Bind}
 use Rattle.sym_state.specs.declared.symbol.Sym.{Sym}
-use Rattle.cert_check.specs.Certified.{IsPostOf, IsSummaryOf}
-use Rattle.cert_check.specs.Uses.{comes_by, left_state, passage}
+use Rattle.cert_check.specs.Certified.{IsPostOf}
+use Rattle.cert_check.specs.Uses.{Passage, comes_by, left_state}
 use Rattle.cert_check.specs.Walks.{Scope, may_write}
 use Rattle.cert_check.proofs.Followed.{Follows}
 use Rattle.cert_check.proofs.Having.{all_ids}
 use Rattle.cert_check.proofs.LeftFramed.{left_framed}
 use Rattle.cert_check.proofs.LeftMade.{left_made}
+use Rattle.cert_check.proofs.Passing.{IsPassed, kept_places}
 use Rattle.cert_check.proofs.Symbols.{same_name}
 
 -- what holds of each name that is bound holds of one that has a symbol
@@ -76,22 +75,20 @@ written_unbound style state unit_entry (name ∷ names) made all = (
       (All-tail (λ (name : NameId). option_map_or (is_variable unit_entry) (kind_of style name) false ≡ true) name names all),
 )
 
--- the state that a summary leaves by one of its posts follows the state that came to it
-pub post_follows : (scope : Scope) (summary : Summary) (state : State) (post : Piece) (hints left : List Hint) → HasSmallFields scope.cert.cond
-    → IsSummaryOf scope.style summary → IsPostOf scope.style summary post → WellMade scope.style state
-    → comes_by (passage summary) scope.cert.cond summary.pre state hints ≡ Ok left → list_all (may_write scope) summary.writes ≡ true
-    → Follows scope state (left_state scope.style scope.cert.cond (passage summary) summary.pre (symbols_of summary.pre) state post)
-post_follows scope summary state post hints left small is one made came may =
-    left_framed scope (passage summary) summary.pre (symbols_of summary.pre) state post may
-    (written_unbound scope.style state summary.entry summary.writes made one.placed.writes)
-    (left_made scope.style scope.cert.cond (passage summary) summary.pre post (symbols_of summary.pre) state hints left small made is.places one.fits came)
+-- the state that a unit leaves by one of its posts follows the state that came to it
+pub post_follows : (scope : Scope) (unit : Passage) (kept : ℕ) (pre : Piece) (posts : List Piece) (state : State) (post : Piece) (hints left : List Hint)
+    → HasSmallFields scope.cert.cond → IsPassed scope.style unit kept pre posts → IsPostOf scope.style unit kept post → WellMade scope.style state
+    → comes_by unit scope.cert.cond pre state hints ≡ Ok left → list_all (may_write scope) unit.writes ≡ true
+    → Follows scope state (left_state scope.style scope.cert.cond unit pre kept state post)
+post_follows scope unit kept pre posts state post hints left small is one made came may =
+    left_framed scope unit pre kept state post may (written_unbound scope.style state unit.entry unit.writes made one.placed.writes)
+    (left_made scope.style scope.cert.cond unit pre post kept state hints left small made (kept_places scope.style unit kept pre posts is) one.fits came)
 
 -- so do all of them
-pub summary_follows : (scope : Scope) (summary : Summary) (state : State) (hints left : List Hint) → HasSmallFields scope.cert.cond
-    → IsSummaryOf scope.style summary → WellMade scope.style state
-    → comes_by (passage summary) scope.cert.cond summary.pre state hints ≡ Ok left → list_all (may_write scope) summary.writes ≡ true
-    → All (λ post. Follows scope state (left_state scope.style scope.cert.cond (passage summary) summary.pre (symbols_of summary.pre) state post)) summary.posts
-summary_follows scope summary state hints left small is made came may =
-    All-weaker (IsPostOf scope.style summary)
-    (λ post. Follows scope state (left_state scope.style scope.cert.cond (passage summary) summary.pre (symbols_of summary.pre) state post))
-    (λ post one. post_follows scope summary state post hints left small is one made came may) summary.posts is.posts
+pub posts_follow : (scope : Scope) (unit : Passage) (kept : ℕ) (pre : Piece) (posts : List Piece) (state : State) (hints left : List Hint)
+    → HasSmallFields scope.cert.cond → IsPassed scope.style unit kept pre posts → WellMade scope.style state
+    → comes_by unit scope.cert.cond pre state hints ≡ Ok left → list_all (may_write scope) unit.writes ≡ true
+    → All (λ post. Follows scope state (left_state scope.style scope.cert.cond unit pre kept state post)) posts
+posts_follow scope unit kept pre posts state hints left small is made came may =
+    All-weaker (IsPostOf scope.style unit kept) (λ post. Follows scope state (left_state scope.style scope.cert.cond unit pre kept state post))
+    (λ post one. post_follows scope unit kept pre posts state post hints left small is one made came may) posts is.each

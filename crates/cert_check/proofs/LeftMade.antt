@@ -38,7 +38,7 @@ use Rattle.cert_check.proofs.LeftPlaces.{name_below}
 use Rattle.cert_check.proofs.LeftSteps.{few_new}
 
 -- what a state that comes to a unit shows
-came_shows : (unit : Passage) (admits : Cond) (pre : Piece) (state : State) (hints left : List Hint)
+pub came_shows : (unit : Passage) (admits : Cond) (pre : Piece) (state : State) (hints left : List Hint)
     → comes_by unit admits pre state hints ≡ Ok left → IsShown admits state pre 0 hints left
 came_shows unit admits pre state hints left e =
     elim (fits unit pre state) as (λ (t : Bool). (let shown : Shown = cond t (piece_by admits state pre 0 hints) (Err (NotEntailed 0)) in shown) ≡ Ok left

@@ -1,82 +1,37 @@
--- A summary's own check ends in a post: the post's symbols have values in the state that came to the summary.
-use Rattle.std.proofs.Common.{◌≡◌, ℕ, zero, suc, ◌≤◌, ◌<◌, Bool, true, false, cond, nat_eq, nat_lt, max, List, [], ◌∷◌, ◌++◌, length, slice_get, Option, None, Some, Ok, refl, sym, ap, subst, ◌∙◌, arith}
-use Rattle.std.specs.List.{All, AllByRecursion, list_any}
+-- A unit's own check ends in a post: the post's symbols have values in the state that came to the unit.
+use Rattle.std.proofs.Common.{◌≡◌, ℕ, ◌≤◌, ◌<◌, Bool, true, false, cond, nat_eq, nat_lt, max, List, [], ◌∷◌, ◌++◌, length, slice_get, Option, None, Some, Ok, refl, sym, ap, subst, ◌∙◌, arith}
+use Rattle.std.specs.List.{AllByRecursion, list_any}
 use Rattle.std.specs.Option.{option_and_then, option_or}
 use Rattle.std.proofs.lemmas.Bool.Decides.{nat_tests}
-use Rattle.std.proofs.lemmas.List.Elements.{All-cons, All-head, All-nil, All-tail}
 use Rattle.name_table.specs.declared.names.NameId.{NameId}
-use Rattle.bst_meaning.specs.Config.{Config}
-use Rattle.bst_meaning.specs.Machine.{visited_entry}
-use Rattle.bst_meaning.specs.StyleParts.{kind_of}
+use Rattle.bst_meaning.specs.Config.{Config, Frame}
 use Rattle.bst_meaning.specs.declared.condition.Cond.{Cond}
 use Rattle.bst_meaning.specs.declared.entry.EntryList.{EntryList}
-use Rattle.cert_format.specs.declared.cert.Summary.{Summary}
 use Rattle.sym_state.specs.State.{State}
 use Rattle.sym_state.specs.Changes.{bound}
-use Rattle.sym_state.specs.Entailing.{at_first_place, match_of, places, under}
-use Rattle.sym_state.specs.Opening.{StandsOpen}
+use Rattle.sym_state.specs.Entailing.{at_first_place, match_of, places}
 use Rattle.sym_state.specs.Renaming.{through}
 use Rattle.sym_state.specs.Showing.{piece_by}
-use Rattle.sym_state.specs.Stands.{PieceHolds, value_by, values_of}
-use Rattle.sym_state.specs.Starting.{IsFit, IsNumbered, all_symbols, symbols_of}
+use Rattle.sym_state.specs.Stands.{values_of}
+use Rattle.sym_state.specs.Starting.{symbols_of}
 use Rattle.sym_state.specs.Symbols.{Valuation}
-use Rattle.sym_state.specs.WellMade.{HasSmallFields}
 use Rattle.sym_state.specs.declared.hint.Hint.{Hint}
 use Rattle.sym_state.specs.declared.piece.Piece.{Piece}
 use Rattle.sym_state.specs.declared.symbol.Bind.{Bind}
 use Rattle.sym_state.specs.declared.symbol.Sym.{Sym}
 use Rattle.sym_state.proofs.Entailed.{lines_pass}
-use Rattle.sym_state.proofs.Keeping.{started_well_made}
 use Rattle.sym_state.proofs.ShownPieces.{shown_parts, shown_piece_holds}
-use Rattle.cert_check.specs.Certified.{IsSummaryOf}
-use Rattle.cert_check.specs.Uses.{comes_by, first_name, is_among, name_at, own_count, own_places, passage, post_match, unchanged, unwritten}
+use Rattle.sym_state.proofs.Spots.{Spot}
+use Rattle.cert_check.specs.Certified.{IsPostOf}
+use Rattle.cert_check.specs.Uses.{first_name, is_among, name_at, own_count, own_places, post_match, unchanged, unwritten}
 use Rattle.cert_check.specs.Walks.{Scope}
+use Rattle.cert_check.proofs.Having.{have_value}
 use Rattle.cert_check.proofs.LeftPlaces.{matched_below, named_below, own_has, places_below, pre_has}
 use Rattle.cert_check.proofs.OwnFrame.{name_kept}
-use Rattle.cert_check.proofs.OwnStart.{below_pre, came_is, own_stands, own_state}
+use Rattle.cert_check.proofs.OwnStart.{Begun, Inside, Used, below_used, came_fit, nothing_under, own_open, own_scope, own_start, value_in}
 use Rattle.cert_check.proofs.OwnValues.{Valued, first_valued, none_kept, one_kept, own_passed, own_valued}
-use Rattle.cert_check.proofs.Safety.{Reaches, Start}
+use Rattle.cert_check.proofs.Safety.{Reaches, Remains, onward, remains_twice, spot_at}
 use Rattle.cert_check.proofs.Tokens.{bound_value}
-
--- where a summary's own check is: it may write what the summary writes
-abbrev pub own_scope : Scope → Summary → Scope
-own_scope scope summary = record { style = scope.style; cert = scope.cert; writes = Some summary.writes }
-
--- a summary is used at a start
-pub record Used (scope : Scope) (list : EntryList) : Type 0 where
-  pub summary : Summary
-  pub is : IsSummaryOf scope.style summary
-  pub small : HasSmallFields scope.cert.cond
-  pub s : Start scope list
-  pub hints : List Hint
-  pub left : List Hint
-  pub came : comes_by (passage summary) scope.cert.cond summary.pre s.state hints ≡ Ok left
-
--- the start of its own check
-pub own_open : (scope : Scope) (list : EntryList) (u : Used scope list)
-    → StandsOpen scope.style scope.cert.cond list (through (match_of u.s.state u.summary.pre 0) u.s.v) (all_symbols (u.summary.pre ∷ [])) (own_state scope u.summary) u.s.c
-    (below_pre scope list u.s u.summary.pre)
-own_open scope list u = own_stands scope list u.s u.summary u.hints u.left u.is u.came
-
-abbrev pub own_start : (scope : Scope) (list : EntryList) (u : Used scope list) → Start (own_scope scope u.summary) list
-own_start scope list u = record {
-  laws = u.s.laws;
-  v = (own_open scope list u).assignment;
-  state = own_state scope u.summary;
-  c = u.s.c;
-  below = below_pre scope list u.s u.summary.pre;
-  made = started_well_made scope.style scope.cert.cond (u.summary.pre ∷ []) u.summary.whole u.summary.entry u.small
-      (All-cons IsNumbered u.summary.pre [] u.is.numbered (All-nil IsNumbered)) (All-cons (IsFit scope.style) u.summary.pre [] u.is.fit (All-nil (IsFit scope.style)));
-  goes = u.s.goes;
-  formed = u.s.formed;
-  stands = (own_open scope list u).stands;
-}
-
--- an element that is there
-pub element : {X : Type 0} (P : X → Type 0) (xs : List X) (k : ℕ) (x : X) → All P xs → slice_get xs k ≡ Some x → P x
-element P [] k x all e = absurd (cc)
-element P (y ∷ xs) zero x all e = let same : y ≡ x = cc in subst P same (All-head P y xs all)
-element P (y ∷ xs) (suc k) x all e = element P xs k x (All-tail P y xs all) e
 
 -- a state at a unit's end shows one of its posts
 pub record EndsIn (admits : Cond) (kept : ℕ) (posts : List Piece) (end : State) : Type 0 where
@@ -88,13 +43,59 @@ pub record EndsIn (admits : Cond) (kept : ℕ) (posts : List Piece) (end : State
   pub shown : piece_by admits end post kept hints ≡ Ok left
   pub same : length end.stack ≡ length post.stack
 
--- its end, where a state shows a post whose stack is as long
+-- where it does, the post holds inside the unit
+pub ended_inside : (scope : Scope) (list : EntryList) (u : Used scope list) (b : Begun scope list u) (frames : List Frame) (posts : List Piece)
+    (end : State) (w : Valuation) (d : Config) → Reaches (own_scope scope u.unit.writes) list frames (own_start scope list u b) end w d
+    → (found : EndsIn scope.cert.cond u.kept posts end) → Inside scope list u found.post (through (match_of end found.post u.kept) w) d
+ended_inside scope list u b frames posts end w d reached found =
+    let opened = own_open scope list u b in
+    let at = b.inside in
+    let inner = own_scope scope u.unit.writes in
+    let start = own_start scope list u b in
+    let spot : Spot = spot_at inner list (onward inner list frames start end w d reached) (record { line = 1; column = 1 }) in
+    let shown = shown_piece_holds scope.style scope.cert.cond list w end d (below_used scope list u) found.post u.kept found.hints found.left found.shown reached.stands in
+    record {
+      holds = record {
+        stack = shown.stack ∙ ap (λ (l : List Sym). values_of (through (match_of end found.post u.kept) w) found.post.stack
+            ++ (values_of w l ++ below_used scope list u)) (nothing_under end found.post found.same);
+        met = shown.met;
+      };
+      values = λ x. reached.stands.satisfied.values (match_of end found.post u.kept x);
+      has_list = record {
+        fits = reached.stands.has_list.fits;
+        meets = reached.stands.has_list.meets;
+        preamble = reached.stands.has_list.preamble;
+        entries = reached.stands.has_list.entries;
+        count = reached.stands.has_list.count;
+      };
+      visiting = λ entry. let there = reached.stands.visiting (reached.follows.grows.at_entry ∙ entry) in record {
+        entry = there.entry;
+        is_visited = there.is_visited;
+        visit = there.visit;
+        goes_on = there.goes_on;
+        before = there.before;
+      };
+      position = reached.agrees.position ∙ opened.agrees.position ∙ at.position;
+      count = reached.agrees.count ∙ opened.agrees.count ∙ at.count;
+      shared = λ x less. let few = b.shares in
+          ap (λ (n : ℕ). w.value n) (one_kept u.kept (places end found.post) x less)
+          ∙ reached.agrees.value x (omega (arith, less, few))
+          ∙ opened.agrees.value x (omega (arith, less, few))
+          ∙ at.shared x less;
+      formed = reached.formed;
+      remains = subst (λ (fs : List Frame). Remains u.unit.entry fs u.s.c d) (sym reached.remains.waiting)
+          (remains_twice u.unit.entry b.d.frames frames u.s.c b.d d at.remains reached.remains);
+      names = λ name not. name_kept inner list frames start end w d reached name not ∙ at.names name not;
+      have = λ name k is takes. have_value spot u.unit.entry name k reached.formed (λ entry. reached.follows.grows.at_entry ∙ entry) is takes;
+    }
+
+-- the end of a unit's own check, where one of its posts holds
 pub record EndOf (scope : Scope) (list : EntryList) (u : Used scope list) : Type 0 where
-  pub end : State
-  pub w : Valuation
+  pub post : Piece
+  pub v : Valuation
   pub d : Config
-  pub reached : Reaches (own_scope scope u.summary) list u.s.c.frames (own_start scope list u) end w d
-  pub found : EndsIn scope.cert.cond (symbols_of u.summary.pre) u.summary.posts end
+  pub inside : Inside scope list u post v d
+  pub is : IsPostOf scope.style u.unit u.kept post
 
 -- what holds of bindings holds of the name at a symbol's place
 name_at_has : (P : NameId → ℕ → Type 0) (x : ℕ) (binds : List Bind) (name : NameId) → name_at x binds ≡ Some name
@@ -125,85 +126,69 @@ first_name_has P x piece name e vars fields =
     ] e
 
 module _ (scope : Scope) (list : EntryList) (u : Used scope list) (e : EndOf scope list u) where
-  -- the values of a post's symbols at the end
-  abbrev pub end_values : Valuation
-  end_values = through (match_of e.end e.found.post (symbols_of u.summary.pre)) e.w
-
-  pub end_holds : PieceHolds scope.style end_values e.found.post e.d (values_of e.w (under e.end e.found.post) ++ below_pre scope list u.s u.summary.pre)
-  end_holds = shown_piece_holds scope.style scope.cert.cond list e.w e.end e.d (below_pre scope list u.s u.summary.pre) e.found.post (symbols_of u.summary.pre) e.found.hints e.found.left
-      e.found.shown e.reached.stands
-
   -- a post's own symbol that stands for one of the state's has its value
-  stays : (x : ℕ) (there : Sym) → unchanged (passage u.summary) u.s.state e.found.post x ≡ Some there
-      → (there.0 < u.s.state.next) × (u.s.v.value there.0 ≡ end_values.value x)
-  stays x there is = by_name (first_name x e.found.post) refl is
+  stays : (x : ℕ) (there : Sym) → unchanged u.unit u.s.state e.post x ≡ Some there → (there.0 < u.s.state.next) × (u.s.v.value there.0 ≡ e.v.value x)
+  stays x there is = by_name (first_name x e.post) refl is
     where
-      by_among : (name : NameId) (t : Bool) → first_name x e.found.post ≡ Some name → is_among u.summary.writes name ≡ t
-          → (let found : Option Sym = cond t None (bound name u.s.state) in found) ≡ Some there → u.s.v.value there.0 ≡ end_values.value x
+      by_among : (name : NameId) (t : Bool) → first_name x e.post ≡ Some name → is_among u.unit.writes name ≡ t
+          → (let found : Option Sym = cond t None (bound name u.s.state) in found) ≡ Some there → u.s.v.value there.0 ≡ e.v.value x
       by_among name true first among found = absurd (cc)
       by_among name false first among found =
           let before = bound_value scope list u.s name there found in
-          let kept = name_kept (own_scope scope u.summary) list u.s.c.frames (own_start scope list u) e.end e.w e.d e.reached name among in
-          let after = first_name_has
-          (λ (n : NameId) (y : ℕ). value_by (kind_of scope.style n) n e.d.globals (visited_entry e.d) ≡ Some (end_values.value y)) x e.found.post name first
-          end_holds.met.vars end_holds.met.fields in
-          let both : Some (u.s.v.value there.0) ≡ Some (end_values.value x) = sym before ∙ sym kept ∙ after in
+          let kept = e.inside.names name among in
+          let after = first_name_has (λ (n : NameId) (y : ℕ). value_in scope.style n e.d ≡ Some (e.v.value y)) x e.post name first
+          e.inside.holds.met.vars e.inside.holds.met.fields in
+          let both : Some (u.s.v.value there.0) ≡ Some (e.v.value x) = sym before ∙ sym kept ∙ after in
           cc
 
-      by_name : (o : Option NameId) → first_name x e.found.post ≡ o → option_and_then (unwritten (passage u.summary) u.s.state) o ≡ Some there
-          → (there.0 < u.s.state.next) × (u.s.v.value there.0 ≡ end_values.value x)
+      by_name : (o : Option NameId) → first_name x e.post ≡ o → option_and_then (unwritten u.unit u.s.state) o ≡ Some there
+          → (there.0 < u.s.state.next) × (u.s.v.value there.0 ≡ e.v.value x)
       by_name None first found = absurd (cc)
       by_name (Some name) first found = (
-        named_below scope.style (passage u.summary) u.s.state (Some name) there u.s.made found,
-        by_among name (is_among u.summary.writes name) first refl found,
+        named_below scope.style u.unit u.s.state (Some name) there u.s.made found,
+        by_among name (is_among u.unit.writes name) first refl found,
       )
 
   -- the places of the post's own symbols
   abbrev pub own_list : List (Sym × Sym)
-  own_list = own_places (passage u.summary) u.s.state e.found.post (symbols_of u.summary.pre) (own_count e.found.post (symbols_of u.summary.pre)) u.s.state.next
+  own_list = own_places u.unit u.s.state e.post u.kept (own_count e.post u.kept) u.s.state.next
 
   -- the values of the state's symbols, and of the post's own
-  pub with_own : Valued u.s.state.next u.s.v (λ x. end_values.value x) own_list
+  pub with_own : Valued u.s.state.next u.s.v (λ x. e.v.value x) own_list
   with_own =
-      own_valued (passage u.summary) u.s.state e.found.post (λ x. end_values.value x) (symbols_of u.summary.pre) (own_count e.found.post (symbols_of u.summary.pre)) u.s.state.next
-      u.s.state.next u.s.v (omega arith) (λ x. e.reached.stands.satisfied.values (match_of e.end e.found.post (symbols_of u.summary.pre) x)) u.s.stands.satisfied.values stays
+      own_valued u.unit u.s.state e.post (λ x. e.v.value x) u.kept (own_count e.post u.kept) u.s.state.next u.s.state.next u.s.v (omega arith)
+      e.inside.values u.s.stands.satisfied.values stays
 
   -- the state's symbol for a symbol of the post has the value that this has at the end
-  pub name_valued : (x : ℕ) → x < max (symbols_of u.summary.pre) (symbols_of e.found.post)
-      → with_own.assignment.value (post_match own_list u.s.state u.summary.pre x) ≡ end_values.value x
-  name_valued x less = by_kept (nat_lt x (symbols_of u.summary.pre)) refl
+  pub name_valued : (x : ℕ) → x < max u.kept (symbols_of e.post) → with_own.assignment.value (post_match own_list u.s.state u.pre x) ≡ e.v.value x
+  name_valued x less = by_kept (nat_lt x u.kept) refl
     where
-      at_first : post_match own_list u.s.state u.summary.pre x ≡ at_first_place (own_list ++ places u.s.state u.summary.pre) x
-      at_first = none_kept (own_list ++ places u.s.state u.summary.pre) x
+      at_first : post_match own_list u.s.state u.pre x ≡ at_first_place (own_list ++ places u.s.state u.pre) x
+      at_first = none_kept (own_list ++ places u.s.state u.pre) x
 
-      below : nat_lt x (symbols_of u.summary.pre) ≡ true → x < symbols_of u.summary.pre
+      below : nat_lt x u.kept ≡ true → x < u.kept
       below is = grind (arith, nat_tests)
 
-      above : nat_lt x (symbols_of u.summary.pre) ≡ false → symbols_of u.summary.pre ≤ x
+      above : nat_lt x u.kept ≡ false → u.kept ≤ x
       above is = grind (arith, nat_tests)
 
-      by_kept : (t : Bool) → nat_lt x (symbols_of u.summary.pre) ≡ t
-          → with_own.assignment.value (post_match own_list u.s.state u.summary.pre x) ≡ end_values.value x
+      by_kept : (t : Bool) → nat_lt x u.kept ≡ t → with_own.assignment.value (post_match own_list u.s.state u.pre x) ≡ e.v.value x
       by_kept true is =
           let few = below is in
-          let there : ℕ = match_of u.s.state u.summary.pre 0 x in
-          let fit = came_is scope (passage u.summary) u.summary.pre u.s.state u.hints u.left u.came in
-          let parts = shown_parts scope.cert.cond u.s.state u.summary.pre 0 u.hints u.left fit.shown in
-          let has = pre_has (match_of u.s.state u.summary.pre 0) u.s.state u.summary.pre x parts.few (lines_pass (match_of u.s.state u.summary.pre 0) u.s.state u.summary.pre parts.lines)
-          (u.is.places x (omega arith) few) in
-          let old : there < u.s.state.next = matched_below u.s.state.next (places u.s.state u.summary.pre) x (places_below scope.style u.s.state u.summary.pre u.s.made) has in
-          let where_is : post_match own_list u.s.state u.summary.pre x ≡ there =
+          let shares = u.is.shares in
+          let there : ℕ = match_of u.s.state u.pre 0 x in
+          let fit = came_fit scope list u in
+          let parts = shown_parts scope.cert.cond u.s.state u.pre 0 u.hints u.left fit.shown in
+          let has = pre_has (match_of u.s.state u.pre 0) u.s.state u.pre x parts.few (lines_pass (match_of u.s.state u.pre 0) u.s.state u.pre parts.lines)
+          (u.is.places x (omega arith) (omega (arith, few, shares))) in
+          let old : there < u.s.state.next = matched_below u.s.state.next (places u.s.state u.pre) x (places_below scope.style u.s.state u.pre u.s.made) has in
+          let where_is : post_match own_list u.s.state u.pre x ≡ there =
           at_first
-          ∙ own_passed (passage u.summary) u.s.state e.found.post (symbols_of u.summary.pre) (own_count e.found.post (symbols_of u.summary.pre)) u.s.state.next x (places u.s.state u.summary.pre) few
-          ∙ sym (none_kept (places u.s.state u.summary.pre) x) in
-          let opened = own_open scope list u in
-          ap (λ (n : ℕ). with_own.assignment.value n) where_is
-          ∙ with_own.agrees.value there old
-          ∙ sym (opened.agrees.value x (omega (arith, few)))
-          ∙ sym (e.reached.agrees.value x (omega (arith, few)))
-          ∙ ap (λ (n : ℕ). e.w.value n) (sym (one_kept (symbols_of u.summary.pre) (places e.end e.found.post) x few))
+          ∙ own_passed u.unit u.s.state e.post u.kept (own_count e.post u.kept) u.s.state.next x (places u.s.state u.pre) few
+          ∙ sym (none_kept (places u.s.state u.pre) x) in
+          ap (λ (n : ℕ). with_own.assignment.value n) where_is ∙ with_own.agrees.value there old ∙ sym (e.inside.shared x few)
       by_kept false is =
           let high = above is in
           ap (λ (n : ℕ). with_own.assignment.value n) at_first
-          ∙ first_valued (λ y. end_values.value y) with_own.assignment own_list (places u.s.state u.summary.pre) x with_own.placed
-          (own_has (passage u.summary) u.s.state e.found.post (symbols_of u.summary.pre) (own_count e.found.post (symbols_of u.summary.pre)) u.s.state.next x high (omega (arith, high, less)))
+          ∙ first_valued (λ y. e.v.value y) with_own.assignment own_list (places u.s.state u.pre) x with_own.placed
+          (own_has u.unit u.s.state e.post u.kept (own_count e.post u.kept) u.s.state.next x high (omega (arith, high, less)))

@@ -1,4 +1,4 @@
--- A summary's own check keeps the values of variables that the summary doesn't write, and of fields.
+-- A unit's own check keeps the values of variables that the unit doesn't write, and of fields.
 use Rattle.std.proofs.Common.{◌≡◌, Bool, true, false, List, slice_get, Option, Some, refl, sym, ap, subst, ◌∙◌}
 use Rattle.std.specs.Option.{option_and_then}
 use Rattle.std.specs.Prelude.{ℕ}
@@ -17,20 +17,18 @@ use Rattle.sym_state.specs.WellMade.{is_field, is_variable}
 use Rattle.sym_state.proofs.Entailed.{found_value}
 use Rattle.sym_state.proofs.Making.{found_below}
 use Rattle.cert_check.specs.Walks.{Scope, may_write}
-use Rattle.cert_check.proofs.Safety.{Reaches, Start, same_index}
+use Rattle.cert_check.proofs.Safety.{Reaches, Remains, Start, same_index}
 use Rattle.cert_check.proofs.Symbols.{symbol_there}
 
 -- the visited entry stays where the entries do
-pub same_visited : (scope : Scope) (list : EntryList) (frames : List Frame) (s : Start scope list) (end : State) (w : Valuation) (d : Config)
-    → Reaches scope list frames s end w d → s.state.at_entry ≡ false → visited_entry d ≡ visited_entry s.c
-same_visited scope list frames s end w d reached outside =
-    ap (λ (es : List EntryState). option_and_then (slice_get es) (visited_index d)) (reached.remains.entries outside)
-    ∙ ap (λ (o : Option ℕ). option_and_then (slice_get s.c.entries) o)
-    (same_index s.c d reached.remains.running reached.remains.visit reached.remains.order)
+pub same_visited : (frames : List Frame) (c d : Config) → Remains false frames c d → visited_entry d ≡ visited_entry c
+same_visited frames c d stays =
+    ap (λ (es : List EntryState). option_and_then (slice_get es) (visited_index d)) (stays.entries refl)
+    ∙ ap (λ (o : Option ℕ). option_and_then (slice_get c.entries) o) (same_index c d stays.running stays.visit stays.order)
 
 -- the value of a symbol that stays
 module _ (scope : Scope) (list : EntryList) (frames : List Frame) (s : Start scope list) (end : State) (w : Valuation) (d : Config) where
-  -- a variable that the summary doesn't write
+  -- a variable that the unit doesn't write
   variable_kept : Reaches scope list frames s end w d → (name : NameId) (k : Kind) → may_write scope name ≡ false → kind_of scope.style name ≡ Some k
       → is_variable s.state.at_entry k ≡ true
       → value_by (kind_of scope.style name) name d.globals (visited_entry d) ≡ value_by (kind_of scope.style name) name s.c.globals (visited_entry s.c)
@@ -52,7 +50,7 @@ module _ (scope : Scope) (list : EntryList) (frames : List Frame) (s : Start sco
       let same = reached.agrees.value found.symbol.0 (found_below s.state.next name s.state.fields found.symbol s.made.fields found.is) in
       after ∙ ap Some same ∙ sym before
 
-  -- any name that the summary doesn't write
+  -- any name that the unit doesn't write
   pub name_kept : Reaches scope list frames s end w d → (name : NameId) → may_write scope name ≡ false
       → value_by (kind_of scope.style name) name d.globals (visited_entry d) ≡ value_by (kind_of scope.style name) name s.c.globals (visited_entry s.c)
   name_kept reached name not = by_kind (kind_of scope.style name) refl
@@ -63,7 +61,7 @@ module _ (scope : Scope) (list : EntryList) (frames : List Frame) (s : Start sco
       at_entry : (k : Kind) → kind_of scope.style name ≡ Some k → (t : Bool) → s.state.at_entry ≡ t
           → (s.state.at_entry ≡ true → Same (kind_of scope.style name)) → (visited_entry d ≡ visited_entry s.c → Same (Some k)) → Same (Some k)
       at_entry k is true there by_symbol by_entry = subst (λ (o : Option Kind). Same o) is (by_symbol there)
-      at_entry k is false there by_symbol by_entry = by_entry (same_visited scope list frames s end w d reached there)
+      at_entry k is false there by_symbol by_entry = by_entry (same_visited frames s.c d (subst (λ (t : Bool). Remains t frames s.c d) there reached.remains))
 
       by_kind : (found : Option Kind) → kind_of scope.style name ≡ found → Same found
       by_kind (Some IntGlobal) is = subst (λ (o : Option Kind). Same o) is (variable_kept reached name IntGlobal not is refl)

@@ -1,5 +1,5 @@
--- The state that a used summary leaves stands where its own check ends.
-use Rattle.std.proofs.Common.{◌≡◌, ℕ, suc, ◌+◌, ◌-◌, ◌≤◌, ◌<◌, Bool, true, false, max, List, [], ◌∷◌, ◌++◌, length, map, reverse, Option, None, Some, refl, sym, ap, subst, ◌∙◌, append_assoc, arith}
+-- The state that a used unit leaves stands where its own check ends.
+use Rattle.std.proofs.Common.{◌≡◌, ℕ, ◌+◌, ◌-◌, ◌≤◌, ◌<◌, Bool, true, false, max, List, [], ◌∷◌, ◌++◌, length, map, reverse, Option, None, Some, refl, sym, ap, subst, ◌∙◌, append_assoc, arith}
 use Rattle.std.specs.Prelude.{◌||◌}
 use Rattle.std.specs.List.{All, AllByRecursion, flat_map, list_all}
 use Rattle.std.specs.Option.{option_map_or}
@@ -18,8 +18,8 @@ use Rattle.sym_state.specs.Entailing.{match_of, under}
 use Rattle.sym_state.specs.Facts.{FactHolds}
 use Rattle.sym_state.specs.Opening.{HasValue, IsOfItsKind}
 use Rattle.sym_state.specs.Renaming.{bind_renamed, fact_renamed, row_renamed, sym_renamed, through}
-use Rattle.sym_state.specs.Stands.{IsBound, IsVisiting, Stands, value_by, values_of}
-use Rattle.sym_state.specs.Starting.{own_facts, own_rows, seat, seats, symbols_of, unbound}
+use Rattle.sym_state.specs.Stands.{IsBound, IsVisiting, Stands, values_of}
+use Rattle.sym_state.specs.Starting.{own_facts, own_rows, seats, symbols_of, unbound}
 use Rattle.sym_state.specs.Symbols.{Agrees, Valuation, numbers}
 use Rattle.sym_state.specs.WellMade.{WellMade, is_field, is_variable}
 use Rattle.sym_state.specs.declared.symbol.Bind.{Bind}
@@ -27,39 +27,28 @@ use Rattle.sym_state.specs.declared.symbol.Fact.{Fact}
 use Rattle.sym_state.specs.declared.symbol.Sym.{Sym}
 use Rattle.sym_state.proofs.Entailed.{found_value, lines_pass, one_more, values_append}
 use Rattle.sym_state.proofs.Frames.{all_reversed, facts_agree, joined, list_agrees, rows_agree}
-use Rattle.sym_state.proofs.Making.{found_below}
+use Rattle.sym_state.proofs.Making.{found_below, seats_names}
 use Rattle.sym_state.proofs.Numbering.{stack_below, vars_below}
-use Rattle.sym_state.proofs.Opened.{Seated, seated}
+use Rattle.sym_state.proofs.Opened.{Seated, gives_each, own_facts_hold, own_rows_hold, seated}
 use Rattle.sym_state.proofs.ShownPieces.{shown_parts}
-use Rattle.sym_state.proofs.Spots.{Spot}
 use Rattle.builtin_effects.proofs.Rebinding.{each_once}
-use Rattle.cert_check.specs.Certified.{IsPostOf}
-use Rattle.cert_check.specs.Uses.{facts_left, is_among, left_state, new_symbols, own_count, passage, post_match, rows_left, with_binds}
+use Rattle.cert_check.specs.Uses.{facts_left, is_among, left_state, new_symbols, own_count, post_match, rows_left, with_binds}
 use Rattle.cert_check.specs.Walks.{Scope, may_write}
-use Rattle.cert_check.proofs.Having.{have_value}
 use Rattle.cert_check.proofs.LeftFollowing.{post_follows, written_unbound}
 use Rattle.cert_check.proofs.LeftFramed.{seats_all}
 use Rattle.cert_check.proofs.Leaving.{entry_bound, facts_bound, fields_bound, rows_bound, stack_bound, whole_bound}
 use Rattle.cert_check.proofs.LeftPlaces.{name_below}
-use Rattle.cert_check.proofs.OwnEnd.{EndOf, Used, element, end_holds, end_values, name_valued, own_list, own_open, own_scope, own_start, with_own}
-use Rattle.cert_check.proofs.OwnFacts.{gives_each, kind_facts, kind_rows, renamed_facts, renamed_rows}
-use Rattle.cert_check.proofs.OwnFrame.{name_kept, same_visited}
-use Rattle.cert_check.proofs.OwnStart.{came_is, nothing_under}
-use Rattle.cert_check.proofs.Safety.{Reaches, Remains, agrees_on, onward, remains_where, spot_at}
+use Rattle.cert_check.proofs.OwnEnd.{EndOf, name_valued, own_list, with_own}
+use Rattle.cert_check.proofs.OwnFacts.{renamed_facts, renamed_rows}
+use Rattle.cert_check.proofs.OwnFrame.{same_visited}
+use Rattle.cert_check.proofs.OwnStart.{Used, came_fit, value_in}
+use Rattle.cert_check.proofs.Passing.{kept_places}
+use Rattle.cert_check.proofs.Safety.{Reaches, Remains, agrees_on, remains_where}
 use Rattle.cert_check.proofs.Symbols.{bound_last, by_symbols, not_among}
 
 first_of : (a b : Bool) → a ≡ true → (a || b) ≡ true
 first_of true b e = refl
 first_of false b e = absurd (cc)
-
--- the names of seats
-seat_names : (binds : List Bind) (first : ℕ) (names : List NameId) → map (λ b. b.name) (seats binds first names) ≡ names
-seat_names binds first [] = refl
-seat_names binds first (name ∷ names) =
-    elim (symbol_at name binds) as (λ (o : Option Sym). map (λ b. b.name) (seat o name first (λ m. seats binds m names)) ≡ name ∷ names) [
-      | Some s ↦ ap (λ (ns : List NameId). name ∷ ns) (seat_names binds first names)
-      | None ↦ ap (λ (ns : List NameId). name ∷ ns) (seat_names binds (suc first) names)
-    ]
 
 -- renamed symbols have the values through the names
 values_renamed : (w : Valuation) (name : ℕ → ℕ) (stack : List Sym) → values_of w (map (sym_renamed name) stack) ≡ values_of (through name w) stack
@@ -69,47 +58,43 @@ values_renamed w name (s ∷ stack) =
     ∙ ap (λ (l : List Value). l ++ w.value (name s.0) ∷ []) (values_renamed w name stack)
     ∙ sym (one_more (through name w) s stack)
 
--- the post in which the own check ends is one of the summary's
-one_post : (scope : Scope) (list : EntryList) (u : Used scope list) (e : EndOf scope list u) → IsPostOf scope.style u.summary e.found.post
-one_post scope list u e = element (IsPostOf scope.style u.summary) u.summary.posts e.found.k e.found.post u.is.posts e.found.there
-
 module _ (scope : Scope) (list : EntryList) (u : Used scope list) (e : EndOf scope list u) where
   -- the state's symbol for a post's, how many there are with the post's own, and the written variables with their symbols
   abbrev pub left_name : ℕ → ℕ
-  left_name = post_match (own_list scope list u e) u.s.state u.summary.pre
+  left_name = post_match (own_list scope list u e) u.s.state u.pre
 
   abbrev pub left_first : ℕ
-  left_first = u.s.state.next + new_symbols (passage u.summary) u.s.state e.found.post (symbols_of u.summary.pre) (own_count e.found.post (symbols_of u.summary.pre))
+  left_first = u.s.state.next + new_symbols u.unit u.s.state e.post u.kept (own_count e.post u.kept)
 
   abbrev pub left_binds : List Bind
-  left_binds = map (bind_renamed left_name) e.found.post.vars
+  left_binds = map (bind_renamed left_name) e.post.vars
 
   abbrev pub left_written : List Bind
-  left_written = seats left_binds left_first u.summary.writes
+  left_written = seats left_binds left_first u.unit.writes
 
   abbrev most : ℕ
-  most = max (symbols_of u.summary.pre) (symbols_of e.found.post)
+  most = max u.kept (symbols_of e.post)
 
   -- each is one of those
   below_first : (x : ℕ) → x < most → left_name x < left_first
   below_first x less =
-      let fit = came_is scope (passage u.summary) u.summary.pre u.s.state u.hints u.left u.came in
-      let parts = shown_parts scope.cert.cond u.s.state u.summary.pre 0 u.hints u.left fit.shown in
-      name_below scope.style (passage u.summary) (match_of u.s.state u.summary.pre 0) u.s.state u.summary.pre e.found.post (symbols_of u.summary.pre) x u.s.made parts.few
-      (lines_pass (match_of u.s.state u.summary.pre 0) u.s.state u.summary.pre parts.lines) u.is.places less
+      let fit = came_fit scope list u in
+      let parts = shown_parts scope.cert.cond u.s.state u.pre 0 u.hints u.left fit.shown in
+      name_below scope.style u.unit (match_of u.s.state u.pre 0) u.s.state u.pre e.post u.kept x u.s.made parts.few
+      (lines_pass (match_of u.s.state u.pre 0) u.s.state u.pre parts.lines) (kept_places scope.style u.unit u.kept u.pre u.posts u.is) less
 
-  post_vars : All (λ (b : Bind). b.sym.0 < most) e.found.post.vars
+  post_vars : All (λ (b : Bind). b.sym.0 < most) e.post.vars
   post_vars =
-      All-weaker (λ (b : Bind). b.sym.0 < symbols_of e.found.post) (λ (b : Bind). b.sym.0 < most) (λ b h. omega (arith, h)) e.found.post.vars
-      (vars_below (symbols_of e.found.post) e.found.post (omega arith))
+      All-weaker (λ (b : Bind). b.sym.0 < symbols_of e.post) (λ (b : Bind). b.sym.0 < most) (λ b h. omega (arith, h)) e.post.vars
+      (vars_below (symbols_of e.post) e.post (omega arith))
 
   binds_below_first : All (λ (b : Bind). b.sym.0 < left_first) left_binds
   binds_below_first =
-      All-map (λ (b : Bind). b.sym.0 < left_first) (bind_renamed left_name) e.found.post.vars
-      (All-weaker (λ (b : Bind). b.sym.0 < most) (λ (b : Bind). left_name b.sym.0 < left_first) (λ b h. below_first b.sym.0 h) e.found.post.vars post_vars)
+      All-map (λ (b : Bind). b.sym.0 < left_first) (bind_renamed left_name) e.post.vars
+      (All-weaker (λ (b : Bind). b.sym.0 < most) (λ (b : Bind). left_name b.sym.0 < left_first) (λ b h. below_first b.sym.0 h) e.post.vars post_vars)
 
   binds_hold : (vars : List Bind) → All (λ (b : Bind). b.sym.0 < most) vars
-      → AllByRecursion (IsBound scope.style (end_values scope list u e) e.d.globals (visited_entry e.d)) vars
+      → AllByRecursion (IsBound scope.style e.v e.d.globals (visited_entry e.d)) vars
       → AllByRecursion (IsBound scope.style (with_own scope list u e).assignment e.d.globals (visited_entry e.d)) (map (bind_renamed left_name) vars)
   binds_hold [] below all = tt
   binds_hold (b ∷ vars) below all = (
@@ -118,32 +103,25 @@ module _ (scope : Scope) (list : EntryList) (u : Used scope list) (e : EndOf sco
   )
 
   -- each written variable has a value of its kind at the end
-  abbrev end_spot : Spot
-  end_spot =
-      spot_at (own_scope scope u.summary) list (onward (own_scope scope u.summary) list u.s.c.frames (own_start scope list u) e.end e.w e.d e.reached)
-      (record { line = 1; column = 1 })
-
-  one_has : (name : NameId) (found : Option Kind) → kind_of scope.style name ≡ found → option_map_or (is_variable u.summary.entry) found false ≡ true
+  one_has : (name : NameId) (found : Option Kind) → kind_of scope.style name ≡ found → option_map_or (is_variable u.unit.entry) found false ≡ true
       → HasValue scope.style scope.cert.cond e.d.globals (visited_entry e.d) name
   one_has name None is variable = absurd (cc)
-  one_has name (Some k) is variable =
-      have_value end_spot u.summary.entry name k e.reached.formed (λ there. e.reached.follows.grows.at_entry ∙ there) is
-      (first_of (is_variable u.summary.entry k) (is_field u.summary.entry k) variable)
+  one_has name (Some k) is variable = e.inside.have name k is (first_of (is_variable u.unit.entry k) (is_field u.unit.entry k) variable)
 
-  written_have : (names : List NameId) → All (λ name. option_map_or (is_variable u.summary.entry) (kind_of scope.style name) false ≡ true) names
+  written_have : (names : List NameId) → All (λ name. option_map_or (is_variable u.unit.entry) (kind_of scope.style name) false ≡ true) names
       → AllByRecursion (HasValue scope.style scope.cert.cond e.d.globals (visited_entry e.d)) names
   written_have [] all = tt
   written_have (name ∷ names) all = (
     one_has name (kind_of scope.style name) refl
-        (All-head (λ (name : NameId). option_map_or (is_variable u.summary.entry) (kind_of scope.style name) false ≡ true) name names all),
-    written_have names (All-tail (λ (name : NameId). option_map_or (is_variable u.summary.entry) (kind_of scope.style name) false ≡ true) name names all),
+        (All-head (λ (name : NameId). option_map_or (is_variable u.unit.entry) (kind_of scope.style name) false ≡ true) name names all),
+    written_have names (All-tail (λ (name : NameId). option_map_or (is_variable u.unit.entry) (kind_of scope.style name) false ≡ true) name names all),
   )
 
   -- the values of all symbols
   pub seat_values : Seated scope.style scope.cert.cond e.d left_first (with_own scope list u e).assignment left_written
   seat_values =
-      seated scope.style scope.cert.cond e.d left_first (with_own scope list u e).assignment left_binds u.summary.writes (with_own scope list u e).values binds_below_first
-      (binds_hold e.found.post.vars post_vars (end_holds scope list u e).met.vars) (written_have u.summary.writes (one_post scope list u e).placed.writes)
+      seated scope.style scope.cert.cond e.d left_first (with_own scope list u e).assignment left_binds u.unit.writes (with_own scope list u e).values binds_below_first
+      (binds_hold e.post.vars post_vars e.inside.holds.met.vars) (written_have u.unit.writes e.is.placed.writes)
 
   abbrev pub left_values : Valuation
   left_values = seat_values.assignment
@@ -152,71 +130,70 @@ module _ (scope : Scope) (list : EntryList) (u : Used scope list) (e : EndOf sco
   old_agree : Agrees u.s.state.next u.s.v left_values
   old_agree = agrees_on u.s.state.next left_first u.s.v (with_own scope list u e).assignment left_values (omega arith) (with_own scope list u e).agrees seat_values.agrees
 
-  post_agree : Agrees most (end_values scope list u e) (through left_name left_values)
+  post_agree : Agrees most e.v (through left_name left_values)
   post_agree = record {
     value = λ x less. seat_values.agrees.value (left_name x) (below_first x less) ∙ name_valued scope list u e x less;
-    position = old_agree.position ∙ sym (own_open scope list u).agrees.position ∙ sym e.reached.agrees.position;
-    count = old_agree.count ∙ sym (own_open scope list u).agrees.count ∙ sym e.reached.agrees.count;
+    position = old_agree.position ∙ sym e.inside.position;
+    count = old_agree.count ∙ sym e.inside.count;
   }
 
   abbrev left_facts : List Fact
-  left_facts = facts_left scope.style scope.cert.cond left_name left_written e.found.post
+  left_facts = facts_left scope.style scope.cert.cond left_name left_written e.post
 
   left_facts_hold : AllByRecursion (FactHolds scope.style left_values) (u.s.state.facts ++ left_facts)
   left_facts_hold =
       joined (FactHolds scope.style left_values) u.s.state.facts left_facts
       (facts_agree scope.style u.s.state.next u.s.v left_values u.s.state.facts old_agree u.s.made.facts u.s.stands.satisfied.facts)
-      (joined (FactHolds scope.style left_values) (flat_map (λ b. own_facts scope.cert.cond (kind_of scope.style b.name) b) left_written) (map (fact_renamed left_name) e.found.post.facts)
+      (joined (FactHolds scope.style left_values) (flat_map (λ b. own_facts scope.cert.cond (kind_of scope.style b.name) b) left_written) (map (fact_renamed left_name) e.post.facts)
       (gives_each (FactHolds scope.style left_values) (λ b. own_facts scope.cert.cond (kind_of scope.style b.name) b)
       (λ b. IsOfItsKind scope.cert.cond (kind_of scope.style b.name) b.name (left_values.value b.sym.0)) left_written
-      (λ b h. kind_facts scope.style scope.cert.cond left_values (kind_of scope.style b.name) b h) seat_values.kinds)
-      (renamed_facts scope.style left_values left_name e.found.post.facts
-      (facts_agree scope.style most (end_values scope list u e) (through left_name left_values) e.found.post.facts post_agree (one_post scope list u e).fits.facts (end_holds scope list u e).met.facts)))
+      (λ b h. own_facts_hold scope.style scope.cert.cond left_values (kind_of scope.style b.name) b h) seat_values.kinds)
+      (renamed_facts scope.style left_values left_name e.post.facts
+      (facts_agree scope.style most e.v (through left_name left_values) e.post.facts post_agree e.is.fits.facts e.inside.holds.met.facts)))
 
   abbrev left_rows : List Row
-  left_rows = rows_left scope.style scope.cert.cond left_name left_written e.found.post
+  left_rows = rows_left scope.style scope.cert.cond left_name left_written e.post
 
   left_rows_hold : AllByRecursion (Holds (numbers left_values)) (u.s.state.rows ++ left_rows)
   left_rows_hold =
       joined (Holds (numbers left_values)) u.s.state.rows left_rows
       (rows_agree u.s.state.next u.s.v left_values u.s.state.rows old_agree u.s.made.rows u.s.stands.satisfied.rows)
-      (joined (Holds (numbers left_values)) (flat_map (λ b. own_rows scope.cert.cond (kind_of scope.style b.name) b) left_written) (map (row_renamed left_name) e.found.post.rows)
+      (joined (Holds (numbers left_values)) (flat_map (λ b. own_rows scope.cert.cond (kind_of scope.style b.name) b) left_written) (map (row_renamed left_name) e.post.rows)
       (gives_each (Holds (numbers left_values)) (λ b. own_rows scope.cert.cond (kind_of scope.style b.name) b)
       (λ b. IsOfItsKind scope.cert.cond (kind_of scope.style b.name) b.name (left_values.value b.sym.0)) left_written
-      (λ b h. kind_rows scope.cert.cond left_values (kind_of scope.style b.name) b h) seat_values.kinds)
-      (renamed_rows left_values left_name e.found.post.rows
-      (rows_agree most (end_values scope list u e) (through left_name left_values) e.found.post.rows post_agree (one_post scope list u e).fits.rows (end_holds scope list u e).met.rows)))
+      (λ b h. own_rows_hold scope.cert.cond left_values (kind_of scope.style b.name) b h) seat_values.kinds)
+      (renamed_rows left_values left_name e.post.rows
+      (rows_agree most e.v (through left_name left_values) e.post.rows post_agree e.is.fits.rows e.inside.holds.met.rows)))
 
   -- the stack
-  left_stack : e.d.stack ≡ values_of left_values (under u.s.state u.summary.pre ++ map (sym_renamed left_name) e.found.post.stack) ++ u.s.below
+  left_stack : e.d.stack ≡ values_of left_values (under u.s.state u.pre ++ map (sym_renamed left_name) e.post.stack) ++ u.s.below
   left_stack =
-      let lower : List Sym = under u.s.state u.summary.pre in
-      let upper : List Sym = map (sym_renamed left_name) e.found.post.stack in
-      let stack : All (λ (s : Sym). s.0 < most) e.found.post.stack =
-      All-weaker (λ (s : Sym). s.0 < symbols_of e.found.post) (λ (s : Sym). s.0 < most) (λ s h. omega (arith, h)) e.found.post.stack
-      (stack_below (symbols_of e.found.post) e.found.post (omega arith)) in
-      let above : values_of left_values upper ≡ values_of (end_values scope list u e) e.found.post.stack =
-      values_renamed left_values left_name e.found.post.stack
-      ∙ list_agrees most (end_values scope list u e) (through left_name left_values) (reverse e.found.post.stack) post_agree (all_reversed most e.found.post.stack stack) in
+      let lower : List Sym = under u.s.state u.pre in
+      let upper : List Sym = map (sym_renamed left_name) e.post.stack in
+      let stack : All (λ (s : Sym). s.0 < most) e.post.stack =
+      All-weaker (λ (s : Sym). s.0 < symbols_of e.post) (λ (s : Sym). s.0 < most) (λ s h. omega (arith, h)) e.post.stack
+      (stack_below (symbols_of e.post) e.post (omega arith)) in
+      let above : values_of left_values upper ≡ values_of e.v e.post.stack =
+      values_renamed left_values left_name e.post.stack
+      ∙ list_agrees most e.v (through left_name left_values) (reverse e.post.stack) post_agree (all_reversed most e.post.stack stack) in
       let old : values_of left_values lower ≡ values_of u.s.v lower =
       list_agrees u.s.state.next u.s.v left_values (reverse lower) old_agree
-      (all_reversed u.s.state.next lower (All-take (λ (s : Sym). s.0 < u.s.state.next) (length u.s.state.stack - length u.summary.pre.stack) u.s.state.stack u.s.made.stack)) in
-      (end_holds scope list u e).stack
-      ∙ ap (λ (l : List Sym). values_of (end_values scope list u e) e.found.post.stack ++ (values_of e.w l ++ (values_of u.s.v lower ++ u.s.below))) (nothing_under e.end e.found.post e.found.same)
+      (all_reversed u.s.state.next lower (All-take (λ (s : Sym). s.0 < u.s.state.next) (length u.s.state.stack - length u.pre.stack) u.s.state.stack u.s.made.stack)) in
+      e.inside.holds.stack
       ∙ ap (λ (l : List Value). l ++ (values_of u.s.v lower ++ u.s.below)) (sym above)
       ∙ ap (λ (l : List Value). values_of left_values upper ++ (l ++ u.s.below)) (sym old)
       ∙ sym (append_assoc (values_of left_values upper) (values_of left_values lower) u.s.below)
       ∙ ap (λ (l : List Value). l ++ u.s.below) (sym (values_append left_values lower upper))
 
-  -- a name that the summary doesn't write has the value of the symbol that it had
+  -- a name that the unit doesn't write has the value of the symbol that it had
   abbrev NameHolds : NameId → Sym → Type 0
-  NameHolds name s = value_by (kind_of scope.style name) name e.d.globals (visited_entry e.d) ≡ Some (left_values.value s.0)
+  NameHolds name s = value_in scope.style name e.d ≡ Some (left_values.value s.0)
 
   old_holds : (binds : List Bind) → All (λ (b : Bind). b.sym.0 < u.s.state.next) binds
       → AllByRecursion (IsBound scope.style u.s.v u.s.c.globals (visited_entry u.s.c)) binds → (name : NameId) (s : Sym) → symbol_at name binds ≡ Some s
-      → is_among u.summary.writes name ≡ false → NameHolds name s
+      → is_among u.unit.writes name ≡ false → NameHolds name s
   old_holds binds below hold name s found not =
-      name_kept (own_scope scope u.summary) list u.s.c.frames (own_start scope list u) e.end e.w e.d e.reached name not
+      e.inside.names name not
       ∙ found_value scope.style u.s.v u.s.c name binds s hold found
       ∙ ap Some (sym (old_agree.value s.0 (found_below u.s.state.next name binds s below found)))
 
@@ -224,14 +201,14 @@ module _ (scope : Scope) (list : EntryList) (u : Used scope list) (e : EndOf sco
   fields_hold =
       by_symbols NameHolds u.s.state.fields (each_once (is_field u.s.state.at_entry) 0 scope.style.names u.s.state.fields u.s.made.binds_fields)
       (λ name s found. old_holds u.s.state.fields u.s.made.fields u.s.stands.fields name s found
-      (not_among u.summary.writes u.s.state.fields name s (written_unbound scope.style u.s.state u.summary.entry u.summary.writes u.s.made (one_post scope list u e).placed.writes) found))
+      (not_among u.unit.writes u.s.state.fields name s (written_unbound scope.style u.s.state u.unit.entry u.unit.writes u.s.made e.is.placed.writes) found))
 
   abbrev left_told : State
   left_told = record u.s.state {
-    stack = under u.s.state u.summary.pre ++ map (sym_renamed left_name) e.found.post.stack;
+    stack = under u.s.state u.pre ++ map (sym_renamed left_name) e.post.stack;
     facts = u.s.state.facts ++ left_facts;
     rows = u.s.state.rows ++ left_rows;
-    next = left_first + unbound left_binds u.summary.writes;
+    next = left_first + unbound left_binds u.unit.writes;
   }
 
   vars_hold : WellMade scope.style (with_binds left_written left_told)
@@ -241,12 +218,12 @@ module _ (scope : Scope) (list : EntryList) (u : Used scope list) (e : EndOf sco
       by_symbols NameHolds after.vars (each_once (is_variable after.at_entry) 0 scope.style.names after.vars made.binds_vars)
       (λ name s found. bound_last NameHolds left_written left_told name s seat_values.bound
       (λ here not. old_holds u.s.state.vars u.s.made.vars u.s.stands.vars name s here
-      (ap (λ (names : List NameId). is_among names name) (sym (seat_names left_binds left_first u.summary.writes)) ∙ not)) found)
+      (ap (λ (names : List NameId). is_among names name) (sym (seats_names left_binds left_first u.unit.writes)) ∙ not)) found)
 
   -- at an entry it is visited still
-  visits : (t : Bool) → u.summary.entry ≡ t → u.s.state.at_entry ≡ true → IsVisiting left_values e.d
+  visits : (t : Bool) → u.unit.entry ≡ t → u.s.state.at_entry ≡ true → IsVisiting left_values e.d
   visits true entry here =
-      let at = e.reached.stands.visiting (e.reached.follows.grows.at_entry ∙ entry) in record {
+      let at = e.inside.visiting entry in record {
         entry = at.entry;
         is_visited = at.is_visited;
         visit = at.visit;
@@ -254,11 +231,13 @@ module _ (scope : Scope) (list : EntryList) (u : Used scope list) (e : EndOf sco
         before = post_agree.position ∙ at.before;
       }
   visits false entry here =
-      let at = u.s.stands.visiting here in record {
+      let at = u.s.stands.visiting here in
+      let stays : Remains false e.d.frames u.s.c e.d = subst (λ (t : Bool). Remains t e.d.frames u.s.c e.d) entry e.inside.remains in
+      record {
         entry = at.entry;
-        is_visited = same_visited (own_scope scope u.summary) list u.s.c.frames (own_start scope list u) e.end e.w e.d e.reached entry ∙ at.is_visited;
+        is_visited = same_visited e.d.frames u.s.c e.d stays ∙ at.is_visited;
         visit = at.visit;
-        goes_on = e.reached.remains.visit ∙ at.goes_on;
+        goes_on = e.inside.remains.visit ∙ at.goes_on;
         before = old_agree.position ∙ at.before;
       }
 
@@ -268,9 +247,9 @@ module _ (scope : Scope) (list : EntryList) (u : Used scope list) (e : EndOf sco
   left_stands made =
       let after : State = with_binds left_written left_told in
       let at : after.at_entry ≡ u.s.state.at_entry = entry_bound left_written left_told in
-      let none = written_unbound scope.style u.s.state u.summary.entry u.summary.writes u.s.made (one_post scope list u e).placed.writes in
+      let none = written_unbound scope.style u.s.state u.unit.entry u.unit.writes u.s.made e.is.placed.writes in
       let same_fields : after.fields ≡ u.s.state.fields =
-      fields_bound left_written left_told (seats_all (λ (name : NameId). symbol_at name u.s.state.fields ≡ None) left_binds left_first u.summary.writes none) in
+      fields_bound left_written left_told (seats_all (λ (name : NameId). symbol_at name u.s.state.fields ≡ None) left_binds left_first u.unit.writes none) in
       record {
         satisfied = record {
           values = seat_values.values;
@@ -283,40 +262,39 @@ module _ (scope : Scope) (list : EntryList) (u : Used scope list) (e : EndOf sco
         has_list = record {
           fits = u.s.stands.has_list.fits;
           meets = u.s.stands.has_list.meets;
-          preamble = e.reached.stands.has_list.preamble;
-          entries = e.reached.stands.has_list.entries;
+          preamble = e.inside.has_list.preamble;
+          entries = e.inside.has_list.entries;
           count = old_agree.count ∙ u.s.stands.has_list.count;
         };
-        visiting = λ here. visits u.summary.entry refl (sym at ∙ here);
+        visiting = λ here. visits u.unit.entry refl (sym at ∙ here);
         stack = subst (λ (l : List Sym). e.d.stack ≡ values_of left_values l ++ u.s.below) (sym (stack_bound left_written left_told)) left_stack;
         whole = λ all. u.s.stands.whole (sym (whole_bound left_written left_told) ∙ all);
         vars = vars_hold made;
         fields = subst (λ (l : List Bind). AllByRecursion (IsBound scope.style left_values e.d.globals (visited_entry e.d)) l) (sym same_fields) fields_hold;
       }
 
-  -- what stays of a configuration stays while the summary is used
-  left_remains : Remains u.s.state.at_entry u.s.c.frames u.s.c e.d
-  left_remains = remains_where u.summary.entry u.s.state.at_entry u.s.c.frames u.s.c e.d (not_there u.summary.entry refl) e.reached.remains
+  -- what stays of a configuration stays while the unit is used
+  left_remains : Remains u.s.state.at_entry e.d.frames u.s.c e.d
+  left_remains = remains_where u.unit.entry u.s.state.at_entry e.d.frames u.s.c e.d (not_there u.unit.entry refl) e.inside.remains
     where
-      not_there : (t : Bool) → u.summary.entry ≡ t → u.s.state.at_entry ≡ false → u.summary.entry ≡ false
+      not_there : (t : Bool) → u.unit.entry ≡ t → u.s.state.at_entry ≡ false → u.unit.entry ≡ false
       not_there false entry outside = entry
-      not_there true entry outside = absurd (no_both u.s.state.at_entry ((came_is scope (passage u.summary) u.summary.pre u.s.state u.hints u.left u.came).entry entry) outside)
+      not_there true entry outside = absurd (no_both u.s.state.at_entry ((came_fit scope list u).entry entry) outside)
         where
           no_both : (t : Bool) → t ≡ true → t ≡ false → ⊥
           no_both true a b = cc
           no_both false a b = cc
 
--- the state that a summary leaves by the post in which its own check ends is reached
-pub left_reached : (scope : Scope) (list : EntryList) (u : Used scope list) (e : EndOf scope list u) → list_all (may_write scope) u.summary.writes ≡ true
-    → Reaches scope list u.s.c.frames u.s (left_state scope.style scope.cert.cond (passage u.summary) u.summary.pre (symbols_of u.summary.pre) u.s.state e.found.post)
-    (left_values scope list u e) e.d
+-- the state that a unit leaves by the post in which its own check ends is reached
+pub left_reached : (scope : Scope) (list : EntryList) (u : Used scope list) (e : EndOf scope list u) → list_all (may_write scope) u.unit.writes ≡ true
+    → Reaches scope list e.d.frames u.s (left_state scope.style scope.cert.cond u.unit u.pre u.kept u.s.state e.post) (left_values scope list u e) e.d
 unfolding left_state
 left_reached scope list u e may =
-    let follows = post_follows scope u.summary u.s.state e.found.post u.hints u.left u.small u.is (one_post scope list u e) u.s.made u.came may in
+    let follows = post_follows scope u.unit u.kept u.pre u.posts u.s.state e.post u.hints u.left u.small u.is e.is u.s.made u.came may in
     record {
       follows = follows;
       agrees = old_agree scope list u e;
       remains = left_remains scope list u e;
-      formed = e.reached.formed;
+      formed = e.inside.formed;
       stands = left_stands scope list u e follows.made;
     }

@@ -1,5 +1,5 @@
--- The start of a summary's own check stands for the configuration of its use.
-use Rattle.std.proofs.Common.{◌≡◌, ℕ, ◌-◌, Bool, true, false, cond, not, nat_eq, List, [], ◌∷◌, ◌++◌, length, map, take, Ok, Err, refl, sym, ap, subst, ◌∙◌, arith}
+-- While a unit is used the state from which its own check starts stands where a piece of it holds, at first its pre.
+use Rattle.std.proofs.Common.{◌≡◌, ℕ, ◌-◌, ◌≤◌, ◌<◌, Bool, true, false, cond, not, nat_eq, List, [], ◌∷◌, ◌++◌, length, map, take, Option, Some, Ok, Err, refl, sym, ap, subst, ◌∙◌, arith}
 use Rattle.std.specs.Prelude.{◌&&◌, ◌||◌}
 use Rattle.std.specs.List.{AllByRecursion}
 use Rattle.std.proofs.lemmas.Bool.{and_parts}
@@ -11,21 +11,25 @@ use Rattle.lin_facts.specs.declared.row.Part.{Part}
 use Rattle.lin_facts.specs.declared.row.Row.{Row}
 use Rattle.lin_facts.specs.declared.row.Term.{Term}
 use Rattle.lin_facts.specs.declared.row.Term.TheVariants as term
+use Rattle.name_table.specs.declared.names.Kind.{Kind}
+use Rattle.name_table.specs.declared.names.NameId.{NameId}
 use Rattle.name_table.specs.declared.style.Style.{Style}
 use Rattle.bst_meaning.specs.Config.{Config}
+use Rattle.bst_meaning.specs.Invariant.{IsWellFormed}
 use Rattle.bst_meaning.specs.Machine.{visited_entry}
+use Rattle.bst_meaning.specs.StyleParts.{kind_of}
 use Rattle.bst_meaning.specs.declared.entry.EntryList.{EntryList}
 use Rattle.bst_meaning.specs.declared.value.Value.{Value}
-use Rattle.cert_format.specs.declared.cert.Summary.{Summary}
 use Rattle.sym_state.specs.State.{State}
 use Rattle.sym_state.specs.Entailing.{match_of, under}
 use Rattle.sym_state.specs.Facts.{FactHolds}
-use Rattle.sym_state.specs.Opening.{PiecesHold, StandsOpen}
+use Rattle.sym_state.specs.Opening.{HasValue, PiecesHold, StandsOpen}
 use Rattle.sym_state.specs.Renaming.{bind_renamed, fact_renamed, piece_renamed, row_renamed, sym_renamed, term_renamed, through}
 use Rattle.sym_state.specs.Showing.{Shown, piece_by}
-use Rattle.sym_state.specs.Stands.{IsBound, PieceHolds, values_of}
-use Rattle.sym_state.specs.Starting.{IsNumbered, all_symbols, raised, started}
-use Rattle.sym_state.specs.Symbols.{Valuation, numbers}
+use Rattle.sym_state.specs.Stands.{HasList, IsBound, IsVisiting, PieceHolds, value_by, values_of}
+use Rattle.sym_state.specs.Starting.{IsFit, IsNumbered, all_symbols, raised, started, symbols_of}
+use Rattle.sym_state.specs.Symbols.{IsValue, Valuation, numbers}
+use Rattle.sym_state.specs.WellMade.{HasSmallFields, takes_part}
 use Rattle.sym_state.specs.declared.demand.EffectFault.TheVariants.{NotEntailed}
 use Rattle.sym_state.specs.declared.hint.Hint.{Hint}
 use Rattle.sym_state.specs.declared.piece.Piece.{Piece}
@@ -34,14 +38,15 @@ use Rattle.sym_state.specs.declared.symbol.Fact.{Fact}
 use Rattle.sym_state.specs.declared.symbol.Fact.TheVariants as fact
 use Rattle.sym_state.specs.declared.symbol.Sym.{Sym}
 use Rattle.sym_state.proofs.Frames.{joined}
+use Rattle.sym_state.proofs.Keeping.{started_well_made}
 use Rattle.sym_state.proofs.Opened.{opened}
 use Rattle.sym_state.proofs.ShownPieces.{shown_piece_holds}
 use Rattle.sym_state.proofs.Spots.{Spot}
-use Rattle.cert_check.specs.Certified.{IsSummaryOf}
-use Rattle.cert_check.specs.Uses.{Passage, comes_by, fits, fits_stack, passage}
+use Rattle.cert_check.specs.Uses.{Passage, comes_by, fits, fits_stack, is_among}
 use Rattle.cert_check.specs.Walks.{Scope}
-use Rattle.cert_check.proofs.Having.{have_values}
-use Rattle.cert_check.proofs.Safety.{Start, spot_at}
+use Rattle.cert_check.proofs.Having.{have_all, have_value}
+use Rattle.cert_check.proofs.Passing.{IsPassed}
+use Rattle.cert_check.proofs.Safety.{Remains, Start, remains_framed, spot_at}
 
 -- a list of which each element stays
 map_same : {X : Type 0} (f : X → X) (xs : List X) → ((x : X) → f x ≡ x) → map f xs ≡ xs
@@ -86,14 +91,14 @@ piece_is : (a a' : List Sym) (b b' c c' : List Bind) (d d' : List Fact) (e e' : 
     ≡ record { stack = a'; vars = b'; fields = c'; facts = d'; rows = e' }
 piece_is a a' b b' c c' d d' e e' e1 e2 e3 e4 e5 = cc
 
-piece_same : (piece : Piece) → piece_renamed (raised 0) piece ≡ piece
+pub piece_same : (piece : Piece) → piece_renamed (raised 0) piece ≡ piece
 piece_same piece =
     piece_is _ piece.stack _ piece.vars _ piece.fields _ piece.facts _ piece.rows (map_same (sym_renamed (raised 0)) piece.stack sym_same)
     (map_same (bind_renamed (raised 0)) piece.vars bind_same) (map_same (bind_renamed (raised 0)) piece.fields bind_same)
     (map_same (fact_renamed (raised 0)) piece.facts fact_same) (map_same (row_renamed (raised 0)) piece.rows row_same)
 
 -- one piece holds as it does by itself
-one_holds : (style : Style) (v : Valuation) (piece : Piece) (c : Config) (below : List Value) → PieceHolds style v piece c below
+pub one_holds : (style : Style) (v : Valuation) (piece : Piece) (c : Config) (below : List Value) → PieceHolds style v piece c below
     → PiecesHold style v (piece ∷ []) c below
 one_holds style v piece c below holds = record {
   stack = subst (λ (l : List Sym). c.stack ≡ values_of v l ++ below) (sym (append-nil piece.stack)) holds.stack;
@@ -145,45 +150,139 @@ nothing_below : (v : Valuation) (below : List Value) (syms : List Sym) → syms 
 nothing_below v below syms none bottom =
     ap (λ (l : List Sym). values_of v l ++ below) none ∙ bottom
 
--- the values below the stack of a pre
-abbrev pub below_pre : (scope : Scope) (list : EntryList) → Start scope list → Piece → List Value
-below_pre scope list s pre = values_of s.v (under s.state pre) ++ s.below
+-- a unit is used at a start: a state came to it by its pre
+pub record Used (scope : Scope) (list : EntryList) : Type 0 where
+  pub unit : Passage
+  pub pre : Piece
+  pub posts : List Piece
+  pub kept : ℕ
+  pub is : IsPassed scope.style unit kept pre posts
+  pub small : HasSmallFields scope.cert.cond
+  pub s : Start scope list
+  pub hints : List Hint
+  pub left : List Hint
+  pub came : comes_by unit scope.cert.cond pre s.state hints ≡ Ok left
 
--- the state with which a summary's own check starts
-abbrev pub own_state : Scope → Summary → State
-own_state scope summary = started scope.style scope.cert.cond (summary.pre ∷ []) summary.whole summary.entry
+-- the values below the stack of its pre
+abbrev pub below_used : (scope : Scope) (list : EntryList) → Used scope list → List Value
+below_used scope list u = values_of u.s.v (under u.s.state u.pre) ++ u.s.below
 
--- it stands for the configuration in which the summary is used
-pub own_stands : (scope : Scope) (list : EntryList) (s : Start scope list) (summary : Summary) (hints left : List Hint) → IsSummaryOf scope.style summary
-    → comes_by (passage summary) scope.cert.cond summary.pre s.state hints ≡ Ok left
-    → StandsOpen scope.style scope.cert.cond list (through (match_of s.state summary.pre 0) s.v) (all_symbols (summary.pre ∷ [])) (own_state scope summary) s.c
-    (below_pre scope list s summary.pre)
-own_stands scope list s summary hints left is came =
-    let fit = came_is scope (passage summary) summary.pre s.state hints left came in
-    let v : Valuation = through (match_of s.state summary.pre 0) s.v in
-    let holds = shown_piece_holds scope.style scope.cert.cond list s.v s.state s.c s.below summary.pre 0 hints left fit.shown s.stands in
-    let spot : Spot = spot_at scope list s (record { line = 1; column = 1 }) in
-    opened scope.style scope.cert.cond list v (summary.pre ∷ []) summary.whole summary.entry s.c (below_pre scope list s summary.pre)
-    (All-cons IsNumbered summary.pre [] is.numbered (All-nil IsNumbered)) (record {
-      values = λ n. s.stands.satisfied.values (match_of s.state summary.pre 0 n);
+-- the value of a name in a configuration
+abbrev pub value_in : Style → NameId → Config → Option Value
+value_in style name c = value_by (kind_of style name) name c.globals (visited_entry c)
+
+-- while a unit is used a piece of it holds, by an assignment to its symbols: those that it shares with the pre have the values of the
+-- pre's, and of the configuration in which the unit was used all stays that the unit may not change
+pub record Inside (scope : Scope) (list : EntryList) (u : Used scope list) (piece : Piece) (v : Valuation) (d : Config) : Type 0 where
+  pub holds : PieceHolds scope.style v piece d (below_used scope list u)
+  pub values : (x : ℕ) → IsValue (v.value x)
+  pub has_list : HasList scope.style scope.cert.cond list v d
+  pub visiting : u.unit.entry ≡ true → IsVisiting v d
+  pub position : v.position ≡ u.s.v.position
+  pub count : v.count ≡ u.s.v.count
+  pub shared : (x : ℕ) → x < u.kept → v.value x ≡ u.s.v.value (match_of u.s.state u.pre 0 x)
+  pub formed : IsWellFormed scope.style list d
+  pub remains : Remains u.unit.entry d.frames u.s.c d
+  pub names : (name : NameId) → is_among u.unit.writes name ≡ false → value_in scope.style name d ≡ value_in scope.style name u.s.c
+  pub have : (name : NameId) (k : Kind) → kind_of scope.style name ≡ Some k → takes_part u.unit.entry k ≡ true
+      → HasValue scope.style scope.cert.cond d.globals (visited_entry d) name
+
+-- a piece from which the unit's own check starts, where it holds
+pub record Begun (scope : Scope) (list : EntryList) (u : Used scope list) : Type 0 where
+  pub piece : Piece
+  pub v : Valuation
+  pub d : Config
+  pub inside : Inside scope list u piece v d
+  pub numbered : IsNumbered piece
+  pub fit : IsFit scope.style piece
+  pub shares : u.kept ≤ symbols_of piece
+
+-- what the state that came fits
+pub came_fit : (scope : Scope) (list : EntryList) (u : Used scope list) → Came u.unit u.pre u.s.state (piece_by scope.cert.cond u.s.state u.pre 0 u.hints) u.left
+came_fit scope list u = came_is scope u.unit u.pre u.s.state u.hints u.left u.came
+
+-- the pre holds where the unit is used
+pub first_inside : (scope : Scope) (list : EntryList) (u : Used scope list)
+    → Inside scope list u u.pre (through (match_of u.s.state u.pre 0) u.s.v) u.s.c
+first_inside scope list u =
+    let fit = came_fit scope list u in
+    let spot : Spot = spot_at scope list u.s (record { line = 1; column = 1 }) in
+    record {
+      holds = shown_piece_holds scope.style scope.cert.cond list u.s.v u.s.state u.s.c u.s.below u.pre 0 u.hints u.left fit.shown u.s.stands;
+      values = λ n. u.s.stands.satisfied.values (match_of u.s.state u.pre 0 n);
       has_list = record {
-        fits = s.stands.has_list.fits;
-        meets = s.stands.has_list.meets;
-        preamble = s.stands.has_list.preamble;
-        entries = s.stands.has_list.entries;
-        count = s.stands.has_list.count;
+        fits = u.s.stands.has_list.fits;
+        meets = u.s.stands.has_list.meets;
+        preamble = u.s.stands.has_list.preamble;
+        entries = u.s.stands.has_list.entries;
+        count = u.s.stands.has_list.count;
       };
-      visiting = λ entry. let at = s.stands.visiting (fit.entry entry) in record {
+      visiting = λ entry. let at = u.s.stands.visiting (fit.entry entry) in record {
         entry = at.entry;
         is_visited = at.is_visited;
         visit = at.visit;
         goes_on = at.goes_on;
         before = at.before;
       };
-      position = λ entry. s.stands.satisfied.position (fit.entry entry);
-      hold = subst (λ (piece : Piece). PiecesHold scope.style v (piece ∷ []) s.c (below_pre scope list s summary.pre)) (sym (piece_same summary.pre))
-          (one_holds scope.style v summary.pre s.c (below_pre scope list s summary.pre) holds);
+      position = refl;
+      count = refl;
+      shared = λ x less. refl;
+      formed = u.s.formed;
+      remains = remains_framed u.unit.entry u.s.c.frames u.s.c u.s.c u.s.goes refl refl refl refl refl;
+      names = λ name not. refl;
+      have = λ name k is takes. have_value spot u.unit.entry name k u.s.formed fit.entry is takes;
+    }
+
+-- so the check may start from it
+abbrev pub first_begun : (scope : Scope) (list : EntryList) (u : Used scope list) → Begun scope list u
+first_begun scope list u = record {
+  piece = u.pre;
+  v = through (match_of u.s.state u.pre 0) u.s.v;
+  d = u.s.c;
+  inside = first_inside scope list u;
+  numbered = u.is.numbered;
+  fit = u.is.fit;
+  shares = u.is.shares;
+}
+
+-- where a unit's own check is: it may write what the unit writes
+abbrev pub own_scope : Scope → List NameId → Scope
+own_scope scope writes = record { style = scope.style; cert = scope.cert; writes = Some writes }
+
+-- the state with which a unit's own check starts
+abbrev pub own_state : Scope → Passage → Piece → State
+own_state scope unit piece = started scope.style scope.cert.cond (piece ∷ []) unit.whole unit.entry
+
+-- it stands where the piece holds
+pub own_open : (scope : Scope) (list : EntryList) (u : Used scope list) (b : Begun scope list u)
+    → StandsOpen scope.style scope.cert.cond list b.v (all_symbols (b.piece ∷ [])) (own_state scope u.unit b.piece) b.d (below_used scope list u)
+own_open scope list u b =
+    let fit = came_fit scope list u in
+    let at = b.inside in
+    opened scope.style scope.cert.cond list b.v (b.piece ∷ []) u.unit.whole u.unit.entry b.d (below_used scope list u)
+    (All-cons IsNumbered b.piece [] b.numbered (All-nil IsNumbered)) (record {
+      values = at.values;
+      has_list = at.has_list;
+      visiting = at.visiting;
+      position = λ entry. subst (λ (n : ℕ). n < b.v.count) (sym at.position)
+          (subst (λ (n : ℕ). u.s.v.position < n) (sym at.count) (u.s.stands.satisfied.position (fit.entry entry)));
+      hold = subst (λ (piece : Piece). PiecesHold scope.style b.v (piece ∷ []) b.d (below_used scope list u)) (sym (piece_same b.piece))
+          (one_holds scope.style b.v b.piece b.d (below_used scope list u) at.holds);
       bottom = λ whole. let all = fit.whole whole in
-          nothing_below s.v s.below (under s.state summary.pre) (nothing_under s.state summary.pre all.1) (s.stands.whole all.0);
-      have = have_values spot summary.entry s.formed fit.entry;
+          nothing_below u.s.v u.s.below (under u.s.state u.pre) (nothing_under u.s.state u.pre all.1) (u.s.stands.whole all.0);
+      have = have_all scope.style scope.cert.cond b.d u.unit.entry at.have;
     })
+
+abbrev pub own_start : (scope : Scope) (list : EntryList) (u : Used scope list) → Begun scope list u → Start (own_scope scope u.unit.writes) list
+own_start scope list u b = record {
+  laws = u.s.laws;
+  v = (own_open scope list u b).assignment;
+  state = own_state scope u.unit b.piece;
+  c = b.d;
+  below = below_used scope list u;
+  made = started_well_made scope.style scope.cert.cond (b.piece ∷ []) u.unit.whole u.unit.entry u.small
+      (All-cons IsNumbered b.piece [] b.numbered (All-nil IsNumbered)) (All-cons (IsFit scope.style) b.piece [] b.fit (All-nil (IsFit scope.style)));
+  goes = b.inside.remains.goes;
+  formed = b.inside.formed;
+  stands = (own_open scope list u b).stands;
+}

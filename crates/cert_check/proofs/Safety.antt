@@ -6,7 +6,7 @@ use Rattle.name_table.specs.declared.style.BodyId.{BodyId}
 use Rattle.name_table.specs.declared.style.Style.{Style}
 use Rattle.bst_meaning.specs.declared.entry.EntryList.{EntryList}
 use Rattle.bst_meaning.specs.declared.value.Value.{Value}
-use Rattle.bst_meaning.specs.Config.{Config, EntryState, Frame, Stopped, Visit}
+use Rattle.bst_meaning.specs.Config.{Config, EntryState, Frame, Part, Stopped, Visit}
 use Rattle.bst_meaning.specs.Entries.{Fits}
 use Rattle.bst_meaning.specs.Invariant.{IsWellFormed}
 use Rattle.bst_meaning.specs.Keeping.{IsConfined, IsKept, placed}
@@ -20,7 +20,7 @@ use Rattle.sym_state.specs.State.{State}
 use Rattle.sym_state.specs.Stands.{Stands}
 use Rattle.sym_state.specs.Symbols.{Agrees, Valuation}
 use Rattle.sym_state.specs.WellMade.{WellMade}
-use Rattle.sym_state.proofs.Spots.{Spot}
+use Rattle.sym_state.proofs.Spots.{Spot, spot_of}
 use Rattle.refinements.specs.Covered.{IsAmong}
 use Rattle.cert_check.specs.Walks.{Scope}
 pub use Rattle.cert_check.specs.Safely.{Remains, SafeFor}
@@ -29,6 +29,10 @@ use Rattle.cert_check.proofs.Followed.{Follows, follows_twice}
 pub less : (style : Style) (n : ℕ) (c : Config) → SafeFor style (suc n) c → SafeFor style n c
 less style zero c safe = safe.0
 less style (suc n) c safe = (safe.0, less style n (step style c) safe.1)
+
+-- the frames where a frame of a part has no token left
+abbrev pub emptied : Place → Part → List Frame → List Frame
+emptied at part frames = record { tokens = []; place = at; part = part } ∷ frames
 
 -- a configuration whose innermost frame is this one
 pub record Framed (frame : Frame) (frames : List Frame) (c : Config) : Type 0 where
@@ -124,18 +128,7 @@ pub record Start (scope : Scope) (list : EntryList) : Type 0 where
 
 -- a start at a place, as rules on states have it
 abbrev pub spot_at : (scope : Scope) (list : EntryList) → Start scope list → Place → Spot
-spot_at scope list s at = record {
-  style = scope.style;
-  admits = scope.cert.cond;
-  list = list;
-  v = s.v;
-  state = s.state;
-  c = s.c;
-  below = s.below;
-  place = at;
-  made = s.made;
-  stands = s.stands;
-}
+spot_at scope list s at = spot_of scope.style scope.cert.cond list s.v s.state s.c s.below at s.made s.stands
 
 -- a state that follows a start, by an assignment that agrees on the symbols that were there, above the same values
 pub record Reaches (scope : Scope) (list : EntryList) (frames : List Frame) (s : Start scope list) (after : State) (w : Valuation) (d : Config) : Type 0 where
@@ -172,19 +165,25 @@ onward scope list frames s after w d reached = record {
   stands = reached.stands;
 }
 
+-- what is reached from there is reached from the first start
+pub reaches_on : (scope : Scope) (list : EntryList) (first frames : List Frame) (s : Start scope list) (middle : State) (w : Valuation) (d : Config)
+    (reached : Reaches scope list first s middle w d) (after : State) (x : Valuation) (e : Config)
+    → Reaches scope list frames (onward scope list first s middle w d reached) after x e → Reaches scope list frames s after x e
+reaches_on scope list first frames s middle w d reached after x e later = record {
+  follows = follows_twice scope s.state middle after reached.follows later.follows;
+  agrees = agrees_on s.state.next middle.next s.v w x reached.follows.grows.next reached.agrees later.agrees;
+  remains = remains_twice s.state.at_entry first frames s.c d e reached.remains
+      (subst (λ (t : Bool). Remains t frames d e) reached.follows.grows.at_entry later.remains);
+  formed = later.formed;
+  stands = later.stands;
+}
+
 -- what comes after the first start comes after that one
 pub safe_on : (scope : Scope) (list : EntryList) (n : ℕ) (first frames : List Frame) (s : Start scope list) (middle : State) (w : Valuation) (d : Config) (states : List State)
     (reached : Reaches scope list first s middle w d) → SafeAfter scope list n frames s states
     → SafeAfter scope list n frames (onward scope list first s middle w d reached) states
-safe_on scope list n first frames s middle w d states reached safe = λ after x e among later.
-    safe after x e among (record {
-      follows = follows_twice scope s.state middle after reached.follows later.follows;
-      agrees = agrees_on s.state.next middle.next s.v w x reached.follows.grows.next reached.agrees later.agrees;
-      remains = remains_twice s.state.at_entry first frames s.c d e reached.remains
-          (subst (λ (t : Bool). Remains t frames d e) reached.follows.grows.at_entry later.remains);
-      formed = later.formed;
-      stands = later.stands;
-    })
+safe_on scope list n first frames s middle w d states reached safe =
+    λ after x e among later. safe after x e among (reaches_on scope list first frames s middle w d reached after x e later)
 
 -- fewer steps
 pub safe_less : (scope : Scope) (list : EntryList) (n : ℕ) (frames : List Frame) (s : Start scope list) (states : List State)

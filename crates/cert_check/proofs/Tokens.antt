@@ -3,7 +3,6 @@ use Rattle.std.proofs.Common.{◌≡◌, ℕ, ◌<◌, Bool, true, false, List, 
 use Rattle.std.specs.List.{All}
 use Rattle.std.specs.Option.{option_map_or, option_or}
 use Rattle.std.proofs.lemmas.List.{reverse-append}
-use Rattle.std.proofs.lemmas.List.Elements.{All-head, All-tail}
 use Rattle.bv_base.specs.declared.place.Place.{Place}
 use Rattle.bv_base.proofs.ThenLemmas.{then_ok}
 use Rattle.name_table.specs.Numbers.{IsByteList}
@@ -54,7 +53,7 @@ use Rattle.cert_check.specs.declared.refusal.Refusal.{Refusal}
 use Rattle.cert_check.specs.Courses.{Course, gives, gives_all, placed}
 use Rattle.cert_check.specs.Walks.{Enter, Scope, literal, number_of, split, test_of, token_taken, variable}
 use Rattle.cert_check.proofs.Inverted.{gives_all_ok, gives_ok, placed_ok}
-use Rattle.cert_check.proofs.Followed.{Follows}
+use Rattle.cert_check.proofs.Followed.{Follows, among_all}
 use Rattle.cert_check.proofs.Keeping.{Told, bound_below, number_is, of_text, split_follow, test_fits, token_follows, top_follows}
 use Rattle.cert_check.proofs.Safety.{Reaches, Remains, SafeAfter, SafeFor, Start, remains_framed, spot_at}
 
@@ -206,12 +205,6 @@ covered_reached scope list s o at after plain follows entries formed covers =
       formed = formed;
       stands = subst (λ (d : Config). Stands scope.style scope.cert.cond list covers.assignment after d s.below) gives covers.stands;
     }
-
--- what holds of all states holds of one among them
-pub among_all : {X : Type 0} (P : X → Type 0) (x : X) (xs : List X) → IsAmong x xs → All P xs → P x
-among_all P x [] among all = absurd among
-among_all P x (first ∷ xs) (inl is) all = subst P (sym is) (All-head P first xs all)
-among_all P x (first ∷ xs) (inr later) all = among_all P x xs later (All-tail P first xs all)
 
 -- the built-in function of a test
 record IsTested (o : Builtin) (asked : Test) : Type 0 where

@@ -1,11 +1,10 @@
 -- The units that are checked (docs/CHECKER.md, "Units"): the body of a summary from its pre to its posts, and the call of a name.
-use Rattle.std.specs.Prelude.{ℕ, nat_eq, if◌then◌else◌, List, [], ◌∷◌, length, Option, None, Some, Result, Ok, Err, slice_get}
-use Rattle.std.specs.Option.{option_map_or, option_and_then}
+use Rattle.std.specs.Prelude.{ℕ, Bool, true, false, nat_eq, if◌then◌else◌, List, [], ◌∷◌, length, Option, None, Some, Result, Ok, Err, slice_get}
+use Rattle.std.specs.Option.{option_map_or}
 use Rattle.bv_base.specs.Answers.{then_do}
 use Rattle.bv_base.specs.declared.place.Place.{Place}
 use Rattle.name_table.specs.declared.names.Kind.{Kind}
 use Rattle.name_table.specs.declared.names.Kind.TheVariants.{Wizard}
-use Rattle.name_table.specs.declared.names.NameId.{NameId}
 use Rattle.name_table.specs.declared.style.BodyId.{BodyId}
 use Rattle.name_table.specs.declared.style.Style.{Style}
 use Rattle.bst_meaning.specs.StyleParts.{kind_of}
@@ -13,19 +12,28 @@ use Rattle.bst_meaning.specs.declared.condition.Cond.{Cond}
 use Rattle.bst_meaning.specs.declared.value.Target.{Target}
 use Rattle.bst_meaning.specs.declared.value.Target.TheVariants.{Named, Block}
 use Rattle.cert_format.specs.declared.cert.Cert.{Cert}
+use Rattle.cert_format.specs.declared.cert.Loop.{Loop}
 use Rattle.cert_format.specs.declared.cert.Summary.{Summary}
 use Rattle.sym_state.specs.State.{State}
+use Rattle.sym_state.specs.Cases.{above_of}
+use Rattle.sym_state.specs.Demands.{one_of}
 use Rattle.sym_state.specs.Starting.{started, symbols_of}
 use Rattle.sym_state.specs.declared.demand.EffectFault.TheVariants.{NotEntailed, HintsShort, WrongHint}
 use Rattle.sym_state.specs.declared.hint.Hint.{Hint}
 use Rattle.sym_state.specs.declared.hint.Hint.TheVariants.{Case}
 use Rattle.sym_state.specs.declared.piece.Piece.{Piece}
+use Rattle.sym_state.specs.declared.symbol.Kinds.TheVariants.{Int}
 use Rattle.cert_check.specs.declared.limits.TheConstants.{MOST_DEPTH}
 use Rattle.cert_check.specs.declared.refusal.Reason.TheVariants.{HintsLeft}
 use Rattle.cert_check.specs.declared.refusal.Refusal.{Refusal}
-use Rattle.cert_check.specs.Courses.{Course, Walk, counts, gives_all, placed, refuses}
+use Rattle.cert_check.specs.Courses.{Course, Walk, counts, placed, refuses}
 use Rattle.sym_state.specs.Showing.{Shown, piece_by}
 use Rattle.cert_check.specs.Walks.{Onward, Scope, body_walked, chosen_in, entered, name_entered, named}
+
+-- a style and a certificate
+pub record Checked : Type 0 where
+  pub style : Style
+  pub cert : Cert
 
 -- the body of a target, which a built-in function, a variable and a field don't have
 abbrev pub body_of_kind : Option Kind → Option BodyId
@@ -103,6 +111,61 @@ target_entered scope place (Named name) state course =
     let enter = body_walked scope MOST_DEPTH in name_entered scope enter (chosen_in scope enter place) place name state course
 target_entered scope place (Block body) state course =
     entered scope place (Block body) (body_walked scope MOST_DEPTH place body) state course
+
+-- each of these states entails one of the pieces
+abbrev pub all_entail : Place → Cond → List Piece → List State → Course → Walk
+all_entail place cond pieces states course =
+    then_do (placed place (all_end cond 0 pieces states course.hints)) (λ hints. Ok (record course { hints = hints }))
+
+-- above 0 the body of a loop is entered, and each state at its end entails a case; else the loop ends, and the state entails an exit
+abbrev pub turned : Scope → Place → Loop → Bool → State → Course → Walk
+turned scope place one true state course =
+    then_do (target_entered scope place one.body state course) (λ after.
+    all_entail place scope.cert.cond one.cases after.given (record after { given = [] }))
+turned scope place one false state course = all_entail place scope.cert.cond one.exits (state ∷ []) course
+
+-- the cases of the test's integer, in order
+abbrev pub all_turned : Scope → Place → Loop → List (Bool × State) → Course → Walk
+all_turned scope place one [] course = Ok course
+all_turned scope place one (case ∷ cases) course = then_do (turned scope place one case.0 case.1 course) (all_turned scope place one cases)
+
+-- at the test's end a state gives up an integer, and is split on it
+abbrev pub tested : Scope → Place → Loop → Onward
+tested scope place one state course =
+    then_do (placed place (one_of Int state)) (λ taken.
+    then_do (placed place (above_of scope.cert.cond taken.rest taken.operand course.hints)) (λ labelled.
+    all_turned scope place one labelled.cases (record course { hints = labelled.hints })))
+
+-- each state at the test's end, in order
+abbrev pub all_tested : Scope → Place → Loop → List State → Course → Walk
+all_tested scope place one [] course = Ok course
+all_tested scope place one (state ∷ states) course = then_do (tested scope place one state course) (all_tested scope place one states)
+
+-- the state with which a turn starts from a case
+abbrev pub turn_state : Scope → Loop → Piece → State
+turn_state scope one case = started scope.style scope.cert.cond (case ∷ []) one.whole one.entry
+
+-- a turn from a state: the test is entered first
+abbrev pub turn : Scope → Place → Loop → Onward
+turn scope place one state course =
+    then_do (target_entered scope place one.test state course) (λ after. all_tested scope place one after.given (record after { given = [] }))
+
+-- a turn from each case
+abbrev pub turned_from : Scope → Place → Loop → List Piece → Course → Walk
+turned_from scope place one [] course = Ok course
+turned_from scope place one (case ∷ cases) course =
+    then_do (turn scope place one (turn_state scope one case) course) (turned_from scope place one cases)
+
+-- a loop is checked from each of its cases, and no hint is left; its place is that of its body
+abbrev pub loop_checked : Style → Cert → Loop → Result (List Hint) Refusal
+loop_checked style cert one =
+    let scope : Scope = record { style = style; cert = cert; writes = Some one.writes } in
+    let place = place_of style (body_of style one.body) in
+    then_do (turned_from scope place one one.cases (beginning one.hints)) (λ course. none_left place course.hints)
+
+-- the loop of a number is checked
+abbrev pub loop_checked_at : Style → Cert → ℕ → Result (List Hint) Refusal
+loop_checked_at style cert k = option_map_or (loop_checked style cert) (slice_get cert.loops k) (Ok [])
 
 -- it is entered from states, one after the other
 abbrev pub target_from : Scope → Place → Target → List State → Course → Walk

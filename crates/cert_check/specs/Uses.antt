@@ -7,6 +7,7 @@ use Rattle.name_table.specs.declared.names.NameId.{NameId}
 use Rattle.name_table.specs.declared.style.Style.{Style}
 use Rattle.bst_meaning.specs.declared.condition.Cond.{Cond}
 use Rattle.bst_meaning.specs.StyleParts.{kind_of}
+use Rattle.cert_format.specs.declared.cert.Loop.{Loop}
 use Rattle.cert_format.specs.declared.cert.Summary.{Summary}
 use Rattle.sym_state.specs.State.{State}
 use Rattle.sym_state.specs.declared.demand.EffectFault.TheVariants.{NotEntailed}
@@ -35,6 +36,10 @@ pub record Passage : Type 0 where
 -- that of a summary
 abbrev pub passage : Summary → Passage
 passage summary = record { entry = summary.entry; whole = summary.whole; writes = summary.writes }
+
+-- that of a loop
+abbrev pub around : Loop → Passage
+around one = record { entry = one.entry; whole = one.whole; writes = one.writes }
 
 -- where a unit's stacks are whole, the state's is, and has the length of the piece's
 abbrev pub fits_stack : Passage → Piece → State → Bool

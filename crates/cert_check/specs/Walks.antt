@@ -1,11 +1,13 @@
 -- The walk over tokens (docs/CHECKER.md, "The walk"): each token is taken from each state in order, and what it gives takes the
 -- state's place. How a body is walked that a token enters is told to each rule.
-use Rattle.std.specs.Prelude.{ℕ, zero, suc, Bool, true, false, nat_eq, if◌then◌else◌, List, [], ◌∷◌, length, reverse, map, Option, None, Some, Result, Ok, Err, slice_get}
+use Rattle.std.specs.Prelude.{ℕ, zero, suc, Bool, true, false, ◌&&◌, ◌||◌, nat_eq, if◌then◌else◌, List, [], ◌∷◌, ◌++◌, length, reverse, map, codes, Option, None, Some, is_none, Result, Ok, Err, slice_get}
 use Rattle.std.specs.List.{list_all, list_any}
 use Rattle.std.specs.Option.{option_and_then, option_map, option_map_or}
 use Rattle.bv_base.specs.Answers.{then_do}
 use Rattle.bv_base.specs.declared.place.Place.{Place}
 use Rattle.name_table.specs.Sound.{block_of}
+use Rattle.name_table.specs.Opening.{skip}
+use Rattle.name_table.specs.TypeTarget.{type_function}
 use Rattle.name_table.specs.declared.builtin.Builtin.{Builtin}
 use Rattle.name_table.specs.declared.builtin.Builtin.TheVariants as op
 use Rattle.name_table.specs.declared.names.Kind.{Kind}
@@ -18,15 +20,17 @@ use Rattle.name_table.specs.declared.style.Token.{Token}
 use Rattle.name_table.specs.declared.style.Token.TheVariants as token
 use Rattle.name_table.specs.declared.style.TokenAt.{TokenAt}
 use Rattle.bst_meaning.specs.StyleParts.{kind_of, text_of, tokens_of}
+use Rattle.bst_meaning.specs.declared.condition.Cond.{Cond}
 use Rattle.bst_meaning.specs.declared.value.Target.{Target}
 use Rattle.bst_meaning.specs.declared.value.Target.TheVariants.{Named, Block}
 use Rattle.cert_format.specs.declared.cert.Cert.{Cert}
+use Rattle.cert_format.specs.declared.cert.Loop.{Loop}
 use Rattle.cert_format.specs.declared.cert.Summary.{Summary}
 use Rattle.sym_state.specs.State.{State}
-use Rattle.sym_state.specs.Cases.{Labelled, above_of, split_of}
+use Rattle.sym_state.specs.Cases.{above_of, split_of}
 use Rattle.sym_state.specs.Changes.{bound}
 use Rattle.sym_state.specs.Decided.{Function, ByName, ByNumber, exact_function, name_of}
-use Rattle.sym_state.specs.Demands.{Outcome, Three, fails, three_by}
+use Rattle.sym_state.specs.Demands.{Outcome, Three, three_by, two_of}
 use Rattle.sym_state.specs.Effects.{effect_of}
 use Rattle.sym_state.specs.Results.{next_of, with_result, with_top}
 use Rattle.sym_state.specs.Starting.{symbols_of}
@@ -45,7 +49,7 @@ use Rattle.sym_state.specs.declared.test.Test.{Test}
 use Rattle.sym_state.specs.declared.test.Test.TheVariants as test
 use Rattle.cert_check.specs.declared.refusal.Reason.TheVariants as reason
 use Rattle.cert_check.specs.Courses.{Course, Walk, counts, gives, gives_all, placed, refuses}
-use Rattle.cert_check.specs.Uses.{Passage, comes_by, is_among, left_state, passage}
+use Rattle.cert_check.specs.Uses.{Passage, around, comes_by, is_among, left_state, passage}
 
 -- where a walk is: the style and the certificate, and the variables that the scope which is checked may write: all where none is listed
 pub record Scope : Type 0 where
@@ -202,16 +206,111 @@ abbrev pub chosen : Scope → Enter → Call → Place → List Sym → State �
 chosen scope enter call place stack state course =
     then_do (placed place (three_by Int Func Func stack state)) (λ three. choice scope enter call place three course)
 
--- a built-in function is called; no rule knows yet what `while$` and `call.type$` enter
-abbrev pub built_in : Scope → Onward → Builtin → Place → State → Course → Walk
-built_in scope if_else op.IfElse place state course = if_else state course
-built_in scope if_else op.WhileDo place state course = refuses place reason.UnknownFunction
-built_in scope if_else op.CallType place state course = refuses place reason.UnknownFunction
-built_in scope if_else op place state course = entering_nothing scope op (test_of op) place state course
+-- the case of a loop that a state came to, and the hints that are left
+pub record Come : Type 0 where
+  pub case : Piece
+  pub hints : List Hint
+
+-- a state comes to a loop by a case
+abbrev pub comes_by_case : Passage → Cond → Option Piece → State → List Hint → Result Come EffectFault
+comes_by_case unit cond None state hints = Err (fault.NotEntailed 0)
+comes_by_case unit cond (Some case) state hints =
+    then_do (comes_by unit cond case state hints) (λ left. Ok (record { case = case; hints = left }))
+
+-- the next hint is the number of that case among those of the loop
+abbrev pub comes_to : Passage → Cond → List Piece → State → List Hint → Result Come EffectFault
+comes_to unit cond cases state [] = Err fault.HintsShort
+comes_to unit cond cases state (hint.Case k ∷ hints) = comes_by_case unit cond (slice_get cases k) state hints
+comes_to unit cond cases state (hint ∷ hints) = Err fault.WrongHint
+
+-- a loop is used in a state without its two functions: a case is entailed, and the exits act as posts that share no symbol with it
+abbrev pub loop_used : Scope → Place → Loop → Onward
+loop_used scope place one state course =
+    then_do (placed place (comes_to (around one) scope.cert.cond one.cases state course.hints)) (λ come.
+    leaves scope place (around one) come.case one.exits 0 state (record course { hints = come.hints }))
+
+-- the loop that a hint names is used, where it is one of the two functions
+abbrev pub loop_of : Scope → Place → Target → Target → Option Loop → Onward
+loop_of scope place test body None state course = refuses place reason.NoInvariant
+loop_of scope place test body (Some one) state course =
+    if is_target one.test test && is_target one.body body then loop_used scope place one state course else refuses place reason.NoInvariant
+
+-- the next hint names a loop
+abbrev pub loop_by : Scope → Place → Target → Target → State → Course → List Hint → Walk
+loop_by scope place test body state course [] = refuses place reason.HintsShort
+loop_by scope place test body state course (hint.Loop k ∷ hints) =
+    loop_of scope place test body (slice_get scope.cert.loops k) state (record course { hints = hints })
+loop_by scope place test body state course (hint ∷ hints) = refuses place reason.WrongHint
+
+-- both functions have to be known exactly, before the hint is looked at
+abbrev pub loop_around : Scope → Place → Option Target → Option Target → Onward
+loop_around scope place (Some test) (Some body) state course = loop_by scope place test body state course course.hints
+loop_around scope place test body state course = refuses place reason.UnknownFunction
+
+-- `while$`: the test and, on top of it, the body
+abbrev pub repeated : Scope → Place → Onward
+repeated scope place state course =
+    then_do (placed place (two_of Func Func state)) (λ two.
+    loop_around scope place (exact_target scope.style state two.lower) (exact_target scope.style state two.upper) two.rest course)
+
+-- the functions of these types, of those that the style defines
+abbrev pub listed_functions : Style → List (List ℕ) → List NameId
+listed_functions style [] = []
+listed_functions style (name ∷ names) = option_map_or (λ id. id ∷ listed_functions style names) (type_function name style) (listed_functions style names)
+
+-- an entry may have a type that the style doesn't define
+abbrev pub has_other_types : Style → Cond → Bool
+has_other_types style cond = cond.other || list_any (λ name. is_none (type_function name style)) cond.types
+
+-- what `call.type$` enters for such a type
+abbrev pub default_function : Style → NameId
+default_function style = option_map_or (λ id. id) (type_function (codes "default.type") style) skip
+
+-- the functions that `call.type$` may enter: those of the listed types, and the default function where a type may be another
+abbrev pub type_functions : Style → Cond → List NameId
+type_functions style cond =
+    listed_functions style cond.types ++ (if has_other_types style cond then default_function style ∷ [] else [])
+
+-- how a function is walked that `call.type$` enters: one of the style, or `skip$`, which changes nothing
+abbrev pub type_walked : Enter → Option Kind → Place → Onward
+type_walked enter (Some (kind.Wizard body)) place state course = enter place body state course
+type_walked enter found place state course = gives place state course
+
+-- a function that `call.type$` enters counts
+abbrev pub type_called : Scope → Enter → Place → NameId → Onward
+type_called scope enter place name state course =
+    then_do (counts 1 place course) (entered scope place (Named name) (type_walked enter (kind_of scope.style name) place) state)
+
+-- several of them, each from the state
+abbrev pub types_called : Scope → Enter → Place → List NameId → Onward
+types_called scope enter place [] state course = Ok course
+types_called scope enter place (name ∷ names) state course =
+    then_do (type_called scope enter place name state course) (types_called scope enter place names state)
+
+-- `call.type$`: the functions of the listed types in order, and then the default function where an entry may have another type
+abbrev pub typed : Scope → Enter → Place → Onward
+typed scope enter place state course =
+    if state.at_entry
+    then types_called scope enter place (type_functions scope.style scope.cert.cond) state course
+    else refuses place (reason.Demand (record { kind = NoEntry; operand = 0 }))
+
+-- a built-in function that enters functions
+abbrev pub enters : Builtin → Bool
+enters op.IfElse = true
+enters op.WhileDo = true
+enters op.CallType = true
+enters _ = false
+
+-- a built-in function is called
+abbrev pub built_in : Scope → Enter → Onward → Builtin → Place → State → Course → Walk
+built_in scope enter if_else op.IfElse place state course = if_else state course
+built_in scope enter if_else op.WhileDo place state course = repeated scope place state course
+built_in scope enter if_else op.CallType place state course = typed scope enter place state course
+built_in scope enter if_else op place state course = entering_nothing scope op (test_of op) place state course
 
 -- a name of a kind is called
 abbrev pub named : Scope → Enter → Onward → Option Kind → NameId → Place → State → Course → Walk
-named scope enter if_else (Some (kind.Builtin op)) name place state course = built_in scope if_else op place state course
+named scope enter if_else (Some (kind.Builtin op)) name place state course = built_in scope enter if_else op place state course
 named scope enter if_else (Some (kind.Wizard body)) name place state course = entered scope place (Named name) (enter place body) state course
 named scope enter if_else _ name place state course = variable name place state course
 

@@ -1,37 +1,47 @@
 //! How far a walk has come.
 
-ghost use Rattle.std.specs.Prelude.{◌≡◌, ◌≢◌, ◌<◌, ◌≤◌, [], ◌∷◌, ◌++◌, length, true, IfOk, OnOk, Ok, Err, MatchResult, MatchOption};
+ghost use Rattle.std.specs.Prelude.{◌≡◌, ◌≢◌, ◌<◌, ◌≤◌, ◌+◌, ◌*◌, ℕ, [], ◌∷◌, ◌++◌, length, reverse, true, false, IfOk, OnOk, Ok, Err, MatchResult, MatchOption};
 ghost use Rattle.std.specs.List.{All};
-ghost use Rattle.sym_state.specs.Demands.{HasFewUses};
-ghost use Rattle.sym_state.specs.Effects.{is_plain};
+ghost use Rattle.bv_base.specs.Answers.{then_do};
+ghost use Rattle.sym_state.specs.Cases.{above_of};
+ghost use Rattle.sym_state.specs.Demands.{HasFewUses, one_of, without};
+ghost use Rattle.sym_state.specs.Effects as effects;
 ghost use Rattle.sym_state.specs.Entailing.{line_count};
 ghost use Rattle.sym_state.specs.Results as results;
 ghost use Rattle.sym_state.specs.WellMade.{HasBounds, IsBounded};
 ghost use Rattle.sym_state.specs.declared.demand.EffectFault.TheVariants.{NoMemory as WantOfMemoryThere};
+ghost use Rattle.sym_state.specs.declared.symbol.Kinds.TheVariants.{Int as IntKind};
+ghost use Rattle.cert_format.specs.declared.cert.Loop.{Loop};
 ghost use Rattle.cert_check.specs.Courses as courses;
-ghost use Rattle.cert_check.specs.Given.{Refused, Takes};
+ghost use Rattle.cert_check.specs.Given.{CanEnd, Refused, Takes};
+ghost use Rattle.cert_check.specs.Room.{AreWithin, HasRoom};
+ghost use Rattle.cert_check.specs.Units as units;
 ghost use Rattle.cert_check.specs.Uses as uses;
 ghost use Rattle.cert_check.specs.Walks as rule;
 ghost use Rattle.cert_check.specs.declared.refusal.Reason.TheVariants.{NoMemory as WantOfMemory};
 
+use crate::choice::{Three, test_of};
 use crate::limits::{MOST_CASES, MOST_COUNT};
 use crate::refusal::{Reason, Refusal};
 use crate::scope::Scope;
+use crate::units::all_end;
 use crate::uses::{Passage, comes_by};
+use bst_meaning::condition::Cond;
 use builtin_effects::effect::effect;
 use bv_base::memory::NoMemory;
 use bv_base::place::Place;
 use name_table::builtin::Builtin;
 use name_table::names::NameId;
-use refinements::{Test, split};
+use refinements::{Test, above, split};
 use std::alloc::Global;
 use std::marker::Model;
 use std::mem;
 use sym_state::demand::{Demand, DemandKind, EffectFault};
 use sym_state::hint::{Hint, Hints};
+use sym_state::operands::one;
 use sym_state::piece::Piece;
 use sym_state::state::State;
-use sym_state::symbol::Sym;
+use sym_state::symbol::{Kinds, Sym};
 
 /// The states that the token in hand has given so far, the hints that are left, and how much the unit's walk has counted.
 #[derive(Drop)]
@@ -132,10 +142,21 @@ impl<'a> Course<'a> {
 
     /// The next hint that is left, which is taken.
     pub(crate) fn next_hint(&mut self) -> Option<&'a Hint>
-        ensures { MatchOption result ((self.old.hints ≡ []) × (self.new ≡ self.old))
+        ensures hint { MatchOption result ((self.old.hints ≡ []) × (self.new ≡ self.old))
             (λ hint. (self.old.hints ≡ hint.now ∷ self.new.hints) × (self.new ≡ record self.old { hints = self.new.hints })) }
+        ensures counted { self.old.count ≤ MOST_COUNT }
     {
         self.hints.next_short()
+    }
+
+    /// The hints that are left.
+    pub(crate) fn rest(&self) -> &'a [Hint]
+        ensures rest { result.now ≡ self.now.hints }
+        ensures few { All HasFewUses self.now.hints }
+        ensures counted { self.now.count ≤ MOST_COUNT }
+    {
+        let _ = &self.count;
+        self.hints.rest()
     }
 
     /// A state comes to a unit by its pre, which the next hints show.
@@ -170,9 +191,8 @@ impl<'a> Course<'a> {
         place: Place,
         state: &State,
     ) -> Result<(), Refusal>
-        requires plain { is_plain op ≡ true }
-        requires bounds { HasBounds state.now }
-        requires room { state.now.next < 4294967295 }
+        requires plain { effects.is_plain op ≡ true }
+        requires room { HasRoom scope.now.style 65 self.old.count state.now }
         ensures takes { Takes (rule.plain scope.now op place state.now self.old) self.new result }
     {
         let may = is_within(scope, written_by(op, state));
@@ -196,13 +216,153 @@ impl<'a> Course<'a> {
         place: Place,
         state: &State,
     ) -> Result<(), Refusal>
-        requires bounds { HasBounds state.now }
-        requires room { state.now.next < 4294967295 }
+        requires room { HasRoom scope.now.style 65 self.old.count state.now }
         ensures takes { Takes (rule.split scope.now test place state.now self.old) self.new result }
     {
         let answer = split(state, scope.cond(), test, &mut self.hints);
         let states = placed(place, answer)?;
         self.gives_all(place, states)
+    }
+
+    /// A built-in function that enters nothing.
+    pub(crate) fn entering_nothing(
+        &mut self,
+        scope: &Scope<'_>,
+        op: Builtin,
+        place: Place,
+        state: &State,
+    ) -> Result<(), Refusal>
+        requires nothing { rule.enters op ≡ false }
+        requires room { HasRoom scope.now.style 65 self.old.count state.now }
+        ensures takes { Takes (rule.entering_nothing scope.now op (rule.test_of op) place state.now self.old) self.new result }
+    {
+        match test_of(op) {
+            Some(test) => self.split(scope, test, place, state),
+            None => self.plain(scope, op, place, state),
+        }
+    }
+
+    /// The operands of `if$`, and the cases that are kept, each with whether the integer is above 0 there.
+    pub(crate) fn chooses(
+        &mut self,
+        scope: &Scope<'_>,
+        place: Place,
+        state: &State,
+    ) -> Result<(Three, Vec<(bool, State)>), Refusal>
+        requires room { HasRoom scope.now.style 65 self.old.count state.now }
+        ensures takes { (enter : rule.Enter) (call : rule.Call) → MatchResult result
+            (λ chosen. rule.chosen scope.now enter call place (reverse state.now.stack) state.now self.old
+            ≡ rule.cases_entered scope.now enter call place chosen.0 chosen.1.items self.new)
+            (Refused (rule.chosen scope.now enter call place (reverse state.now.stack) state.now self.old)) }
+        ensures cases { (known : ℕ) → length state.now.stack ≤ known
+            → IfOk result (λ chosen. AreWithin scope.now.style known self.new.count chosen.1.items) }
+    {
+        let three = Three::of(place, state)?;
+        let cases = self.above(scope, place, &three)?;
+        Ok((three, cases))
+    }
+
+    /// The cases of whether an integer is above 0.
+    fn above(
+        &mut self,
+        scope: &Scope<'_>,
+        place: Place,
+        three: &Three,
+    ) -> Result<Vec<(bool, State)>, Refusal>
+        requires bounds { HasBounds three.now.rest }
+        requires room { three.now.rest.next + 65 ≤ 2147483648 + 65 * self.old.count }
+        ensures takes { MatchResult result
+            (λ cases. courses.placed place (above_of scope.now.cert.cond three.now.rest three.now.lowest self.old.hints)
+            ≡ Ok (record { cases = cases.items; hints = self.new.hints }))
+            (Refused (courses.placed place (above_of scope.now.cert.cond three.now.rest three.now.lowest self.old.hints))) }
+        ensures rest { self.new ≡ record self.old { hints = self.new.hints } }
+    {
+        self.above_in(scope, place, &three.rest, three.lowest)
+    }
+
+    /// The same of a symbol in a state.
+    fn above_in(
+        &mut self,
+        scope: &Scope<'_>,
+        place: Place,
+        state: &State,
+        sym: Sym,
+    ) -> Result<Vec<(bool, State)>, Refusal>
+        requires bounds { HasBounds state.now }
+        requires room { state.now.next + 65 ≤ 2147483648 + 65 * self.old.count }
+        ensures takes { MatchResult result
+            (λ cases. courses.placed place (above_of scope.now.cert.cond state.now sym self.old.hints) ≡ Ok (record { cases = cases.items; hints = self.new.hints }))
+            (Refused (courses.placed place (above_of scope.now.cert.cond state.now sym self.old.hints))) }
+        ensures rest { self.new ≡ record self.old { hints = self.new.hints } }
+    {
+        let answer = above(state, scope.cond(), sym, &mut self.hints);
+        placed(place, answer)
+    }
+
+    /// The integer on top is given up: the cases of whether it is above 0.
+    pub(crate) fn signs(
+        &mut self,
+        scope: &Scope<'_>,
+        place: Place,
+        state: &State,
+    ) -> Result<Vec<(bool, State)>, Refusal>
+        requires room { HasRoom scope.now.style 65 self.old.count state.now }
+        ensures takes { (turns : Loop) → MatchResult result
+            (λ cases. units.tested scope.now place turns state.now self.old ≡ units.all_turned scope.now place turns cases.items self.new)
+            (Refused (units.tested scope.now place turns state.now self.old)) }
+        ensures rest { OnOk result (self.new ≡ record self.old { hints = self.new.hints }) }
+        ensures cases { IfOk result (λ cases. All (λ case. HasRoom scope.now.style 64 self.old.count case.1) cases.items) }
+    {
+        let (operand, rest) = integer(place, state)?;
+        self.above_in(scope, place, &rest, operand)
+    }
+
+    /// Each of these states entails one of the pieces.
+    pub(crate) fn all_entail(
+        &mut self,
+        scope: &Scope<'_>,
+        place: Place,
+        pieces: &[Piece],
+        states: &[State],
+    ) -> Result<(), Refusal>
+        requires states { All HasBounds states.now }
+        requires pieces { All CanEnd pieces.now }
+        ensures takes { Takes (units.all_entail place scope.now.cert.cond pieces.now states.now self.old) self.new result }
+        ensures rest { OnOk result (self.new ≡ record self.old { hints = self.new.hints }) }
+    {
+        placed(
+            place,
+            all_end(scope.cond(), 0, pieces, states, &mut self.hints),
+        )
+    }
+
+    /// The unit ends: each state that it gave entails one of these pieces, and no hint is left.
+    pub(crate) fn ends(
+        &mut self,
+        cond: &Cond,
+        place: Place,
+        kept: u32,
+        pieces: &[Piece],
+    ) -> Result<(), Refusal>
+        requires states { All HasBounds self.old.given }
+        requires pieces { All CanEnd pieces.now }
+        ensures { MatchResult result (λ _. then_do (courses.placed place (units.all_end cond.now kept pieces.now self.old.given self.old.hints)) (units.none_left place) ≡ Ok [])
+            (Refused (then_do (courses.placed place (units.all_end cond.now kept pieces.now self.old.given self.old.hints)) (units.none_left place))) }
+    {
+        let answer = all_end(cond, kept, pieces, self.given.as_slice(), &mut self.hints);
+        placed(place, answer)?;
+        self.none_left(place)
+    }
+
+    /// No hint is left at a unit's end.
+    pub(crate) fn none_left(&self, place: Place) -> Result<(), Refusal>
+        ensures { MatchResult result (λ _. units.none_left place self.now.hints ≡ Ok []) (Refused (units.none_left place self.now.hints)) }
+    {
+        if self.rest().is_empty() {
+            Ok(())
+        } else {
+            refuse(place, Reason::HintsLeft)
+        }
     }
 
     /// A variable or a field puts its symbol on top.
@@ -230,6 +390,17 @@ impl<'a> Course<'a> {
     }
 }
 
+/// The integer on top, and the state without it.
+fn integer(place: Place, state: &State) -> Result<(Sym, State), Refusal>
+    ensures one { MatchResult result (λ p. courses.placed place (one_of IntKind state.now) ≡ Ok (record { operand = p.0; rest = p.1 }))
+        (Refused (courses.placed place (one_of IntKind state.now))) }
+    ensures rest { IfOk result (λ p. p.1 ≡ without 1 state.now) }
+{
+    let operand = placed(place, one(state, Kinds::Int))?;
+    let rest = held(place, state.without(1))?;
+    Ok((operand, rest))
+}
+
 /// Puts a state behind those that were given.
 fn put(place: Place, given: &mut Vec<State>, state: State) -> Result<(), Refusal>
     ensures { MatchResult result (λ _. given.new.items ≡ given.old.items ++ state ∷ []) (λ refusal. refusal.reason ≡ WantOfMemory) }
@@ -241,14 +412,14 @@ fn put(place: Place, given: &mut Vec<State>, state: State) -> Result<(), Refusal
 }
 
 /// A rule fails at a place.
-pub(crate) fn refuse<T>(place: Place, reason: Reason) -> Result<T, Refusal>
+pub fn refuse<T>(place: Place, reason: Reason) -> Result<T, Refusal>
     ensures { result ≡ courses.refuses place reason }
 {
     Err(Refusal { place, reason })
 }
 
 /// What a rule on states gives, where it is taken at a place.
-pub(crate) fn placed<T>(place: Place, answer: Result<T, EffectFault>) -> Result<T, Refusal>
+pub fn placed<T>(place: Place, answer: Result<T, EffectFault>) -> Result<T, Refusal>
     ensures { result ≡ courses.placed place answer }
 {
     match answer {
@@ -258,7 +429,7 @@ pub(crate) fn placed<T>(place: Place, answer: Result<T, EffectFault>) -> Result<
 }
 
 /// What is given where memory allows.
-pub(crate) fn held<T>(place: Place, answer: Result<T, NoMemory>) -> Result<T, Refusal>
+pub fn held<T>(place: Place, answer: Result<T, NoMemory>) -> Result<T, Refusal>
     ensures { MatchResult result (λ value. answer ≡ Ok value) (λ refusal. refusal.reason ≡ WantOfMemory) }
 {
     match answer {

@@ -1,11 +1,12 @@
 //! How a target is entered: by a summary, or by a walk (docs/CHECKER.md, "The walk" and "Use of a summary").
 
-ghost use Rattle.std.specs.Prelude.{◌≡◌, ◌<◌, ◌≤◌, ◌+◌, if◌then◌else◌, Ok, MatchResult, length, slice_get};
+ghost use Rattle.std.specs.Prelude.{◌≡◌, ◌<◌, ◌≤◌, ◌+◌, if◌then◌else◌, Ok, IfOk, IsTrue, MatchResult, length, slice_get};
 ghost use Rattle.std.specs.List.{All, list_all};
 ghost use Rattle.sym_state.specs.Starting.{symbols_of as count_of};
 ghost use Rattle.sym_state.specs.WellMade.{HasBounds};
 ghost use Rattle.cert_check.specs.Certified.{IsCertified, IsSummaryOf};
 ghost use Rattle.cert_check.specs.Given.{Refused, Takes};
+ghost use Rattle.cert_check.specs.Room.{HasRoom};
 ghost use Rattle.cert_check.specs.Walks as rule;
 
 use crate::course::{Course, held, refuse};
@@ -31,8 +32,8 @@ pub(crate) fn comes_in(
     course: &mut Course<'_>,
 ) -> Result<bool, Refusal>
     requires cert { IsCertified scope.now.style scope.now.cert }
-    requires bounds { HasBounds state.now }
-    requires room { state.now.next ≤ 2212483648 }
+    requires room { HasRoom scope.now.style 64 course.old.count state.now }
+    ensures count { IfOk result (λ walks. IsTrue walks → course.new.count ≡ course.old.count) }
     ensures takes { (walk : rule.Onward) → MatchResult result
         (λ walks. rule.entered scope.now place target walk state.now course.old ≡ (if walks then walk state.now course.new else Ok course.new))
         (Refused (rule.entered scope.now place target walk state.now course.old)) }
@@ -109,7 +110,7 @@ fn summary_used(
 
 /// A unit is used that a state came to: the unit which is checked may write what this one writes, each of these variables
 /// counts, and each of its posts gives one state.
-fn leaves(
+pub(crate) fn leaves(
     scope: &Scope<'_>,
     place: Place,
     came: &Came<'_>,

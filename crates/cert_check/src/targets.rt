@@ -7,50 +7,38 @@ ghost use Rattle.sym_state.specs.Decided.{exact_function, number_of};
 ghost use Rattle.bst_meaning.specs.StyleParts as parts;
 ghost use Rattle.cert_check.specs.Walks as rule;
 
+use crate::scope::Scope;
 use bst_meaning::style_parts::kind_of;
 use bst_meaning::value::Target;
 use name_table::names::{Kind, NameId};
-use name_table::style::{BodyId, MOST_BODIES, Style};
+use name_table::style::{MOST_BODIES, Style};
 use sym_state::state::State;
 use sym_state::symbol::Sym;
 
 /// What a symbol exactly is, where that is known: a name, or the block with its number.
-pub(crate) fn exact_target(style: &Style, state: &State, sym: Sym) -> Option<Target>
-    requires { length style.now.bodies ≤ MOST_BODIES }
-    ensures { result ≡ rule.exact_target style.now state.now sym }
+pub(crate) fn exact_target(scope: &Scope<'_>, state: &State, sym: Sym) -> Option<Target>
+    requires { length scope.now.style.bodies ≤ MOST_BODIES }
+    ensures { result ≡ rule.exact_target scope.now.style state.now sym }
 {
     match state.exact_name(sym) {
         Some(name) => Some(Target::Named(name)),
-        None => exact_block(style, state, sym),
+        None => exact_block(scope, state, sym),
     }
 }
 
 /// The block that a symbol exactly is.
-fn exact_block(style: &Style, state: &State, sym: Sym) -> Option<Target>
-    requires { length style.now.bodies ≤ MOST_BODIES }
-    ensures { result ≡ option_map BlockOf (option_and_then (λ number. rule.block_body number 0 style.now.bodies)
+fn exact_block(scope: &Scope<'_>, state: &State, sym: Sym) -> Option<Target>
+    requires { length scope.now.style.bodies ≤ MOST_BODIES }
+    ensures { result ≡ option_map BlockOf (option_and_then (λ number. rule.block_body number 0 scope.now.style.bodies)
         (option_and_then number_of (exact_function state.now.facts sym.0))) }
 {
     match state.exact_block(sym) {
-        Some(number) => match block_body(style, number) {
+        Some(number) => match scope.block_body(number) {
             Some(body) => Some(Target::Block(body)),
             None => None,
         },
         None => None,
     }
-}
-
-/// The body of the block with a number.
-fn block_body(style: &Style, number: u32) -> Option<BodyId>
-    requires { length style.now.bodies ≤ MOST_BODIES }
-    ensures { result ≡ rule.block_body number 0 style.now.bodies }
-{
-    for (id, body) in style.bodies.as_slice().iter().enumerate() {
-        if body.block == Some(number) {
-            return Some(BodyId(id as u32));
-        }
-    }
-    None
 }
 
 /// Whether a name is that of a function of the style.

@@ -12,12 +12,13 @@ use Rattle.name_table.specs.declared.names.NameId.{NameId}
 use Rattle.name_table.specs.declared.style.Style.{Style}
 use Rattle.sym_state.specs.declared.hint.Hint.{Hint}
 use Rattle.sym_state.specs.declared.piece.Piece.{Piece}
+use Rattle.cert_format.specs.declared.cert_lines.TheConstants.{MOST_LIST}
 use Rattle.cert_format.specs.CertText.{IsCert, IsCommandPart, IsHint, IsLoop, IsPiece, IsSummary, next_behind, places_of}
 use Rattle.cert_format.specs.Certs as certs
 use Rattle.cert_format.specs.CondText.{ArePlain}
 use Rattle.cert_format.specs.Conditions as conditions
 use Rattle.cert_format.specs.HintSpelling.{hints_lines}
-use Rattle.cert_format.specs.Items.{expected, last_of}
+use Rattle.cert_format.specs.Items.{expected, last_of, positive}
 use Rattle.cert_format.specs.Lines.{Item, Line, lines_of, next_item}
 use Rattle.cert_format.specs.Pieces as pieces
 use Rattle.cert_format.specs.Spelling.{cond_items, text_of}
@@ -33,6 +34,7 @@ use Rattle.cert_format.specs.declared.cert_lines.CertStage.TheVariants as stage
 use Rattle.cert_format.specs.declared.cond_lines.CondSoFar.{CondSoFar}
 use Rattle.cert_format.specs.declared.cond_lines.Stage.{Stage}
 use Rattle.cert_format.specs.declared.cond_lines.Stage.TheVariants as part
+use Rattle.cert_format.specs.declared.items.TheConstants.{MOST_NUMBER}
 use Rattle.cert_format.specs.declared.piece_lines.PieceSoFar.{PieceSoFar}
 use Rattle.cert_format.specs.declared.piece_lines.PieceStage.{PieceStage}
 use Rattle.cert_format.specs.declared.stop.Stop.{Stop}
@@ -43,11 +45,12 @@ use Rattle.cert_format.specs.declared.unit_lines.UnitKind.TheVariants as unit
 use Rattle.cert_format.specs.declared.unit_lines.UnitSoFar.{UnitSoFar}
 use Rattle.cert_format.specs.declared.unit_lines.UnitStage.{UnitStage}
 use Rattle.cert_format.specs.declared.unit_lines.UnitStage.TheVariants as ustage
+use Rattle.cert_format.proofs.CertItems.{positive_taken}
 use Rattle.cert_format.proofs.CertKept.{ended_taken, last_taken}
 use Rattle.cert_format.proofs.CertRead.{fits_command}
 use Rattle.cert_format.proofs.CertSolid.{cert_solid}
 use Rattle.cert_format.proofs.CertTaken.{behind_small, read_at}
-use Rattle.cert_format.proofs.CertTargets.{NoSigns, command_taken, list_taken, plain_signs, target_taken}
+use Rattle.cert_format.proofs.CertTargets.{NoSigns, command_taken, plain_signs, target_taken}
 use Rattle.cert_format.proofs.CertUnitTaken.{Goes, goes_line, head_go, hinted, hints_go, inside, list_go, marked_go, state}
 use Rattle.cert_format.proofs.CertUnits.{Closed, Lines, mark_text, rank}
 use Rattle.cert_format.proofs.CondBack.{all_lines}
@@ -111,7 +114,7 @@ marks_go : (style : Style) (c : CertSoFar) (kind : UnitKind) (entry whole : Bool
     (start n : ℕ) (x : Piece) (list : List Piece) (more : Lines) (q : CertSoFar) → ArePlain style.names → rank u.stage < 4
     → units.may_follow u.kind u.last mark ≡ true → nat_le 64 u.count ≡ false
     → units.opened mark u ≡ state kind entry whole writes (Some mark) n (put []) (pieces.no_piece entry entry start)
-    → units.may_follow kind (Some mark) mark ≡ true → start ≤ 4294967295
+    → units.may_follow kind (Some mark) mark ≡ true → start ≤ MOST_NUMBER
     → ((l : List Piece) (r : PieceSoFar) (m : ℕ)
     → units.opened mark (state kind entry whole writes (Some mark) m (put l) r)
     ≡ state kind entry whole writes (Some mark) (m + 1) (put (l ++ r.piece ∷ [])) (pieces.no_piece entry entry start))
@@ -141,7 +144,7 @@ posts_go style c body entry whole writes pre [] hints t more q plain few each al
     (after 1 [] refl)
 posts_go style c body entry whole writes pre (x ∷ posts) hints t more q plain few each all after =
     let n = next_behind 0 (places_of pre) in
-    let small : n ≤ 4294967295 = behind_small 0 (places_of pre) (lit≤ tt) in
+    let small : n ≤ MOST_NUMBER = behind_small 0 (places_of pre) (lit≤ tt) in
     let kind = unit.Summary body in
     let put : List Piece → Closed = with_posts pre n in
     let room : 2 + length posts ≤ 64 = omega (arith, few) in
@@ -423,7 +426,7 @@ lines_go style cert fit is =
     goes_line style certs.no_cert (conditioned cert.list conditions.no_lines) q (codes "bstcert") (decimal cert.list ∷ [])
     (cond_items style.names cert.cond ++ (s ++ (l ++ (k ++ end))))
     (λ word line said has. then_go (expected (codes "bstcert") word) tt _ _ (expect_taken (codes "bstcert") word said)
-    (last_taken certs.list_number make line cert.list (decimal cert.list) has (λ item text. list_taken item cert.list is.list.0 is.list.1 text)))
+    (last_taken (positive MOST_LIST) make line cert.list (decimal cert.list) has (λ item text. positive_taken MOST_LIST item cert.list (omega arith) is.list.0 is.list.1 text)))
     (cond_go style cert (s ++ (l ++ (k ++ end))) q fit.plain is
     (summaries_go style cert.list cert.cond cert.summaries [] (l ++ (k ++ end)) q fit (alone (length cert.summaries) is.few_summaries) is.summaries
     (loops_go style cert.list cert.cond cert.summaries cert.loops [] (k ++ end) q fit (alone (length cert.loops) is.few_loops) is.loops

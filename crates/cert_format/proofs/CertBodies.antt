@@ -8,6 +8,7 @@ use Rattle.cert_format.specs.CertText.{IsPiece, next_behind, places_of}
 use Rattle.cert_format.specs.PieceSpelling.{piece_lines}
 use Rattle.cert_format.specs.UnitSpelling.{all_marked, each_lines, marked_lines, maybe_marked}
 use Rattle.cert_format.specs.Units as units
+use Rattle.cert_format.specs.declared.items.TheConstants.{MOST_NUMBER}
 use Rattle.cert_format.specs.declared.piece_lines.PieceSoFar.{PieceSoFar}
 use Rattle.cert_format.specs.declared.unit_lines.Mark.{Mark}
 use Rattle.cert_format.specs.declared.unit_lines.Mark.TheVariants.{Pre, Post, Case, Exit, After, Visit, Keeps}
@@ -323,15 +324,15 @@ count_more (unit.Command index) mark u next n ready e = tt
 
 -- the number of the first new symbol of a piece has 32 bits
 pub start_small : (style : Style) (kind : UnitKind) (mark : Mark) (u : UnitSoFar) → Ready kind mark u → Good style kind u.entry u
-    → units.first_symbol mark u.symbols ≤ 4294967295
+    → units.first_symbol mark u.symbols ≤ MOST_NUMBER
 start_small style kind Post u ready good = by_kind kind ready good
   where
-    post_small : (o : Option Piece) → first_post o ≤ 4294967295
+    post_small : (o : Option Piece) → first_post o ≤ MOST_NUMBER
     post_small None = lit≤ tt
     post_small (Some piece) = behind_small 0 (places_of piece) (lit≤ tt)
 
-    by_kind : (k : UnitKind) → Ready k Post u → Good style k u.entry u → u.symbols ≤ 4294967295
-    by_kind (unit.Summary entered) r g = subst (λ (n : ℕ). n ≤ 4294967295) (sym g.2) (post_small u.pre)
+    by_kind : (k : UnitKind) → Ready k Post u → Good style k u.entry u → u.symbols ≤ MOST_NUMBER
+    by_kind (unit.Summary entered) r g = subst (λ (n : ℕ). n ≤ MOST_NUMBER) (sym g.2) (post_small u.pre)
     by_kind (unit.Loop test repeated) r g = absurd (r)
     by_kind (unit.Command index) r g = absurd (r)
 start_small style kind _ u ready good = lit≤ tt

@@ -11,11 +11,12 @@ use Rattle.sym_state.specs.declared.hint.Hint.TheVariants as hint
 use Rattle.sym_state.specs.declared.proof.Proof.{Proof}
 use Rattle.sym_state.specs.declared.proof.Use.{Use}
 use Rattle.sym_state.proofs.Consequences.{same_bytes}
+use Rattle.cert_format.specs.declared.items.TheConstants.{MOST_NUMBER}
 use Rattle.cert_format.specs.CertText.{IsHint, IsProof, IsUse}
 use Rattle.cert_format.specs.Conditions.{last_natural}
 use Rattle.cert_format.specs.HintSpelling.{hint_items, proof_items, use_text}
-use Rattle.cert_format.specs.Hints.{add_uses, hint_line, positive, proof_line, use_item}
-use Rattle.cert_format.specs.Items.{is_word}
+use Rattle.cert_format.specs.Hints.{add_uses, hint_line, proof_line, use_item}
+use Rattle.cert_format.specs.Items.{is_word, positive}
 use Rattle.cert_format.specs.Lines.{Item, Line, next_item, with_item}
 use Rattle.cert_format.specs.Pieces as pieces
 use Rattle.cert_format.specs.declared.stop.Stop.{Stop}
@@ -62,14 +63,14 @@ uses_read (item ∷ more) before all each few e =
 proof_read : (line : Line) (proof : Proof) → proof_line line ≡ Ok proof → Has line (proof_items proof) × IsProof proof
 proof_read line proof e =
     let a = then_ok (next_item line) _ _ e in
-    let b = then_ok (positive a.0.0) _ _ a.2 in
+    let b = then_ok (positive MOST_NUMBER a.0.0) _ _ a.2 in
     let c = then_ok (pieces.with_all a.0.1 (λ more. add_uses more [])) _ _ b.2 in
     let d = all_read a.0.1 (λ more. add_uses more []) c.0 c.1 in
     let r = uses_read a.0.1.items [] c.0 tt (lit≤ tt) d.0 in
-    let p = positive_read a.0.0 b.0 b.1 in
+    let p = positive_read MOST_NUMBER a.0.0 b.0 (omega arith) b.1 in
     let given : Proof = record { divisor = b.0; uses = c.0 } in
     let is : proof ≡ given = ok_is given proof c.2 in
-    let good : IsProof given = record { divisor = p.1; uses = r.each; few = r.few } in
+    let good : IsProof given = record { divisor = (p.1, p.2); uses = r.each; few = r.few } in
     let has : Has line (proof_items given) =
     item_before line a.0.0 a.0.1 (decimal b.0) (map use_text c.0) (next_is line a.0.0 a.0.1 a.1) p.0
     (record { items = r.said ∙ ap (λ (l : List Use). map use_text l) (sym r.is); ends = d.1 }) in
@@ -93,7 +94,7 @@ proof_taken : (line : Line) (proof : Proof) → IsProof proof → Has line (proo
 proof_taken line proof is has =
     let t = take_first line (decimal proof.divisor) (map use_text proof.uses) has in
     then_go (next_item line) (t.item, t.rest) _ _ t.gives
-    (then_go (positive t.item) proof.divisor _ _ (positive_taken t.item proof.divisor is.divisor t.said)
+    (then_go (positive MOST_NUMBER t.item) proof.divisor _ _ (positive_taken MOST_NUMBER t.item proof.divisor (omega arith) is.divisor.0 is.divisor.1 t.said)
     (then_go (pieces.with_all t.rest (λ more. add_uses more [])) proof.uses _ _
     (all_taken t.rest (λ more. add_uses more []) proof.uses t.has.ends
     (uses_taken t.rest.items proof.uses [] is.uses (alone (length proof.uses) is.few) t.has.items)) refl))

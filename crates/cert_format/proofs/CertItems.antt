@@ -9,12 +9,12 @@ use Rattle.bv_base.proofs.ThenLemmas.{ok, ok_is, then_ok, unless_ok}
 use Rattle.bv_base.specs.Runs.{is_digit, number_from}
 use Rattle.name_table.specs.declared.style.Body.{Body}
 use Rattle.sym_state.specs.declared.symbol.Sym.{Sym}
-use Rattle.cert_format.specs.CertText.{IsPositive, is_within}
-use Rattle.cert_format.specs.Hints.{positive}
-use Rattle.cert_format.specs.Items.{has_leading_zero, is_empty, is_numeral}
+use Rattle.cert_format.specs.CertText.{is_within}
+use Rattle.cert_format.specs.Items.{has_leading_zero, is_empty, is_numeral, positive}
 use Rattle.cert_format.specs.Lines.{Item}
 use Rattle.cert_format.specs.PieceItems as items
 use Rattle.cert_format.specs.PieceSpelling.{sym_text}
+use Rattle.cert_format.specs.declared.items.TheConstants.{MOST_NUMBER}
 use Rattle.cert_format.specs.declared.stop.Stop.{Stop}
 use Rattle.cert_format.proofs.Numerals.{Numeral, numeral_of, numeral_text}
 
@@ -31,7 +31,7 @@ is_below : (next n : ℕ) → n < next → nat_le next n ≡ false
 is_below next n e = grind (arith, nat_tests)
 
 -- a symbol at a place
-pub placed_read : (next : ℕ) (item : Item) (s : Sym) → next ≤ 4294967295 → items.placed next item ≡ Ok s → (item.text ≡ sym_text s) × (s.0 ≤ next)
+pub placed_read : (next : ℕ) (item : Item) (s : Sym) → next ≤ MOST_NUMBER → items.placed next item ≡ Ok s → (item.text ≡ sym_text s) × (s.0 ≤ next)
 placed_read next item s bound e =
     let a = unless_ok (not (is_numeral item.text)) _ _ _ e in
     let b = unless_ok (nat_lt next (number_from 0 item.text) || has_leading_zero item.text) _ _ _ a.1 in
@@ -41,18 +41,18 @@ placed_read next item s bound e =
     (numeral_text item.text s.0 a.0 c.1 is (omega (arith, small, bound)), omega (arith, small, is))
 
 -- a reader that takes the numeral of a symbol takes the symbol's text
-symbol_taken : (reader : Item → Result Sym Stop) (item : Item) (s : Sym) → s.0 ≤ 4294967295 → item.text ≡ sym_text s
+symbol_taken : (reader : Item → Result Sym Stop) (item : Item) (s : Sym) → s.0 ≤ MOST_NUMBER → item.text ≡ sym_text s
     → ((text : List ℕ) → Numeral text s.0 → reader (record { text = text; left = item.left }) ≡ Ok s) → reader item ≡ Ok s
 symbol_taken reader item s small said taken =
     ap (λ (t : List ℕ). reader (record { text = t; left = item.left })) said ∙ taken (decimal s.0) (numeral_of s.0 (omega (arith, small)))
 
-pub placed_taken : (next : ℕ) (item : Item) (s : Sym) → next ≤ 4294967295 → s.0 ≤ next → item.text ≡ sym_text s → items.placed next item ≡ Ok s
+pub placed_taken : (next : ℕ) (item : Item) (s : Sym) → next ≤ MOST_NUMBER → s.0 ≤ next → item.text ≡ sym_text s → items.placed next item ≡ Ok s
 placed_taken next item s bound small said =
     symbol_taken (items.placed next) item s (omega (arith, bound, small)) said
     (λ text is. rw is.digits (rw is.value (rw (over_not next s.0 small) (rw is.plain refl))))
 
 -- a symbol that has a place
-pub known_read : (next : ℕ) (item : Item) (s : Sym) → next ≤ 4294967295 → items.known next item ≡ Ok s → (item.text ≡ sym_text s) × (s.0 < next)
+pub known_read : (next : ℕ) (item : Item) (s : Sym) → next ≤ MOST_NUMBER → items.known next item ≡ Ok s → (item.text ≡ sym_text s) × (s.0 < next)
 known_read next item s bound e =
     let a = unless_ok (not (is_numeral item.text)) _ _ _ e in
     let b = unless_ok (nat_le next (number_from 0 item.text)) _ _ _ a.1 in
@@ -61,39 +61,38 @@ known_read next item s bound e =
     let small = below_is next (number_from 0 item.text) b.0 in
     (numeral_text item.text s.0 a.0 c.0 is (omega (arith, small, bound)), omega (arith, small, is))
 
-pub known_taken : (next : ℕ) (item : Item) (s : Sym) → next ≤ 4294967295 → s.0 < next → item.text ≡ sym_text s → items.known next item ≡ Ok s
+pub known_taken : (next : ℕ) (item : Item) (s : Sym) → next ≤ MOST_NUMBER → s.0 < next → item.text ≡ sym_text s → items.known next item ≡ Ok s
 known_taken next item s bound small said =
     symbol_taken (items.known next) item s (omega (arith, bound, small)) said
     (λ text is. rw is.digits (rw is.value (rw (is_below next s.0 small) (rw is.plain refl))))
 
 -- a number from 1 on
-positive_is : (n : ℕ) → nat_eq n 0 ≡ false → nat_lt 4294967295 n ≡ false → IsPositive n
-positive_is n some small = (grind (arith, nat_tests), not_over 4294967295 n small)
+positive_is : (n : ℕ) → nat_eq n 0 ≡ false → 1 ≤ n
+positive_is n some = grind (arith, nat_tests)
 
 is_positive : (n : ℕ) → 1 ≤ n → nat_eq n 0 ≡ false
 is_positive n some = grind (arith, nat_tests)
 
-pub positive_read : (item : Item) (n : ℕ) → positive item ≡ Ok n → (item.text ≡ decimal n) × IsPositive n
-positive_read item n e =
-    let value = number_from 0 item.text in
+pub positive_read : (most : ℕ) (item : Item) (n : ℕ) → most ≤ MOST_NUMBER → positive most item ≡ Ok n
+    → (item.text ≡ decimal n) × (1 ≤ n) × (n ≤ most)
+positive_read most item n bound e =
     let a = unless_ok (not (is_numeral item.text)) _ _ _ e in
-    let b = unless_ok (nat_eq (number_from 0 item.text) 0 || nat_lt 4294967295 (number_from 0 item.text)) _ _ _ a.1 in
-    let c = or_parts (nat_eq (number_from 0 item.text) 0) (nat_lt 4294967295 (number_from 0 item.text)) b.0 in
+    let b = unless_ok (nat_eq (number_from 0 item.text) 0 || nat_lt most (number_from 0 item.text)) _ _ _ a.1 in
+    let c = or_parts (nat_eq (number_from 0 item.text) 0) (nat_lt most (number_from 0 item.text)) b.0 in
     let d = unless_ok (has_leading_zero item.text) _ _ _ b.1 in
     let is : n ≡ number_from 0 item.text = ok_is (number_from 0 item.text) n d.1 in
-    let good = positive_is (number_from 0 item.text) c.0 c.1 in
-    let small : number_from 0 item.text ≤ 4294967295 = good.1 in
-    (numeral_text item.text n a.0 d.0 is (omega (arith, small)), subst IsPositive (sym is) good)
+    let some = positive_is (number_from 0 item.text) c.0 in
+    let small = not_over most (number_from 0 item.text) c.1 in
+    (numeral_text item.text n a.0 d.0 is (omega (arith, small, bound)), omega (arith, some, is), omega (arith, small, is))
 
-positive_by : (left n : ℕ) (text : List ℕ) → Numeral text n → nat_eq n 0 ≡ false → nat_lt 4294967295 n ≡ false
-    → positive (record { text = text; left = left }) ≡ Ok n
-positive_by left n text is some over = rw is.digits (rw is.value (rw some (rw over (rw is.plain refl))))
+positive_by : (most left n : ℕ) (text : List ℕ) → Numeral text n → nat_eq n 0 ≡ false → nat_lt most n ≡ false
+    → positive most (record { text = text; left = left }) ≡ Ok n
+positive_by most left n text is some over = rw is.digits (rw is.value (rw some (rw over (rw is.plain refl))))
 
-pub positive_taken : (item : Item) (n : ℕ) → IsPositive n → item.text ≡ decimal n → positive item ≡ Ok n
-positive_taken item n good said =
-    let small : n ≤ 4294967295 = good.1 in
-    ap (λ (t : List ℕ). positive (record { text = t; left = item.left })) said
-    ∙ positive_by item.left n (decimal n) (numeral_of n (omega (arith, small))) (is_positive n good.0) (over_not 4294967295 n small)
+pub positive_taken : (most : ℕ) (item : Item) (n : ℕ) → most ≤ MOST_NUMBER → 1 ≤ n → n ≤ most → item.text ≡ decimal n → positive most item ≡ Ok n
+positive_taken most item n bound some small said =
+    ap (λ (t : List ℕ). positive most (record { text = t; left = item.left })) said
+    ∙ positive_by most item.left n (decimal n) (numeral_of n (omega (arith, small, bound))) (is_positive n some) (over_not most n small)
 
 -- the number of a block
 pub block_read : (bodies : List Body) (item : Item) (n : ℕ) → items.block_number bodies item ≡ Ok n

@@ -14,6 +14,7 @@ use Rattle.cert_format.specs.Items.{among}
 use Rattle.cert_format.specs.Lines.{Item, Line, line_end, next_item}
 use Rattle.cert_format.specs.PieceItems as items
 use Rattle.cert_format.specs.Pieces as pieces
+use Rattle.cert_format.specs.declared.items.TheConstants.{MOST_NUMBER}
 use Rattle.cert_format.specs.declared.piece_lines.PieceStage.{PieceStage}
 use Rattle.cert_format.specs.declared.piece_lines.PieceWord.{PieceWord}
 use Rattle.cert_format.specs.declared.piece_lines.PieceWord.TheVariants.{Stack, Var, Field, Is, Int, Text, Call, Block, Blank, Nonblank, Wellformed, Row}
@@ -101,7 +102,7 @@ pub behind_snoc : (next : ℕ) (syms : List Sym) (s : Sym) → next_behind next 
 behind_snoc next [] s = refl
 behind_snoc next (t ∷ syms) s = behind_snoc (items.next_after next t) syms s
 
-pub next_small : (next : ℕ) (s : Sym) → items.next_after next s ≤ 4294967295
+pub next_small : (next : ℕ) (s : Sym) → items.next_after next s ≤ MOST_NUMBER
 next_small next s = omega arith
 
 -- the words of the lines of a piece

@@ -12,12 +12,13 @@ use Rattle.name_table.specs.Sound.{Each}
 use Rattle.name_table.specs.declared.style.Style.{Style}
 use Rattle.sym_state.specs.declared.piece.Piece.{Piece}
 use Rattle.sym_state.proofs.Consequences.{same_bytes}
+use Rattle.cert_format.specs.declared.cert_lines.TheConstants.{MOST_LIST}
 use Rattle.cert_format.specs.CertText.{IsCert, IsCommandPart, IsLoop, IsNameable, IsPiece, IsSummary}
 use Rattle.cert_format.specs.Certs as certs
 use Rattle.cert_format.specs.CondText.{IsCond, is_chain}
 use Rattle.cert_format.specs.Conditions as conditions
 use Rattle.cert_format.specs.HintSpelling.{hints_lines}
-use Rattle.cert_format.specs.Items.{expected, is_word}
+use Rattle.cert_format.specs.Items.{expected, is_word, positive}
 use Rattle.cert_format.specs.Lines.{Item, Line, lines_of, next_item, with_item}
 use Rattle.cert_format.specs.Spelling.{cond_items, text_of}
 use Rattle.cert_format.specs.Texts.{cert_of}
@@ -36,10 +37,11 @@ use Rattle.cert_format.specs.declared.unit_lines.UnitKind.TheVariants as unit
 use Rattle.cert_format.specs.declared.unit_lines.UnitSoFar.{UnitSoFar}
 use Rattle.cert_format.specs.declared.unit_lines.UnitStage.{UnitStage}
 use Rattle.cert_format.specs.declared.unit_lines.UnitStage.TheVariants as ustage
+use Rattle.cert_format.proofs.CertItems.{positive_read}
 use Rattle.cert_format.proofs.CertBodies.{each_more}
 use Rattle.cert_format.proofs.CertKept.{ended_read, last_read}
 use Rattle.cert_format.proofs.CertSteps.{in_back}
-use Rattle.cert_format.proofs.CertTargets.{command_read, list_read, target_read}
+use Rattle.cert_format.proofs.CertTargets.{command_read, target_read}
 use Rattle.cert_format.proofs.CertUnitRead.{unit_read}
 use Rattle.cert_format.proofs.CertUnits.{CountAt, Full, Good, Headless, Lines, Shape, UnitKept, body_of, closed, closed_of, first_items, first_post, hints_at, kept_of, one_if, unit_spelled}
 use Rattle.cert_format.proofs.CondKept.{chain_snoc, each_snoc, kept_at, none_kept}
@@ -118,8 +120,8 @@ header_step style p word rest line q is kept e =
     let names = style.names in
     let w = then_ok (expected (codes "bstcert") word) _ _ e in
     let make : ℕ → CertSoFar = λ n. record p { stage = stage.Cond; list = n } in
-    let l = last_read certs.list_number make rest q w.2 in
-    let r = list_read l.item l.value l.got in
+    let l = last_read (positive MOST_LIST) make rest q w.2 in
+    let r = positive_read MOST_LIST l.item l.value (omega arith) l.got in
     let fits : Fits part.Entries conditions.no_lines.cond = record { names = λ f. refl; nonblank = λ f. refl; types = λ f. refl } in
     let start : CondPart style l.value conditions.no_lines =
     record { list_some = r.1; list_small = r.2; fits = fits; is = none_kept names } in

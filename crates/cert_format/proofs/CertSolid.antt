@@ -50,6 +50,7 @@ use Rattle.cert_format.proofs.CondBack.{digits_black, lines_solid, solid_append}
 use Rattle.cert_format.proofs.NamesTaken.{field_solid, type_solid}
 use Rattle.cert_format.proofs.Numerals.{decimal_digits}
 use Rattle.cert_format.proofs.Spelt.{AllSolid, Solid, SolidLine, SolidLines}
+use Rattle.cert_format.specs.declared.items.TheConstants.{MOST_NUMBER}
 
 black_append : (a b : List ℕ) → list_all is_black a ≡ true → list_all is_black b ≡ true → list_all is_black (a ++ b) ≡ true
 black_append [] b first second = second
@@ -123,17 +124,17 @@ word_number : (b : ℕ) (word : List ℕ) (n : ℕ) → is_black b ≡ true → 
 word_number b word n first rest small =
     type_solid (b ∷ (word ++ decimal n)) (black_type b (word ++ decimal n) first (black_append word (decimal n) rest (decimal_black n small)))
 
-term_solid : (has_pos : Bool) (next : ℕ) (t : Term) → next ≤ 4294967295 → IsTerm has_pos next t → Solid (term_text t)
+term_solid : (has_pos : Bool) (next : ℕ) (t : Term) → next ≤ MOST_NUMBER → IsTerm has_pos next t → Solid (term_text t)
 term_solid has_pos next (Value s) bound is = word_number 118 (97 ∷ (108 ∷ (117 ∷ (101 ∷ (58 ∷ []))))) s refl refl (omega (arith, bound, is))
 term_solid has_pos next (Length s) bound is = word_number 108 (101 ∷ (110 ∷ (103 ∷ (116 ∷ (104 ∷ (58 ∷ [])))))) s refl refl (omega (arith, bound, is))
 term_solid has_pos next (Names s) bound is = word_number 110 (97 ∷ (109 ∷ (101 ∷ (115 ∷ (58 ∷ []))))) s refl refl (omega (arith, bound, is))
 term_solid has_pos next Pos bound is = type_solid (codes "pos") refl
 term_solid has_pos next Count bound is = type_solid (codes "count") refl
 
-numbered_black : (b n : ℕ) → is_black b ≡ true → n ≤ 4294967295 → list_all is_black (b ∷ decimal n) ≡ true
+numbered_black : (b n : ℕ) → is_black b ≡ true → n ≤ MOST_NUMBER → list_all is_black (b ∷ decimal n) ≡ true
 numbered_black b n first small = and_from (is_black b) (list_all is_black (decimal n)) first (decimal_black n (omega (arith, small)))
 
-reference_black : (r : Reference) → reference_number r ≤ 4294967295 → list_all is_black (reference_text r) ≡ true
+reference_black : (r : Reference) → reference_number r ≤ MOST_NUMBER → list_all is_black (reference_text r) ≡ true
 reference_black (row.Row n) small = numbered_black 114 n refl small
 reference_black (row.ValueLow s) small = numbered_black 118 s.0 refl small
 reference_black (row.ValueHigh s) small = numbered_black 119 s.0 refl small
@@ -164,7 +165,7 @@ solid_joined a b first second =
 
 use_solid : (one : Use) → IsUse one → Solid (use_text one)
 use_solid one is =
-    let small : one.times ≤ 4294967295 = is.0.1 in
+    let small : one.times ≤ MOST_NUMBER = is.0.1 in
     solid_joined (decimal one.times) (58 ∷ reference_text one.reference) (number_solid one.times (omega (arith, small)))
     (type_solid (58 ∷ reference_text one.reference) (black_none (reference_text one.reference) (reference_black one.reference is.1)))
 
@@ -173,7 +174,7 @@ uses_solid [] each = tt
 uses_solid (x ∷ uses) each = (use_solid x each.0, uses_solid uses each.1)
 
 proof_solid : (p : Proof) → IsProof p → AllSolid (proof_items p)
-proof_solid p is = let small : p.divisor ≤ 4294967295 = is.divisor.1 in (number_solid p.divisor (omega (arith, small)), uses_solid p.uses is.uses)
+proof_solid p is = let small : p.divisor ≤ MOST_NUMBER = is.divisor.1 in (number_solid p.divisor (omega (arith, small)), uses_solid p.uses is.uses)
 
 hint_solid : (h : Hint) → IsHint h → SolidLine (hint_items h)
 hint_solid (hint.Apply n) is = (type_solid (codes "use") refl, (number_solid n (omega (arith, is)), tt))
@@ -202,7 +203,7 @@ hints_solid hints each = (
 )
 
 -- each symbol at a place has 32 bits
-small_syms : (next : ℕ) (syms : List Sym) → next ≤ 4294967295 → are_placed next syms ≡ true → Each (λ s. s.0 ≤ 4294967295) syms
+small_syms : (next : ℕ) (syms : List Sym) → next ≤ MOST_NUMBER → are_placed next syms ≡ true → Each (λ s. s.0 ≤ MOST_NUMBER) syms
 small_syms next [] bound e = tt
 small_syms next (s ∷ syms) bound e =
     let both = and_parts (nat_le s.0 next) (are_placed (items.next_after next s) syms) e in
@@ -213,25 +214,25 @@ each_parts : {A : Type 0} (P : A → Type 0) (a b : List A) → Each P (a ++ b) 
 each_parts P [] b each = (tt, each)
 each_parts P (x ∷ a) b each = let rest = each_parts P a b each.1 in ((each.0, rest.0), rest.1)
 
-syms_solid : (syms : List Sym) → Each (λ s. s.0 ≤ 4294967295) syms → AllSolid (map sym_text syms)
+syms_solid : (syms : List Sym) → Each (λ s. s.0 ≤ MOST_NUMBER) syms → AllSolid (map sym_text syms)
 syms_solid [] each = tt
-syms_solid (s ∷ syms) each = let small : s.0 ≤ 4294967295 = each.0 in (number_solid s.0 (omega (arith, small)), syms_solid syms each.1)
+syms_solid (s ∷ syms) each = let small : s.0 ≤ MOST_NUMBER = each.0 in (number_solid s.0 (omega (arith, small)), syms_solid syms each.1)
 
-stack_solid : (syms : List Sym) → Each (λ s. s.0 ≤ 4294967295) syms → SolidLines (stack_lines syms)
+stack_solid : (syms : List Sym) → Each (λ s. s.0 ≤ MOST_NUMBER) syms → SolidLines (stack_lines syms)
 stack_solid [] each = tt
 stack_solid (s ∷ syms) each = ((type_solid (codes "stack") refl, syms_solid (s ∷ syms) each), tt)
 
 binds_solid : (names : List (List ℕ × Kind)) (word : List ℕ) (P : Bind → Type 0) → is_type word ≡ true
-    → ((b : Bind) → P b → is_type (name_text names b.name) ≡ true) → (binds : List Bind) → Each P binds → Each (λ s. s.0 ≤ 4294967295) (bound_symbols binds)
+    → ((b : Bind) → P b → is_type (name_text names b.name) ≡ true) → (binds : List Bind) → Each P binds → Each (λ s. s.0 ≤ MOST_NUMBER) (bound_symbols binds)
     → SolidLines (map (bind_items word names) binds)
 binds_solid names word P solid named [] each small = tt
 binds_solid names word P solid named (b ∷ binds) each small =
-    let low : b.sym.0 ≤ 4294967295 = small.0 in (
+    let low : b.sym.0 ≤ MOST_NUMBER = small.0 in (
       (type_solid word solid, (type_solid (name_text names b.name) (named b each.0), (number_solid b.sym.0 (omega (arith, low)), tt))),
       binds_solid names word P solid named binds each.1 small.1,
     )
 
-fact_solid : (style : Style) (next : ℕ) → ArePlain style.names → next ≤ 4294967295 → (x : Fact) → IsFact style next x → SolidLine (fact_items style.names x)
+fact_solid : (style : Style) (next : ℕ) → ArePlain style.names → next ≤ MOST_NUMBER → (x : Fact) → IsFact style next x → SolidLine (fact_items style.names x)
 fact_solid style next plain bound (fact.Is s k) is = (type_solid (codes "is") refl, (number_solid s.0 (omega (arith, bound, is.0)), (kind_solid k is.1, tt)))
 fact_solid style next plain bound (fact.Int s n) is =
     (type_solid (codes "int") refl, (number_solid s.0 (omega (arith, bound, is.0)), (signed_solid 2147483648 2147483647 n (lit≤ tt) (lit≤ tt) is.1, tt)))
@@ -244,26 +245,26 @@ fact_solid style next plain bound (fact.Blank s) is = (type_solid (codes "blank"
 fact_solid style next plain bound (fact.Nonblank s) is = (type_solid (codes "nonblank") refl, (number_solid s.0 (omega (arith, bound, is)), tt))
 fact_solid style next plain bound (fact.Wellformed s) is = (type_solid (codes "wellformed") refl, (number_solid s.0 (omega (arith, bound, is)), tt))
 
-parts_solid : (has_pos : Bool) (next : ℕ) → next ≤ 4294967295 → (parts : List Part) → Each (IsPart has_pos next) parts → AllSolid (part_items parts)
+parts_solid : (has_pos : Bool) (next : ℕ) → next ≤ MOST_NUMBER → (parts : List Part) → Each (IsPart has_pos next) parts → AllSolid (part_items parts)
 parts_solid has_pos next bound [] each = tt
 parts_solid has_pos next bound (x ∷ parts) each = (
   signed_solid 1099511627776 1099511627776 x.coefficient (lit≤ tt) (lit≤ tt) each.0.small,
   (term_solid has_pos next x.term bound each.0.term, parts_solid has_pos next bound parts each.1),
 )
 
-row_solid : (has_pos : Bool) (next : ℕ) → next ≤ 4294967295 → (x : RowOf) → IsRow has_pos next x → SolidLine (row_items x)
+row_solid : (has_pos : Bool) (next : ℕ) → next ≤ MOST_NUMBER → (x : RowOf) → IsRow has_pos next x → SolidLine (row_items x)
 row_solid has_pos next bound x is = (
   type_solid (codes "row") refl,
   (signed_solid 1099511627776 1099511627776 x.constant (lit≤ tt) (lit≤ tt) is.constant, parts_solid has_pos next bound x.parts is.parts),
 )
 
-pub piece_solid : (style : Style) (at_entry has_pos : Bool) (start : ℕ) → ArePlain style.names → start ≤ 4294967295 → (piece : Piece)
+pub piece_solid : (style : Style) (at_entry has_pos : Bool) (start : ℕ) → ArePlain style.names → start ≤ MOST_NUMBER → (piece : Piece)
     → IsPiece style at_entry has_pos start piece → SolidLines (piece_lines style.names piece)
 piece_solid style at_entry has_pos start plain bound piece is =
     let names = style.names in
     let small = small_syms start (places_of piece) bound is.placed in
-    let first = each_parts (λ s. s.0 ≤ 4294967295) piece.stack (bound_symbols piece.vars ++ bound_symbols piece.fields) small in
-    let second = each_parts (λ s. s.0 ≤ 4294967295) (bound_symbols piece.vars) (bound_symbols piece.fields) first.1 in
+    let first = each_parts (λ s. s.0 ≤ MOST_NUMBER) piece.stack (bound_symbols piece.vars ++ bound_symbols piece.fields) small in
+    let second = each_parts (λ s. s.0 ≤ MOST_NUMBER) (bound_symbols piece.vars) (bound_symbols piece.fields) first.1 in
     let next = next_behind start (places_of piece) in
     let low = behind_small start (places_of piece) bound in
     let vars = map (bind_items (codes "var") names) piece.vars in
@@ -279,7 +280,7 @@ piece_solid style at_entry has_pos start plain bound piece is =
     (solid_append facts rows (each_solid (IsFact style next) (fact_items names) (fact_solid style next plain low) piece.facts is.facts)
     (each_solid (IsRow has_pos next) row_items (row_solid has_pos next low) piece.rows is.rows))))
 
-marked_solid : (style : Style) (word : List ℕ) (at_entry has_pos : Bool) (start : ℕ) → ArePlain style.names → is_type word ≡ true → start ≤ 4294967295 → (piece : Piece)
+marked_solid : (style : Style) (word : List ℕ) (at_entry has_pos : Bool) (start : ℕ) → ArePlain style.names → is_type word ≡ true → start ≤ MOST_NUMBER → (piece : Piece)
     → IsPiece style at_entry has_pos start piece → SolidLines (marked_lines word style.names piece)
 marked_solid style word at_entry has_pos start plain solid bound piece is = ((type_solid word solid, tt), piece_solid style at_entry has_pos start plain bound piece is)
 
@@ -288,7 +289,7 @@ maybe_solid : (style : Style) (word : List ℕ) (at_entry has_pos : Bool) → Ar
 maybe_solid style word at_entry has_pos plain solid (Some piece) is = marked_solid style word at_entry has_pos 0 plain solid (lit≤ tt) piece is
 maybe_solid style word at_entry has_pos plain solid None is = tt
 
-list_solid : (style : Style) (word : List ℕ) (at_entry has_pos : Bool) (start : ℕ) → ArePlain style.names → is_type word ≡ true → start ≤ 4294967295 → (list : List Piece)
+list_solid : (style : Style) (word : List ℕ) (at_entry has_pos : Bool) (start : ℕ) → ArePlain style.names → is_type word ≡ true → start ≤ MOST_NUMBER → (list : List Piece)
     → Each (IsPiece style at_entry has_pos start) list → SolidLines (all_marked word style.names list)
 list_solid style word at_entry has_pos start plain solid bound list each =
     all_solid (IsPiece style at_entry has_pos start) (marked_lines word style.names) (marked_solid style word at_entry has_pos start plain solid bound) list each

@@ -25,6 +25,7 @@ use Rattle.cert_format.specs.PieceItems as items
 use Rattle.cert_format.specs.PieceSpelling.{bind_items, fact_items, hex_text, kind_text, part_items, piece_lines, row_items, stack_lines, sym_text, term_text}
 use Rattle.cert_format.specs.Pieces as pieces
 use Rattle.cert_format.specs.Spelling.{name_text}
+use Rattle.cert_format.specs.declared.items.TheConstants.{MOST_NUMBER}
 use Rattle.cert_format.specs.declared.piece_lines.PieceSoFar.{PieceSoFar}
 use Rattle.cert_format.specs.declared.piece_lines.PieceStage.{PieceStage}
 use Rattle.cert_format.specs.declared.piece_lines.PieceStage.TheVariants as stage
@@ -44,7 +45,7 @@ use Rattle.cert_format.proofs.Split.{Ended, texts, texts_of}
 pub record Kept (style : Style) (start : ℕ) (p : PieceSoFar) : Type 0 where
   pub is : IsPiece style p.at_entry p.has_pos start p.piece
   pub next : p.next ≡ next_behind start (places_of p.piece)
-  pub small : p.next ≤ 4294967295
+  pub small : p.next ≤ MOST_NUMBER
 
 -- lists whose lines haven't come are empty
 pub record Fits (rank : ℕ) (piece : Piece) : Type 0 where
@@ -135,7 +136,7 @@ record Bound (next : ℕ) (name : NameId) (line : Line) (bind : Bind) : Type 0 w
   pub placed : bind.sym.0 ≤ next
   pub has : Has line (sym_text bind.sym ∷ [])
 
-bound_read : (next : ℕ) (name : NameId) (line : Line) (bind : Bind) → next ≤ 4294967295 → pieces.bound next name line ≡ Ok bind → Bound next name line bind
+bound_read : (next : ℕ) (name : NameId) (line : Line) (bind : Bind) → next ≤ MOST_NUMBER → pieces.bound next name line ≡ Ok bind → Bound next name line bind
 bound_read next name line bind small e =
     let make : Sym → Bind = λ s. record { name = name; sym = s } in
     let l = last_read (items.placed next) make line bind e in
@@ -165,7 +166,7 @@ record Binding (names : List (List ℕ × Kind)) (next : ℕ) (text : List ℕ) 
   pub has : item.text ≡ name_text names bind.name → Has line (bind_items text names bind)
 
 binding_read : (names : List (List ℕ × Kind)) (next : ℕ) (text : List ℕ) (name_of : Item → Result NameId Stop) (make : Bind → PieceSoFar) (word : Item)
-    (rest line : Line) (q : PieceSoFar) → next ≤ 4294967295 → line ≡ with_item word rest → word.text ≡ text
+    (rest line : Line) (q : PieceSoFar) → next ≤ MOST_NUMBER → line ≡ with_item word rest → word.text ≡ text
     → pieces.bind_line name_of next rest make ≡ Ok q → Binding names next text name_of make line q
 binding_read names next text name_of make word rest line q small is said e =
     let a = then_ok (next_item rest) _ _ e in
@@ -542,7 +543,7 @@ record Added (has_pos : Bool) (next : ℕ) (before all : List Part) (texts_here 
   pub said : texts_here ≡ part_items added
   pub kept : Parts has_pos next all
 
-parts_read : (has_pos : Bool) (next end : ℕ) (more : List Item) (before all : List Part) → next ≤ 4294967295 → Parts has_pos next before
+parts_read : (has_pos : Bool) (next end : ℕ) (more : List Item) (before all : List Part) → next ≤ MOST_NUMBER → Parts has_pos next before
     → pieces.parts has_pos next end more before ≡ Ok all → Added has_pos next before all (texts_of more)
 parts_read has_pos next end [] before all bound kept e =
     let is : all ≡ before = ok_is before all e in

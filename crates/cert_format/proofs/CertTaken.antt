@@ -22,6 +22,7 @@ use Rattle.cert_format.specs.PieceItems as items
 use Rattle.cert_format.specs.PieceSpelling.{bind_items, fact_items, hex_text, kind_text, part_items, piece_lines, row_items, stack_lines, sym_text, term_text}
 use Rattle.cert_format.specs.Pieces as pieces
 use Rattle.cert_format.specs.Spelling.{name_text}
+use Rattle.cert_format.specs.declared.items.TheConstants.{MOST_NUMBER}
 use Rattle.cert_format.specs.declared.piece_lines.PieceSoFar.{PieceSoFar}
 use Rattle.cert_format.specs.declared.piece_lines.PieceStage.{PieceStage}
 use Rattle.cert_format.specs.declared.piece_lines.PieceStage.TheVariants as stage
@@ -68,18 +69,18 @@ behind_parts : (next : ℕ) (a b : List Sym) → next_behind next (a ++ b) ≡ n
 behind_parts next [] b = refl
 behind_parts next (s ∷ a) b = behind_parts (items.next_after next s) a b
 
-pub behind_small : (next : ℕ) (syms : List Sym) → next ≤ 4294967295 → next_behind next syms ≤ 4294967295
+pub behind_small : (next : ℕ) (syms : List Sym) → next ≤ MOST_NUMBER → next_behind next syms ≤ MOST_NUMBER
 behind_small next [] small = small
 behind_small next (s ∷ syms) small = behind_small (items.next_after next s) syms (next_small next s)
 
 -- the line of a binding
-bound_taken : (next : ℕ) (bind : Bind) (line : Line) → next ≤ 4294967295 → bind.sym.0 ≤ next → Has line (sym_text bind.sym ∷ [])
+bound_taken : (next : ℕ) (bind : Bind) (line : Line) → next ≤ MOST_NUMBER → bind.sym.0 ≤ next → Has line (sym_text bind.sym ∷ [])
     → pieces.bound next bind.name line ≡ Ok bind
 bound_taken next bind line small placed has =
     let make : Sym → Bind = λ s. record { name = bind.name; sym = s } in
     last_taken (items.placed next) make line bind.sym (sym_text bind.sym) has (λ item said. placed_taken next item bind.sym small placed said)
 
-var_taken : (style : Style) (p : PieceSoFar) (x : Bind) (line : Line) → ArePlain style.names → p.next ≤ 4294967295 → x.sym.0 ≤ p.next
+var_taken : (style : Style) (p : PieceSoFar) (x : Bind) (line : Line) → ArePlain style.names → p.next ≤ MOST_NUMBER → x.sym.0 ≤ p.next
     → IsVariable p.at_entry style.names x.name → fits_bind (last_of p.piece.vars) x ≡ true
     → Has line (name_text style.names x.name ∷ (sym_text x.sym ∷ [])) → pieces.var_line style.names line p ≡ Ok (with_var x p)
 var_taken style p x line plain small placed is above has =
@@ -90,7 +91,7 @@ var_taken style p x line plain small placed is above has =
     (then_go (items.variable_above p.at_entry last names t.item) x.name _ _ (variable_taken p.at_entry last names t.item x.name plain is above t.said)
     (then_go (pieces.bound p.next x.name t.rest) x _ _ (bound_taken p.next x t.rest small placed t.has) refl))
 
-field_taken : (style : Style) (p : PieceSoFar) (x : Bind) (line : Line) → ArePlain style.names → p.next ≤ 4294967295 → x.sym.0 ≤ p.next
+field_taken : (style : Style) (p : PieceSoFar) (x : Bind) (line : Line) → ArePlain style.names → p.next ≤ MOST_NUMBER → x.sym.0 ≤ p.next
     → IsField style.names x.name → p.at_entry ≡ true → fits_bind (last_of p.piece.fields) x ≡ true
     → Has line (name_text style.names x.name ∷ (sym_text x.sym ∷ [])) → pieces.field_line style.names line p ≡ Ok (with_field x p)
 field_taken style p x line plain small placed is entry above has =
@@ -181,7 +182,7 @@ fact_of_taken style next (fact.Wellformed s) line plain is has = ended_taken lin
 abbrev with_fact : Fact → PieceSoFar → PieceSoFar
 with_fact x p = record p { stage = stage.Facts; piece = record p.piece { facts = p.piece.facts ++ x ∷ [] } }
 
-fact_taken : (style : Style) (p : PieceSoFar) (x : Fact) (word : Item) (line : Line) → ArePlain style.names → p.next ≤ 4294967295 → IsFact style p.next x
+fact_taken : (style : Style) (p : PieceSoFar) (x : Fact) (word : Item) (line : Line) → ArePlain style.names → p.next ≤ MOST_NUMBER → IsFact style p.next x
     → nat_le 64 (length p.piece.facts) ≡ false → Has line (sym_text (fact_sym x) ∷ fact_more style.names x)
     → pieces.fact_line style (fact_word x) word line p ≡ Ok (with_fact x p)
 fact_taken style p x word line plain small is few has =
@@ -192,7 +193,7 @@ fact_taken style p x word line plain small is few has =
     (then_go (pieces.fact_of style (fact_word x) (fact_sym x) t.rest) x _ _ (fact_of_taken style p.next x t.rest plain is t.has) refl)))
 
 -- coefficients and terms behind those before them
-part_taken : (has_pos : Bool) (next : ℕ) (before : List Part) (first second : Item) (more : List Item) (end : ℕ) (x : Part) → next ≤ 4294967295
+part_taken : (has_pos : Bool) (next : ℕ) (before : List Part) (first second : Item) (more : List Item) (end : ℕ) (x : Part) → next ≤ MOST_NUMBER
     → IsPart has_pos next x → fits_part (last_of before) x ≡ true → nat_le 32 (length before) ≡ false → first.text ≡ signed_decimal x.coefficient
     → second.text ≡ term_text x.term
     → pieces.part has_pos next before first (record { items = second ∷ more; end = end }) ≡ Ok (x, record { items = more; end = end })
@@ -204,7 +205,7 @@ part_taken has_pos next before first second more end x small is fit few coeffici
     (then_go (items.term_behind has_pos next (last_of before) second) x.term _ _
     (then_go (items.term has_pos next second) x.term _ _ (term_taken has_pos next second x.term small is.term term) (rw fit refl)) refl))
 
-parts_taken : (has_pos : Bool) (next end : ℕ) (more : List Item) (parts before : List Part) → next ≤ 4294967295 → Each (IsPart has_pos next) parts
+parts_taken : (has_pos : Bool) (next end : ℕ) (more : List Item) (parts before : List Part) → next ≤ MOST_NUMBER → Each (IsPart has_pos next) parts
     → Up fits_part (last_of before) parts → length before + length parts ≤ 32 → texts_of more ≡ part_items parts
     → pieces.parts has_pos next end more before ≡ Ok (before ++ parts)
 parts_taken has_pos next end [] [] before small each up few said = ap Ok (sym (append-nil before))
@@ -227,7 +228,7 @@ parts_taken has_pos next end (first ∷ (second ∷ more)) (x ∷ parts) before 
 abbrev with_row : RowOf → PieceSoFar → PieceSoFar
 with_row x p = record p { stage = stage.Rows; piece = record p.piece { rows = p.piece.rows ++ x ∷ [] } }
 
-row_taken : (style : Style) (p : PieceSoFar) (x : RowOf) (word : Item) (line : Line) → p.next ≤ 4294967295 → IsRow p.has_pos p.next x
+row_taken : (style : Style) (p : PieceSoFar) (x : RowOf) (word : Item) (line : Line) → p.next ≤ MOST_NUMBER → IsRow p.has_pos p.next x
     → nat_le 64 (length p.piece.rows) ≡ false → Has line (signed_decimal x.constant ∷ part_items x.parts) → pieces.row_line word line p ≡ Ok (with_row x p)
 row_taken style p x word line small is few has =
     let t = take_first line (signed_decimal x.constant) (part_items x.parts) has in
@@ -249,12 +250,12 @@ abbrev with_symbols : List Sym → PieceSoFar → PieceSoFar
 with_symbols syms p =
     record p { stage = stage.Vars; next = next_behind p.next syms; piece = record p.piece { stack = p.piece.stack ++ syms } }
 
-push_taken : (p : PieceSoFar) (s : Sym) (item : Item) → p.next ≤ 4294967295 → s.0 ≤ p.next → nat_le 64 (length p.piece.stack) ≡ false
+push_taken : (p : PieceSoFar) (s : Sym) (item : Item) → p.next ≤ MOST_NUMBER → s.0 ≤ p.next → nat_le 64 (length p.piece.stack) ≡ false
     → item.text ≡ sym_text s → pieces.push_symbol item p ≡ Ok (with_symbol s p)
 push_taken p s item small placed few said =
     then_go (items.placed p.next item) s _ _ (placed_taken p.next item s small placed said) (rw few refl)
 
-pushes_taken : (more : List Item) (syms : List Sym) (p : PieceSoFar) → p.stage ≡ stage.Vars → p.next ≤ 4294967295 → are_placed p.next syms ≡ true
+pushes_taken : (more : List Item) (syms : List Sym) (p : PieceSoFar) → p.stage ≡ stage.Vars → p.next ≤ MOST_NUMBER → are_placed p.next syms ≡ true
     → length p.piece.stack + length syms ≤ 64 → texts_of more ≡ map sym_text syms → pieces.push_symbols more p ≡ Ok (with_symbols syms p)
 pushes_taken [] [] p at small placed few said =
     ap (λ (s : PieceStage). let q : PieceSoFar = record p { stage = s } in Ok q) at
@@ -269,7 +270,7 @@ pushes_taken (item ∷ more) (s ∷ syms) p at small placed few said =
     ∙ ap (λ (l : List Sym). let q : PieceSoFar = record p { stage = stage.Vars; next = next_behind p.next (s ∷ syms); piece = record p.piece { stack = l } } in Ok q)
     (append_assoc p.piece.stack (s ∷ []) syms))
 
-stack_taken : (p : PieceSoFar) (s : Sym) (syms : List Sym) (line : Line) → p.next ≤ 4294967295 → are_placed p.next (s ∷ syms) ≡ true
+stack_taken : (p : PieceSoFar) (s : Sym) (syms : List Sym) (line : Line) → p.next ≤ MOST_NUMBER → are_placed p.next (s ∷ syms) ≡ true
     → length p.piece.stack + length (s ∷ syms) ≤ 64 → Has line (map sym_text (s ∷ syms)) → pieces.stack_line line p ≡ Ok (with_symbols (s ∷ syms) p)
 stack_taken p s syms line small placed few has =
     let both = and_parts (nat_le s.0 p.next) (are_placed (items.next_after p.next s) syms) placed in
@@ -297,7 +298,7 @@ fields_at p s n l = record p { stage = s; next = n; piece = record p.piece { fie
 abbrev BindsGo : List (List ℕ × Kind) → (PieceSoFar → List (List (List ℕ)) → Type 0) → List ℕ → ℕ → (PieceStage → ℕ → List Bind → PieceSoFar)
     → (Bind → Type 0) → Type 0
 BindsGo names Run word rank at Good =
-    (binds : List Bind) (s : PieceStage) (n : ℕ) (l : List Bind) (more : List (List (List ℕ))) → n ≤ 4294967295 → pieces.stage_rank s ≤ rank
+    (binds : List Bind) (s : PieceStage) (n : ℕ) (l : List Bind) (more : List (List (List ℕ))) → n ≤ MOST_NUMBER → pieces.stage_rank s ≤ rank
     → Each Good binds → Up fits_bind (last_of l) binds → are_placed n (bound_symbols binds) ≡ true
     → ((t : PieceStage) → pieces.stage_rank t ≤ rank → Run (at t (next_behind n (bound_symbols binds)) (l ++ binds)) more)
     → Run (at s n l) (map (bind_items word names) binds ++ more)
@@ -309,7 +310,7 @@ module _ (style : Style) (Run : PieceSoFar → List (List (List ℕ)) → Type 0
     → Run p ((word_text kind ∷ texts) ∷ more)) where
   binds_go : (word : List ℕ) (stage_after : PieceStage) (rank : ℕ) (at : PieceStage → ℕ → List Bind → PieceSoFar) (Good : Bind → Type 0)
       → pieces.stage_rank stage_after ≤ rank
-      → ((s : PieceStage) (n : ℕ) (l : List Bind) (x : Bind) (more : List (List (List ℕ))) → pieces.stage_rank s ≤ rank → n ≤ 4294967295 → x.sym.0 ≤ n → Good x
+      → ((s : PieceStage) (n : ℕ) (l : List Bind) (x : Bind) (more : List (List (List ℕ))) → pieces.stage_rank s ≤ rank → n ≤ MOST_NUMBER → x.sym.0 ≤ n → Good x
       → fits_bind (last_of l) x ≡ true → Run (at stage_after (items.next_after n x.sym) (l ++ x ∷ [])) more → Run (at s n l) (bind_items word style.names x ∷ more))
       → BindsGo style.names Run word rank at Good
   binds_go word stage_after rank at Good low one [] s n l more small early each up placed next =
@@ -333,7 +334,7 @@ module _ (style : Style) (Run : PieceSoFar → List (List (List ℕ)) → Type 0
       step (fields_at p s n l) (with_field x (fields_at p s n l)) Field (name_text style.names x.name ∷ (sym_text x.sym ∷ [])) rest low
       (λ word line has. field_taken style (fields_at p s n l) x line plain few placed good.0 good.1 up has))
 
-  facts_go : (facts : List Fact) (p : PieceSoFar) (more : List (List (List ℕ))) → p.next ≤ 4294967295 → pieces.stage_rank p.stage ≤ 3
+  facts_go : (facts : List Fact) (p : PieceSoFar) (more : List (List (List ℕ))) → p.next ≤ MOST_NUMBER → pieces.stage_rank p.stage ≤ 3
       → Each (IsFact style p.next) facts → length p.piece.facts + length facts ≤ 64
       → ((s : PieceStage) → pieces.stage_rank s ≤ 3 → Run (record p { stage = s; piece = record p.piece { facts = p.piece.facts ++ facts } }) more)
       → Run p (map (fact_items style.names) facts ++ more)
@@ -349,7 +350,7 @@ module _ (style : Style) (Run : PieceSoFar → List (List (List ℕ)) → Type 0
       subst (λ (l : List Fact). Run (record p { stage = s; piece = record p.piece { facts = l } }) more)
       (sym (append_assoc p.piece.facts (x ∷ []) facts)) (next s lower))))
 
-  rows_go : (rows : List RowOf) (p : PieceSoFar) (more : List (List (List ℕ))) → p.next ≤ 4294967295 → pieces.stage_rank p.stage ≤ 4
+  rows_go : (rows : List RowOf) (p : PieceSoFar) (more : List (List (List ℕ))) → p.next ≤ MOST_NUMBER → pieces.stage_rank p.stage ≤ 4
       → Each (IsRow p.has_pos p.next) rows → length p.piece.rows + length rows ≤ 64
       → ((s : PieceStage) → Run (record p { stage = s; piece = record p.piece { rows = p.piece.rows ++ rows } }) more)
       → Run p (map row_items rows ++ more)
@@ -362,7 +363,7 @@ module _ (style : Style) (Run : PieceSoFar → List (List (List ℕ)) → Type 0
       subst (λ (l : List RowOf). Run (record p { stage = s; piece = record p.piece { rows = l } }) more)
       (sym (append_assoc p.piece.rows (x ∷ []) rows)) (next s)))
 
-  stack_go : (stack : List Sym) (p : PieceSoFar) (more : List (List (List ℕ))) → p.next ≤ 4294967295 → pieces.stage_rank p.stage ≤ 0
+  stack_go : (stack : List Sym) (p : PieceSoFar) (more : List (List (List ℕ))) → p.next ≤ MOST_NUMBER → pieces.stage_rank p.stage ≤ 0
       → p.piece.stack ≡ [] → are_placed p.next stack ≡ true → length stack ≤ 64
       → ((s : PieceStage) → pieces.stage_rank s ≤ 1 → Run (record p { stage = s; next = next_behind p.next stack; piece = record p.piece { stack = stack } }) more)
       → Run p (stack_lines stack ++ more)
@@ -376,7 +377,7 @@ module _ (style : Style) (Run : PieceSoFar → List (List (List ℕ)) → Type 0
       (sym none) (next stage.Vars (lit≤ tt)))
 
   -- all lines of a piece
-  pub piece_goes : (at_entry has_pos : Bool) (start : ℕ) (piece : Piece) (more : List (List (List ℕ))) → start ≤ 4294967295
+  pub piece_goes : (at_entry has_pos : Bool) (start : ℕ) (piece : Piece) (more : List (List (List ℕ))) → start ≤ MOST_NUMBER
       → IsPiece style at_entry has_pos start piece
       → ((s : PieceStage) → Run (read_at at_entry has_pos s (next_behind start (places_of piece)) piece) more)
       → Run (pieces.no_piece at_entry has_pos start) (piece_lines style.names piece ++ more)

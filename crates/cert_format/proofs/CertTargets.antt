@@ -263,33 +263,6 @@ not_over most n over = grind (arith, nat_tests)
 over_not : (most n : ℕ) → n ≤ most → nat_lt most n ≡ false
 over_not most n small = grind (arith, nat_tests)
 
--- the number of a list of errors
-some_list : (n : ℕ) → nat_eq n 0 ≡ false → 1 ≤ n
-some_list n e = grind (arith, nat_tests)
-
-list_some : (n : ℕ) → 1 ≤ n → nat_eq n 0 ≡ false
-list_some n e = grind (arith, nat_tests)
-
-pub list_read : (item : Item) (n : ℕ) → certs.list_number item ≡ Ok n → (item.text ≡ decimal n) × (1 ≤ n) × (n ≤ 1)
-list_read item n e =
-    let a = unless_ok (not (is_numeral item.text)) _ _ _ e in
-    let b = unless_ok (nat_eq (number_from 0 item.text) 0 || nat_lt 1 (number_from 0 item.text)) _ _ _ a.1 in
-    let c = or_parts (nat_eq (number_from 0 item.text) 0) (nat_lt 1 (number_from 0 item.text)) b.0 in
-    let d = unless_ok (has_leading_zero item.text) _ _ _ b.1 in
-    let is : n ≡ number_from 0 item.text = ok_is (number_from 0 item.text) n d.1 in
-    let small = not_over 1 (number_from 0 item.text) c.1 in
-    let some = some_list (number_from 0 item.text) c.0 in
-    (numeral_text item.text n a.0 d.0 is (omega (arith, small)), omega (arith, some, is), omega (arith, small, is))
-
-list_by : (left n : ℕ) (text : List ℕ) → Numeral text n → nat_eq n 0 ≡ false → nat_lt 1 n ≡ false
-    → certs.list_number (record { text = text; left = left }) ≡ Ok n
-list_by left n text is some over = rw is.digits (rw is.value (rw some (rw over (rw is.plain refl))))
-
-pub list_taken : (item : Item) (n : ℕ) → 1 ≤ n → n ≤ 1 → item.text ≡ decimal n → certs.list_number item ≡ Ok n
-list_taken item n some small said =
-    ap (λ (t : List ℕ). certs.list_number (record { text = t; left = item.left })) said
-    ∙ list_by item.left n (decimal n) (numeral_of n (omega (arith, small))) (list_some n some) (over_not 1 n small)
-
 -- what the number of a command is
 pub record CommandNumber (count : ℕ) (last : Option ℕ) (text : List ℕ) (n : ℕ) : Type 0 where
   pub said : text ≡ decimal n

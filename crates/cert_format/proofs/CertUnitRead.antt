@@ -22,6 +22,7 @@ use Rattle.cert_format.specs.Pieces as pieces
 use Rattle.cert_format.specs.Spelling.{name_text}
 use Rattle.cert_format.specs.UnitSpelling.{head_lines, word_lines, writes_items}
 use Rattle.cert_format.specs.Units as units
+use Rattle.cert_format.specs.declared.items.TheConstants.{MOST_NUMBER}
 use Rattle.cert_format.specs.declared.piece_lines.PieceSoFar.{PieceSoFar}
 use Rattle.cert_format.specs.declared.piece_lines.PieceWord.{PieceWord}
 use Rattle.cert_format.specs.declared.stop.Stop.{Stop}
@@ -284,7 +285,7 @@ next_ready style u next (Some last) mark low kept some follows =
     ready_next u.kind last mark u next (ready_of u.kind u u.stage last low (subst (λ (l : Option Mark). Shape u.stage l u.kind u) some kept.shape)) follows
 
 -- what a piece is before its first line
-empty_kept : (style : Style) (at_entry has_pos : Bool) (start : ℕ) → start ≤ 4294967295 → Kept style start (pieces.no_piece at_entry has_pos start)
+empty_kept : (style : Style) (at_entry has_pos : Bool) (start : ℕ) → start ≤ MOST_NUMBER → Kept style start (pieces.no_piece at_entry has_pos start)
 empty_kept style at_entry has_pos start small =
     record {
       is = piece_of style at_entry has_pos start (pieces.no_piece at_entry has_pos start).piece refl (lit≤ tt) tt refl tt refl tt (lit≤ tt) tt (lit≤ tt);
@@ -383,7 +384,7 @@ mark_step style u mark word rest line v is kept low said follows e =
     let ready : Ready w.kind mark w = subst (λ (k : UnitKind). Ready k mark w) (sym kind) (next_ready style u fresh u.last mark low kept refl follows) in
     let piece : w.piece ≡ fresh = ap (λ (x : UnitSoFar). x.piece) (same_but u.last fresh u) in
     let symbols : units.first_symbol mark w.symbols ≡ start = ap (units.first_symbol mark) (symbols_placed u.last fresh u) in
-    let small : start ≤ 4294967295 = subst (λ (n : ℕ). n ≤ 4294967295) symbols (start_small style w.kind mark w ready s.good) in
+    let small : start ≤ MOST_NUMBER = subst (λ (n : ℕ). n ≤ MOST_NUMBER) symbols (start_small style w.kind mark w ready s.good) in
     let first : Kept style (units.first_symbol mark w.symbols) w.piece =
     subst (λ (n : ℕ). Kept style n w.piece) (sym symbols) (subst (λ (p : PieceSoFar). Kept style start p) (sym piece) (empty_kept style entry pos start small)) in
     let same_flag = ap (λ (x : UnitSoFar). x.entry) (same_but u.last fresh u) in

@@ -24,6 +24,7 @@ use Rattle.cert_format.specs.UnitSpelling.{all_marked, head_lines, marked_lines,
 use Rattle.cert_format.specs.Units as units
 use Rattle.cert_format.specs.declared.cert_lines.CertSoFar.{CertSoFar}
 use Rattle.cert_format.specs.declared.cert_lines.CertStage.TheVariants as at_stage
+use Rattle.cert_format.specs.declared.items.TheConstants.{MOST_NUMBER}
 use Rattle.cert_format.specs.declared.piece_lines.PieceSoFar.{PieceSoFar}
 use Rattle.cert_format.specs.declared.piece_lines.PieceStage.{PieceStage}
 use Rattle.cert_format.specs.declared.piece_lines.PieceWord.{PieceWord}
@@ -241,7 +242,7 @@ pub marked_go : (style : Style) (c : CertSoFar) (kind : UnitKind) (entry whole :
     (at_entry has_pos : Bool) (start : ℕ) (piece : Piece) (more : Lines) (q : CertSoFar) → ArePlain style.names → rank u.stage < 4
     → units.may_follow u.kind u.last mark ≡ true → nat_le 64 u.count ≡ false
     → units.opened mark u ≡ state kind entry whole writes (Some mark) n cl (pieces.no_piece at_entry has_pos start)
-    → start ≤ 4294967295 → IsPiece style at_entry has_pos start piece
+    → start ≤ MOST_NUMBER → IsPiece style at_entry has_pos start piece
     → ((t : PieceStage) → Goes style more (inside c (state kind entry whole writes (Some mark) n cl (read_at at_entry has_pos t (next_behind start (places_of piece)) piece))) q)
     → Goes style (marked_lines (mark_text mark) style.names piece ++ more) (inside c u) q
 marked_go style c kind entry whole writes u mark n cl at_entry has_pos start piece more q plain low follows room opens small is after =
@@ -264,7 +265,7 @@ full n most small = grind (arith, nat_tests)
 -- further pieces of one mark
 pub list_go : (style : Style) (c : CertSoFar) (kind : UnitKind) (entry whole : Bool) (writes : List NameId) (mark : Mark) (put : List Piece → Closed)
     (at_entry has_pos : Bool) (start : ℕ) (list before : List Piece) (p : PieceSoFar) (n : ℕ) (more : Lines) (q : CertSoFar) → ArePlain style.names
-    → units.may_follow kind (Some mark) mark ≡ true → start ≤ 4294967295
+    → units.may_follow kind (Some mark) mark ≡ true → start ≤ MOST_NUMBER
     → ((l : List Piece) (r : PieceSoFar) (m : ℕ)
     → units.opened mark (state kind entry whole writes (Some mark) m (put l) r)
     ≡ state kind entry whole writes (Some mark) (m + 1) (put (l ++ r.piece ∷ [])) (pieces.no_piece at_entry has_pos start))

@@ -17,6 +17,7 @@ use Rattle.cert_format.specs.HintSpelling.{reference_text, use_text}
 use Rattle.cert_format.specs.Hints.{bare, is_colon, is_out, numbered, reference_of, use_item, use_of, with_part}
 use Rattle.cert_format.specs.Items.{has_leading_zero, is_empty, is_numeral}
 use Rattle.cert_format.specs.Lines.{Item}
+use Rattle.cert_format.specs.declared.items.TheConstants.{MOST_NUMBER}
 use Rattle.cert_format.specs.declared.stop.Stop.{Stop}
 use Rattle.cert_format.proofs.Numerals.{Numeral, numeral_of, numeral_text}
 
@@ -78,21 +79,21 @@ no_bytes (d ∷ digits) e = absurd (omega (arith, zero_is (length (d ∷ digits)
     zero_is n e = grind (arith, nat_tests)
 
 -- a number within 32 bits is told as itself
-least : (n : ℕ) → nat_lt 4294967295 n ≡ false → min 4294967295 n ≡ n
-least n e = let small : n ≤ 4294967295 = grind (arith, nat_tests) in omega (arith, small)
+least : (n : ℕ) → nat_lt MOST_NUMBER n ≡ false → min MOST_NUMBER n ≡ n
+least n e = let small : n ≤ MOST_NUMBER = grind (arith, nat_tests) in omega (arith, small)
 
 -- what the text of a reference is
 abbrev Referred : List ℕ → Reference → Type 0
-Referred text r = (text ≡ reference_text r) × (reference_number r ≤ 4294967295)
+Referred text r = (text ≡ reference_text r) × (reference_number r ≤ MOST_NUMBER)
 
-not_over : (n : ℕ) → nat_lt 4294967295 n ≡ false → n ≤ 4294967295
+not_over : (n : ℕ) → nat_lt MOST_NUMBER n ≡ false → n ≤ MOST_NUMBER
 not_over n e = grind (arith, nat_tests)
 
 numeral_not : (b : Bool) → b ≡ true → not b ≡ false
 numeral_not true e = refl
 numeral_not false e = absurd (cc)
 
-reference_read : (text : List ℕ) (r : Reference) → reference_of text ≡ Some r → nat_lt 4294967295 (number_from 0 (drop 1 text)) ≡ false
+reference_read : (text : List ℕ) (r : Reference) → reference_of text ≡ Some r → nat_lt MOST_NUMBER (number_from 0 (drop 1 text)) ≡ false
     → has_leading_zero (drop 1 text) ≡ false → Referred text r
 reference_read [] r e over lead = absurd (cc)
 reference_read (letter ∷ digits) r e over lead = by_empty (is_empty digits) refl (is_numeral digits) refl e
@@ -100,11 +101,11 @@ reference_read (letter ∷ digits) r e over lead = by_empty (is_empty digits) re
     n : ℕ
     n = number_from 0 digits
 
-    zero_small : (k : ℕ) → k ≡ 0 → k ≤ 4294967295
+    zero_small : (k : ℕ) → k ≡ 0 → k ≤ MOST_NUMBER
     zero_small k e = omega (arith, e)
 
     by_empty : (t : Bool) → is_empty digits ≡ t → (u : Bool) → is_numeral digits ≡ u
-        → cond t (bare letter) (cond u (numbered letter (min 4294967295 n)) None) ≡ Some r → Referred (letter ∷ digits) r
+        → cond t (bare letter) (cond u (numbered letter (min MOST_NUMBER n)) None) ≡ Some r → Referred (letter ∷ digits) r
     by_empty true is u also f =
         let b = bare_read letter r f in
         (ap (λ (d : List ℕ). letter ∷ d) (no_bytes digits is) ∙ b.0, zero_small (reference_number r) b.1)
@@ -112,7 +113,7 @@ reference_read (letter ∷ digits) r e over lead = by_empty (is_empty digits) re
         let small = not_over n over in
         let b = numbered_read letter n r (ap (numbered letter) (sym (least n over)) ∙ f) in
         let said : digits ≡ decimal n = numeral_text digits n (numeral_not (is_numeral digits) also) lead refl (omega (arith, small)) in
-        (ap (λ (d : List ℕ). letter ∷ d) said ∙ b.0, subst (λ (m : ℕ). m ≤ 4294967295) (sym b.1) small)
+        (ap (λ (d : List ℕ). letter ∷ d) said ∙ b.0, subst (λ (m : ℕ). m ≤ MOST_NUMBER) (sym b.1) small)
     by_empty false is false also f = absurd (cc)
 
 -- M:REF, with the text of the number before the first `:`
@@ -121,7 +122,7 @@ record Used (times reference : List ℕ) (one : Use) : Type 0 where
   pub reference_said : reference ≡ reference_text one.reference
   pub is : IsUse one
 
-positive_is : (n : ℕ) → nat_eq n 0 ≡ false → nat_lt 4294967295 n ≡ false → IsPositive n
+positive_is : (n : ℕ) → nat_eq n 0 ≡ false → nat_lt MOST_NUMBER n ≡ false → IsPositive n
 positive_is n some small = (grind (arith, nat_tests), not_over n small)
 
 with_reference : (left : ℕ) (o : Option Reference) (next : Reference → Result Use Stop) (one : Use) → with_part left o next ≡ Ok one
@@ -137,14 +138,14 @@ used_read times text left one e =
     let b = with_reference left (reference_of text) _ one a.1 in
     let c = unless_ok (is_out times text) _ _ _ b.2 in
     let d = unless_ok (has_leading_zero times || has_leading_zero (drop 1 text)) _ _ _ c.1 in
-    let out = or_parts (nat_eq n 0 || nat_lt 4294967295 n) (nat_lt 4294967295 m) c.0 in
-    let low = or_parts (nat_eq n 0) (nat_lt 4294967295 n) out.0 in
+    let out = or_parts (nat_eq n 0 || nat_lt MOST_NUMBER n) (nat_lt MOST_NUMBER m) c.0 in
+    let low = or_parts (nat_eq n 0) (nat_lt MOST_NUMBER n) out.0 in
     let zeros = or_parts (has_leading_zero times) (has_leading_zero (drop 1 text)) d.0 in
     let given : Use = record { reference = b.0; times = n } in
     let is : one ≡ given = ok_is given one d.1 in
     let r = reference_read text b.0 b.1 out.1 zeros.1 in
     let good = positive_is n low.0 low.1 in
-    let small : n ≤ 4294967295 = good.1 in
+    let small : n ≤ MOST_NUMBER = good.1 in
     record {
       times_said = numeral_text times n a.0 zeros.0 refl (omega (arith, small)) ∙ ap (λ (u : Use). decimal u.times) (sym is);
       reference_said = r.0 ∙ ap (λ (u : Use). reference_text u.reference) (sym is);
@@ -171,7 +172,7 @@ use_read item one e =
     )
 
 -- how a number's letter and digits are read
-numbered_by : (letter n : ℕ) (r : Reference) → n ≤ 4294967295 → numbered letter n ≡ Some r → reference_of (letter ∷ decimal n) ≡ Some r
+numbered_by : (letter n : ℕ) (r : Reference) → n ≤ MOST_NUMBER → numbered letter n ≡ Some r → reference_of (letter ∷ decimal n) ≡ Some r
 numbered_by letter n r small e =
     let is = numeral_of n (omega (arith, small)) in
     let both = and_parts (not (is_empty (decimal n))) (list_all is_digit (decimal n)) is.digits in
@@ -181,14 +182,14 @@ numbered_by letter n r small e =
     not_true true e = absurd (cc)
     not_true false e = refl
 
-    min_is : (n : ℕ) → n ≤ 4294967295 → min 4294967295 n ≡ n
+    min_is : (n : ℕ) → n ≤ MOST_NUMBER → min MOST_NUMBER n ≡ n
     min_is n small = omega (arith, small)
 
     by_parts : (digits : List ℕ) → Numeral digits n → not (is_empty digits) ≡ true → list_all is_digit digits ≡ true
         → reference_of (letter ∷ digits) ≡ Some r
     by_parts digits is some all = rw (not_true (is_empty digits) some) (rw all (rw is.value (rw (min_is n small) e)))
 
-reference_taken : (r : Reference) → reference_number r ≤ 4294967295 → reference_of (reference_text r) ≡ Some r
+reference_taken : (r : Reference) → reference_number r ≤ MOST_NUMBER → reference_of (reference_text r) ≡ Some r
 reference_taken (Row n) small = numbered_by 114 n (Row n) small refl
 reference_taken (ValueLow s) small = numbered_by 118 s.0 (ValueLow s) small refl
 reference_taken (ValueHigh s) small = numbered_by 119 s.0 (ValueHigh s) small refl
@@ -208,16 +209,16 @@ reference_taken CountHigh small = refl
 
 -- the number behind the letter of a reference
 record Behind (r : Reference) : Type 0 where
-  pub small : nat_lt 4294967295 (number_from 0 (drop 1 (reference_text r))) ≡ false
+  pub small : nat_lt MOST_NUMBER (number_from 0 (drop 1 (reference_text r))) ≡ false
   pub plain : has_leading_zero (drop 1 (reference_text r)) ≡ false
 
-over_not : (n : ℕ) → n ≤ 4294967295 → nat_lt 4294967295 n ≡ false
+over_not : (n : ℕ) → n ≤ MOST_NUMBER → nat_lt MOST_NUMBER n ≡ false
 over_not n small = grind (arith, nat_tests)
 
-behind_number : (n : ℕ) → n ≤ 4294967295 → (nat_lt 4294967295 (number_from 0 (decimal n)) ≡ false) × (has_leading_zero (decimal n) ≡ false)
-behind_number n small = let is = numeral_of n (omega (arith, small)) in (ap (nat_lt 4294967295) is.value ∙ over_not n small, is.plain)
+behind_number : (n : ℕ) → n ≤ MOST_NUMBER → (nat_lt MOST_NUMBER (number_from 0 (decimal n)) ≡ false) × (has_leading_zero (decimal n) ≡ false)
+behind_number n small = let is = numeral_of n (omega (arith, small)) in (ap (nat_lt MOST_NUMBER) is.value ∙ over_not n small, is.plain)
 
-behind : (r : Reference) → reference_number r ≤ 4294967295 → Behind r
+behind : (r : Reference) → reference_number r ≤ MOST_NUMBER → Behind r
 behind (Row n) small = let b = behind_number n small in record { small = b.0; plain = b.1 }
 behind (ValueLow s) small = let b = behind_number s.0 small in record { small = b.0; plain = b.1 }
 behind (ValueHigh s) small = let b = behind_number s.0 small in record { small = b.0; plain = b.1 }
@@ -238,8 +239,8 @@ behind CountHigh small = record { small = refl; plain = refl }
 is_positive : (n : ℕ) → 1 ≤ n → nat_eq n 0 ≡ false
 is_positive n some = grind (arith, nat_tests)
 
-used_by : (times text : List ℕ) (left n : ℕ) (r : Reference) → Numeral times n → nat_eq n 0 ≡ false → nat_lt 4294967295 n ≡ false
-    → reference_of text ≡ Some r → nat_lt 4294967295 (number_from 0 (drop 1 text)) ≡ false → has_leading_zero (drop 1 text) ≡ false
+used_by : (times text : List ℕ) (left n : ℕ) (r : Reference) → Numeral times n → nat_eq n 0 ≡ false → nat_lt MOST_NUMBER n ≡ false
+    → reference_of text ≡ Some r → nat_lt MOST_NUMBER (number_from 0 (drop 1 text)) ≡ false → has_leading_zero (drop 1 text) ≡ false
     → use_of times text left ≡ Ok (record { reference = r; times = n })
 used_by times text left n r is some small there over plain =
     rw is.digits (rw there (rw is.value (rw some (rw small (rw over (rw is.plain (rw plain refl)))))))
@@ -261,7 +262,7 @@ no_colon (d ∷ digits) e = let both = and_parts (is_digit d) (list_all is_digit
 
 pub use_taken : (item : Item) (one : Use) → IsUse one → item.text ≡ use_text one → use_item item ≡ Ok one
 use_taken item one is said =
-    let small : one.times ≤ 4294967295 = is.0.1 in
+    let small : one.times ≤ MOST_NUMBER = is.0.1 in
     let numeral = numeral_of one.times (omega (arith, small)) in
     let times = decimal one.times in
     let back = 58 ∷ reference_text one.reference in

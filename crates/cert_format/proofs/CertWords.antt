@@ -20,6 +20,7 @@ use Rattle.cert_format.specs.Items.{is_word}
 use Rattle.cert_format.specs.Lines.{Item}
 use Rattle.cert_format.specs.PieceItems as items
 use Rattle.cert_format.specs.PieceSpelling.{hex_digit, hex_digits, hex_text, kind_text, term_text}
+use Rattle.cert_format.specs.declared.items.TheConstants.{MOST_NUMBER}
 use Rattle.cert_format.specs.declared.stop.Stop.{Stop}
 use Rattle.cert_format.specs.declared.stop.Stop.TheVariants.{Syntax}
 use Rattle.cert_format.proofs.CertItems.{known_read, known_taken}
@@ -202,7 +203,7 @@ after_read prefix text rest e = by_test (pointwise nat_eq (take (length prefix) 
     by_test false is f = absurd (cc)
 
 -- a term with a symbol behind its word, or what comes for another one
-prefixed : (P : Term → Type 0) (prefix : List ℕ) (of_symbol : ℕ → Term) (next : ℕ) (item : Item) (rest : Result Term Stop) (t : Term) → next ≤ 4294967295
+prefixed : (P : Term → Type 0) (prefix : List ℕ) (of_symbol : ℕ → Term) (next : ℕ) (item : Item) (rest : Result Term Stop) (t : Term) → next ≤ MOST_NUMBER
     → option_map_or (items.symbol_term of_symbol next) (items.after_in prefix item) rest ≡ Ok t
     → ((s : ℕ) → item.text ≡ prefix ++ decimal s → s < next → P (of_symbol s)) → (rest ≡ Ok t → P t) → P t
 prefixed P prefix of_symbol next item rest t bound e here there = by_rest (items.after prefix item.text) refl e
@@ -230,19 +231,19 @@ bare_read has_pos next item t e = by_pos (is_word (codes "pos") item) refl has_p
     by_pos true is false has s f = absurd (cc)
     by_pos false is h has s f = pick (Termed has_pos next item) (codes "count") item Count _ t f (λ said. (said, tt)) (λ g. absurd (cc))
 
-pub term_read : (has_pos : Bool) (next : ℕ) (item : Item) (t : Term) → next ≤ 4294967295 → items.term has_pos next item ≡ Ok t → Termed has_pos next item t
+pub term_read : (has_pos : Bool) (next : ℕ) (item : Item) (t : Term) → next ≤ MOST_NUMBER → items.term has_pos next item ≡ Ok t → Termed has_pos next item t
 term_read has_pos next item t bound e =
     prefixed (Termed has_pos next item) (codes "value:") Value next item _ t bound e (λ s said small. (said, small)) (λ e1.
     prefixed (Termed has_pos next item) (codes "length:") Length next item _ t bound e1 (λ s said small. (said, small)) (λ e2.
     prefixed (Termed has_pos next item) (codes "names:") Names next item _ t bound e2 (λ s said small. (said, small)) (λ e3.
     bare_read has_pos next item t e3)))
 
-symbol_by : (of_symbol : ℕ → Term) (next s left : ℕ) → next ≤ 4294967295 → s < next
+symbol_by : (of_symbol : ℕ → Term) (next s left : ℕ) → next ≤ MOST_NUMBER → s < next
     → items.symbol_term of_symbol next (record { text = decimal s; left = left }) ≡ Ok (of_symbol s)
 symbol_by of_symbol next s left bound small =
     ap (λ (r : Result Sym Stop). then_do r (λ x. ok {E = Stop} (of_symbol x.0))) (known_taken next (record { text = decimal s; left = left }) (record { 0 = s }) bound small refl)
 
-term_by : (has_pos : Bool) (next left : ℕ) (t : Term) → next ≤ 4294967295 → IsTerm has_pos next t
+term_by : (has_pos : Bool) (next left : ℕ) (t : Term) → next ≤ MOST_NUMBER → IsTerm has_pos next t
     → items.term has_pos next (record { text = term_text t; left = left }) ≡ Ok t
 term_by has_pos next left (Value s) bound is = symbol_by Value next s left bound is
 term_by has_pos next left (Length s) bound is = symbol_by Length next s left bound is
@@ -250,7 +251,7 @@ term_by has_pos next left (Names s) bound is = symbol_by Names next s left bound
 term_by has_pos next left Pos bound is = rw is refl
 term_by has_pos next left Count bound is = refl
 
-pub term_taken : (has_pos : Bool) (next : ℕ) (item : Item) (t : Term) → next ≤ 4294967295 → IsTerm has_pos next t → item.text ≡ term_text t
+pub term_taken : (has_pos : Bool) (next : ℕ) (item : Item) (t : Term) → next ≤ MOST_NUMBER → IsTerm has_pos next t → item.text ≡ term_text t
     → items.term has_pos next item ≡ Ok t
 term_taken has_pos next item t bound is said =
     ap (λ (x : List ℕ). items.term has_pos next (record { text = x; left = item.left })) said ∙ term_by has_pos next item.left t bound is

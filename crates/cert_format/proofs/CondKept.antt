@@ -19,6 +19,7 @@ use Rattle.cert_format.specs.Texts.{cond_of}
 use Rattle.cert_format.specs.declared.cond_lines.CondSoFar.{CondSoFar}
 use Rattle.cert_format.specs.declared.cond_lines.Stage.{Stage}
 use Rattle.cert_format.specs.declared.cond_lines.Stage.TheVariants.{Entries, Key, Preamble, Length, Names, Nonblank, Types, End, Done}
+use Rattle.cert_format.specs.declared.items.TheConstants.{MOST_NUMBER}
 use Rattle.cert_format.specs.declared.stop.Stop.{Stop}
 use Rattle.cert_format.proofs.CondSteps.{told_ok}
 use Rattle.cert_format.proofs.CondWhole.{fits_names}
@@ -55,14 +56,14 @@ field_kept last names item id e =
     (subst (IsField names) (sym (same ∙ other)) d.0, subst (λ (i : NameId). is_above last i ≡ true) (sym same) b.0)
 
 -- a number that is read is within its limit
-pub last_kept : (most : ℕ) (line : Line) (n : ℕ) → most ≤ 4294967295 → conditions.last_natural most line ≡ Ok n → n ≤ most
+pub last_kept : (most : ℕ) (line : Line) (n : ℕ) → most ≤ MOST_NUMBER → conditions.last_natural most line ≡ Ok n → n ≤ most
 last_kept most line n bound e =
     let a = then_ok (next_item line) _ _ e in
     let b = then_ok (natural most a.0.0) _ _ a.2 in
     let c = then_ok (line_end a.0.1) _ _ b.2 in
     subst (λ (m : ℕ). m ≤ most) (sym (ok_is b.0 n c.2)) (natural_read most a.0.0 b.0 bound b.1).small
 
-number_kept : (text : List ℕ) (most : ℕ) (word : Item) (line : Line) (n : ℕ) → most ≤ 4294967295 → conditions.number_line text most word line ≡ Ok n → n ≤ most
+number_kept : (text : List ℕ) (most : ℕ) (word : Item) (line : Line) (n : ℕ) → most ≤ MOST_NUMBER → conditions.number_line text most word line ≡ Ok n → n ≤ most
 number_kept text most word line n bound e = let a = then_ok (expected text word) _ _ e in last_kept most line n bound a.2
 
 -- what has been read keeps the limits and the order

@@ -8,6 +8,7 @@ use Rattle.cert_format.specs.Conditions as conditions
 use Rattle.cert_format.specs.Items.{choice, expected, is_word, natural}
 use Rattle.cert_format.specs.Lines.{Item, Line, ended_by, line_end, next_item, next_of, with_item}
 use Rattle.cert_format.specs.Spelling.{choice_text}
+use Rattle.cert_format.specs.declared.items.TheConstants.{MOST_NUMBER}
 use Rattle.cert_format.specs.declared.stop.Stop.{Stop}
 use Rattle.cert_format.proofs.Numerals.{natural_read}
 use Rattle.cert_format.proofs.Split.{Ended, texts, texts_of}
@@ -62,7 +63,7 @@ pub none_left : (line : Line) → AtEnd line → Has line []
 none_left line at = record { items = ap texts_of at.none; ends = at.ends }
 
 -- a number that ends its line
-pub number_read : (most : ℕ) (line : Line) (n : ℕ) → most ≤ 4294967295 → conditions.last_natural most line ≡ Ok n → Has line (decimal n ∷ [])
+pub number_read : (most : ℕ) (line : Line) (n : ℕ) → most ≤ MOST_NUMBER → conditions.last_natural most line ≡ Ok n → Has line (decimal n ∷ [])
 number_read most line n bound e =
     let a = then_ok (next_item line) _ _ e in
     let b = then_ok (natural most a.0.0) _ _ a.2 in
@@ -75,7 +76,7 @@ pub record Numbered (text : List ℕ) (word : Item) (line : Line) (n : ℕ) : Ty
   pub word_said : word.text ≡ text
   pub has : Has line (decimal n ∷ [])
 
-pub numbered : (text : List ℕ) (most : ℕ) (word : Item) (line : Line) (n : ℕ) → most ≤ 4294967295 → conditions.number_line text most word line ≡ Ok n
+pub numbered : (text : List ℕ) (most : ℕ) (word : Item) (line : Line) (n : ℕ) → most ≤ MOST_NUMBER → conditions.number_line text most word line ≡ Ok n
     → Numbered text word line n
 numbered text most word line n bound e =
     let a = then_ok (expected text word) _ _ e in

@@ -16,6 +16,7 @@ use Rattle.cert_format.specs.Items.{choice, expected, field_above, is_word, last
 use Rattle.cert_format.specs.Lines.{Item, Line, line_end, lines_of, next_item, with_item}
 use Rattle.cert_format.specs.Spelling.{choice_text, cond_items, cond_lists, cond_numbers, name_text, names_items, nonblank_items, text_of, type_items}
 use Rattle.cert_format.specs.Texts.{cond_of, told}
+use Rattle.cert_format.specs.declared.items.TheConstants.{MOST_NUMBER}
 use Rattle.cert_format.specs.declared.stop.Stop.{Stop}
 use Rattle.cert_format.specs.declared.cond_lines.CondSoFar.{CondSoFar}
 use Rattle.cert_format.specs.declared.cond_lines.Stage.{Stage}
@@ -260,7 +261,7 @@ abbrev with_length : ℕ → Cond → Cond
 with_length n c = record c { length = n }
 
 number_step : (names : List (List ℕ × Kind)) (s next : Stage) (c : Cond) (with_number : ℕ → Cond → Cond) (text : List ℕ) (most : ℕ) (word : Item)
-    (rest line : Line) (q : CondSoFar) → line ≡ with_item word rest → most ≤ 4294967295
+    (rest line : Line) (q : CondSoFar) → line ≡ with_item word rest → most ≤ MOST_NUMBER
     → ((n : ℕ) → spelled names next (with_number n c) ≡ spelled names s c ++ number_items text n ∷ [])
     → ((n : ℕ) → Fits next (with_number n c))
     → then_do (conditions.number_line text most word rest) (λ n. ok {E = Stop} (next_of next (with_number n c))) ≡ Ok q

@@ -15,6 +15,7 @@ use Rattle.cert_format.specs.Spelling.{name_text, names_items}
 use Rattle.cert_format.specs.declared.cond_lines.CondSoFar.{CondSoFar}
 use Rattle.cert_format.specs.declared.cond_lines.Stage.{Stage}
 use Rattle.cert_format.specs.declared.cond_lines.Stage.TheVariants.{Names}
+use Rattle.cert_format.specs.declared.items.TheConstants.{MOST_NUMBER}
 use Rattle.cert_format.specs.declared.stop.Stop.{Stop}
 use Rattle.cert_format.proofs.CondRead.{Has}
 use Rattle.cert_format.proofs.NamesTaken.{field_taken}
@@ -75,14 +76,14 @@ word_taken text item said = (bytes_decides item.text text).1 said
 pub expect_taken : (text : List ℕ) (item : Item) → item.text ≡ text → expected text item ≡ Ok tt
 expect_taken text item said = rw (word_taken text item said) refl
 
-pub number_taken : (most n : ℕ) (line : Line) → most ≤ 4294967295 → n ≤ most → Has line (decimal n ∷ []) → conditions.last_natural most line ≡ Ok n
+pub number_taken : (most n : ℕ) (line : Line) → most ≤ MOST_NUMBER → n ≤ most → Has line (decimal n ∷ []) → conditions.last_natural most line ≡ Ok n
 number_taken most n line bound small has =
     let t = take_first line (decimal n) [] has in
     then_go (next_item line) (t.item, t.rest) _ _ t.gives
     (then_go (natural most t.item) n _ _ (natural_taken most t.item n bound small t.said)
     (then_go (line_end t.rest) tt _ _ (take_end t.rest t.has) refl))
 
-number_line_taken : (text : List ℕ) (most n : ℕ) (word : Item) (line : Line) → most ≤ 4294967295 → n ≤ most → word.text ≡ text → Has line (decimal n ∷ [])
+number_line_taken : (text : List ℕ) (most n : ℕ) (word : Item) (line : Line) → most ≤ MOST_NUMBER → n ≤ most → word.text ≡ text → Has line (decimal n ∷ [])
     → conditions.number_line text most word line ≡ Ok n
 number_line_taken text most n word line bound small said has =
     then_go (expected text word) tt _ _ (expect_taken text word said) (number_taken most n line bound small has)
@@ -101,7 +102,7 @@ at_stage s c = record { stage = s; cond = c }
 
 -- a line of a word and a number, at the stage that takes it
 pub numbered : (names : List (List ℕ × Kind)) (line : Line) (text : List ℕ) (most n : ℕ) (p q : CondSoFar) (next : ℕ → Result CondSoFar Stop)
-    → most ≤ 4294967295 → n ≤ most → Has line (text ∷ (decimal n ∷ []))
+    → most ≤ MOST_NUMBER → n ≤ most → Has line (text ∷ (decimal n ∷ []))
     → ((word : Item) (rest : Line) → conditions.worded_line names p.stage word rest p ≡ then_do (conditions.number_line text most word rest) next)
     → next n ≡ Ok q → conditions.cond_line names line p ≡ Ok q
 numbered names line text most n p q next bound small has by goes =

@@ -10,6 +10,7 @@ use Rattle.bv_base.proofs.ThenLemmas.{ok_is, unless_ok}
 use Rattle.bv_base.specs.Runs.{is_digit, number_from}
 use Rattle.cert_format.specs.Items.{has_leading_zero, is_empty, is_numeral, natural}
 use Rattle.cert_format.specs.Lines.{Item}
+use Rattle.cert_format.specs.declared.items.TheConstants.{MOST_NUMBER}
 
 own : IsNumeralModel (λ ds. list_all is_digit ds ≡ true) (number_from 0)
 own = numerals_by_fold _ (search rules) number_from (search rules)
@@ -42,7 +43,7 @@ spelled_number text is lead small =
 not_over : (most n : ℕ) → nat_lt most n ≡ false → n ≤ most
 not_over most n over = grind (arith, nat_tests)
 
-pub natural_read : (most : ℕ) (item : Item) (n : ℕ) → most ≤ 4294967295 → natural most item ≡ Ok n → Natural most item.text n
+pub natural_read : (most : ℕ) (item : Item) (n : ℕ) → most ≤ MOST_NUMBER → natural most item ≡ Ok n → Natural most item.text n
 natural_read most item n bound e =
     let a = unless_ok _ _ _ _ e in
     let b = unless_ok _ _ _ _ a.1 in
@@ -78,7 +79,7 @@ natural_by : (most left : ℕ) (text : List ℕ) (n : ℕ) → is_numeral text �
 natural_by most left text n is value lead over = rw is (rw value (rw over (rw lead refl)))
 
 -- a number within its limit is read as what it spells
-pub natural_taken : (most : ℕ) (item : Item) (n : ℕ) → most ≤ 4294967295 → n ≤ most → item.text ≡ decimal n → natural most item ≡ Ok n
+pub natural_taken : (most : ℕ) (item : Item) (n : ℕ) → most ≤ MOST_NUMBER → n ≤ most → item.text ≡ decimal n → natural most item ≡ Ok n
 natural_taken most item n bound small said =
     let fits : n < 2 ^ 64 = omega (arith, bound, small) in
     let is = and_from (not (is_empty (decimal n))) (list_all is_digit (decimal n)) (some_bytes (decimal n) (decimal_nonempty n fits)) (digits_decimal own n fits) in

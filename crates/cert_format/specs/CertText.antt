@@ -36,6 +36,7 @@ use Rattle.cert_format.specs.declared.cert.Loop.{Loop}
 use Rattle.cert_format.specs.declared.cert.Summary.{Summary}
 use Rattle.cert_format.specs.declared.cert_lines.TheConstants.{MOST_LIST, MOST_UNITS}
 use Rattle.cert_format.specs.declared.cond_lines.TheConstants.{MOST}
+use Rattle.cert_format.specs.declared.items.TheConstants.{MOST_NUMBER}
 use Rattle.cert_format.specs.declared.piece_items.TheConstants.{ROW_SIZE}
 use Rattle.cert_format.specs.declared.piece_lines.TheConstants.{MOST_ITEMS, MOST_TERMS}
 use Rattle.cert_format.specs.declared.unit_lines.TheConstants.{MOST_PIECES}
@@ -47,7 +48,7 @@ is_within below above (negsuc n) = nat_le (suc n) below
 
 -- a number from 1 on, of 32 bits
 abbrev pub IsPositive : ℕ → Type 0
-IsPositive n = (1 ≤ n) × (n ≤ 4294967295)
+IsPositive n = (1 ≤ n) × (n ≤ MOST_NUMBER)
 
 -- a variable; one of entries only where there is an entry
 abbrev pub IsVariable : Bool → List (List ℕ × Kind) → NameId → Type 0
@@ -139,7 +140,7 @@ reference_number _ = 0
 
 -- the numbers of what is added up have 32 bits, and it is taken at least once
 abbrev pub IsUse : Use → Type 0
-IsUse one = IsPositive one.times × (reference_number one.reference ≤ 4294967295)
+IsUse one = IsPositive one.times × (reference_number one.reference ≤ MOST_NUMBER)
 
 -- a proof is within the limits
 pub record IsProof (proof : Proof) : Type 0 where

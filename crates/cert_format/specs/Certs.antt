@@ -10,7 +10,7 @@ use Rattle.name_table.specs.declared.style.BodyId.{BodyId}
 use Rattle.name_table.specs.declared.style.Style.{Style}
 use Rattle.sym_state.specs.declared.piece.Piece.{Piece}
 use Rattle.cert_format.specs.Conditions.{no_lines, worded_line}
-use Rattle.cert_format.specs.Items.{expected, has_leading_zero, is_numeral, is_word, last_of, name_in}
+use Rattle.cert_format.specs.Items.{expected, has_leading_zero, is_numeral, is_word, last_of, name_in, positive}
 use Rattle.cert_format.specs.Lines.{Item, Line, lines_of, next_item}
 use Rattle.cert_format.specs.PieceItems.{after_in, block_number, body_of}
 use Rattle.cert_format.specs.Pieces.{at_end}
@@ -47,20 +47,12 @@ no_cert =
       commands = [];
     }
 
--- the number of a list of errors
-abbrev pub list_number : Item → Result ℕ Stop
-list_number item =
-    if not (is_numeral item.text) then Err (Syntax item.left)
-    else if nat_eq (number_from 0 item.text) 0 || nat_lt MOST_LIST (number_from 0 item.text) then Err (OutOfRange item.left)
-    else if has_leading_zero item.text then Err (NotCanonical item.left)
-    else Ok (number_from 0 item.text)
-
 -- `bstcert` and the number of a list
 abbrev pub header_line : Item → Line → CertSoFar → Result CertSoFar Stop
 header_line word line p =
     then_do (expected (codes "bstcert") word) (λ _.
     then_do (next_item line) (λ item.
-    then_do (list_number item.0) (λ list. at_end item.1 (record p { stage = stage.Cond; list = list }))))
+    then_do (positive MOST_LIST item.0) (λ list. at_end item.1 (record p { stage = stage.Cond; list = list }))))
 
 -- what comes after a line of the condition
 abbrev pub after_cond : Stage → CertStage

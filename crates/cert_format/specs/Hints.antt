@@ -9,21 +9,14 @@ use Rattle.sym_state.specs.declared.proof.Reference.{Reference}
 use Rattle.sym_state.specs.declared.proof.Reference.TheVariants.{Row, ValueLow, ValueHigh, LengthLow, NamesLow, NamesHigh, ExactLow, ExactHigh, NonblankLength, NonblankNames, TextLow, TextHigh, PosLow, PosHigh, CountLow, CountHigh}
 use Rattle.sym_state.specs.declared.proof.Use.{Use}
 use Rattle.cert_format.specs.Conditions.{last_natural}
-use Rattle.cert_format.specs.Items.{has_leading_zero, is_empty, is_numeral, is_word}
+use Rattle.cert_format.specs.Items.{has_leading_zero, is_empty, is_numeral, is_word, positive}
 use Rattle.cert_format.specs.Lines.{Item, Line, next_item}
 use Rattle.cert_format.specs.Pieces.{at_end, with_all}
 use Rattle.cert_format.specs.declared.cond_lines.TheConstants.{MOST}
+use Rattle.cert_format.specs.declared.items.TheConstants.{MOST_NUMBER}
 use Rattle.cert_format.specs.declared.piece_lines.TheConstants.{MOST_ITEMS}
 use Rattle.cert_format.specs.declared.stop.Stop.{Stop}
 use Rattle.cert_format.specs.declared.stop.Stop.TheVariants.{Syntax, OutOfRange, NotCanonical, TooMany}
-
--- a number from 1 on, of at most 32 bits
-abbrev pub positive : Item → Result ℕ Stop
-positive item =
-    if not (is_numeral item.text) then Err (Syntax item.left)
-    else if nat_eq (number_from 0 item.text) 0 || nat_lt 4294967295 (number_from 0 item.text) then Err (OutOfRange item.left)
-    else if has_leading_zero item.text then Err (NotCanonical item.left)
-    else Ok (number_from 0 item.text)
 
 -- the references with a number, by their letters
 abbrev pub numbered : ℕ → ℕ → Option Reference
@@ -56,14 +49,14 @@ abbrev pub reference_of : List ℕ → Option Reference
 reference_of [] = None
 reference_of (letter ∷ digits) =
     if is_empty digits then bare letter
-    else if is_numeral digits then numbered letter (min 4294967295 (number_from 0 digits))
+    else if is_numeral digits then numbered letter (min MOST_NUMBER (number_from 0 digits))
     else None
 
 -- a number that a proof may not have
 abbrev pub is_out : List ℕ → List ℕ → Bool
 is_out times reference =
-    nat_eq (number_from 0 times) 0 || nat_lt 4294967295 (number_from 0 times)
-    || nat_lt 4294967295 (number_from 0 (drop 1 reference))
+    nat_eq (number_from 0 times) 0 || nat_lt MOST_NUMBER (number_from 0 times)
+    || nat_lt MOST_NUMBER (number_from 0 (drop 1 reference))
 
 -- what is wanted of a part of an item that it must have
 abbrev pub with_part : {A B : Type 0} → ℕ → Option A → (A → Result B Stop) → Result B Stop
@@ -100,7 +93,7 @@ add_uses (item ∷ more) before =
 abbrev pub proof_line : Line → Result Proof Stop
 proof_line line =
     then_do (next_item line) (λ item.
-    then_do (positive item.0) (λ divisor.
+    then_do (positive MOST_NUMBER item.0) (λ divisor.
     then_do (with_all item.1 (λ more. add_uses more [])) (λ uses. Ok (record { divisor = divisor; uses = uses }))))
 
 -- a hint without a number

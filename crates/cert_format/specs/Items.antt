@@ -1,5 +1,5 @@
 -- What single items say (docs/CERTIFICATES.md, "Items").
-use Rattle.std.specs.Prelude.{ℕ, ◌-◌, Bool, true, false, ◌&&◌, not, nat_eq, nat_lt, if◌then◌else◌, List, [], ◌∷◌, length, codes, slice_get, Option, None, Some, Result, Ok, Err}
+use Rattle.std.specs.Prelude.{ℕ, ◌-◌, Bool, true, false, ◌&&◌, ◌||◌, not, nat_eq, nat_lt, if◌then◌else◌, List, [], ◌∷◌, length, codes, slice_get, Option, None, Some, Result, Ok, Err}
 use Rattle.std.specs.List.{list_all}
 use Rattle.std.specs.Cmp.Lexicographic.{pointwise, slice_cmp}
 use Rattle.std.specs.Ordering.{is_lt, nat_cmp}
@@ -39,6 +39,14 @@ abbrev pub natural : ℕ → Item → Result ℕ Stop
 natural most item =
     if not (is_numeral item.text) then Err (Syntax item.left)
     else if nat_lt most (number_from 0 item.text) then Err (OutOfRange item.left)
+    else if has_leading_zero item.text then Err (NotCanonical item.left)
+    else Ok (number_from 0 item.text)
+
+-- a number from 1 on, of at most so much
+abbrev pub positive : ℕ → Item → Result ℕ Stop
+positive most item =
+    if not (is_numeral item.text) then Err (Syntax item.left)
+    else if nat_eq (number_from 0 item.text) 0 || nat_lt most (number_from 0 item.text) then Err (OutOfRange item.left)
     else if has_leading_zero item.text then Err (NotCanonical item.left)
     else Ok (number_from 0 item.text)
 

@@ -19,13 +19,14 @@ use Rattle.sym_state.specs.declared.symbol.Sym.{Sym}
 use Rattle.cert_format.specs.Items.{field_in, has_leading_zero, is_above, is_numeral, is_word, name_in}
 use Rattle.cert_format.specs.Lines.{Item}
 use Rattle.cert_format.specs.declared.cond_lines.TheConstants.{MOST}
+use Rattle.cert_format.specs.declared.items.TheConstants.{MOST_NUMBER}
 use Rattle.cert_format.specs.declared.piece_items.TheConstants.{ROW_SIZE}
 use Rattle.cert_format.specs.declared.stop.Stop.{Stop}
 use Rattle.cert_format.specs.declared.stop.Stop.TheVariants.{Syntax, UnknownName, OutOfRange, NotCanonical}
 
 -- the number of the next new symbol after a symbol stood at a place; it stays within 32 bits
 abbrev pub next_after : ℕ → Sym → ℕ
-next_after next sym = min 4294967295 (max next (suc sym.0))
+next_after next sym = min MOST_NUMBER (max next (suc sym.0))
 
 -- a symbol at a place: one that stood before, or the next new one
 abbrev pub placed : ℕ → Item → Result Sym Stop

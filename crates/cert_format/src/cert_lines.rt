@@ -105,7 +105,7 @@ impl CertSoFar {
         ensures { Leaves WantOfMemory (certs.header_line line.old.word line.old.rest self.old) self.new result }
     {
         line.word.expect(b"bstcert")?;
-        let list = line.rest.item()?.list_number()?;
+        let list = line.rest.item()?.positive(MOST_LIST)?;
         line.rest.end()?;
         self.list = list;
         self.stage = CertStage::Cond;
@@ -388,23 +388,6 @@ fn comes_after(last: Option<u32>, index: u32) -> bool
 }
 
 impl<'a> Item<'a> {
-    /// The number of a list of errors.
-    fn list_number(&self) -> Result<u32, Stop>
-        ensures { Gives WantOfMemory (certs.list_number self.now) result }
-    {
-        if !is_numeral(self.text()) {
-            return Err(Stop::Syntax(self.left()));
-        }
-        let value = number(self.text());
-        if value == 0 || value > u64::from(MOST_LIST) {
-            return Err(Stop::OutOfRange(self.left()));
-        }
-        if has_leading_zero(self.text()) {
-            return Err(Stop::NotCanonical(self.left()));
-        }
-        Ok(value as u32)
-    }
-
     /// The number of a command of the style above the last one.
     fn command_number(&self, count: usize, last: Option<u32>) -> Result<u32, Stop>
         ensures { Gives WantOfMemory (certs.command_number count last self.now) result }

@@ -7,7 +7,7 @@ ghost use Rattle.cert_format.specs.Hints as hints;
 ghost use Rattle.cert_format.specs.declared.stop.Stop.TheVariants.{NoMemory as WantOfMemory};
 
 use crate::cond_lines::{MOST, last_natural};
-use crate::items::{has_leading_zero, is_numeral};
+use crate::items::{MOST_NUMBER, has_leading_zero, is_numeral};
 use crate::lines::{Item, Line, Worded, after_first};
 use crate::piece_lines::MOST_ITEMS;
 use crate::stop::Stop;
@@ -63,7 +63,7 @@ fn bare_hint(line: &mut Worded<'_>) -> Result<Hint, Stop>
 fn proof_line(alloc: Global, line: &mut Line<'_>) -> Result<Proof, Stop>
     ensures { Gives WantOfMemory (hints.proof_line line.old) result }
 {
-    let divisor = line.item()?.positive()?;
+    let divisor = line.item()?.positive(MOST_NUMBER)?;
     let uses = uses(alloc, line)?;
     line.end()?;
     Ok(Proof { divisor, uses })
@@ -92,23 +92,6 @@ impl<'a> Item<'a> {
     {
         let (times, rest) = self.text().split_at(colon_length(self.text()));
         use_of(times, after_first(rest), self.left())
-    }
-
-    /// A number from 1 on.
-    fn positive(&self) -> Result<u32, Stop>
-        ensures { Gives WantOfMemory (hints.positive self.now) result }
-    {
-        if !is_numeral(self.text()) {
-            return Err(Stop::Syntax(self.left()));
-        }
-        let value = number(self.text());
-        if value == 0 || value > 4294967295 {
-            return Err(Stop::OutOfRange(self.left()));
-        }
-        if has_leading_zero(self.text()) {
-            return Err(Stop::NotCanonical(self.left()));
-        }
-        Ok(value as u32)
     }
 }
 
@@ -139,7 +122,9 @@ fn is_out(times: &[u8], reference: &[u8]) -> bool
     ensures { result ≡ hints.is_out times.now reference.now }
 {
     let times = number(times);
-    times == 0 || times > 4294967295 || number(after_first(reference)) > 4294967295
+    times == 0
+        || times > u64::from(MOST_NUMBER)
+        || number(after_first(reference)) > u64::from(MOST_NUMBER)
 }
 
 /// The reference of a letter and digits; a number that is too great is told as the greatest.
@@ -193,9 +178,9 @@ fn bare(letter: u8) -> Option<Reference>
 
 /// The number that digits write, or the greatest of 32 bits where it is greater.
 fn capped(digits: &[u8]) -> u32
-    ensures { result ≡ min 4294967295 (number_from 0 digits.now) }
+    ensures { result ≡ min MOST_NUMBER (number_from 0 digits.now) }
 {
-    number(digits).min(4294967295) as u32
+    number(digits).min(u64::from(MOST_NUMBER)) as u32
 }
 
 /// How many bytes stand before the first colon.

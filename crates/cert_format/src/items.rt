@@ -15,6 +15,9 @@ use bv_base::runs::{is_digit, number};
 use bv_base::text::Text;
 use name_table::names::{Kind, NameId, Names};
 
+/// The greatest number of a symbol, of a divisor, of a multiplier and of a reference.
+pub const MOST_NUMBER: u32 = 4_294_967_295;
+
 /// A name of the style, or why the item is none that may stand here.
 pub(crate) type Named = Result<NameId, Stop>;
 
@@ -46,6 +49,23 @@ impl<'a> Item<'a> {
         }
         let value = number(self.text());
         if u64::from(most) < value {
+            return Err(Stop::OutOfRange(self.left()));
+        }
+        if has_leading_zero(self.text()) {
+            return Err(Stop::NotCanonical(self.left()));
+        }
+        Ok(value as u32)
+    }
+
+    /// A number from 1 on, of at most so much.
+    pub(crate) fn positive(&self, most: u32) -> Result<u32, Stop>
+        ensures { Gives WantOfMemory (items.positive most self.now) result }
+    {
+        if !is_numeral(self.text()) {
+            return Err(Stop::Syntax(self.left()));
+        }
+        let value = number(self.text());
+        if value == 0 || value > u64::from(most) {
             return Err(Stop::OutOfRange(self.left()));
         }
         if has_leading_zero(self.text()) {

@@ -89,7 +89,7 @@ macro_rules! on {
 }
 
 /// Lines of the condition.
-static CONDITION: [Row; 31] = [
+static CONDITION: [Row; 46] = [
     on!(0, "", "read"),
     on!(1, "bstcert 2", "1:9 OutOfRange"),
     on!(1, "bstcert 01", "1:9 NotCanonical"),
@@ -121,10 +121,25 @@ static CONDITION: [Row; 31] = [
     on!(11, "end end", "11:5 Syntax"),
     on!(47, "done done", "47:6 Syntax"),
     on!(47, "don", "47:1 Syntax"),
+    on!(1, "bstcert 1 1", "1:11 Syntax"),
+    on!(3, "key", "3:4 Syntax"),
+    on!(3, "key 09", "3:5 NotCanonical"),
+    on!(4, "preamble 1073741825", "4:10 OutOfRange"),
+    on!(4, "preamble x", "4:10 Syntax"),
+    on!(4, "preamble 00", "4:10 NotCanonical"),
+    on!(5, "length 1073741825", "5:8 OutOfRange"),
+    on!(5, "length 9 9", "5:10 Syntax"),
+    on!(5, "length 010", "5:8 NotCanonical"),
+    on!(6, "names author 1073741825", "6:14 OutOfRange"),
+    on!(7, "names author 4", "7:7 NotCanonical"),
+    on!(7, "nonblank", "7:9 Syntax"),
+    on!(7, "nonblank Author", "7:10 UnknownName"),
+    on!(9, "type misc misc", "9:11 Syntax"),
+    on!(10, "othertype", "10:10 Syntax"),
 ];
 
 /// Lines of pieces.
-static PIECES: [Row; 38] = [
+static PIECES: [Row; 84] = [
     on!(12, "summary h", "12:9 UnknownName"),
     on!(12, "summary #0", "read"),
     on!(12, "summary #1", "12:9 OutOfRange"),
@@ -171,10 +186,82 @@ static PIECES: [Row; 38] = [
     on!(26, "row 4 1 names:0 1 length:0", "26:19 NotCanonical"),
     on!(28, "stack 4", "28:7 NotCanonical"),
     on!(28, "is 2 opt", "read"),
+    on!(13, "entry 0", "13:7 Syntax"),
+    on!(14, "whole whole", "14:7 Syntax"),
+    on!(15, "writes", "15:7 Syntax"),
+    on!(15, "writes n s", "15:10 Syntax"),
+    on!(17, "pre 0", "17:5 Syntax"),
+    on!(19, "var n", "19:6 Syntax"),
+    on!(19, "var n 01", "19:7 NotCanonical"),
+    on!(20, "field title 4", "20:13 NotCanonical"),
+    on!(20, "field title", "20:12 Syntax"),
+    on!(20, "var n 2", "20:5 NotCanonical"),
+    on!(21, "field author 3", "21:7 NotCanonical"),
+    on!(21, "is 00 str", "21:4 NotCanonical"),
+    on!(22, "int 9 5", "22:5 OutOfRange"),
+    on!(22, "int 1", "22:6 Syntax"),
+    on!(23, "text 9 -", "23:6 OutOfRange"),
+    on!(24, "call 9 f", "24:6 OutOfRange"),
+    on!(24, "call 0 skip$", "read"),
+    on!(24, "call 0", "24:7 Syntax"),
+    on!(25, "block 9 0", "25:7 OutOfRange"),
+    on!(25, "block 0 00", "25:9 NotCanonical"),
+    on!(25, "block 0 #0", "25:9 Syntax"),
+    on!(25, "blank 0", "read"),
+    on!(25, "blank 3", "25:7 OutOfRange"),
+    on!(25, "blank", "25:6 Syntax"),
+    on!(25, "nonblank 1", "read"),
+    on!(25, "nonblank 01", "25:10 NotCanonical"),
+    on!(25, "nonblank 0 0", "25:12 Syntax"),
+    on!(25, "wellformed 2", "read"),
+    on!(25, "wellformed 3", "25:12 OutOfRange"),
+    on!(25, "wellformed x", "25:12 Syntax"),
+    // Four facts stand before these, so that there are 64 and 65.
+    on!(
+        25,
+        "blank 0\nblank 0\nblank 0\nblank 0\nblank 0\nblank 0\nblank 0\nblank 0\nblank 0\nblank 0\nblank 0\nblank 0\nblank 0\nblank 0\nblank 0\nblank 0\nblank 0\nblank 0\nblank 0\nblank 0\nblank 0\nblank 0\nblank 0\nblank 0\nblank 0\nblank 0\nblank 0\nblank 0\nblank 0\nblank 0\nblank 0\nblank 0\nblank 0\nblank 0\nblank 0\nblank 0\nblank 0\nblank 0\nblank 0\nblank 0\nblank 0\nblank 0\nblank 0\nblank 0\nblank 0\nblank 0\nblank 0\nblank 0\nblank 0\nblank 0\nblank 0\nblank 0\nblank 0\nblank 0\nblank 0\nblank 0\nblank 0\nblank 0\nblank 0\nblank 0",
+        "read"
+    ),
+    on!(
+        25,
+        "blank 0\nblank 0\nblank 0\nblank 0\nblank 0\nblank 0\nblank 0\nblank 0\nblank 0\nblank 0\nblank 0\nblank 0\nblank 0\nblank 0\nblank 0\nblank 0\nblank 0\nblank 0\nblank 0\nblank 0\nblank 0\nblank 0\nblank 0\nblank 0\nblank 0\nblank 0\nblank 0\nblank 0\nblank 0\nblank 0\nblank 0\nblank 0\nblank 0\nblank 0\nblank 0\nblank 0\nblank 0\nblank 0\nblank 0\nblank 0\nblank 0\nblank 0\nblank 0\nblank 0\nblank 0\nblank 0\nblank 0\nblank 0\nblank 0\nblank 0\nblank 0\nblank 0\nblank 0\nblank 0\nblank 0\nblank 0\nblank 0\nblank 0\nblank 0\nblank 0\nblank 0",
+        "85:1 TooMany"
+    ),
+    on!(26, "row -1099511627776", "read"),
+    on!(26, "row", "26:4 Syntax"),
+    on!(26, "row 04", "26:5 NotCanonical"),
+    on!(26, "row 4 1099511627777 length:0", "26:7 OutOfRange"),
+    on!(26, "row 4 1 width:0", "26:9 Syntax"),
+    on!(26, "row 4 1 pos 1 pos", "26:15 NotCanonical"),
+    on!(26, "row 4 1 count 1 pos", "26:17 NotCanonical"),
+    on!(
+        26,
+        "row 0\nrow 0\nrow 0\nrow 0\nrow 0\nrow 0\nrow 0\nrow 0\nrow 0\nrow 0\nrow 0\nrow 0\nrow 0\nrow 0\nrow 0\nrow 0\nrow 0\nrow 0\nrow 0\nrow 0\nrow 0\nrow 0\nrow 0\nrow 0\nrow 0\nrow 0\nrow 0\nrow 0\nrow 0\nrow 0\nrow 0\nrow 0\nrow 0\nrow 0\nrow 0\nrow 0\nrow 0\nrow 0\nrow 0\nrow 0\nrow 0\nrow 0\nrow 0\nrow 0\nrow 0\nrow 0\nrow 0\nrow 0\nrow 0\nrow 0\nrow 0\nrow 0\nrow 0\nrow 0\nrow 0\nrow 0\nrow 0\nrow 0\nrow 0\nrow 0\nrow 0\nrow 0\nrow 0\nrow 0",
+        "read"
+    ),
+    on!(
+        26,
+        "row 0\nrow 0\nrow 0\nrow 0\nrow 0\nrow 0\nrow 0\nrow 0\nrow 0\nrow 0\nrow 0\nrow 0\nrow 0\nrow 0\nrow 0\nrow 0\nrow 0\nrow 0\nrow 0\nrow 0\nrow 0\nrow 0\nrow 0\nrow 0\nrow 0\nrow 0\nrow 0\nrow 0\nrow 0\nrow 0\nrow 0\nrow 0\nrow 0\nrow 0\nrow 0\nrow 0\nrow 0\nrow 0\nrow 0\nrow 0\nrow 0\nrow 0\nrow 0\nrow 0\nrow 0\nrow 0\nrow 0\nrow 0\nrow 0\nrow 0\nrow 0\nrow 0\nrow 0\nrow 0\nrow 0\nrow 0\nrow 0\nrow 0\nrow 0\nrow 0\nrow 0\nrow 0\nrow 0\nrow 0\nrow 0",
+        "90:1 TooMany"
+    ),
+    on!(27, "post post", "27:6 Syntax"),
+    // With the pre there are 64 pieces and 65.
+    on!(
+        27,
+        "post\npost\npost\npost\npost\npost\npost\npost\npost\npost\npost\npost\npost\npost\npost\npost\npost\npost\npost\npost\npost\npost\npost\npost\npost\npost\npost\npost\npost\npost\npost\npost\npost\npost\npost\npost\npost\npost\npost\npost\npost\npost\npost\npost\npost\npost\npost\npost\npost\npost\npost\npost\npost\npost\npost\npost\npost\npost\npost\npost\npost\npost\npost",
+        "read"
+    ),
+    on!(
+        27,
+        "post\npost\npost\npost\npost\npost\npost\npost\npost\npost\npost\npost\npost\npost\npost\npost\npost\npost\npost\npost\npost\npost\npost\npost\npost\npost\npost\npost\npost\npost\npost\npost\npost\npost\npost\npost\npost\npost\npost\npost\npost\npost\npost\npost\npost\npost\npost\npost\npost\npost\npost\npost\npost\npost\npost\npost\npost\npost\npost\npost\npost\npost\npost\npost",
+        "90:1 TooMany"
+    ),
+    on!(28, "row 0 1 value:3", "28:9 OutOfRange"),
+    on!(28, "row 0 1 value:2", "read"),
 ];
 
 /// Lines of hints, loops and commands.
-static HINTS: [Row; 24] = [
+static HINTS: [Row; 69] = [
     on!(30, "use 1073741825", "30:5 OutOfRange"),
     on!(30, "used 0", "30:1 Syntax"),
     on!(30, "plain 0", "30:7 Syntax"),
@@ -207,6 +294,71 @@ static HINTS: [Row; 24] = [
     on!(43, "var ie 0", "read"),
     on!(44, "visit", "44:1 Syntax"),
     on!(46, "hints", "46:1 Syntax"),
+    on!(29, "hint", "29:1 Syntax"),
+    on!(30, "use 00", "30:5 NotCanonical"),
+    on!(30, "use", "30:4 Syntax"),
+    on!(30, "walk", "read"),
+    on!(30, "walk 0", "30:6 Syntax"),
+    on!(30, "plain", "read"),
+    on!(30, "keep", "read"),
+    on!(30, "keep 0", "30:6 Syntax"),
+    on!(30, "loop 1073741825", "30:6 OutOfRange"),
+    on!(30, "loop 1073741824", "read"),
+    on!(30, "case -1", "30:6 Syntax"),
+    on!(30, "case 1073741825", "30:6 OutOfRange"),
+    on!(30, "case 01", "30:6 NotCanonical"),
+    on!(31, "step 4294967296", "31:6 OutOfRange"),
+    on!(31, "step 1 4294967296:p", "31:8 OutOfRange"),
+    on!(31, "step 1 1", "31:8 Syntax"),
+    on!(31, "drop 1 1:z 1:o", "read"),
+    on!(31, "drop 0", "31:6 OutOfRange"),
+    on!(31, "drop 01", "31:6 NotCanonical"),
+    on!(33, "ends", "33:1 Syntax"),
+    on!(34, "loop h #0", "34:6 UnknownName"),
+    on!(34, "loop g #1", "34:8 OutOfRange"),
+    on!(34, "loop #00 g", "34:6 NotCanonical"),
+    // The loop is at no entry.
+    on!(35, "writes ie", "35:8 OutOfRange"),
+    on!(35, "exit", "35:1 Syntax"),
+    on!(36, "var ie 0", "36:5 OutOfRange"),
+    on!(36, "var se 0", "36:5 OutOfRange"),
+    on!(36, "field title 0", "36:7 OutOfRange"),
+    on!(36, "row 0 1 pos", "36:9 OutOfRange"),
+    on!(36, "row 0 1 count", "read"),
+    // 32 terms and 33.
+    on!(
+        36,
+        "stack 0 1 2 3 4 5 6 7 8 9 10\nrow 0 1 value:0 1 value:1 1 value:2 1 value:3 1 value:4 1 value:5 1 value:6 1 value:7 1 value:8 1 value:9 1 value:10 1 length:0 1 length:1 1 length:2 1 length:3 1 length:4 1 length:5 1 length:6 1 length:7 1 length:8 1 length:9 1 length:10 1 names:0 1 names:1 1 names:2 1 names:3 1 names:4 1 names:5 1 names:6 1 names:7 1 names:8 1 names:9",
+        "read"
+    ),
+    on!(
+        36,
+        "stack 0 1 2 3 4 5 6 7 8 9 10\nrow 0 1 value:0 1 value:1 1 value:2 1 value:3 1 value:4 1 value:5 1 value:6 1 value:7 1 value:8 1 value:9 1 value:10 1 length:0 1 length:1 1 length:2 1 length:3 1 length:4 1 length:5 1 length:6 1 length:7 1 length:8 1 length:9 1 length:10 1 names:0 1 names:1 1 names:2 1 names:3 1 names:4 1 names:5 1 names:6 1 names:7 1 names:8 1 names:9 1 names:10",
+        "37:340 TooMany"
+    ),
+    on!(37, "exit 0", "37:6 Syntax"),
+    // With the case before there are 64 pieces and 65.
+    on!(
+        37,
+        "case\ncase\ncase\ncase\ncase\ncase\ncase\ncase\ncase\ncase\ncase\ncase\ncase\ncase\ncase\ncase\ncase\ncase\ncase\ncase\ncase\ncase\ncase\ncase\ncase\ncase\ncase\ncase\ncase\ncase\ncase\ncase\ncase\ncase\ncase\ncase\ncase\ncase\ncase\ncase\ncase\ncase\ncase\ncase\ncase\ncase\ncase\ncase\ncase\ncase\ncase\ncase\ncase\ncase\ncase\ncase\ncase\ncase\ncase\ncase\ncase\ncase\ncase",
+        "read"
+    ),
+    on!(
+        37,
+        "exit\nexit\nexit\nexit\nexit\nexit\nexit\nexit\nexit\nexit\nexit\nexit\nexit\nexit\nexit\nexit\nexit\nexit\nexit\nexit\nexit\nexit\nexit\nexit\nexit\nexit\nexit\nexit\nexit\nexit\nexit\nexit\nexit\nexit\nexit\nexit\nexit\nexit\nexit\nexit\nexit\nexit\nexit\nexit\nexit\nexit\nexit\nexit\nexit\nexit\nexit\nexit\nexit\nexit\nexit\nexit\nexit\nexit\nexit\nexit\nexit\nexit\nexit\nexit",
+        "100:1 TooMany"
+    ),
+    on!(40, "command", "40:8 Syntax"),
+    on!(40, "command 06", "40:9 NotCanonical"),
+    on!(41, "after 0", "41:7 Syntax"),
+    on!(42, "keeps", "43:9 OutOfRange"),
+    on!(43, "field title 0", "read"),
+    on!(43, "var author 0", "43:5 UnknownName"),
+    // Behind the last command.
+    on!(46, "end\ncommand 6\nhints\nend", "47:9 NotCanonical"),
+    on!(46, "end\ncommand 5\nhints\nend", "47:9 NotCanonical"),
+    on!(46, "end\nloop g g\ncase\nhints\nend", "47:1 Syntax"),
+    on!(47, "done\ndone", "48:1 Syntax"),
 ];
 
 #[test]

@@ -35,6 +35,12 @@ pub said_of : {B X : Type 0} (now : B → Fact) (said : Fact → Option X) (s : 
     → option_map now found ≡ find (decides said s) facts → option_and_then (λ b. said (now b)) known ≡ first_said said s facts
 said_of now said s facts found known is e = ap (option_and_then (λ b. said (now b))) (sym is) ∙ found_said now said s facts found e
 
+-- the same of what is taken from what it says
+pub found_then : {B X Y : Type 0} (now : B → Fact) (said : Fact → Option X) (next : X → Option Y) (s : ℕ) (facts : List Fact) (found : Option B) (known : Option B)
+    → found ≡ known → option_map now found ≡ find (decides said s) facts
+    → option_and_then next (option_and_then (λ b. said (now b)) known) ≡ option_and_then next (first_said said s facts)
+found_then now said next s facts found known is e = ap (option_and_then next) (said_of now said s facts found known is e)
+
 -- an item passes a test where one is found
 any_found : {X : Type 0} (test : X → Bool) (xs : List X) → is_some (find test xs) ≡ list_any test xs
 any_found test [] = refl

@@ -159,7 +159,7 @@ seats_below binds first n (name ∷ names) all few =
     ] refl (let count = unbound-cons binds name names in omega arith)
 
 -- the names of seats
-seats_names : (binds : List Bind) (first : ℕ) (names : List NameId) → map (λ b. b.name) (seats binds first names) ≡ names
+pub seats_names : (binds : List Bind) (first : ℕ) (names : List NameId) → map (λ b. b.name) (seats binds first names) ≡ names
 seats_names binds first [] = refl
 seats_names binds first (name ∷ names) =
     elim (symbol_at name binds) as (λ (o : Option Sym). map (λ b. b.name) (seat o name first (λ m. seats binds m names)) ≡ name ∷ names) [

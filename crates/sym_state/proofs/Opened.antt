@@ -93,13 +93,14 @@ passing P test (x ∷ xs) all =
       | false ↦ passing P test xs all.1
     ]
 
-each : {X : Type 0} (P : X → Type 0) (given : Bind → List X) (Q : Bind → Type 0) (binds : List Bind) → ((b : Bind) → Q b → AllByRecursion P (given b))
+-- what each binding gives holds
+pub gives_each : {X : Type 0} (P : X → Type 0) (given : Bind → List X) (Q : Bind → Type 0) (binds : List Bind) → ((b : Bind) → Q b → AllByRecursion P (given b))
     → AllByRecursion Q binds → AllByRecursion P (flat_map given binds)
-each P given Q [] gives all = tt
-each P given Q (b ∷ binds) gives all = joined P (given b) (flat_map given binds) (gives b all.0) (each P given Q binds gives all.1)
+gives_each P given Q [] gives all = tt
+gives_each P given Q (b ∷ binds) gives all = joined P (given b) (flat_map given binds) (gives b all.0) (gives_each P given Q binds gives all.1)
 
 -- a value of its kind keeps the facts and rows that its variable or field gives
-own_facts_hold : (style : Style) (admits : Cond) (v : Valuation) (kind : Option Kind) (b : Bind) → IsOfItsKind admits kind b.name (v.value b.sym.0)
+pub own_facts_hold : (style : Style) (admits : Cond) (v : Valuation) (kind : Option Kind) (b : Bind) → IsOfItsKind admits kind b.name (v.value b.sym.0)
     → AllByRecursion (FactHolds style v) (own_facts admits kind b)
 own_facts_hold style admits v (Some IntEntry) b h = (h, tt)
 own_facts_hold style admits v (Some IntGlobal) b h = (h, tt)
@@ -118,7 +119,7 @@ own_facts_hold style admits v (Some Field) b h =
     of_names None e = tt
 own_facts_hold style admits v _ b h = tt
 
-own_rows_hold : (admits : Cond) (v : Valuation) (kind : Option Kind) (b : Bind) → IsOfItsKind admits kind b.name (v.value b.sym.0)
+pub own_rows_hold : (admits : Cond) (v : Valuation) (kind : Option Kind) (b : Bind) → IsOfItsKind admits kind b.name (v.value b.sym.0)
     → AllByRecursion (Holds (numbers v)) (own_rows admits kind b)
 own_rows_hold admits v (Some StrEntry) b h = (at_most_holds (numbers v) (LengthOf b.sym.0) (pos 250) h.1, tt)
 own_rows_hold admits v (Some StrGlobal) b h = (at_most_holds (numbers v) (LengthOf b.sym.0) (pos 20000) h.1, tt)
@@ -151,11 +152,11 @@ opened style admits list v pieces whole at_entry c below numbered can =
           position = λ e. subst (λ (k : ℕ). k < w.count) (sym agree.position) (subst (λ (k : ℕ). v.position < k) (sym agree.count) (can.position e));
           facts = joined (FactHolds style w) (flat_map (λ piece. piece.facts) on) (flat_map (λ b. own_facts admits (kind_of style b.name) b) binds)
               (facts_agree style n v w (flat_map (λ piece. piece.facts) on) agree (facts_below pieces numbered) can.hold.facts)
-              (each (FactHolds style w) (λ b. own_facts admits (kind_of style b.name) b) (λ b. IsOfItsKind admits (kind_of style b.name) b.name (w.value b.sym.0)) binds
+              (gives_each (FactHolds style w) (λ b. own_facts admits (kind_of style b.name) b) (λ b. IsOfItsKind admits (kind_of style b.name) b.name (w.value b.sym.0)) binds
               (λ b h. own_facts_hold style admits w (kind_of style b.name) b h) found.kinds);
           rows = joined (Holds (numbers w)) (flat_map (λ piece. piece.rows) on) (flat_map (λ b. own_rows admits (kind_of style b.name) b) binds)
               (rows_agree n v w (flat_map (λ piece. piece.rows) on) agree (rows_below pieces numbered) can.hold.rows)
-              (each (Holds (numbers w)) (λ b. own_rows admits (kind_of style b.name) b) (λ b. IsOfItsKind admits (kind_of style b.name) b.name (w.value b.sym.0)) binds
+              (gives_each (Holds (numbers w)) (λ b. own_rows admits (kind_of style b.name) b) (λ b. IsOfItsKind admits (kind_of style b.name) b.name (w.value b.sym.0)) binds
               (λ b h. own_rows_hold admits w (kind_of style b.name) b h) found.kinds);
         };
         has_list = record {

@@ -1,5 +1,5 @@
 -- A state with further facts and rows, or with a new symbol, is well made if what is added fits.
-use Rattle.std.proofs.Common.{◌≡◌, ℕ, ◌<◌, ◌≤◌, ◌+◌, ◌^◌, Bool, true, false, cond, List, [], ◌∷◌, ◌++◌, refl, sym, subst, Result, Ok, Err, OnOk, OnErr, arith}
+use Rattle.std.proofs.Common.{◌≡◌, ℕ, ◌<◌, ◌≤◌, ◌+◌, ◌^◌, Bool, true, false, cond, List, [], ◌∷◌, ◌++◌, reverse, refl, sym, subst, Result, Ok, Err, OnOk, OnErr, arith}
 use Rattle.std.specs.Prelude.{ℤ, pos, negsuc, neg_ℤ, ◌+ℤ◌}
 use Rattle.std.specs.List.{All}
 use Rattle.std.specs.Ordering.{int_eq}
@@ -133,11 +133,12 @@ fresh_facts style state kind facts e made =
     subst (λ (all : List Fact). WellMade style (record state { facts = all; next = state.next + 1 })) (sym e) (fresh_made style state kind made)
 
 -- another stack
-pub top_made : (style : Style) (state : State) (s : Sym) → WellMade style state → s.0 < state.next → WellMade style (with_top s state)
-top_made style state s made below = record {
-  stack = All-push (λ (x : Sym). x.0 < state.next) state.stack s made.stack below;
+stack_made : (style : Style) (state : State) (stack : List Sym) → WellMade style state → All (λ s. s.0 < state.next) stack
+    → WellMade style (record state { stack = stack })
+stack_made style state stack made below = record {
   vars = made.vars;
   fields = made.fields;
+  stack = below;
   facts = made.facts;
   rows = made.rows;
   binds_vars = made.binds_vars;
@@ -148,21 +149,13 @@ top_made style state s made below = record {
   bounds = record { facts = made.bounds.facts; rows = made.bounds.rows };
 }
 
+pub top_made : (style : Style) (state : State) (s : Sym) → WellMade style state → s.0 < state.next → WellMade style (with_top s state)
+top_made style state s made below =
+    stack_made style state (state.stack ++ s ∷ []) made (All-push (λ (x : Sym). x.0 < state.next) state.stack s made.stack below)
+
 pub rest_made : (style : Style) (state : State) (rest : List Sym) → WellMade style state → All (λ s. s.0 < state.next) rest
     → WellMade style (without rest state)
-rest_made style state rest made old = record {
-  stack = all_reversed state.next rest old;
-  vars = made.vars;
-  fields = made.fields;
-  facts = made.facts;
-  rows = made.rows;
-  binds_vars = made.binds_vars;
-  binds_fields = made.binds_fields;
-  of_style = made.of_style;
-  integers = made.integers;
-  bytes = made.bytes;
-  bounds = record { facts = made.bounds.facts; rows = made.bounds.rows };
-}
+rest_made style state rest made old = stack_made style state (reverse rest) made (all_reversed state.next rest old)
 
 -- a result on top
 pub result_made : (style : Style) (state : State) (kind : Kinds) (facts : List Fact) (rows : List Row) → WellMade style state

@@ -22,3 +22,19 @@ pub record Spot : Type 0 where
   pub place : Place
   pub made : WellMade style state
   pub stands : Stands style admits list v state c below
+
+-- a spot of all its parts
+abbrev pub spot_of : (style : Style) (admits : Cond) (list : EntryList) (v : Valuation) (state : State) (c : Config) (below : List Value) (place : Place) → WellMade style state
+    → Stands style admits list v state c below → Spot
+spot_of style admits list v state c below place made stands = record {
+  style = style;
+  admits = admits;
+  list = list;
+  v = v;
+  state = state;
+  c = c;
+  below = below;
+  place = place;
+  made = made;
+  stands = stands;
+}

@@ -5,6 +5,7 @@ ghost use Rattle.aux_read.specs.FileNames.{AreFileNames, IsFileName};
 ghost use Rattle.bib_read.specs.Additions.{AreKeyed};
 ghost use Rattle.bib_read.specs.Reading.{database_of};
 ghost use Rattle.entry_list.specs.Keys.{AreCitations};
+ghost use Rattle.name_table.specs.Sound.{IsSound};
 ghost use Rattle.bst_run.specs.FileNames.{NeedsFiles};
 ghost use Rattle.bst_run.specs.Files as file;
 ghost use Rattle.bst_run.specs.FilesBegun.{Begins, databases_begun, file_begun, sources_begun, sources_begun_for};
@@ -44,6 +45,7 @@ pub struct Sources {
 pub fn sources_of<F: Files>(alloc: Global, files: &mut F, name: &str) -> Result<Sources, Stop>
     ensures reads { Reads ⟦<F as Files>⟧ files.old files.new (λ told. rule.sources_of told name.now) result }
     ensures begun { Begins (F.told files.old) (λ told. sources_begun told name.now) (F.begun files.old) (F.begun files.new) result }
+    ensures sound { IfOk result (λ sources. IsSound sources.style) }
     ensures cited { IfOk result (λ sources. AreCitations sources.items) }
     ensures keyed { IfOk result (λ sources. AreKeyed sources.database.entries) }
 {
@@ -56,6 +58,7 @@ fn sources_for<F: Files>(alloc: Global, files: &mut F, needs: Needs) -> Result<S
     requires { NeedsFiles needs }
     ensures reads { Reads ⟦<F as Files>⟧ files.old files.new (λ told. rule.sources_for told needs) result }
     ensures begun { Begins (F.told files.old) (λ told. sources_begun_for told needs) (F.begun files.old) (F.begun files.new) result }
+    ensures sound { IfOk result (λ sources. IsSound sources.style) }
     ensures same { IfOk result (λ sources. sources.items ≡ needs.items) }
     ensures keyed { IfOk result (λ sources. AreKeyed sources.database.entries) }
 {
@@ -79,6 +82,7 @@ fn style_named<F: Files>(alloc: Global, files: &mut F, name: &Text) -> Result<St
     requires { IsFileName name.now }
     ensures reads { Reads ⟦<F as Files>⟧ files.old files.new (λ told. rule.style_named told name.now) result }
     ensures begun { Begins (F.told files.old) (λ told. file_begun told (file.with_ending name.now (codes ".bst"))) (F.begun files.old) (F.begun files.new) result }
+    ensures sound { IfOk result IsSound }
 {
     let name = with_ending(alloc, text_of(name), ".bst")?;
     let text = style_file(alloc, files, name.as_str())?;

@@ -1,7 +1,8 @@
 //! Styles that are read.
 
-ghost use Rattle.std.specs.Prelude.{◌≤◌, length, IfErr};
+ghost use Rattle.std.specs.Prelude.{◌≤◌, length, IfOk, IfErr};
 ghost use Rattle.bst_parse.specs.Reading.{style_of};
+ghost use Rattle.name_table.specs.Sound.{IsSound};
 ghost use Rattle.bst_run.specs.Sources.{read_style};
 ghost use Rattle.bst_run.specs.Stops.{Decides, IsInside};
 
@@ -18,6 +19,7 @@ pub fn style_from(alloc: Global, source: &[u8]) -> Result<Style, Stop>
     requires { length source.now ≤ STYLE_BYTES }
     ensures decides { Decides (read_style (style_of source.now)) result }
     ensures inside { IfErr result IsInside }
+    ensures sound { IfOk result IsSound }
 {
     match parse(alloc, source) {
         Ok(style) => Ok(style),

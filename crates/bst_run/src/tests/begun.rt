@@ -56,6 +56,22 @@ const TREE: &[File] = &[
     },
 ];
 
+/// A file without inputs.
+const LEAF: &[File] = &[
+    File {
+        name: "q.aux",
+        bytes: b"\\bibstyle{a}\n\\bibdata{e}\n",
+    },
+    File {
+        name: "a.bst",
+        bytes: JOINS,
+    },
+    File {
+        name: "e.bib",
+        bytes: b"",
+    },
+];
+
 /// A file that inputs itself, and names a style.
 const ITSELF: &[File] = &[File {
     name: "p.aux",
@@ -74,7 +90,7 @@ const SECOND_STYLE: &[File] = &[
     },
 ];
 
-static BEGINNINGS: [Beginning; 8] = [
+static BEGINNINGS: [Beginning; 10] = [
     begins!(["check", "a.bst"], BOTH => ""),
     begins!(["check", "a.bst", "b.cert"], BOTH => "a.bst\nb.cert\n"),
     begins!(["check", "a.bst", "c.cert"], BOTH => "a.bst\n-c.cert\n"),
@@ -84,6 +100,9 @@ static BEGINNINGS: [Beginning; 8] = [
     // The first file has depth 0, and sixteen may lie below it.
     begins!(["run", "p.aux", "9"], ITSELF => "p.aux\np.aux\np.aux\np.aux\np.aux\np.aux\np.aux\np.aux\np.aux\np.aux\np.aux\np.aux\np.aux\np.aux\np.aux\np.aux\np.aux\n"),
     begins!(["run", "p.aux", "9"], SECOND_STYLE => "p.aux\ni.aux\n"),
+    // The certificate comes last.
+    begins!(["run", "p.aux", "9", "b.cert"], TREE => "p.aux\ni.aux\nk.aux\nj.aux\na.bst\n-d.bib\n"),
+    begins!(["run", "q.aux", "9", "b.cert"], LEAF => "q.aux\na.bst\ne.bib\n-b.cert\n"),
 ];
 
 #[test]

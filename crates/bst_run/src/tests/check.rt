@@ -14,8 +14,15 @@ pub const NO_ENTRIES: &[u8] =
 const ACCEPTED: &str =
     "accepted\nlist 1\nentries 0\nkey 0\npreamble 0\nlength 0\nothertype no\nend\n";
 
+const ACCEPTED_NINE: &str =
+    "accepted\nlist 1\nentries 9\nkey 9\npreamble 9\nlength 9\nothertype yes\nend\n";
+
+/// The certificate of nines, which lets in entries of every type.
+const NINES: &[u8] =
+    b"bstcert 1\nentries 9\nkey 9\npreamble 9\nlength 9\nothertype yes\nend\ndone\n";
+
 /// Styles with the certificate under which no entry is let in.
-pub static CHECKS: [Example; 24] = [
+pub static CHECKS: [Example; 36] = [
     checked!(JOINS, NO_ENTRIES => Done, ACCEPTED, ""),
     checked!(b"", NO_ENTRIES => Done, ACCEPTED, ""),
     checked!(b"ENTRY{}{}{} FUNCTION{f}{\"a\" *} READ EXECUTE{f}", NO_ENTRIES => Refused, "", "refused 1:29 EmptyPop 2\n"),
@@ -25,11 +32,14 @@ pub static CHECKS: [Example; 24] = [
     checked!(b"FUNCTION{f}{* *}", NO_ENTRIES => Done, ACCEPTED, ""),
     // Comments and names in capitals are part of the language.
     checked!(b"% a comment\nentry{}{}{} Function{F}{\"a\" WRITE$}\nread execute{f}", NO_ENTRIES => Done, ACCEPTED, ""),
-    // A field, another built-in, and a command that isn't checked yet.
-    checked!(b"ENTRY{title}{}{} READ", NO_ENTRIES => NotBuilt, "", "not built\n"),
-    checked!(b"FUNCTION{f}{skip$}", NO_ENTRIES => NotBuilt, "", "not built\n"),
-    checked!(b"ENTRY{}{}{} READ SORT", NO_ENTRIES => NotBuilt, "", "not built\n"),
-    checked!(b"FUNCTION{f}{{}}", NO_ENTRIES => NotBuilt, "", "not built\n"),
+    // Fields, other built-in functions and blocks.
+    checked!(b"ENTRY{title}{}{} READ", NO_ENTRIES => Done, ACCEPTED, ""),
+    checked!(b"FUNCTION{f}{skip$}", NO_ENTRIES => Done, ACCEPTED, ""),
+    checked!(b"FUNCTION{f}{{}}", NO_ENTRIES => Done, ACCEPTED, ""),
+    checked!(b"ENTRY{}{}{} FUNCTION{f}{#2147483647 #1 + pop$} READ EXECUTE{f}", NO_ENTRIES => Refused, "", "refused 1:40 IntRange\n"),
+    checked!(b"ENTRY{}{}{} FUNCTION{f}{#2147483646 #1 + pop$} READ EXECUTE{f}", NO_ENTRIES => Done, ACCEPTED, ""),
+    checked!(b"ENTRY{}{}{} FUNCTION{f}{\"a\" 'skip$ 'skip$ if$} READ EXECUTE{f}", NO_ENTRIES => Refused, "", "refused 1:43 WrongKind 3\n"),
+    checked!(b"ENTRY{title}{}{} FUNCTION{f}{title write$} READ EXECUTE{f}", NINES => Refused, "", "refused 1:30 NoEntry\n"),
     checked!(b"READ", NO_ENTRIES => BadStyle, "", "bad style 1:1 ReadBeforeEntry\n"),
     checked!(b"FOO", NO_ENTRIES => BadStyle, "", "bad style 1:1 UnknownCommand\n"),
     checked!(b"EXECUTE{skip$}", NO_ENTRIES => BadStyle, "", "bad style 1:1 CommandBeforeRead\n"),
@@ -43,17 +53,81 @@ pub static CHECKS: [Example; 24] = [
     checked!(b"ENTRY{}{}{} FUNCTION{f}{#2147483648 #1 + pop$} READ EXECUTE{f}", NO_ENTRIES => BadStyle, "", "bad style 1:25 IntegerRange\n"),
     checked!(b"ENTRY{a,b}{}{}", NO_ENTRIES => BadStyle, "", "bad style 1:7 Expected\n"),
     checked!(b"FUNCTION{f}{", NO_ENTRIES => BadStyle, "", "bad style 1:13 EndOfFile\n"),
+    // The style's grammar is decided before the certificate's.
+    checked!(b"FOO", b"" => BadStyle, "", "bad style 1:1 UnknownCommand\n"),
+    checked!(b"ENTRY{}{}{} READ SORT", b"" => BadCert, "", "bad certificate 1:1 Syntax\n"),
+    checked!(b"ENTRY{}{}{} FUNCTION{f}{*} READ EXECUTE{f} SORT", NO_ENTRIES => Refused, "", "refused 1:25 EmptyPop 1\n"),
+    // What is entered by no command is accepted, and what a command calls is called at its place.
+    checked!(b"FUNCTION{f}{while$}", NO_ENTRIES => Done, ACCEPTED, ""),
+    checked!(b"FUNCTION{f}{{'CALL.TYPE$}}", NO_ENTRIES => Done, ACCEPTED, ""),
+    checked!(b"ENTRY{}{}{} READ EXECUTE{while$}", NO_ENTRIES => Refused, "", "refused 1:18 EmptyPop 1\n"),
+    checked!(b"ENTRY{}{}{} READ EXECUTE{call.type$}", NO_ENTRIES => Refused, "", "refused 1:18 NoEntry\n"),
+    checked!(b"ENTRY{}{}{} READ ITERATE{skip$}", NO_ENTRIES => Done, ACCEPTED, ""),
+    checked!(b"ENTRY{}{}{} READ REVERSE{skip$} SORT", NO_ENTRIES => Done, ACCEPTED, ""),
 ];
 
 /// Certificates with the style that joins two texts.
 pub static CERTIFICATES: [Example; 7] = [
     checked!(JOINS, b"bstcert 1\nentries 1000000\nkey 1073741824\npreamble 10\nlength 9\nothertype yes\nend\ndone\n" => Done, "accepted\nlist 1\nentries 1000000\nkey 1073741824\npreamble 10\nlength 9\nothertype yes\nend\n", ""),
-    checked!(JOINS, b"" => NotBuilt, "", "not built\n"),
-    checked!(JOINS, b"bstcert 1\nentries 1000001\nkey 0\npreamble 0\nlength 0\nothertype no\nend\ndone\n" => NotBuilt, "", "not built\n"),
-    checked!(JOINS, b"bstcert 1\nentries 0\nkey 1073741825\npreamble 0\nlength 0\nothertype no\nend\ndone\n" => NotBuilt, "", "not built\n"),
-    checked!(JOINS, b"bstcert 1\nentries 00\nkey 0\npreamble 0\nlength 0\nothertype no\nend\ndone\n" => NotBuilt, "", "not built\n"),
-    checked!(JOINS, b"bstcert 1\nentries  0\nkey 0\npreamble 0\nlength 0\nothertype no\nend\ndone\n" => NotBuilt, "", "not built\n"),
-    checked!(JOINS, b"bstcert 1\nentries 0\nkey 0\npreamble 0\nlength 0\nothertype no\nend\n" => NotBuilt, "", "not built\n"),
+    checked!(JOINS, b"" => BadCert, "", "bad certificate 1:1 Syntax\n"),
+    checked!(JOINS, b"bstcert 1\nentries 1000001\nkey 0\npreamble 0\nlength 0\nothertype no\nend\ndone\n" => BadCert, "", "bad certificate 2:9 OutOfRange\n"),
+    checked!(JOINS, b"bstcert 1\nentries 0\nkey 1073741825\npreamble 0\nlength 0\nothertype no\nend\ndone\n" => BadCert, "", "bad certificate 3:5 OutOfRange\n"),
+    checked!(JOINS, b"bstcert 1\nentries 00\nkey 0\npreamble 0\nlength 0\nothertype no\nend\ndone\n" => BadCert, "", "bad certificate 2:9 NotCanonical\n"),
+    checked!(JOINS, b"bstcert 1\nentries  0\nkey 0\npreamble 0\nlength 0\nothertype no\nend\ndone\n" => BadCert, "", "bad certificate 2:9 Syntax\n"),
+    checked!(JOINS, b"bstcert 1\nentries 0\nkey 0\npreamble 0\nlength 0\nothertype no\nend\n" => BadCert, "", "bad certificate 8:1 Syntax\n"),
+];
+
+/// A style with two fields.
+const FIELDS: &[u8] = b"ENTRY{author title}{}{} READ";
+
+/// Conditions with lines on names, fields and types are printed as they stand.
+pub static CONDITIONS: [Example; 3] = [
+    checked!(FIELDS, b"bstcert 1\nentries 9\nkey 9\npreamble 9\nlength 9\nnames author 3\nnames title 1\nnonblank title\ntype article\ntype misc\nothertype no\nend\ndone\n" => Done, "accepted\nlist 1\nentries 9\nkey 9\npreamble 9\nlength 9\nnames author 3\nnames title 1\nnonblank title\ntype article\ntype misc\nothertype no\nend\n", ""),
+    checked!(FIELDS, b"bstcert 1\nentries 9\nkey 9\npreamble 9\nlength 9\nnames year 3\nothertype no\nend\ndone\n" => BadCert, "", "bad certificate 6:7 UnknownName\n"),
+    checked!(FIELDS, b"bstcert 1\nentries 9\nkey 9\npreamble 9\nlength 9\nnonblank title\nnonblank author\nothertype no\nend\ndone\n" => BadCert, "", "bad certificate 7:10 NotCanonical\n"),
+];
+
+/// Writes a name by a pattern with a wrong letter, and by one that is well formed.
+const WRONG_PATTERN: &[u8] =
+    b"ENTRY{}{}{} FUNCTION{f}{\"A B\" #1 \"{ff~}{xx}\" format.name$ write$} READ EXECUTE{f}";
+
+const PATTERN: &[u8] =
+    b"ENTRY{}{}{} FUNCTION{f}{\"A B\" #1 \"{ff~}{ll}\" format.name$ write$} READ EXECUTE{f}";
+
+/// The same by a variable that holds the pattern.
+const WRONG_HELD: &[u8] =
+    b"STRINGS{s} ENTRY{}{}{} FUNCTION{f}{\"{ff~}{xx}\" 's := \"A B\" #1 s format.name$ write$} READ EXECUTE{f}";
+
+const HELD: &[u8] =
+    b"STRINGS{s} ENTRY{}{}{} FUNCTION{f}{\"{ff~}{ll}\" 's := \"A B\" #1 s format.name$ write$} READ EXECUTE{f}";
+
+/// The name that is wanted is there, as the symbols of the two styles say it.
+const ONE_NAME: &[u8] =
+    b"bstcert 1\nentries 9\nkey 9\npreamble 9\nlength 9\nothertype yes\nend\ncommand 3\nhints\nstep 1 1:e3\nstep 1 1:c2 1:f3\nend\ndone\n";
+
+const ONE_NAME_HELD: &[u8] =
+    b"bstcert 1\nentries 9\nkey 9\npreamble 9\nlength 9\nothertype yes\nend\ncommand 4\nhints\nstep 1 1:e6\nstep 1 1:c5 1:f6\nend\ndone\n";
+
+/// Drops a text in a function of its own.
+const DROPS: &[u8] = b"ENTRY{}{}{} FUNCTION{g}{pop$} FUNCTION{f}{\"a\" g} READ EXECUTE{f}";
+
+/// Certificates with hints and summaries.
+pub static HINTED: [Example; 11] = [
+    checked!(WRONG_PATTERN, ONE_NAME => Refused, "", "refused 1:46 BadPattern 1\n"),
+    checked!(PATTERN, ONE_NAME => Done, ACCEPTED_NINE, ""),
+    checked!(WRONG_HELD, ONE_NAME_HELD => Refused, "", "refused 1:65 BadPattern 1\n"),
+    checked!(HELD, ONE_NAME_HELD => Done, ACCEPTED_NINE, ""),
+    checked!(JOINS, b"bstcert 1\nentries 9\nkey 9\npreamble 9\nlength 9\nothertype yes\nend\ncommand 3\nhints\nkeep\nend\ndone\n" => Refused, "", "refused 1:57 HintsLeft\n"),
+    // Without its hints the first step is missing.
+    checked!(PATTERN, NINES => Refused, "", "refused 1:46 HintsShort\n"),
+    checked!(DROPS, b"bstcert 1\nentries 9\nkey 9\npreamble 9\nlength 9\nothertype yes\nend\nsummary g\npre\nstack 0\npost\nhints\ncase 0\nend\ncommand 4\nhints\nuse 0\nend\ndone\n" => Done, ACCEPTED_NINE, ""),
+    // The place of a summary is that of its body's opening brace.
+    checked!(DROPS, b"bstcert 1\nentries 9\nkey 9\npreamble 9\nlength 9\nothertype yes\nend\nsummary g\npre\nstack 0\npost\nhints\nend\ncommand 4\nhints\nuse 0\nend\ndone\n" => Refused, "", "refused 1:24 HintsShort\n"),
+    // A loop is checked though nothing uses it: its test leaves no integer.
+    checked!(JOINS, b"bstcert 1\nentries 0\nkey 0\npreamble 0\nlength 0\nothertype no\nend\nloop f f\ncase\nhints\nend\ndone\n" => Refused, "", "refused 1:24 EmptyPop 1\n"),
+    // A piece that says nothing holds after EXECUTE, which has none before a visit.
+    checked!(JOINS, b"bstcert 1\nentries 0\nkey 0\npreamble 0\nlength 0\nothertype no\nend\ncommand 3\nafter\nhints\nend\ndone\n" => Done, ACCEPTED, ""),
+    checked!(JOINS, b"bstcert 1\nentries 0\nkey 0\npreamble 0\nlength 0\nothertype no\nend\ncommand 3\nvisit\nkeeps\nhints\nend\ndone\n" => Refused, "", "refused 1:57 CommandShape\n"),
 ];
 
 /// The style that joins two texts, and the certificate.
@@ -93,18 +167,10 @@ pub static FAILING_CHECKS: [Example; 7] = [
 ];
 
 /// Lengths of styles of spaces alone.
-pub static LONG_STYLES: [(usize, Example); 4] = [
-    (
-        65_536,
-        answered!(["check", "a.bst", "b.cert"], &[], Failing::Nothing => Done, ACCEPTED, ""),
-    ),
-    (
-        65_537,
-        answered!(["check", "a.bst", "b.cert"], &[], Failing::Nothing => NotBuilt, "", "not built\n"),
-    ),
+pub static LONG_STYLES: [(usize, Example); 2] = [
     (
         STYLE_BYTES,
-        answered!(["check", "a.bst", "b.cert"], &[], Failing::Nothing => NotBuilt, "", "not built\n"),
+        answered!(["check", "a.bst", "b.cert"], &[], Failing::Nothing => Done, ACCEPTED, ""),
     ),
     (
         STYLE_BYTES + 1,

@@ -8,7 +8,7 @@ use bv_base::status::Status;
 pub const ONE: &[u8] = b"\\citation{k}\n\\bibstyle{s}\n\\bibdata{d}\n";
 
 /// Cites an entry that no database has.
-const ZZ: &[u8] = b"\\citation{zz}\n\\citation{zz}\n\\bibstyle{s}\n\\bibdata{d}\n";
+pub const ZZ: &[u8] = b"\\citation{zz}\n\\citation{zz}\n\\bibstyle{s}\n\\bibdata{d}\n";
 
 /// Writes the keys of the entries.
 pub const KEYS: &[u8] = b"ENTRY{}{}{} FUNCTION{f}{cite$ write$ newline$} READ ITERATE{f}";
@@ -18,7 +18,7 @@ const FORMAT: &[u8] =
     b"ENTRY{author}{}{} FUNCTION{f}{author #1 \"{vv~}{ll}{, jj}{, f}?\" format.name$ write$ newline$} READ ITERATE{f}";
 
 /// Enters the function of each entry's type.
-const TYPES: &[u8] =
+pub const TYPES: &[u8] =
     b"ENTRY{}{}{} FUNCTION{output}{write$ newline$} FUNCTION{misc}{\"x\" output} READ ITERATE{call.type$}";
 
 /// Writes the names of each entry as a list.

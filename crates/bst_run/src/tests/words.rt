@@ -25,7 +25,7 @@ pub static WORDS: [Example; 7] = [
 ];
 
 /// Numbers of steps: those of the form ask for a file that isn't there.
-pub static STEPS: [Example; 9] = [
+pub static STEPS: [Example; 12] = [
     answered!(["run", "gone.aux", "0"], &[], Failing::Nothing => NoFile, "", "no file gone.aux\n"),
     answered!(["run", "gone.aux", "7"], &[], Failing::Nothing => NoFile, "", "no file gone.aux\n"),
     answered!(["run", "gone.aux", "999999999"], &[], Failing::Nothing => NoFile, "", "no file gone.aux\n"),
@@ -35,4 +35,7 @@ pub static STEPS: [Example; 9] = [
     answered!(["run", "gone.aux", "1000000000"], &[], Failing::Nothing => Usage, "", USAGE),
     answered!(["run", "gone.aux", "-1"], &[], Failing::Nothing => Usage, "", USAGE),
     answered!(["run", "gone.aux", "1x"], &[], Failing::Nothing => Usage, "", USAGE),
+    answered!(["run", "gone.aux", "7", "b.cert"], &[], Failing::Nothing => NoFile, "", "no file gone.aux\n"),
+    answered!(["run", "gone.aux", "07", "b.cert"], &[], Failing::Nothing => Usage, "", USAGE),
+    answered!(["run", "gone.aux", "7", "b.cert", "c"], &[], Failing::Nothing => Usage, "", USAGE),
 ];

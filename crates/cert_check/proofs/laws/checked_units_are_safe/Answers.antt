@@ -1,5 +1,5 @@
 -- The law of checked certificates, by the laws of the machine's steps and of its built-in functions.
-use Rattle.cert_check.proofs.Calling.{call_safe, use_safe}
+use Rattle.cert_check.proofs.Calling.{call_safe, loop_use_safe, use_safe}
 use Rattle.cert_check.proofs.Safety.{Laws}
 use Rattle.cert_check.proofs.laws.checked_units_are_safe.Goals as goal
 
@@ -11,4 +11,4 @@ returns c =
       confined = λ o context stack effect gives. c.effects_are_confined.ensures.confined o context stack effect gives;
       one_body = λ style a b number sound first second. c.one_body_a_number.ensures style a b number sound first second;
     } in
-    record { uses = use_safe laws; calls = call_safe laws }
+    record { uses = use_safe laws; loops = loop_use_safe laws; calls = call_safe laws }

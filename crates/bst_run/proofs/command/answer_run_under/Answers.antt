@@ -1,0 +1,21 @@
+use Rattle.std.proofs.Common.{refl}
+use Rattle.bst_run.specs.FilesBegun.{under_begun}
+use Rattle.bst_run.specs.Forms.{RunUnder}
+use Rattle.bst_run.specs.Under.{under_outcome}
+use Rattle.bst_run.proofs.BegunLemmas.{told_begun}
+use Rattle.bst_run.proofs.CommandLemmas.{told_answer, under_promises}
+use Rattle.bst_run.proofs.command.answer_run_under.Goals as goal
+
+pub returns-clause-answer : goal.returns-clause-answer
+returns-clause-answer g c =
+    told_answer g.F.Files c.args.files.now c.run_under-found.new.files (RunUnder c.args.aux.now c.args.steps c.args.cert.now)
+    (λ t. under_outcome t c.args.aux.now c.args.steps c.args.cert.now) c.run_under-found.result c.told.result
+    c.run_under-found.ensures.reads c.run_under-found.ensures.decided
+    (under_promises (g.F.Files.told c.args.files.now) c.args.aux.now c.args.steps c.args.cert.now c.run_under-found.result)
+    (λ under. c.run_under-found.ensures.outside) (λ t. refl) c.told.ensures
+
+pub returns-clause-begun : goal.returns-clause-begun
+returns-clause-begun g c =
+    told_begun g.F.Files c.args.files.now c.run_under-found.new.files (λ t. under_begun t c.args.aux.now c.args.cert.now) (g.F.Files.told c.args.files.now)
+    c.run_under-found.result c.told.result
+    c.run_under-found.ensures.begun c.run_under-found.ensures.reads.cause c.told.ensures

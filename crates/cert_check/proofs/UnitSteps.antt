@@ -1,0 +1,178 @@
+-- What the steps of a unit's check come to, and those of a call.
+use Rattle.std.proofs.Common.{◌≡◌, ℕ, ◌≤◌, Bool, List, [], ◌∷◌, slice_get, Option, None, Some, IfOk, Result, Ok, sym, ap, subst, ◌∙◌, arith}
+use Rattle.std.specs.List.{All}
+use Rattle.std.specs.Option.{option_map_or}
+use Rattle.std.specs.Result.{MatchResult}
+use Rattle.std.proofs.lemmas.List.Elements.{All-cons, All-head, All-nil, All-tail, All-weaker}
+use Rattle.bv_base.specs.Answers.{then_do}
+use Rattle.bv_base.specs.declared.place.Place.{Place}
+use Rattle.bv_base.proofs.ThenLemmas.{ok, ok_is}
+use Rattle.name_table.specs.Sound.{IsSound}
+use Rattle.name_table.specs.declared.names.NameId.{NameId}
+use Rattle.name_table.specs.declared.style.BodyId.{BodyId}
+use Rattle.name_table.specs.declared.style.Style.{Style}
+use Rattle.bst_meaning.specs.declared.condition.Cond.{Cond}
+use Rattle.bst_meaning.specs.StyleParts.{kind_of}
+use Rattle.bst_meaning.specs.declared.value.Target.{Target}
+use Rattle.bst_meaning.specs.declared.value.Target.TheVariants.{Named, Block}
+use Rattle.cert_format.specs.declared.cert.Cert.{Cert}
+use Rattle.cert_format.specs.declared.cert.Summary.{Summary}
+use Rattle.sym_state.specs.State.{State}
+use Rattle.sym_state.specs.Starting.{IsFit, IsNumbered, started, symbols_of}
+use Rattle.sym_state.specs.WellMade.{HasBounds}
+use Rattle.sym_state.specs.declared.hint.Hint.{Hint}
+use Rattle.sym_state.specs.declared.piece.Piece.{Piece}
+use Rattle.cert_check.specs.declared.limits.TheConstants.{MOST_DEPTH}
+use Rattle.cert_check.specs.declared.refusal.Refusal.{Refusal}
+use Rattle.cert_check.specs.Certified.{IsCertified, IsSummaryOf}
+use Rattle.cert_check.specs.Courses.{Course, Walk, placed}
+use Rattle.cert_check.specs.Given.{Leads, Refused}
+use Rattle.cert_check.specs.Room.{GivesRoom, HasRoom, KeepsRoom}
+use Rattle.cert_check.specs.Units.{all_end, beginning, body_of, call_walked, checked_at, everywhere, none_left, own_walked, place_of, summary_checked, target_entered, target_from}
+use Rattle.cert_check.specs.Walks.{Scope}
+use Rattle.cert_check.proofs.RoomLeft.{body_room, named_room, room_on, started_room, target_room}
+use Rattle.cert_check.proofs.WalkSteps.{then_goes}
+
+-- what is wanted at the end of a unit
+abbrev pub Checks : {T : Type 0} → Result (List Hint) Refusal → Result T Refusal → Type 0
+Checks wanted result = MatchResult result (λ _. wanted ≡ Ok []) (Refused wanted)
+
+abbrev pub at_end : Cond → Place → ℕ → List Piece → Course → Result (List Hint) Refusal
+at_end admits place kept pieces course = then_do (placed place (all_end admits kept pieces course.given course.hints)) (none_left place)
+
+-- the check of a summary from its parts
+abbrev pub by_parts : Scope → Summary → Option BodyId → Place → State → ℕ → Result (List Hint) Refusal
+by_parts scope summary body place state kept =
+    then_do (own_walked scope place summary.body body state (beginning summary.hints)) (at_end scope.cert.cond place kept summary.posts)
+
+-- the parts are those of the definition
+pub record AreParts (scope : Scope) (summary : Summary) (body : Option BodyId) (place : Place) (state : State) (kept : ℕ) : Type 0 where
+  pub writes : scope.writes ≡ Some summary.writes
+  pub body_is : body ≡ body_of scope.style summary.body
+  pub place_is : place ≡ place_of scope.style body
+  pub state_is : state ≡ started scope.style scope.cert.cond (summary.pre ∷ []) summary.whole summary.entry
+  pub kept_is : kept ≡ symbols_of summary.pre
+
+parts_are : (scope : Scope) (summary : Summary) (body : Option BodyId) (place : Place) (state : State) (kept : ℕ) → AreParts scope summary body place state kept
+    → summary_checked scope.style scope.cert summary ≡ by_parts scope summary body place state kept
+parts_are scope summary body place state kept parts =
+    let first : State = started scope.style scope.cert.cond (summary.pre ∷ []) summary.whole summary.entry in
+    ap (λ (w : Option (List NameId)). let s : Scope = record { style = scope.style; cert = scope.cert; writes = w } in
+    by_parts s summary (body_of scope.style summary.body) (place_of scope.style (body_of scope.style summary.body)) first (symbols_of summary.pre)) (sym parts.writes)
+    ∙ ap (λ (b : Option BodyId). by_parts scope summary b (place_of scope.style b) first (symbols_of summary.pre)) (sym parts.body_is)
+    ∙ ap (λ (p : Place). by_parts scope summary body p first (symbols_of summary.pre)) (sym parts.place_is)
+    ∙ ap (λ (s : State). by_parts scope summary body place s (symbols_of summary.pre)) (sym parts.state_is)
+    ∙ ap (λ (n : ℕ). by_parts scope summary body place state n) (sym parts.kept_is)
+
+pub unit_refused : (scope : Scope) (summary : Summary) (body : Option BodyId) (place : Place) (state : State) (kept : ℕ) (course : Course) (refusal : Refusal)
+    → AreParts scope summary body place state kept → course ≡ beginning summary.hints
+    → Refused (own_walked scope place summary.body body state course) refusal → Refused (summary_checked scope.style scope.cert summary) refusal
+unit_refused scope summary body place state kept course refusal parts is refused differs =
+    parts_are scope summary body place state kept parts
+    ∙ ap (λ (c : Course). then_do (own_walked scope place summary.body body state c) (at_end scope.cert.cond place kept summary.posts)) (sym is)
+    ∙ ap (λ (w : Walk). then_do w (at_end scope.cert.cond place kept summary.posts)) (refused differs)
+
+pub unit_checks : {T : Type 0} (scope : Scope) (summary : Summary) (body : Option BodyId) (place : Place) (state : State) (kept : ℕ) (course after : Course)
+    (result : Result T Refusal) → AreParts scope summary body place state kept → course ≡ beginning summary.hints
+    → own_walked scope place summary.body body state course ≡ Ok after → Checks (at_end scope.cert.cond place kept summary.posts after) result
+    → Checks (summary_checked scope.style scope.cert summary) result
+unit_checks {T} scope summary body place state kept course after result parts is e checks =
+    subst (λ (r : Result (List Hint) Refusal). Checks r result)
+    (sym (parts_are scope summary body place state kept parts
+    ∙ ap (λ (c : Course). then_do (own_walked scope place summary.body body state c) (at_end scope.cert.cond place kept summary.posts)) (sym is)
+    ∙ ap (λ (w : Walk). then_do w (at_end scope.cert.cond place kept summary.posts)) e))
+    checks
+
+-- the state that the pre starts
+pub own_room : (scope : Scope) (summary : Summary) (state : State) (course : Course) → IsSound scope.style → IsCertified scope.style scope.cert
+    → IsSummaryOf scope.style summary → state ≡ started scope.style scope.cert.cond (summary.pre ∷ []) summary.whole summary.entry
+    → course ≡ beginning summary.hints → HasRoom scope.style 65 course.count state
+own_room scope summary state course sound cert is state_is course_is =
+    let few = is.short.symbols in
+    let room = started_room scope.style scope.cert.cond (summary.pre ∷ []) summary.whole summary.entry sound cert.fields
+    (All-cons IsNumbered summary.pre [] is.numbered (All-nil IsNumbered)) (All-cons (IsFit scope.style) summary.pre [] is.fit (All-nil (IsFit scope.style)))
+    (omega (arith, few)) in
+    subst (HasRoom scope.style 65 course.count) (sym state_is)
+    (subst (λ (n : ℕ). HasRoom scope.style 65 n (started scope.style scope.cert.cond (summary.pre ∷ []) summary.whole summary.entry))
+    (sym (ap (λ (c : Course). c.count) course_is)) room)
+
+-- states of a call, one after the other
+pub next_target : (scope : Scope) (place : Place) (target : Target) (states rest : List State) (state : State) (course mid : Course) (whole : Walk)
+    → states ≡ state ∷ rest → target_from scope place target states course ≡ whole → target_entered scope place target state course ≡ Ok mid
+    → target_from scope place target rest mid ≡ whole
+next_target scope place target states rest state course mid whole is left e =
+    sym (then_goes (target_entered scope place target state course) (target_from scope place target rest) mid e)
+    ∙ sym (ap (λ (l : List State). target_from scope place target l course) is) ∙ left
+
+pub first_target : (style : Style) (count : ℕ) (states rest : List State) (state : State) → states ≡ state ∷ rest → All (HasRoom style 64 count) states
+    → HasRoom style 64 count state
+first_target style count states rest state is room = let P : State → Type 0 = HasRoom style 64 count in All-head P state rest (subst (All P) is room)
+
+pub target_kept : (scope : Scope) (place : Place) (target : Target) (states rest : List State) (state : State) (course mid : Course) → IsSound scope.style
+    → IsCertified scope.style scope.cert → states ≡ state ∷ rest → All (HasRoom scope.style 64 course.count) states
+    → target_entered scope place target state course ≡ Ok mid → KeepsRoom scope.style course mid
+target_kept scope place target states rest state course mid sound cert is room e =
+    target_room scope place target state course mid sound cert (first_target scope.style course.count states rest state is room) e
+
+pub rest_targets : (scope : Scope) (states rest : List State) (state : State) (low high : ℕ) → states ≡ state ∷ rest → low ≤ high
+    → All (HasRoom scope.style 64 low) states → All (HasRoom scope.style 64 high) rest
+rest_targets scope states rest state low high is rises room =
+    let P : State → Type 0 = HasRoom scope.style 64 low in
+    All-weaker P (HasRoom scope.style 64 high) (λ inner there. room_on scope.style 64 64 low high inner (omega arith) rises there) rest
+    (All-tail P state rest (subst (All P) is room))
+
+-- the state that a call of `start` gives
+pub started_is : {E : Type 0} (style other : Style) (admits known : Cond) (pieces : List Piece) (pre : Piece) (whole at_entry : Bool) (r : Result State E) (state : State)
+    → r ≡ Ok state → IfOk r (λ s. s ≡ started other known pieces whole at_entry) → other ≡ style → known ≡ admits → pieces ≡ pre ∷ []
+    → state ≡ started style admits (pre ∷ []) whole at_entry
+started_is {E} style other admits known pieces pre whole at_entry r state e is same_style same_cond one =
+    let here : state ≡ started other known pieces whole at_entry = subst (λ (r : Result State E). IfOk r (λ s. s ≡ started other known pieces whole at_entry)) e is in
+    here ∙ ap (λ (s : Style). started s known pieces whole at_entry) same_style ∙ ap (λ (a : Cond). started style a pieces whole at_entry) same_cond
+    ∙ ap (λ (l : List Piece). started style admits l whole at_entry) one
+
+-- the states at a unit's end are within their bounds
+bounds_of : (style : Style) (count : ℕ) (states : List State) → All (HasRoom style 0 count) states → All HasBounds states
+bounds_of style count states room = All-weaker (HasRoom style 0 count) HasBounds (λ state there. there.made.bounds) states room
+
+own_kept : (scope : Scope) (place : Place) (target : Target) (body : Option BodyId) (state : State) (course after : Course) → IsSound scope.style
+    → IsCertified scope.style scope.cert → HasRoom scope.style 65 course.count state → own_walked scope place target body state course ≡ Ok after
+    → KeepsRoom scope.style course after
+own_kept scope place target (Some body) state course after sound cert room e =
+    body_room scope MOST_DEPTH place body state course after sound cert
+    (room_on scope.style 65 0 course.count course.count state (omega arith) (omega arith) room) e
+own_kept scope place (Named name) None state course after sound cert room e =
+    named_room scope MOST_DEPTH (kind_of scope.style name) name place state course after sound cert room e
+own_kept scope place (Block body) None state course after sound cert room e =
+    subst (KeepsRoom scope.style course) (sym (ok_is course after e)) (record { count = omega arith; given = λ given. given })
+
+pub own_ends : (scope : Scope) (place : Place) (target : Target) (body : Option BodyId) (state : State) (course after : Course) (hints : List Hint)
+    → IsSound scope.style → IsCertified scope.style scope.cert → HasRoom scope.style 65 course.count state → course ≡ beginning hints
+    → own_walked scope place target body state course ≡ Ok after → All HasBounds after.given
+own_ends scope place target body state course after hints sound cert room is e =
+    bounds_of scope.style after.count after.given
+    ((own_kept scope place target body state course after sound cert room e).given
+    (subst (GivesRoom scope.style) (sym is) (All-nil (HasRoom scope.style 0 0))))
+
+-- the summary of a number
+pub number_checks : {T : Type 0} (style : Style) (cert : Cert) (k : ℕ) (scope : Scope) (summary : Summary) (result : Result T Refusal)
+    → Some summary ≡ slice_get cert.summaries k → scope.style ≡ style → scope.cert ≡ cert → Checks (summary_checked scope.style scope.cert summary) result
+    → Checks (checked_at style cert k) result
+number_checks {T} style cert k scope summary result found same_style same_cert checks =
+    subst (λ (r : Result (List Hint) Refusal). Checks r result)
+    (ap (λ (s : Style). summary_checked s scope.cert summary) same_style ∙ ap (λ (c : Cert). summary_checked style c summary) same_cert
+    ∙ ap (λ (o : Option Summary). option_map_or (summary_checked style cert) o (Ok [])) found)
+    checks
+
+pub none_checks : (style : Style) (cert : Cert) (k : ℕ) → None ≡ slice_get cert.summaries k → checked_at style cert k ≡ Ok []
+none_checks style cert k found = ap (λ (o : Option Summary). option_map_or (summary_checked style cert) o (Ok [])) (sym found)
+
+-- a call from its parts
+pub called : (style : Style) (cert : Cert) (states : List State) (target : Target) (place : Place) (hints : List Hint) (scope : Scope) (course after : Course)
+    (given : List State) (left : List Hint) → scope ≡ everywhere style cert → course ≡ beginning hints → target_from scope place target states course ≡ Ok after
+    → given ≡ after.given → left ≡ after.hints → Leads (call_walked style cert states target place hints) given left
+called style cert states target place hints scope course after given left scope_is course_is e given_is left_is = (
+  after.count,
+  sym (ap (λ (s : Scope). target_from s place target states (beginning hints)) scope_is) ∙ sym (ap (λ (c : Course). target_from scope place target states c) course_is)
+      ∙ e ∙ ap (λ (l : List State). let c : Course = record { given = l; hints = after.hints; count = after.count } in ok {E = Refusal} c) (sym given_is)
+      ∙ ap (λ (h : List Hint). let c : Course = record { given = given; hints = h; count = after.count } in ok {E = Refusal} c) (sym left_is),
+)

@@ -1,0 +1,143 @@
+//! The units of a certificate, and the calls of commands (docs/CHECKER.md, "Units").
+
+ghost use Rattle.std.specs.Prelude.{◌≡◌, [], Ok, IfOk, OnErr, MatchResult, option_map, slice_get};
+ghost use Rattle.std.specs.List.{All};
+ghost use Rattle.name_table.specs.Sound.{IsSound};
+ghost use Rattle.sym_state.specs.Demands.{HasFewUses};
+ghost use Rattle.cert_check.specs.Certified.{IsCertified};
+ghost use Rattle.cert_check.specs.Given.{Leads, Refused};
+ghost use Rattle.cert_check.specs.Room.{HasRoom, IsEnd};
+ghost use Rattle.cert_check.specs.Units as rule;
+
+use crate::course::Course;
+use crate::refusal::Refusal;
+use crate::scope::Scope;
+use crate::tables::Tables;
+use crate::turns::loop_checked;
+use crate::units::{summary_checked, target_from};
+use bst_meaning::value::Target;
+use bv_base::memory::NoMemory;
+use bv_base::place::Place;
+use cert_format::cert::{Cert, Loop, Summary};
+use name_table::names::NameId;
+use name_table::style::Style;
+use std::alloc::Global;
+use std::marker::Model;
+use sym_state::hint::Hints;
+use sym_state::state::State;
+
+/// A style and a certificate that is checked for it.
+#[derive(Drop)]
+pub struct Checker<'a> {
+    alloc: Global,
+    style: &'a Style,
+    cert: &'a Cert,
+    tables: Tables,
+}
+
+impl<'a> Model for Checker<'a> {
+    ghost use Rattle.name_table.specs.Sound.{IsSound};
+    ghost use Rattle.cert_check.specs.Certified.{IsCertified};
+    ghost use Rattle.cert_check.specs.Tables.{AreTables};
+    ghost use Rattle.cert_check.specs.Units as rule;
+
+    ghost Value = { rule.Checked };
+
+    ghost view = { λ c. record { style = c.style.now; cert = c.cert.now } };
+
+    ghost invariant = { λ c. IsSound c.style.now × IsCertified c.style.now c.cert.now × AreTables c.style.now c.cert.now c.tables };
+}
+
+impl<'a> Checker<'a> {
+    /// A checker of a certificate that was read for the style.
+    pub fn new(alloc: Global, style: &'a Style, cert: &'a Cert) -> Result<Checker<'a>, NoMemory>
+        requires sound { IsSound style.now }
+        requires certified { IsCertified style.now cert.now }
+        ensures { IfOk result (λ checker. checker ≡ record { style = style.now; cert = cert.now }) }
+    {
+        Ok(Checker {
+            alloc,
+            style,
+            cert,
+            tables: Tables::new(alloc, style, cert)?,
+        })
+    }
+
+    /// Checks the summary of a number: its body is walked from its pre, and each state at its end entails one of its posts.
+    /// There is nothing to check where the certificate has none of that number.
+    pub fn check_summary(&self, index: usize) -> Result<(), Refusal>
+        ensures { MatchResult result (λ _. rule.checked_at self.now.style self.now.cert index ≡ Ok [])
+            (Refused (rule.checked_at self.now.style self.now.cert index)) }
+    {
+        match self.summary(index) {
+            Some(summary) => {
+                let scope = self.scope(Some(summary.writes.as_slice()));
+                summary_checked(&scope, self.alloc, summary)
+            }
+            None => Ok(()),
+        }
+    }
+
+    /// Checks the loop of a number: each of its turns is walked from one of its cases, and ends with a case or leaves with an
+    /// exit. There is nothing to check where the certificate has none of that number.
+    pub fn check_loop(&self, index: usize) -> Result<(), Refusal>
+        ensures { MatchResult result (λ _. rule.loop_checked_at self.now.style self.now.cert index ≡ Ok [])
+            (Refused (rule.loop_checked_at self.now.style self.now.cert index)) }
+    {
+        match self.repetition(index) {
+            Some(one) => {
+                let scope = self.scope(Some(one.writes.as_slice()));
+                loop_checked(&scope, self.alloc, one)
+            }
+            None => Ok(()),
+        }
+    }
+
+    /// Calls a target from states, one after the other: the states at its end. The hints behind those that it takes are
+    /// left, and all of them where it isn't accepted.
+    pub fn walk_call(
+        &self,
+        states: Vec<State>,
+        target: Target,
+        place: Place,
+        hints: &mut Hints<'_>,
+    ) -> Result<Vec<State>, Refusal>
+        requires room { All (HasRoom self.now.style 64 0) states.items }
+        requires proofs { All HasFewUses hints.old }
+        ensures takes { MatchResult result
+            (λ given. Leads (rule.call_walked self.now.style self.now.cert states.items target place hints.old) given.items hints.new)
+            (Refused (rule.call_walked self.now.style self.now.cert states.items target place hints.old)) }
+        ensures made { IfOk result (λ given. All (IsEnd self.now.style) given.items) }
+        ensures proofs { All HasFewUses hints.new }
+        ensures stays { OnErr result (hints.new ≡ hints.old) }
+    {
+        let scope = self.scope(None);
+        let mut course = Course::new(self.alloc, hints.rest());
+        target_from(&scope, place, target, states, &mut course)?;
+        *hints = Hints::new(course.rest());
+        Ok(course.take_given())
+    }
+
+    /// A walk that may write these variables, or all where none is listed.
+    fn scope<'s>(&'s self, writes: Option<&'s [NameId]>) -> Scope<'s>
+        ensures scope { result ≡ record { style = self.now.style; cert = self.now.cert; writes = option_map (λ names. names.now) writes.entry } }
+        ensures sound { IsSound self.now.style }
+        ensures certified { IsCertified self.now.style self.now.cert }
+    {
+        Scope::new(self.style, self.cert, writes, &self.tables)
+    }
+
+    /// The summary of a number.
+    fn summary(&self, index: usize) -> Option<&'a Summary>
+        ensures { option_map (λ summary. summary.now) result ≡ slice_get self.now.cert.summaries index }
+    {
+        self.cert.summaries.as_slice().get(index)
+    }
+
+    /// The loop of a number.
+    fn repetition(&self, index: usize) -> Option<&'a Loop>
+        ensures { option_map (λ one. one.now) result ≡ slice_get self.now.cert.loops index }
+    {
+        self.cert.loops.as_slice().get(index)
+    }
+}

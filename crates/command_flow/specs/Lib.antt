@@ -1,0 +1,7 @@
+pub mod Between
+pub mod Moments
+pub mod Commands
+pub mod Checks
+pub mod Places
+pub mod Ready
+pub mod Records

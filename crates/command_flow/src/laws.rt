@@ -1,0 +1,32 @@
+//! What it means that a certificate is accepted, and where it isn't.
+
+ghost use Rattle.std.specs.Prelude.{◌≡◌, ◌⊎◌, [], Ok, Err};
+ghost use Rattle.name_table.specs.Sound.{IsSound};
+ghost use Rattle.name_table.specs.declared.style.Style.{Style};
+ghost use Rattle.bst_meaning.specs.Safe.{Safe};
+ghost use Rattle.cert_format.specs.declared.cert.Cert.{Cert};
+ghost use Rattle.cert_check.specs.Certified.{IsCertified};
+ghost use Rattle.cert_check.specs.Places.{IsOfUnit};
+ghost use Rattle.cert_check.specs.declared.refusal.Refusal.{Refusal};
+ghost use Rattle.command_flow.specs.Checks.{checked, Checks};
+ghost use Rattle.command_flow.specs.Places.{IsOfCommand};
+
+use bst_meaning::laws::runs_are_well_formed;
+use cert_check::laws::{checked_units_are_safe, refusals_of_units_in_the_style};
+
+/// Where every rule holds of a certificate, its style is safe under its condition: over no entry list that fits the style and
+/// meets the condition does a run come to an execution error, and every call that ends leaves the literal stack empty.
+pub fn accepted_styles_are_safe()
+    ensures { (style : Style) (cert : Cert) → IsSound style → IsCertified style cert → Checks style cert → Safe style cert.cond }
+{
+    checked_units_are_safe();
+    runs_are_well_formed();
+}
+
+/// The first rule that fails does so at the place of a command of the style, at that of a body or of a token of one, or at 1:1.
+pub fn refusals_in_the_style()
+    ensures { (style : Style) (cert : Cert) (refusal : Refusal) → checked style cert ≡ Err refusal
+        → IsOfCommand style refusal.place ⊎ IsOfUnit style refusal.place }
+{
+    refusals_of_units_in_the_style();
+}

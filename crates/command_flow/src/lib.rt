@@ -1,0 +1,12 @@
+//! The rules of commands, and what it means that a certificate is accepted.
+#![tactic(auto)]
+
+mod between;
+mod decision;
+mod ends;
+mod flow;
+pub mod laws;
+mod moving;
+mod shape;
+
+pub use decision::check;

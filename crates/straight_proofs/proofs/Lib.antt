@@ -1,0 +1,6 @@
+pub mod AddingUp
+pub mod Lists
+pub mod Looked
+pub mod Numbered
+pub mod Rooms
+pub mod Searched

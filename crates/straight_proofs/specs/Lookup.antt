@@ -1,0 +1,62 @@
+-- Where the references are that may lead to a proof (docs/STATES.md, "Straight proofs"): those whose rows have a term.
+use Rattle.std.specs.Prelude.{ℕ, suc, if◌then◌else◌, List, [], ◌∷◌, ◌++◌, map, take, Some}
+use Rattle.std.specs.List.{range_with_len}
+use Rattle.lin_facts.specs.declared.row.Row.{Row}
+use Rattle.lin_facts.specs.declared.row.Term.{Term}
+use Rattle.lin_facts.specs.declared.row.Term.TheVariants.{Value, Length, Names, Pos, Count}
+use Rattle.sym_state.specs.declared.proof.Reference.{Reference}
+use Rattle.sym_state.specs.declared.proof.Reference.TheVariants as ref
+use Rattle.sym_state.specs.declared.symbol.Sym.{Sym}
+use Rattle.sym_state.specs.State.{State}
+use Rattle.straight_proofs.specs.declared.lookup.Kind.{Kind}
+use Rattle.straight_proofs.specs.declared.lookup.Kind.TheVariants as kind
+use Rattle.straight_proofs.specs.Remainders.{fits}
+use Rattle.straight_proofs.specs.Straight.{rows_named}
+
+-- the symbol of a number
+abbrev pub sym : ℕ → Sym
+sym s = record { 0 = s }
+
+-- the references that say something of a term, in their order, whatever rows a state has
+abbrev pub on_term : Term → List Reference
+on_term (Value s) = ref.ValueLow (sym s) ∷ ref.ValueHigh (sym s) ∷ ref.ExactLow (sym s) ∷ ref.ExactHigh (sym s) ∷ []
+on_term (Length s) =
+    ref.LengthLow (sym s) ∷ ref.NamesHigh (sym s) ∷ ref.NonblankLength (sym s) ∷ ref.TextLow (sym s) ∷ ref.TextHigh (sym s) ∷ []
+on_term (Names s) = ref.NamesLow (sym s) ∷ ref.NamesHigh (sym s) ∷ ref.NonblankNames (sym s) ∷ []
+on_term Pos = ref.PosLow ∷ ref.PosHigh ∷ []
+on_term Count = ref.PosHigh ∷ ref.CountLow ∷ ref.CountHigh ∷ []
+
+-- a row, where it may be subtracted where a term leads
+abbrev pub row_on : Term → Row → ℕ → Row → List Reference
+row_on term remainder k row = if fits (Some term) remainder row then ref.Row k ∷ [] else []
+
+-- those of some rows, numbered from here, that may be subtracted where a term leads
+abbrev pub rows_on : Term → Row → ℕ → List Row → List Reference
+rows_on term remainder k [] = []
+rows_on term remainder k (row ∷ rows) = row_on term remainder k row ++ rows_on term remainder (suc k) rows
+
+-- the rows of a state that references can name
+abbrev pub rows_in_reach : State → List Row
+rows_in_reach state = take (rows_named state) state.rows
+
+-- the references that may lead to a proof where a term leads, in their order
+abbrev pub references_to : State → Row → Term → List Reference
+references_to state remainder term = rows_on term remainder 0 (rows_in_reach state) ++ on_term term
+
+-- the reference of a kind to a symbol
+abbrev pub reference_of : Kind → Sym → Reference
+reference_of kind.ValueLow s = ref.ValueLow s
+reference_of kind.ValueHigh s = ref.ValueHigh s
+reference_of kind.LengthLow s = ref.LengthLow s
+reference_of kind.NamesLow s = ref.NamesLow s
+reference_of kind.NamesHigh s = ref.NamesHigh s
+reference_of kind.ExactLow s = ref.ExactLow s
+reference_of kind.ExactHigh s = ref.ExactHigh s
+reference_of kind.NonblankLength s = ref.NonblankLength s
+reference_of kind.NonblankNames s = ref.NonblankNames s
+reference_of kind.TextLow s = ref.TextLow s
+reference_of kind.TextHigh s = ref.TextHigh s
+
+-- those of a kind to the symbols below a number
+abbrev pub each_below : ℕ → Kind → List Reference
+each_below next kind = map (λ s. reference_of kind (sym s)) (range_with_len 0 next)

@@ -1,0 +1,142 @@
+//! The search for the first list of references that shows a remainder.
+
+ghost use Rattle.std.specs.Prelude.{◌≡◌, ℕ, ◌+◌, None, Some, reverse, option_map, if◌then◌else◌, IfOk, IfSome};
+ghost use Rattle.std.specs.Option.{option_and_then};
+ghost use Rattle.lin_facts.specs.Rows.{IsSmall};
+ghost use Rattle.sym_state.specs.WellMade.{HasBounds};
+ghost use Rattle.straight_proofs.specs.Lookup.{rows_in_reach};
+ghost use Rattle.straight_proofs.specs.Remainders as subtracting;
+ghost use Rattle.straight_proofs.specs.Remainders.{HasRoom};
+ghost use Rattle.straight_proofs.specs.Straight as rule;
+
+use crate::known::Known;
+use crate::lookup::references_to;
+use crate::remainders::{fits, lead, minus};
+use crate::said::row_said;
+use bv_base::memory::NoMemory;
+use lin_facts::row::{Row, Term};
+use std::alloc::Global;
+use sym_state::proof::Reference;
+
+/// The first list of at most so many references that shows a remainder, its last reference first.
+#[cycle(search)]
+pub(crate) fn list_within(
+    known: &Known,
+    remainder: &Row,
+    most: u32,
+) -> Result<Option<Vec<Reference>>, NoMemory>
+    requires state { HasBounds known.now.state.now }
+    requires rows { known.now.rows.now ≡ rows_in_reach known.now.state.now }
+    requires room { HasRoom most remainder.now }
+    ensures { IfOk result (λ found. option_map (λ list. reverse list.items) found ≡ rule.list_within most known.now.cond.now known.now.state.now remainder.now) }
+{
+    match lead(remainder) {
+        None => Ok(ended(known.alloc, remainder)),
+        Some(term) => {
+            if most == 0 {
+                Ok(None)
+            } else {
+                let there = references_to(known, remainder, term)?;
+                first_list(known, Some(term), remainder, most - 1, there.as_slice())
+            }
+        }
+    }
+}
+
+/// The list of the first of some references behind which a list goes on, its last reference first.
+#[cycle(search)]
+pub(crate) fn first_list(
+    known: &Known,
+    leads: Option<Term>,
+    remainder: &Row,
+    most: u32,
+    references: &[Reference],
+) -> Result<Option<Vec<Reference>>, NoMemory>
+    requires state { HasBounds known.now.state.now }
+    requires rows { known.now.rows.now ≡ rows_in_reach known.now.state.now }
+    requires room { HasRoom (most + 1) remainder.now }
+    ensures { IfOk result (λ found. option_map (λ list. reverse list.items) found
+        ≡ rule.first_list (λ r. option_and_then (rule.list_within most known.now.cond.now known.now.state.now)
+        (rule.left_behind known.now.cond.now known.now.state.now leads remainder.now r)) references.now) }
+{
+    for reference in references {
+        if let Some(list) = list_behind(known, leads, remainder, most, *reference)? {
+            let mut list = list;
+            list.push(*reference)?;
+            return Ok(Some(list));
+        }
+    }
+    Ok(None)
+}
+
+/// The list that goes on behind a reference.
+#[cycle(search)]
+fn list_behind(
+    known: &Known,
+    leads: Option<Term>,
+    remainder: &Row,
+    most: u32,
+    reference: Reference,
+) -> Result<Option<Vec<Reference>>, NoMemory>
+    requires state { HasBounds known.now.state.now }
+    requires rows { known.now.rows.now ≡ rows_in_reach known.now.state.now }
+    requires room { HasRoom (most + 1) remainder.now }
+    ensures { IfOk result (λ found. option_map (λ list. reverse list.items) found
+        ≡ option_and_then (rule.list_within most known.now.cond.now known.now.state.now)
+        (rule.left_behind known.now.cond.now known.now.state.now leads remainder.now reference)) }
+{
+    match left_behind(known, leads, remainder, reference)? {
+        Some(left) => list_within(known, &left, most),
+        None => Ok(None),
+    }
+}
+
+/// The empty list, where a remainder without a lead holds.
+fn ended(alloc: Global, remainder: &Row) -> Option<Vec<Reference>>
+    ensures { option_map (λ list. reverse list.items) result ≡ rule.ended remainder.now }
+{
+    if remainder.constant < 0 {
+        None
+    } else {
+        Some(Vec::new(alloc))
+    }
+}
+
+/// What is left of a remainder behind a reference.
+fn left_behind(
+    known: &Known,
+    leads: Option<Term>,
+    remainder: &Row,
+    reference: Reference,
+) -> Result<Option<Row>, NoMemory>
+    requires state { HasBounds known.now.state.now }
+    requires rows { known.now.rows.now ≡ rows_in_reach known.now.state.now }
+    requires room { HasRoom 1 remainder.now }
+    ensures said { IfOk result (λ left. left ≡ rule.left_behind known.now.cond.now known.now.state.now leads remainder.now reference) }
+    ensures room { (more : ℕ) → HasRoom (more + 1) remainder.now → IfOk result (λ left. IfSome left (HasRoom more)) }
+{
+    match row_said(known.alloc, known.state, known.cond, reference)? {
+        Some(row) => less(known.alloc, leads, remainder, &row),
+        None => Ok(None),
+    }
+}
+
+/// What is left of a remainder where a row may be subtracted.
+fn less(
+    alloc: Global,
+    leads: Option<Term>,
+    remainder: &Row,
+    row: &Row,
+) -> Result<Option<Row>, NoMemory>
+    requires remainder { HasRoom 1 remainder.now }
+    requires row { IsSmall row.now }
+    ensures said { IfOk result (λ left. left ≡ (if subtracting.fits leads remainder.now row.now
+        then Some (subtracting.minus remainder.now row.now) else None)) }
+    ensures room { (more : ℕ) → HasRoom (more + 1) remainder.now → IfOk result (λ left. IfSome left (HasRoom more)) }
+{
+    if fits(leads, remainder, row) {
+        Ok(Some(minus(alloc, remainder, row)?))
+    } else {
+        Ok(None)
+    }
+}

@@ -1,0 +1,160 @@
+//! The straight proofs of a goal and of an absurdity (docs/STATES.md, "Straight proofs").
+
+ghost use Rattle.std.specs.Prelude.{◌≡◌, ◌≤◌, true, length, map, option_map, reverse, IfOk, IfSome};
+ghost use Rattle.sym_state.specs.Cases.{absurdity};
+ghost use Rattle.sym_state.specs.References.{shows};
+ghost use Rattle.sym_state.specs.WellMade.{HasBounds, IsBounded};
+ghost use Rattle.straight_proofs.specs.Lookup as reach;
+ghost use Rattle.straight_proofs.specs.Straight as rule;
+
+use crate::known::Known;
+use crate::lookup::{references, rows_in_reach};
+use crate::remainders::never;
+use crate::search::{first_list, list_within};
+use bst_meaning::condition::Cond;
+use bv_base::memory::NoMemory;
+use bv_base::seq::Seq;
+use lin_facts::row::Row;
+use std::alloc::Global;
+use sym_state::proof::{Proof, Reference, Use};
+use sym_state::state::State;
+
+/// How many references stand in the list of a straight proof at most.
+pub const MOST_REFERENCES: u32 = 8;
+
+/// The straight proof of a goal from what a state knows: the first list of at most eight references that shows it, each
+/// taken once. `None` comes exactly where there is none.
+pub fn straight_proof(
+    alloc: Global,
+    state: &State,
+    cond: &Cond,
+    goal: &Row,
+) -> Result<Option<Proof>, NoMemory>
+    requires state { HasBounds state.now }
+    requires goal { IsBounded goal.now }
+    ensures first { IfOk result (λ found. found ≡ rule.straight_proof cond.now state.now goal.now) }
+    ensures shown { IfOk result (λ found. IfSome found (λ proof. shows cond.now state.now proof goal.now ≡ true)) }
+    ensures few { IfOk result (λ found. IfSome found (λ proof. length proof.uses ≤ MOST_REFERENCES)) }
+{
+    first_proof(alloc, state, cond, goal)
+}
+
+/// The straight proof that a case can't come about, which shows that -1 is at least 0: its first reference may be any that
+/// is there. `None` comes exactly where there is none.
+pub fn drop_proof(alloc: Global, state: &State, cond: &Cond) -> Result<Option<Proof>, NoMemory>
+    requires { HasBounds state.now }
+    ensures first { IfOk result (λ found. found ≡ rule.drop_proof cond.now state.now) }
+    ensures shown { IfOk result (λ found. IfSome found (λ proof. shows cond.now state.now proof absurdity ≡ true)) }
+    ensures few { IfOk result (λ found. IfSome found (λ proof. length proof.uses ≤ MOST_REFERENCES)) }
+{
+    first_drop(alloc, state, cond)
+}
+
+/// The proof of the first list that shows a goal.
+fn first_proof(
+    alloc: Global,
+    state: &State,
+    cond: &Cond,
+    goal: &Row,
+) -> Result<Option<Proof>, NoMemory>
+    requires state { HasBounds state.now }
+    requires goal { IsBounded goal.now }
+    ensures { IfOk result (λ found. found ≡ rule.straight_proof cond.now state.now goal.now) }
+{
+    match first_list_of(alloc, state, cond, goal)? {
+        Some(list) => Ok(Some(proof_of(alloc, list.as_slice())?)),
+        None => Ok(None),
+    }
+}
+
+/// The first list that shows a goal, its last reference first.
+fn first_list_of(
+    alloc: Global,
+    state: &State,
+    cond: &Cond,
+    goal: &Row,
+) -> Result<Option<Vec<Reference>>, NoMemory>
+    requires state { HasBounds state.now }
+    requires goal { IsBounded goal.now }
+    ensures { IfOk result (λ found. option_map (λ list. reverse list.items) found
+        ≡ rule.list_within MOST_REFERENCES cond.now state.now goal.now) }
+{
+    let rows = rows_in_reach(alloc, state)?;
+    let known = Known {
+        alloc,
+        state,
+        cond,
+        rows: rows.as_slice(),
+    };
+    list_within(&known, goal, MOST_REFERENCES)
+}
+
+/// The proof of the first list that shows that a case can't come about.
+fn first_drop(alloc: Global, state: &State, cond: &Cond) -> Result<Option<Proof>, NoMemory>
+    requires { HasBounds state.now }
+    ensures { IfOk result (λ found. found ≡ rule.drop_proof cond.now state.now) }
+{
+    match drop_list(alloc, state, cond)? {
+        Some(list) => Ok(Some(proof_of(alloc, list.as_slice())?)),
+        None => Ok(None),
+    }
+}
+
+/// The list that shows that a case can't come about, its last reference first.
+fn drop_list(alloc: Global, state: &State, cond: &Cond) -> Result<Option<Vec<Reference>>, NoMemory>
+    requires { HasBounds state.now }
+    ensures { IfOk result (λ found. option_map (λ list. reverse list.items) found ≡ rule.drop_list cond.now state.now) }
+{
+    let rows = rows_in_reach(alloc, state)?;
+    let known = Known {
+        alloc,
+        state,
+        cond,
+        rows: rows.as_slice(),
+    };
+    list_among_all(&known)
+}
+
+/// The same, where the rows are known.
+fn list_among_all(known: &Known) -> Result<Option<Vec<Reference>>, NoMemory>
+    requires state { HasBounds known.now.state.now }
+    requires rows { known.now.rows.now ≡ reach.rows_in_reach known.now.state.now }
+    ensures { IfOk result (λ found. option_map (λ list. reverse list.items) found
+        ≡ rule.drop_list known.now.cond.now known.now.state.now) }
+{
+    let goal = never(known.alloc);
+    let all = references(known.alloc, known.state)?;
+    first_list(known, None, &goal, MOST_REFERENCES - 1, all.as_slice())
+}
+
+/// The proof that takes each of these references once, the last of them first.
+fn proof_of(alloc: Global, list: &[Reference]) -> Result<Proof, NoMemory>
+    ensures { IfOk result (λ proof. proof ≡ rule.proof_of (reverse list.now)) }
+{
+    Ok(Proof {
+        divisor: 1,
+        uses: Seq::from_vec(uses_of(alloc, list)?),
+    })
+}
+
+/// These references, each taken once, the last of them first.
+fn uses_of(alloc: Global, list: &[Reference]) -> Result<Vec<Use>, NoMemory>
+    ensures { IfOk result (λ uses. uses.items ≡ map rule.once (reverse list.now)) }
+{
+    Ok(
+        list.iter()
+            .rev()
+            .map(|reference| once(*reference))
+            .collect(alloc)?,
+    )
+}
+
+/// A reference that is taken once.
+fn once(reference: Reference) -> Use
+    ensures { result ≡ rule.once reference }
+{
+    Use {
+        reference,
+        times: 1,
+    }
+}
