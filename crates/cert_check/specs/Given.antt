@@ -20,8 +20,18 @@ abbrev pub Takes : {T : Type 0} → Walk → Course → Result T Refusal → Typ
 Takes wanted after result = MatchResult result (λ _. wanted ≡ Ok after) (Refused wanted)
 
 -- the course that is wanted has these states at its end, and leaves these hints
-abbrev pub Leads : Walk → List State → List Hint → Type 0
-Leads wanted states hints = (count : ℕ) × (wanted ≡ Ok (record { given = states; hints = hints; count = count }))
+pub record Leads (wanted : Walk) (states : List State) (hints : List Hint) : Type 0 where
+  pub course : Course
+  pub is : wanted ≡ Ok course
+  pub given : course.given ≡ states
+  pub left : course.hints ≡ hints
+
+-- it has these states at its end, and these hints were found on its way
+pub record Finds (wanted : Walk) (states : List State) (hints : List Hint) : Type 0 where
+  pub course : Course
+  pub is : wanted ≡ Ok course
+  pub given : course.given ≡ states
+  pub found : course.found ≡ hints
 
 -- a piece that may be shown
 pub record CanEnd (piece : Piece) : Type 0 where
