@@ -9,6 +9,7 @@ pub mod Requests
 pub mod FileFaults
 pub mod FileNames
 pub mod AuxChain
+pub mod Inferred
 pub mod InputTrees
 pub mod Sources
 pub mod Ran
