@@ -1,0 +1,136 @@
+//! The built-in functions that give integers or take one alone.
+
+ghost use Rattle.std.specs.Prelude.{◌≡◌, ◌^◌, ℤ, is_some, option_map};
+ghost use Rattle.lin_facts.specs.Rows.{IsWithin};
+ghost use Rattle.straight_hints.specs.Given.{Finds, hints_at};
+ghost use Rattle.sym_state.specs.Effects as rule;
+ghost use Rattle.sym_state.specs.State.{State as StateValue};
+ghost use Rattle.sym_state.specs.WellMade.{HasBounds};
+
+use crate::at::{At, Found};
+use crate::steps::{both_steps, none, one_step};
+use bv_base::limits::GREATEST_INTEGER;
+use lin_facts::row::{Part, Term};
+use sym_state::operands::{one, two};
+use sym_state::references::{at_least, at_most, exceeds};
+use sym_state::results::sum_of_two;
+use sym_state::symbol::{Kinds, Sym};
+use text_ops::width::WIDEST_BYTE;
+
+/// `+` and `-`: the sign is that of the upper operand.
+pub fn sum(at: &At<'_>, sign: i64) -> Found
+    requires bounds { HasBounds at.now.state.now }
+    requires sign { IsWithin (2 ^ 40) sign }
+    ensures { (add : ℤ → ℤ → ℤ) → Finds result (hints_at at.now (rule.sum at.now.state.now sign add)) }
+{
+    let (a, b) = two(at.state, Kinds::Int, Kinds::Int)?;
+    match (at.state.exact_integer(a), at.state.exact_integer(b)) {
+        (Some(_), Some(_)) => Ok(none(at)),
+        _ => unknown_sum(at, sign, a, b),
+    }
+}
+
+/// Two steps show that a sum that isn't known has 32 bits.
+fn unknown_sum(at: &At<'_>, sign: i64, a: Sym, b: Sym) -> Found
+    requires bounds { HasBounds at.now.state.now }
+    requires sign { IsWithin (2 ^ 40) sign }
+    ensures { (rest : StateValue) → Finds result (hints_at at.now (rule.summed sign a b rest None)) }
+{
+    let alloc = at.state.alloc();
+    let (x, y) = (Term::Value(a.0), Term::Value(b.0));
+    let low = sum_of_two(alloc, GREATEST_INTEGER as i64 + 1, part(1, x), part(sign, y))?;
+    let high = sum_of_two(alloc, GREATEST_INTEGER as i64, part(-1, x), part(-sign, y))?;
+    Ok(both_steps(at, &low, &high)?)
+}
+
+/// A term with a number before it.
+fn part(coefficient: i64, term: Term) -> Part
+    ensures { result ≡ record { coefficient = coefficient; term = term } }
+{
+    Part { coefficient, term }
+}
+
+/// `chr.to.int$`
+pub fn chr_to_int(at: &At<'_>) -> Found
+    requires { HasBounds at.now.state.now }
+    ensures { Finds result (hints_at at.now (rule.chr_to_int at.now.state.now)) }
+{
+    let a = one(at.state, Kinds::Str)?;
+    if is_one_byte(at.state.exact_text(a)) {
+        return Ok(none(at));
+    }
+    unknown_byte(at, a)
+}
+
+/// Whether a text is known and has one byte.
+fn is_one_byte(text: Option<&[u8]>) -> bool
+    ensures { result ≡ is_some (rule.one_byte (option_map (λ t. t.now) text.entry)) }
+{
+    match text {
+        Some([_]) => true,
+        _ => false,
+    }
+}
+
+/// Two steps show that a string that isn't known has one byte.
+fn unknown_byte(at: &At<'_>, a: Sym) -> Found
+    requires { HasBounds at.now.state.now }
+    ensures { (rest : StateValue) → Finds result (hints_at at.now (rule.byte_number a rest None)) }
+{
+    let alloc = at.state.alloc();
+    let length = Term::Length(a.0);
+    let low = at_least(alloc, length, 1)?;
+    let high = at_most(alloc, length, 1)?;
+    Ok(both_steps(at, &low, &high)?)
+}
+
+/// `int.to.chr$`
+pub fn int_to_chr(at: &At<'_>) -> Found
+    requires { HasBounds at.now.state.now }
+    ensures { Finds result (hints_at at.now rule.int_to_chr) }
+{
+    let a = one(at.state, Kinds::Int)?;
+    let alloc = at.state.alloc();
+    let value = Term::Value(a.0);
+    let low = at_least(alloc, value, 0)?;
+    let high = at_most(alloc, value, 127)?;
+    Ok(both_steps(at, &low, &high)?)
+}
+
+/// `num.names$`
+pub fn num_names(at: &At<'_>) -> Found
+    requires { HasBounds at.now.state.now }
+    ensures { Finds result (hints_at at.now rule.num_names) }
+{
+    let a = one(at.state, Kinds::Str)?;
+    let names = Term::Names(a.0);
+    let high = at_most(at.state.alloc(), names, GREATEST_INTEGER as i64)?;
+    Ok(one_step(at, &high)?)
+}
+
+/// `text.length$`
+pub fn text_length(at: &At<'_>) -> Found
+    requires { HasBounds at.now.state.now }
+    ensures { Finds result (hints_at at.now rule.text_length) }
+{
+    let a = one(at.state, Kinds::Str)?;
+    let length = Term::Length(a.0);
+    let high = at_most(at.state.alloc(), length, GREATEST_INTEGER as i64)?;
+    Ok(one_step(at, &high)?)
+}
+
+/// `width$`
+pub fn width(at: &At<'_>) -> Found
+    requires { HasBounds at.now.state.now }
+    ensures { Finds result (hints_at at.now rule.width) }
+{
+    let a = one(at.state, Kinds::Str)?;
+    let length = Term::Length(a.0);
+    let high = sum_of_two(
+        at.state.alloc(),
+        GREATEST_INTEGER as i64,
+        part(-(WIDEST_BYTE as i64), length),
+        part(0, length),
+    )?;
+    Ok(one_step(at, &high)?)
+}
