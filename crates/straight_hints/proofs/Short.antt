@@ -105,7 +105,7 @@ each_short finding admits (state ∷ states) =
     All-cons HasFewUses (case_hint finding admits state) (map (case_hint finding admits) states)
     (case_short finding admits state) (each_short finding admits states)
 
-cases_short : (finding : Finding) (admits : Cond) (states : List State) (left : List Hint) → AreShort (case_hints finding admits states left)
+pub cases_short : (finding : Finding) (admits : Cond) (states : List State) (left : List Hint) → All HasFewUses (case_hints finding admits states left)
 cases_short finding admits states [] = each_short finding admits states
 cases_short finding admits states (hint ∷ left) = All-nil HasFewUses
 

@@ -1,16 +1,20 @@
 //! The built-in functions that give integers or take one alone.
 
-ghost use Rattle.std.specs.Prelude.{◌≡◌, ◌^◌, ℤ, is_some, option_map};
+ghost use Rattle.std.specs.Prelude.{◌≡◌, suc, ◌^◌, ℤ, pos, negsuc, neg_ℤ, None, option_map, IfOk};
 ghost use Rattle.lin_facts.specs.Rows.{IsWithin};
+ghost use Rattle.lin_facts.specs.declared.row.Term.TheVariants.{Value};
 ghost use Rattle.straight_hints.specs.Given.{Finds, hints_at};
+ghost use Rattle.sym_state.specs.Demands.{without};
 ghost use Rattle.sym_state.specs.Effects as rule;
-ghost use Rattle.sym_state.specs.State.{State as StateValue};
-ghost use Rattle.sym_state.specs.WellMade.{HasBounds};
+ghost use Rattle.sym_state.specs.Results as results;
+ghost use Rattle.sym_state.specs.WellMade.{HasBounds, IsBounded};
 
 use crate::at::{At, Found};
 use crate::steps::{both_steps, none, one_step};
 use bv_base::limits::GREATEST_INTEGER;
-use lin_facts::row::{Part, Term};
+use bv_base::memory::NoMemory;
+use lin_facts::row::{Part, Row, Term};
+use std::alloc::Global;
 use sym_state::operands::{one, two};
 use sym_state::references::{at_least, at_most, exceeds};
 use sym_state::results::sum_of_two;
@@ -34,13 +38,31 @@ pub fn sum(at: &At<'_>, sign: i64) -> Found
 fn unknown_sum(at: &At<'_>, sign: i64, a: Sym, b: Sym) -> Found
     requires bounds { HasBounds at.now.state.now }
     requires sign { IsWithin (2 ^ 40) sign }
-    ensures { (rest : StateValue) → Finds result (hints_at at.now (rule.summed sign a b rest None)) }
+    ensures { Finds result (hints_at at.now (rule.summed sign a b (without 2 at.now.state.now) None)) }
 {
-    let alloc = at.state.alloc();
-    let (x, y) = (Term::Value(a.0), Term::Value(b.0));
-    let low = sum_of_two(alloc, GREATEST_INTEGER as i64 + 1, part(1, x), part(sign, y))?;
-    let high = sum_of_two(alloc, GREATEST_INTEGER as i64, part(-1, x), part(-sign, y))?;
+    let low = sum_at_least(at.state.alloc(), sign, a, b)?;
+    let high = sum_at_most(at.state.alloc(), sign, a, b)?;
     Ok(both_steps(at, &low, &high)?)
+}
+
+/// A sum is at least -2147483648.
+fn sum_at_least(alloc: Global, sign: i64, a: Sym, b: Sym) -> Result<Row, NoMemory>
+    requires { IsWithin (2 ^ 40) sign }
+    ensures said { IfOk result (λ row. row ≡ results.sum_of_two (pos (suc GREATEST_INTEGER)) (pos 1) (Value a.0) sign (Value b.0)) }
+    ensures bounded { IfOk result IsBounded }
+{
+    let (x, y) = (Term::Value(a.0), Term::Value(b.0));
+    sum_of_two(alloc, GREATEST_INTEGER as i64 + 1, part(1, x), part(sign, y))
+}
+
+/// It is at most 2147483647.
+fn sum_at_most(alloc: Global, sign: i64, a: Sym, b: Sym) -> Result<Row, NoMemory>
+    requires { IsWithin (2 ^ 40) sign }
+    ensures said { IfOk result (λ row. row ≡ results.sum_of_two (pos GREATEST_INTEGER) (negsuc 0) (Value a.0) (neg_ℤ sign) (Value b.0)) }
+    ensures bounded { IfOk result IsBounded }
+{
+    let (x, y) = (Term::Value(a.0), Term::Value(b.0));
+    sum_of_two(alloc, GREATEST_INTEGER as i64, part(-1, x), part(-sign, y))
 }
 
 /// A term with a number before it.
@@ -56,26 +78,26 @@ pub fn chr_to_int(at: &At<'_>) -> Found
     ensures { Finds result (hints_at at.now (rule.chr_to_int at.now.state.now)) }
 {
     let a = one(at.state, Kinds::Str)?;
-    if is_one_byte(at.state.exact_text(a)) {
-        return Ok(none(at));
+    match one_byte(at.state.exact_text(a)) {
+        Some(_) => Ok(none(at)),
+        None => unknown_byte(at, a),
     }
-    unknown_byte(at, a)
 }
 
-/// Whether a text is known and has one byte.
-fn is_one_byte(text: Option<&[u8]>) -> bool
-    ensures { result ≡ is_some (rule.one_byte (option_map (λ t. t.now) text.entry)) }
+/// The byte of a text that has one.
+fn one_byte(text: Option<&[u8]>) -> Option<u8>
+    ensures { result ≡ rule.one_byte (option_map (λ t. t.now) text.entry) }
 {
     match text {
-        Some([_]) => true,
-        _ => false,
+        Some([b]) => Some(*b),
+        _ => None,
     }
 }
 
 /// Two steps show that a string that isn't known has one byte.
 fn unknown_byte(at: &At<'_>, a: Sym) -> Found
     requires { HasBounds at.now.state.now }
-    ensures { (rest : StateValue) → Finds result (hints_at at.now (rule.byte_number a rest None)) }
+    ensures { Finds result (hints_at at.now (rule.byte_number a (without 1 at.now.state.now) None)) }
 {
     let alloc = at.state.alloc();
     let length = Term::Length(a.0);
