@@ -1,12 +1,12 @@
 -- The cases of a test that takes hints have bounds, where its state has.
-use Rattle.std.proofs.Common.{◌≡◌, suc, ◌+◌, ◌≤◌, ◌^◌, Bool, true, false, cond, List, [], ◌∷◌, ◌++◌, map, reverse, Option, None, Some, Result, Ok, Err, refl, sym, ap, subst, ◌∙◌, arith}
+use Rattle.std.proofs.Common.{◌≡◌, suc, ◌+◌, ◌≤◌, ◌^◌, Bool, true, false, cond, List, [], ◌∷◌, reverse, Option, None, Some, Ok, Err, sym, ap, subst, ◌∙◌, arith}
 use Rattle.std.specs.Prelude.{ℤ, pos}
 use Rattle.std.specs.List.{All}
-use Rattle.std.proofs.lemmas.List.Elements.{All-append, All-cons, All-nil}
+use Rattle.std.proofs.lemmas.List.Elements.{All-cons, All-nil}
 use Rattle.lin_facts.specs.declared.row.Row.{Row}
 use Rattle.lin_facts.specs.declared.row.Term.TheVariants.{Value}
 use Rattle.bst_meaning.specs.declared.condition.Cond.{Cond}
-use Rattle.sym_state.specs.Cases.{Cases, Labelled, above_of, at_least_rows, decided, empty_cases, equal_by, equal_decided, equal_rows, given, integer_cases, less_cases, less_decided, less_rows, missing_cases, not_positive_rows, number_of, passed_both, positive_rows, split_of, text_cases, texts_decided, weighed_both, with_case, with_truth, without_labels}
+use Rattle.sym_state.specs.Cases.{Cases, at_least_rows, equal_by, equal_decided, equal_rows, given, integer_cases, less_cases, less_decided, less_rows, not_positive_rows, number_of, passed_both, positive_rows, split_of, text_cases, texts_decided, weighed_both, with_case, with_truth}
 use Rattle.sym_state.specs.Decided.{exact_integer, known_kind}
 use Rattle.sym_state.specs.Demands.{fails, is_of_kind}
 use Rattle.sym_state.specs.References.{at_least, at_most, exceeds}
@@ -14,8 +14,6 @@ use Rattle.sym_state.specs.Results.{next_of}
 use Rattle.sym_state.specs.State.{State}
 use Rattle.sym_state.specs.WellMade.{HasBounds, HasShortText, IsBounded, size}
 use Rattle.sym_state.specs.declared.demand.DemandKind.TheVariants.{WrongKind}
-use Rattle.sym_state.specs.declared.demand.EffectFault.{EffectFault}
-use Rattle.sym_state.specs.declared.hint.Hint.{Hint}
 use Rattle.sym_state.specs.declared.symbol.Fact.{Fact}
 use Rattle.sym_state.specs.declared.symbol.Fact.TheVariants.{Int as IntFact, Is}
 use Rattle.sym_state.specs.declared.symbol.Kinds.{Kinds}
@@ -28,8 +26,7 @@ use Rattle.sym_state.proofs.Resulting.{at_least_fits, at_most_fits, case_bounds,
 use Rattle.refinements.proofs.HintsTaken.{test_took}
 use Rattle.refinements.proofs.Labels.{labels_dropped, sign_cases}
 use Rattle.refinements.proofs.Taking.{taken_two}
-use Rattle.straight_hints.specs.declared.finding.Finding.{Finding}
-use Rattle.straight_hints.specs.Found.{above_hints, both_kept, case_hints, on_operands, test_hints}
+use Rattle.straight_hints.specs.Found.{both_kept}
 
 abbrev AreBounded : Cases → Type 0
 AreBounded cases = All HasBounds cases.states
@@ -141,13 +138,3 @@ cases_bounded admits state Greater cases bounds e none =
 cases_bounded admits state (Above s) cases bounds e none =
     above_bounded admits state s (exact_integer state.facts s.0) cases bounds
     (sym (labels_dropped admits state s (exact_integer state.facts s.0) both_kept) ∙ e) none
-
--- the hints for whether an integer is above 0 are those for that test
-unlabelled : (finding : Finding) (admits : Cond) (found : Result Labelled EffectFault)
-    → on_operands (without_labels found) (λ cases. case_hints finding admits cases.states cases.hints)
-    ≡ on_operands found (λ labelled. case_hints finding admits (map (λ case. case.1) labelled.cases) labelled.hints)
-unlabelled finding admits (Ok labelled) = refl
-unlabelled finding admits (Err fault) = refl
-
-pub signs_tested : (finding : Finding) (admits : Cond) (state : State) (s : Sym) → test_hints finding admits state (Above s) ≡ above_hints finding admits state s
-signs_tested finding admits state s = unlabelled finding admits (above_of admits state s both_kept)

@@ -1,5 +1,5 @@
 -- The hints that are found have short proofs.
-use Rattle.std.proofs.Common.{◌≡◌, ℕ, ◌≤◌, Bool, true, false, List, [], ◌∷◌, length, map, Option, None, Some, Result, Ok, Err, IfOk, refl, arith, subst, sym}
+use Rattle.std.proofs.Common.{◌≡◌, ◌≤◌, Bool, true, false, List, [], ◌∷◌, length, map, Option, None, Some, Result, Ok, Err, IfOk, refl, arith, subst, sym}
 use Rattle.std.specs.Global.{Vec}
 use Rattle.std.specs.List.{All}
 use Rattle.std.specs.Option.{IfSome, option_map_or}
@@ -9,7 +9,7 @@ use Rattle.lin_facts.specs.declared.row.Row.{Row}
 use Rattle.name_table.specs.declared.builtin.Builtin.{Builtin}
 use Rattle.name_table.specs.declared.style.Style.{Style}
 use Rattle.bst_meaning.specs.declared.condition.Cond.{Cond}
-use Rattle.sym_state.specs.Cases.{Split, above_of, split_of}
+use Rattle.sym_state.specs.Cases.{above_of, split_of}
 use Rattle.sym_state.specs.Demands.{HasFewUses, Rule, Gives, Refuses, Demands, OneOperand, TwoOperands, ThreeOperands, Steps, BothSteps, Chooses, one_of, two_of, three_of}
 use Rattle.sym_state.specs.Effects.{rule_of}
 use Rattle.sym_state.specs.State.{State}

@@ -52,7 +52,12 @@ fn sum_at_least(alloc: Global, sign: i64, a: Sym, b: Sym) -> Result<Row, NoMemor
     ensures bounded { IfOk result IsBounded }
 {
     let (x, y) = (Term::Value(a.0), Term::Value(b.0));
-    sum_of_two(alloc, GREATEST_INTEGER as i64 + 1, part(1, x), part(sign, y))
+    sum_of_two(
+        alloc,
+        GREATEST_INTEGER as i64 + 1,
+        part(1, x),
+        part(sign, y),
+    )
 }
 
 /// It is at most 2147483647.

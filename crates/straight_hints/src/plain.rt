@@ -31,7 +31,7 @@ pub fn plain_hints(
     cond: &Cond,
     op: Builtin,
 ) -> Result<Vec<Hint>, NoMemory>
-    requires { HasBounds state.now }
+    requires bounds { HasBounds state.now }
     ensures found { IfOk result (λ hints. hints.items ≡ rule.plain_hints finding style.now cond.now state.now op) }
     ensures few { IfOk result (λ hints. All HasFewUses hints.items) }
 {

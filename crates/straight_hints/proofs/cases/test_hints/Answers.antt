@@ -1,8 +1,7 @@
 -- The cases of which all hints were taken have bounds, and what is found for them has short proofs.
-use Rattle.std.proofs.Common.{◌≡◌, Ok, List, ap, subst, sym, ◌∙◌}
+use Rattle.std.proofs.Common.{◌≡◌, Ok, List, subst, sym, ◌∙◌}
 use Rattle.std.specs.List.{All}
-use Rattle.sym_state.specs.Cases.{Split, split_of}
-use Rattle.sym_state.specs.State.{State}
+use Rattle.sym_state.specs.Cases.{split_of}
 use Rattle.sym_state.specs.WellMade.{HasBounds}
 use Rattle.sym_state.specs.declared.hint.Hint.{Hint}
 use Rattle.straight_hints.proofs.Bounded.{cases_bounded}

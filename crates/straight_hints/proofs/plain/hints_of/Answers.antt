@@ -1,5 +1,5 @@
 -- The hints for `+` and `-`, whatever the rule by which exact integers are added.
-use Rattle.std.proofs.Common.{◌≡◌, List, Result, subst, sym}
+use Rattle.std.proofs.Common.{◌≡◌, Result, subst, sym}
 use Rattle.std.specs.Global.{Vec}
 use Rattle.std.specs.Prelude.{◌+ℤ◌, ◌-ℤ◌}
 use Rattle.name_table.specs.declared.builtin.Builtin.{Builtin}
