@@ -2,6 +2,8 @@
 
 ghost use Rattle.std.specs.Prelude.{◌≡◌, ◌<◌, [], map, IfOk};
 ghost use Rattle.std.specs.List.{All};
+ghost use Rattle.cert_format.specs.CertText.{IsHint};
+ghost use Rattle.name_table.specs.Sound.{Each};
 ghost use Rattle.straight_hints.specs.Found as rule;
 ghost use Rattle.sym_state.specs.Demands.{HasFewUses};
 ghost use Rattle.sym_state.specs.WellMade.{HasBounds};
@@ -30,6 +32,7 @@ pub fn above_hints(
     requires room { state.now.next < 4294967295 }
     ensures found { IfOk result (λ hints. hints.items ≡ rule.above_hints finding cond.now state.now sym) }
     ensures few { IfOk result (λ hints. All HasFewUses hints.items) }
+    ensures written { IfOk result (λ hints. Each IsHint hints.items) }
 {
     test_hints(finding, state, cond, Test::Above(sym))
 }
@@ -46,6 +49,7 @@ pub fn test_hints(
     requires room { state.now.next < 4294967295 }
     ensures found { IfOk result (λ hints. hints.items ≡ rule.test_hints finding cond.now state.now test) }
     ensures few { IfOk result (λ hints. All HasFewUses hints.items) }
+    ensures written { IfOk result (λ hints. Each IsHint hints.items) }
 {
     let alloc = state.alloc();
     let kept = [Hint::Keep, Hint::Keep];

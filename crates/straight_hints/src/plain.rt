@@ -1,7 +1,9 @@
 //! The hints for what a built-in function does to a state.
 
-ghost use Rattle.std.specs.Prelude.{◌≡◌, IfOk};
+ghost use Rattle.std.specs.Prelude.{◌≡◌, ◌<◌, IfOk};
 ghost use Rattle.std.specs.List.{All};
+ghost use Rattle.cert_format.specs.CertText.{IsHint};
+ghost use Rattle.name_table.specs.Sound.{Each};
 ghost use Rattle.straight_hints.specs.Found as rule;
 ghost use Rattle.straight_hints.specs.Given.{Finds, hints_at};
 ghost use Rattle.sym_state.specs.Demands.{HasFewUses};
@@ -32,8 +34,10 @@ pub fn plain_hints(
     op: Builtin,
 ) -> Result<Vec<Hint>, NoMemory>
     requires bounds { HasBounds state.now }
+    requires room { state.now.next < 4294967295 }
     ensures found { IfOk result (λ hints. hints.items ≡ rule.plain_hints finding style.now cond.now state.now op) }
     ensures few { IfOk result (λ hints. All HasFewUses hints.items) }
+    ensures written { IfOk result (λ hints. Each IsHint hints.items) }
 {
     let at = At {
         finding,
