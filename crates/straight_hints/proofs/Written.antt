@@ -58,10 +58,31 @@ kinds_small : (state : State) → state.next ≤ 4294967296 → Each (λ kind. E
 kinds_small state few =
     let small = numbers_small 0 state.next (omega (arith, few)) in
     let each = λ (kind : Sym → Reference) (h : Each (λ k. IsSmall (kind (record { 0 = k }))) (range_with_len 0 state.next)).
-    each_map IsSmall (λ k. kind (record { 0 = k })) (range_with_len 0 state.next) h in
-    (each ref.ValueLow small, (each ref.ValueHigh small, (each ref.LengthLow small, (each ref.NamesLow small,
-    (each ref.NamesHigh small, (each ref.ExactLow small, (each ref.ExactHigh small, (each ref.NonblankLength small,
-    (each ref.NonblankNames small, (each ref.TextLow small, (each ref.TextHigh small, tt)))))))))))
+    each_map IsSmall (λ k. kind (record { 0 = k })) (range_with_len 0 state.next) h in (
+      each ref.ValueLow small,
+      (
+        each ref.ValueHigh small,
+        (
+          each ref.LengthLow small,
+          (
+            each ref.NamesLow small,
+            (
+              each ref.NamesHigh small,
+              (
+                each ref.ExactLow small,
+                (
+                  each ref.ExactHigh small,
+                  (
+                    each ref.NonblankLength small,
+                    (each ref.NonblankNames small, (each ref.TextLow small, (each ref.TextHigh small, tt))),
+                  ),
+                ),
+              ),
+            ),
+          ),
+        ),
+      ),
+    )
 
 flat_small : (state : State) (some : List (Sym → Reference)) → Each (λ kind. Each IsSmall (on_symbols state kind)) some
     → Each IsSmall (flat_map (on_symbols state) some)
