@@ -60,7 +60,8 @@ case_by None short = tt
 case_short : (finding : Finding) (admits : Cond) (state : State) → HasFewUses (case_hint finding admits state)
 case_short finding admits state = case_by (drop_found finding admits state) (drop_short finding admits state)
 
-choices_short : (found : Option Proof) (by_step by_rule : List Hint) → HasShort found → AreShort by_step → AreShort by_rule → AreShort (by_choice found by_step by_rule)
+choices_short : (found : Option Proof) (by_step by_rule : List Hint) → HasShort found → AreShort by_step → AreShort by_rule
+    → AreShort (by_choice found by_step by_rule)
 choices_short (Some proof) by_step by_rule short first second = All-cons HasFewUses (Step proof) by_step (omega (arith, short)) first
 choices_short None by_step by_rule short first second = All-cons HasFewUses Plain by_rule tt second
 
@@ -95,7 +96,8 @@ rule_short finding admits state (Chooses wanted row by_step by_rule) =
     choices_short (choice_found finding admits state wanted row) (rule_hints finding admits state by_step) (rule_hints finding admits state by_rule)
     (choice_short finding admits state wanted row) (rule_short finding admits state by_step) (rule_short finding admits state by_rule)
 
-pub plain_short : (finding : Finding) (style : Style) (admits : Cond) (state : State) (op : Builtin) → All HasFewUses (plain_hints finding style admits state op)
+pub plain_short : (finding : Finding) (style : Style) (admits : Cond) (state : State) (op : Builtin)
+    → All HasFewUses (plain_hints finding style admits state op)
 plain_short finding style admits state op = rule_short finding admits state (rule_of style admits state op)
 
 -- the hints for cases
