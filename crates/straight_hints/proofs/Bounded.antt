@@ -6,9 +6,9 @@ use Rattle.std.proofs.lemmas.List.Elements.{All-cons, All-nil}
 use Rattle.lin_facts.specs.declared.row.Row.{Row}
 use Rattle.lin_facts.specs.declared.row.Term.TheVariants.{Value}
 use Rattle.bst_meaning.specs.declared.condition.Cond.{Cond}
-use Rattle.sym_state.specs.Cases.{Cases, at_least_rows, equal_by, equal_decided, equal_rows, given, integer_cases, less_cases, less_decided, less_rows, not_positive_rows, number_of, passed_both, positive_rows, split_of, text_cases, texts_decided, weighed_both, with_case, with_truth}
+use Rattle.sym_state.specs.Cases.{Cases, Split, at_least_rows, equal_by, equal_decided, equal_rows, given, integer_cases, less_cases, less_decided, less_rows, not_positive_rows, number_of, passed_both, positive_rows, split_of, text_cases, texts_decided, weighed_both, with_case, with_truth}
 use Rattle.sym_state.specs.Decided.{exact_integer, known_kind}
-use Rattle.sym_state.specs.Demands.{fails, is_of_kind}
+use Rattle.sym_state.specs.Demands.{Two, fails, is_of_kind}
 use Rattle.sym_state.specs.References.{at_least, at_most, exceeds}
 use Rattle.sym_state.specs.Results.{next_of}
 use Rattle.sym_state.specs.State.{State}
@@ -52,6 +52,17 @@ row_alone row fits = All-cons IsBounded row [] fits (All-nil IsBounded)
 exceeding : (a b : Sym) (n : ℤ) → size n ≤ 2 ^ 45 → IsBounded (exceeds (Value a.0) (Value b.0) n)
 exceeding a b n few = (exceeds_fits (suc (a.0 + b.0)) (Value a.0) (Value b.0) n (omega arith) (omega arith) few).bounded
 
+equality : (a b : Sym) → All IsBounded (equal_rows a b)
+equality a b =
+    All-cons IsBounded (exceeds (Value a.0) (Value b.0) (pos 0)) (exceeds (Value b.0) (Value a.0) (pos 0) ∷ []) (exceeding a b (pos 0) (omega arith))
+    (row_alone (exceeds (Value b.0) (Value a.0) (pos 0)) (exceeding b a (pos 0) (omega arith)))
+
+positive : (s : Sym) → All IsBounded (positive_rows s)
+positive s = row_alone (at_least (Value s.0) (pos 1)) (at_least_fits (suc s.0) (Value s.0) (pos 1) (omega arith) (omega arith)).bounded
+
+not_positive : (s : Sym) → All IsBounded (not_positive_rows s)
+not_positive s = row_alone (at_most (Value s.0) (pos 0)) (at_most_fits (suc s.0) (Value s.0) (pos 0) (omega arith) (omega arith)).bounded
+
 -- hints that are left weren't taken
 untaken : (states : List State) (cases : Cases) → given states both_kept ≡ Ok cases → cases.hints ≡ [] → AreBounded cases
 untaken states cases e none =
@@ -85,34 +96,31 @@ less_bounded admits facts a b rest cases bounds e none =
     (row_alone (exceeds (Value b.0) (Value a.0) (pos 1)) (exceeding b a (pos 1) (omega arith)))
     (row_alone (exceeds (Value a.0) (Value b.0) (pos 0)) (exceeding a b (pos 0) (omega arith))) e none
 
-equal_bounded : (admits : Cond) (state : State) (kind : Kinds) (a b : Sym) (rest : List Sym) (cases : Cases) → HasBounds state
-    → equal_by admits state kind (taken_two a b rest state) both_kept ≡ Ok cases → cases.hints ≡ [] → AreBounded cases
-equal_bounded admits state Int a b rest cases bounds e none =
-    let below : State = record state { stack = reverse rest } in
-    let kept : HasBounds below = record { facts = bounds.facts; rows = bounds.rows } in
-    elim (is_of_kind state Int a) as (λ (t : Bool). cond t (integer_cases admits (equal_decided state.facts a b) (equal_rows a b) [] below both_kept) (Err (fails WrongKind 2))
-    ≡ Ok cases → AreBounded cases) [
-      | true ↦ λ found. integers_bounded admits (equal_decided state.facts a b) (equal_rows a b) [] below cases kept
-          (All-cons IsBounded (exceeds (Value a.0) (Value b.0) (pos 0)) (exceeds (Value b.0) (Value a.0) (pos 0) ∷ []) (exceeding a b (pos 0) (omega arith))
-          (row_alone (exceeds (Value b.0) (Value a.0) (pos 0)) (exceeding b a (pos 0) (omega arith)))) (All-nil IsBounded) found none
+equal_bounded : (admits : Cond) (state : State) (kind : Kinds) (two : Two) (cases : Cases) → HasBounds two.rest
+    → equal_by admits state kind two both_kept ≡ Ok cases → cases.hints ≡ [] → AreBounded cases
+equal_bounded admits state Int two cases bounds e none =
+    let test : Option Bool = equal_decided state.facts two.lower two.upper in
+    let all : Split = integer_cases admits test (equal_rows two.lower two.upper) [] two.rest both_kept in
+    elim (is_of_kind state Int two.lower) as (λ (t : Bool). cond t all (Err (fails WrongKind 2)) ≡ Ok cases → AreBounded cases) [
+      | true ↦ λ found. integers_bounded admits test (equal_rows two.lower two.upper) [] two.rest cases bounds
+          (equality two.lower two.upper) (All-nil IsBounded) found none
       | false ↦ λ found. absurd (cc)
     ] e
-equal_bounded admits state Str a b rest cases bounds e none =
-    let below : State = record state { stack = reverse rest } in
-    elim (is_of_kind state Str a) as (λ (t : Bool). cond t (text_cases (texts_decided state.facts a b) (passed_both state.facts a b) below both_kept) (Err (fails WrongKind 2))
-    ≡ Ok cases → AreBounded cases) [
-      | true ↦ λ found. texts_untaken (texts_decided state.facts a b) (passed_both state.facts a b) below cases found none
+equal_bounded admits state Str two cases bounds e none =
+    let test : Option Bool = texts_decided state.facts two.lower two.upper in
+    let all : Split = text_cases test (passed_both state.facts two.lower two.upper) two.rest both_kept in
+    elim (is_of_kind state Str two.lower) as (λ (t : Bool). cond t all (Err (fails WrongKind 2)) ≡ Ok cases → AreBounded cases) [
+      | true ↦ λ found. texts_untaken test (passed_both state.facts two.lower two.upper) two.rest cases found none
       | false ↦ λ found. absurd (cc)
     ] e
-equal_bounded admits state _ a b rest cases bounds e none = absurd (cc)
+equal_bounded admits state _ two cases bounds e none = absurd (cc)
 
 above_bounded : (admits : Cond) (state : State) (s : Sym) (found : Option ℤ) (cases : Cases) → HasBounds state
     → sign_cases admits state s found both_kept ≡ Ok cases → cases.hints ≡ [] → AreBounded cases
 above_bounded admits state s (Some n) cases bounds e none = untaken (state ∷ []) cases e none
 above_bounded admits state s None cases bounds e none =
     both_bounded admits (with_case [] (positive_rows s) state) (with_case [] (not_positive_rows s) state) cases
-    (rows_added state (positive_rows s) bounds (row_alone (at_least (Value s.0) (pos 1)) (at_least_fits (suc s.0) (Value s.0) (pos 1) (omega arith) (omega arith)).bounded))
-    (rows_added state (not_positive_rows s) bounds (row_alone (at_most (Value s.0) (pos 0)) (at_most_fits (suc s.0) (Value s.0) (pos 0) (omega arith) (omega arith)).bounded)) e
+    (rows_added state (positive_rows s) bounds (positive s)) (rows_added state (not_positive_rows s) bounds (not_positive s)) e
 
 -- a test of which no hint is left
 no_needs : (cases : Cases) → cases.hints ≡ both_kept → cases.hints ≡ [] → AreBounded cases
@@ -128,7 +136,7 @@ cases_bounded admits state Empty cases bounds e none = no_needs cases (test_took
 cases_bounded admits state IsMissing cases bounds e none = no_needs cases (test_took admits state IsMissing both_kept cases e).left none
 cases_bounded admits state Equal cases bounds e none =
     let f = two_taken Any Any state (λ two. equal_by admits state (known_kind state.facts two.upper.0) two both_kept) cases e in
-    equal_bounded admits state (known_kind state.facts f.b.0) f.a f.b f.rest cases bounds f.given none
+    equal_bounded admits state (known_kind state.facts f.b.0) (taken_two f.a f.b f.rest state) cases (stack_taken state f.rest bounds) f.given none
 cases_bounded admits state Less cases bounds e none =
     let f = two_taken Int Int state (λ two. less_cases admits state.facts two.lower two.upper two.rest both_kept) cases e in
     less_bounded admits state.facts f.a f.b (taken_two f.a f.b f.rest state).rest cases (stack_taken state f.rest bounds) f.given none

@@ -60,7 +60,8 @@ every_short finding admits state = record {
 all_short : (finding : Finding) (admits : Cond) (states : List State) → All (Has HasFewUses finding admits) states
 all_short finding admits states = λ k other within. every_short finding admits (slice_index_or states k other)
 
-pub plain_short : (finding : Finding) (style : Style) (admits : Cond) (state : State) (op : Builtin) → All HasFewUses (plain_hints finding style admits state op)
+pub plain_short : (finding : Finding) (style : Style) (admits : Cond) (state : State) (op : Builtin)
+    → All HasFewUses (plain_hints finding style admits state op)
 plain_short finding style admits state op =
     rule_has HasFewUses tt finding admits state (every_short finding admits state) (rule_of style admits state op)
 

@@ -21,24 +21,8 @@ use sym_state::state::State;
 use sym_state::symbol::Sym;
 use sym_state::test::Test;
 
-/// The hints for whether an integer is above 0.
-pub fn above_hints(
-    finding: Finding,
-    state: &State,
-    cond: &Cond,
-    sym: Sym,
-) -> Result<Vec<Hint>, NoMemory>
-    requires bounds { HasBounds state.now }
-    requires room { state.now.next < 4294967295 }
-    ensures found { IfOk result (λ hints. hints.items ≡ rule.above_hints finding cond.now state.now sym) }
-    ensures few { IfOk result (λ hints. All HasFewUses hints.items) }
-    ensures written { IfOk result (λ hints. Each IsHint hints.items) }
-{
-    test_hints(finding, state, cond, Test::Above(sym))
-}
-
-/// The hints for a test: a case is dropped where a proof is found that it can't come about, and else kept. There is none
-/// where the test takes none.
+/// The hints for the cases of a test, in their order: a case is dropped where a proof is found that it can't come about, and
+/// else kept. A test that takes no hint has none: one that is decided, one on strings, and one whose demands aren't met.
 pub fn test_hints(
     finding: Finding,
     state: &State,
@@ -59,6 +43,22 @@ pub fn test_hints(
         Err(EffectFault::NoMemory) => Err(NoMemory),
         Err(_) => Ok(Vec::new(alloc)),
     }
+}
+
+/// The same for whether an integer is above 0.
+pub fn above_hints(
+    finding: Finding,
+    state: &State,
+    cond: &Cond,
+    sym: Sym,
+) -> Result<Vec<Hint>, NoMemory>
+    requires bounds { HasBounds state.now }
+    requires room { state.now.next < 4294967295 }
+    ensures found { IfOk result (λ hints. hints.items ≡ rule.above_hints finding cond.now state.now sym) }
+    ensures few { IfOk result (λ hints. All HasFewUses hints.items) }
+    ensures written { IfOk result (λ hints. Each IsHint hints.items) }
+{
+    test_hints(finding, state, cond, Test::Above(sym))
 }
 
 /// The hints for the cases of a test, of which all were kept, where no hint is left.

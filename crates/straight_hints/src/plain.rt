@@ -25,7 +25,7 @@ use sym_state::hint::Hint;
 use sym_state::state::State;
 
 /// The hints for what a built-in function that is neither a test nor enters a function does to a state, in order. Behind a
-/// demand that isn't met there is none.
+/// demand that isn't met there is none; a step without a proof stands there with an empty one, by which it fails.
 pub fn plain_hints(
     finding: Finding,
     style: &Style,

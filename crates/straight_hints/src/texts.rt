@@ -1,4 +1,4 @@
-//! The built-in function that gives a name in a form.
+//! `format.name$`.
 
 ghost use Rattle.straight_hints.specs.Given.{Finds, hints_at};
 ghost use Rattle.sym_state.specs.Effects as rule;
