@@ -1,0 +1,4 @@
+pub mod Bounded
+pub mod Short
+pub mod Every
+pub mod Written
