@@ -1,0 +1,2 @@
+pub mod RulesTaken
+pub mod CasesTaken
