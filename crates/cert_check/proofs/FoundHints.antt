@@ -135,5 +135,7 @@ module _ (finding : Finding) where
       let x = first.0 in
       let given = placed_ok place (rule hints) x first.1 in
       handed_read read (next_read x) way found hints after
-      (λ rest. reads rest ∙ ap (λ (r : Result X EffectFault). then_do (placed place r) (λ y. next_read y (reading way (left y)))) (takes x given rest) ∙ same x rest)
+      (λ rest. reads rest
+      ∙ ap (λ (r : Result X EffectFault). then_do (placed place r) (λ y. next_read y (reading way (left y)))) (takes x given rest)
+      ∙ same x rest)
       (nexts x way (found ++ hints) after first.2)
