@@ -79,7 +79,7 @@ two_taken {X} leaving admits first second ends a b leaves x e rest =
     let begun = then_ok (weighed_by admits first a (b ∷ [])) later x e in
     let one = weighs admits first a (b ∷ []) begun.0 begun.1 in
     let ended = then_ok (weighed_by admits second b []) (next one.states) x
-        (weighed_then admits first a (b ∷ []) begun.0 later x one begun.2) in
+    (weighed_then admits first a (b ∷ []) begun.0 later x one begun.2) in
     let other = weighs admits second b [] ended.0 ended.1 in
     two_left leaving ends one.states other.states [] rest x leaves
     (two_come admits first second ends a b one.states other.states one.always other.always)
