@@ -1,4 +1,6 @@
 pub mod Bounded
-pub mod Short
+pub mod CasesTaken
 pub mod Every
+pub mod RulesTaken
+pub mod Short
 pub mod Written
