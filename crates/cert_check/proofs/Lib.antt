@@ -11,6 +11,7 @@ pub mod Ending
 pub mod Entering
 pub mod Exactly
 pub mod Followed
+pub mod Handing
 pub mod Having
 pub mod Inverted
 pub mod Keeping
