@@ -1,5 +1,6 @@
 -- Rules on states that are handed hints: those that are left, or those that are found.
-use Rattle.std.proofs.Common.{◌≡◌, List, ◌++◌, Option, None, Some, Result, Ok, sym, ap, ◌∙◌}
+use Rattle.std.proofs.Common.{◌≡◌, List, [], ◌++◌, Option, None, Some, Result, Ok, refl, sym, ap, ◌∙◌}
+use Rattle.std.proofs.lemmas.List.{append-nil}
 use Rattle.bv_base.specs.Answers.{then_do}
 use Rattle.bv_base.specs.declared.place.Place.{Place}
 use Rattle.sym_state.specs.declared.demand.EffectFault.{EffectFault}
@@ -19,6 +20,23 @@ pub found_behind : (finding : Finding) (hints after : List Hint) (course : Cours
     → behind hints after course ≡ record course { found = course.found ++ hints }
 found_behind finding hints after course some =
     ap (λ (f : Option Finding). record course { hints = left_behind f course.hints after; found = found_with f course.found hints }) some
+
+-- the course behind a rule that takes no hint, for which none is found
+left_same : (finding : Option Finding) (left : List Hint) (find : Finding → List Hint) → left_behind finding left (handed finding left find) ≡ left
+left_same None left find = refl
+left_same (Some finding) left find = refl
+
+found_same : (finding : Option Finding) (left found : List Hint) (find : Finding → List Hint) → ((finding : Finding) → find finding ≡ [])
+    → found_with finding found (handed finding left find) ≡ found
+found_same None left found find none = refl
+found_same (Some finding) left found find none = ap (λ (l : List Hint). found ++ l) (none finding) ∙ append-nil found
+
+pub none_taken : (course : Course) (find : Finding → List Hint) → ((finding : Finding) → find finding ≡ [])
+    → behind (handed course.finding course.hints find) (handed course.finding course.hints find) course ≡ course
+none_taken course find none =
+    let hints = handed course.finding course.hints find in
+    ap (λ (l : List Hint). record course { hints = l; found = found_with course.finding course.found hints }) (left_same course.finding course.hints find)
+    ∙ ap (λ (l : List Hint). record course { found = l }) (found_same course.finding course.hints course.found find none)
 
 module _ {X : Type 0} (place : Place) (rule : List Hint → Result X EffectFault) (left : X → List Hint) (onward : X → Course → Walk) (find : Finding → List Hint) where
   -- the walk by a rule that is handed hints

@@ -1,5 +1,5 @@
 -- `call.type$`: the machine enters one of the functions that are walked.
-use Rattle.std.proofs.Common.{◌≡◌, ℕ, List, [], ◌∷◌, ◌++◌, reverse, Option, Some, Ok, refl, sym, ap, subst, arith, inl, inr}
+use Rattle.std.proofs.Common.{◌≡◌, ℕ, List, [], ◌∷◌, ◌++◌, reverse, Option, Some, Ok, refl, sym, ap, subst, ◌∙◌, arith, inl, inr}
 use Rattle.std.specs.Option.{option_map}
 use Rattle.bv_base.specs.declared.place.Place.{Place}
 use Rattle.bv_base.proofs.ThenLemmas.{then_ok, where_ok}
@@ -24,12 +24,14 @@ use Rattle.sym_state.proofs.Frames.{agrees_self}
 use Rattle.sym_state.proofs.Pushing.{moved, with_stack}
 use Rattle.builtin_effects.proofs.EntryCovers.{entry_given}
 use Rattle.refinements.specs.Covered.{IsAmong}
-use Rattle.cert_check.specs.Courses.{Course, counts}
-use Rattle.cert_check.specs.Walks.{Enter, Scope, entered, type_called, type_functions, type_walked, typed, types_called}
+use Rattle.straight_hints.specs.Found.{plain_hints}
+use Rattle.cert_check.specs.Courses.{Course, counts, gives}
+use Rattle.cert_check.specs.Walks.{Enter, Scope, entered, plain, type_called, type_functions, type_walked, typed, types_called}
 use Rattle.cert_check.proofs.Bodies.{EnterSafe, returned, unframed}
 use Rattle.cert_check.proofs.Choosing.{frame_safe}
 use Rattle.cert_check.proofs.Entering.{OnwardSafe, UseSafe, after_function, called_safe, entered_safe}
 use Rattle.cert_check.proofs.Followed.{follows_self}
+use Rattle.cert_check.proofs.Handing.{none_taken}
 use Rattle.cert_check.proofs.Keeping.{Told}
 use Rattle.cert_check.proofs.Levels.{Levels}
 use Rattle.cert_check.proofs.Plain.{plain_safe}
@@ -63,6 +65,12 @@ type_one scope enter place name (first ∷ names) state course after told enters
     let one = then_ok (type_called scope enter place first state course) (types_called scope enter place names state) after e in
     type_one scope enter place name names state one.0 after told enters made among one.2
 
+-- `skip$` takes no hint
+skipped : (scope : Scope) (place : Place) (state : State) (course after : Course) → gives place state course ≡ Ok after
+    → plain scope op.Skip place state course ≡ Ok after
+skipped scope place state course after e =
+    ap (gives place state) (none_taken course (λ finding. plain_hints finding scope.style scope.cert.cond state op.Skip) (λ finding. refl)) ∙ e
+
 -- a function that is entered is walked, and `skip$` changes nothing
 walk_safe : (scope : Scope) (list : EntryList) (n : ℕ) (enter : Enter) (name : NameId) (place at : Place) (t : Start scope list) → Told scope → Fits scope.style list
     → EnterSafe scope list n enter → IsTyped scope.style name → IsWellFormed scope.style list (call_step scope.style (kind_of scope.style name) name at t.c)
@@ -74,7 +82,7 @@ walk_safe scope list n enter name place at t told fits enters (inr is) formed co
     let there = ap (λ (k : Option Kind). call_step scope.style k name at t.c) is in
     subst (SafeFor scope.style n) (sym there)
     (plain_safe scope list n t op.Skip place at course after told refl (subst (IsWellFormed scope.style list) there formed)
-    (subst (λ (k : Option Kind). type_walked enter k place t.state course ≡ Ok after) is e) safe)
+    (skipped scope place t.state course after (subst (λ (k : Option Kind). type_walked enter k place t.state course ≡ Ok after) is e)) safe)
 
 type_safe : (scope : Scope) (list : EntryList) (n : ℕ) (enter : Enter) (name : NameId) (place at : Place) (t : Start scope list) → Told scope → Fits scope.style list
     → EnterSafe scope list n enter → UseSafe scope list n (Named name) → IsTyped scope.style name
