@@ -11,7 +11,6 @@ pub mod Ending
 pub mod Entering
 pub mod Exactly
 pub mod Followed
-pub mod Handing
 pub mod Having
 pub mod Inverted
 pub mod Keeping

@@ -190,7 +190,8 @@ impl<'a> Course<'a> {
 
     /// How hints are found, where they are.
     fn finding(&self) -> Option<Finding>
-        ensures { result ≡ self.now.finding }
+        ensures finding { result ≡ self.now.finding }
+        ensures counted { self.now.count ≤ MOST_COUNT }
     {
         self.finding
     }
@@ -277,11 +278,13 @@ impl<'a> Course<'a> {
     ) -> Result<(), Refusal>
         requires finds { self.old.finding ≡ Some finding }
         requires plain { effects.is_plain op ≡ true }
-        requires room { HasRoom scope.now.style 65 self.old.count state.now }
+        requires bounds { HasBounds state.now }
+        requires room { state.now.next < 4294967295 }
         ensures takes { Takes (rule.plain scope.now op place state.now self.old) self.new result }
     {
         let hints = held(place, plain_hints(finding, scope.style(), state, scope.cond(), op))?;
-        let after = confined(scope, op, place, state, &mut Hints::new(hints.as_slice()))?;
+        let mut left = Hints::new(hints.as_slice());
+        let after = confined(scope, op, place, state, &mut left)?;
         self.finds(place, hints)?;
         self.gives(place, after)
     }
@@ -330,11 +333,13 @@ impl<'a> Course<'a> {
         state: &State,
     ) -> Result<(), Refusal>
         requires finds { self.old.finding ≡ Some finding }
-        requires room { HasRoom scope.now.style 65 self.old.count state.now }
+        requires bounds { HasBounds state.now }
+        requires room { state.now.next < 4294967295 }
         ensures takes { Takes (rule.split scope.now test place state.now self.old) self.new result }
     {
         let hints = held(place, test_hints(finding, state, scope.cond(), test))?;
-        let answer = split(state, scope.cond(), test, &mut Hints::new(hints.as_slice()));
+        let mut left = Hints::new(hints.as_slice());
+        let answer = split(state, scope.cond(), test, &mut left);
         let states = placed(place, answer)?;
         self.finds(place, hints)?;
         self.gives_all(place, states)
@@ -410,7 +415,7 @@ impl<'a> Course<'a> {
     ) -> Result<Vec<(bool, State)>, Refusal>
         requires finds { self.old.finding ≡ Some finding }
         requires bounds { HasBounds three.now.rest }
-        requires room { three.now.rest.next + 65 ≤ 2147483648 + 65 * self.old.count }
+        requires room { three.now.rest.next < 4294967295 }
         ensures takes { (enter : rule.Enter) (call : rule.Call) → MatchResult result
             (λ cases. rule.choice scope.now enter call place three.now self.old
             ≡ rule.cases_entered scope.now enter call place three.now cases.items self.new)
@@ -419,8 +424,8 @@ impl<'a> Course<'a> {
         ensures counted { OnOk result (self.new.count ≡ self.old.count) }
     {
         let hints = held(place, above_hints(finding, &three.rest, scope.cond(), three.lowest))?;
-        let answer = above(&three.rest, scope.cond(), three.lowest, &mut Hints::new(hints.as_slice()));
-        let cases = placed(place, answer)?;
+        let mut left = Hints::new(hints.as_slice());
+        let cases = sign_cases(scope, place, &three.rest, three.lowest, &mut left)?;
         self.finds(place, hints)?;
         Ok(cases)
     }
@@ -440,8 +445,7 @@ impl<'a> Course<'a> {
             (Refused (courses.placed place (above_of scope.now.cert.cond state.now sym self.old.hints))) }
         ensures rest { self.new ≡ record self.old { hints = self.new.hints } }
     {
-        let answer = above(state, scope.cond(), sym, &mut self.hints);
-        placed(place, answer)
+        sign_cases(scope, place, state, sym, &mut self.hints)
     }
 
     /// The integer on top is given up: the cases of whether it is above 0.
@@ -544,6 +548,26 @@ fn integer(place: Place, state: &State) -> Result<(Sym, State), Refusal>
     let operand = placed(place, one(state, Kinds::Int))?;
     let rest = held(place, state.without(1))?;
     Ok((operand, rest))
+}
+
+/// The cases of whether an integer in a state is above 0.
+fn sign_cases(
+    scope: &Scope<'_>,
+    place: Place,
+    state: &State,
+    sym: Sym,
+    hints: &mut Hints<'_>,
+) -> Result<Vec<(bool, State)>, Refusal>
+    requires bounds { HasBounds state.now }
+    requires room { state.now.next < 4294967295 }
+    requires hints { All HasFewUses hints.old }
+    ensures gives { MatchResult result
+        (λ cases. courses.placed place (above_of scope.now.cert.cond state.now sym hints.old) ≡ Ok (record { cases = cases.items; hints = hints.new }))
+        (Refused (courses.placed place (above_of scope.now.cert.cond state.now sym hints.old))) }
+    ensures few { All HasFewUses hints.new }
+{
+    let answer = above(state, scope.cond(), sym, hints);
+    placed(place, answer)
 }
 
 /// Puts a state behind those that were given.
