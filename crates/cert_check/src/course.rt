@@ -33,10 +33,10 @@ use bv_base::place::Place;
 use name_table::builtin::Builtin;
 use name_table::names::NameId;
 use refinements::{Test, above, split};
-use straight_hints::{Finding, above_hints, plain_hints, test_hints};
 use std::alloc::Global;
 use std::marker::Model;
 use std::mem;
+use straight_hints::{Finding, above_hints, plain_hints, test_hints};
 use sym_state::demand::{Demand, DemandKind, EffectFault};
 use sym_state::hint::{Hint, Hints};
 use sym_state::operands::one;
@@ -282,7 +282,10 @@ impl<'a> Course<'a> {
         requires room { state.now.next < 4294967295 }
         ensures takes { Takes (rule.plain scope.now op place state.now self.old) self.new result }
     {
-        let hints = held(place, plain_hints(finding, scope.style(), state, scope.cond(), op))?;
+        let hints = held(
+            place,
+            plain_hints(finding, scope.style(), state, scope.cond(), op),
+        )?;
         let mut left = Hints::new(hints.as_slice());
         let after = confined(scope, op, place, state, &mut left)?;
         self.finds(place, hints)?;
@@ -423,7 +426,10 @@ impl<'a> Course<'a> {
         ensures cases { IfOk result (λ cases. AreCases scope.now.cert.cond three.now.rest three.now.lowest cases.items) }
         ensures counted { OnOk result (self.new.count ≡ self.old.count) }
     {
-        let hints = held(place, above_hints(finding, &three.rest, scope.cond(), three.lowest))?;
+        let hints = held(
+            place,
+            above_hints(finding, &three.rest, scope.cond(), three.lowest),
+        )?;
         let mut left = Hints::new(hints.as_slice());
         let cases = sign_cases(scope, place, &three.rest, three.lowest, &mut left)?;
         self.finds(place, hints)?;
