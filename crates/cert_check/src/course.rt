@@ -183,6 +183,7 @@ impl<'a> Course<'a> {
     pub(crate) fn take_found(&mut self) -> Vec<Hint>
         ensures found { result.items ≡ self.old.found }
         ensures few { All HasFewUses result.items }
+        ensures counted { self.old.count ≤ MOST_COUNT }
         ensures rest { self.new ≡ record self.old { found = [] } }
     {
         mem::replace(&mut self.found, Vec::new(self.alloc))
