@@ -1,12 +1,15 @@
 -- What calls of the checker give, beside what the rules say (docs/CHECKER.md, "The walk").
-use Rattle.std.specs.Prelude.{◌≡◌, ◌≢◌, ℕ, ◌≤◌, List, Result, Ok, Err}
+use Rattle.std.specs.Prelude.{◌≡◌, ◌≢◌, ◌≤◌, Bool, List, Result, Ok, Err}
 use Rattle.std.specs.List.{All}
 use Rattle.std.specs.Result.{MatchResult}
+use Rattle.bst_meaning.specs.declared.condition.Cond.{Cond}
 use Rattle.sym_state.specs.State.{State}
+use Rattle.sym_state.specs.Cases.{above_of}
 use Rattle.sym_state.specs.Entailing.{line_count}
 use Rattle.sym_state.specs.WellMade.{IsBounded}
 use Rattle.sym_state.specs.declared.hint.Hint.{Hint}
 use Rattle.sym_state.specs.declared.piece.Piece.{Piece}
+use Rattle.sym_state.specs.declared.symbol.Sym.{Sym}
 use Rattle.cert_check.specs.declared.refusal.Reason.TheVariants.{NoMemory}
 use Rattle.cert_check.specs.declared.refusal.Refusal.{Refusal}
 use Rattle.cert_check.specs.Courses.{Course, Walk}
@@ -32,6 +35,12 @@ pub record Finds (wanted : Walk) (states : List State) (hints : List Hint) : Typ
   pub is : wanted ≡ Ok course
   pub given : course.given ≡ states
   pub found : course.found ≡ hints
+
+-- the cases of whether an integer is above 0, by hints of which some are left
+pub record AreCases (admits : Cond) (state : State) (s : Sym) (cases : List (Bool × State)) : Type 0 where
+  pub hints : List Hint
+  pub left : List Hint
+  pub are : above_of admits state s hints ≡ Ok (record { cases = cases; hints = left })
 
 -- a piece that may be shown
 pub record CanEnd (piece : Piece) : Type 0 where

@@ -182,7 +182,7 @@ target_from scope place target (state ∷ states) course =
 abbrev pub call_walked : Style → Cert → List State → Target → Place → List Hint → Walk
 call_walked style cert states target place hints = target_from (everywhere style cert) place target states (beginning hints)
 
--- the call of a command whose hints are found: its states and those hints, or the first rule that fails. A hint that isn't found for
--- a token is that of a `while$`, which is short there.
+-- the call of a command whose hints are found: its states and those hints, or the first rule that fails. None is found for a `while$`
+-- and for what has a summary: hints are short there.
 abbrev pub call_found : Finding → Style → Cert → List State → Target → Place → Walk
 call_found finding style cert states target place = target_from (everywhere style cert) place target states (searching finding)
