@@ -17,3 +17,4 @@ pub mod Flowing
 pub mod Records
 pub mod Opened
 pub mod Deciding
+pub mod CommandsFound
