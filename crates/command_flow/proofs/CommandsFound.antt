@@ -1,6 +1,7 @@
 -- The commands of which hints are found, in order, and their records.
-use Rattle.std.proofs.Common.{◌≡◌, ℕ, zero, suc, ◌+◌, ◌<◌, Bool, true, ◌&&◌, List, [], ◌∷◌, ◌++◌, drop, length, None, Some, Result, Ok, slice_get, get_or, refl, sym, ap, subst, ◌∙◌, add-one, arith}
+use Rattle.std.proofs.Common.{◌≡◌, ℕ, zero, suc, ◌+◌, ◌<◌, Bool, true, false, List, [], ◌∷◌, ◌++◌, drop, length, None, Some, Result, Ok, Err, slice_get, get_or, refl, sym, ap, subst, ◌∙◌, add-one, arith}
 use Rattle.std.specs.Prelude.{nat_lt}
+use Rattle.std.specs.Result.{MatchResult}
 use Rattle.std.proofs.lemmas.Bool.{and_from, and_parts}
 use Rattle.std.proofs.lemmas.Bool.Decides.{nat_tests}
 use Rattle.std.proofs.lemmas.List.{append-nil}
@@ -12,23 +13,25 @@ use Rattle.name_table.specs.declared.names.NameId.{NameId}
 use Rattle.name_table.specs.declared.style.CommandAt.{CommandAt}
 use Rattle.name_table.specs.declared.style.Style.{Style}
 use Rattle.bst_meaning.specs.declared.condition.Cond.{Cond}
-use Rattle.bst_meaning.specs.declared.value.Target.TheVariants.{Named}
 use Rattle.cert_format.specs.CertText.{IsHint}
 use Rattle.cert_format.specs.CondText.{is_chain}
 use Rattle.cert_format.specs.declared.cert.Cert.{Cert}
 use Rattle.cert_format.specs.declared.cert.CommandPart.{CommandPart}
 use Rattle.cert_format.proofs.CondKept.{each_snoc}
+use Rattle.sym_state.specs.Starting.{started}
 use Rattle.sym_state.specs.State.{State}
 use Rattle.sym_state.specs.declared.hint.Hint.{Hint}
+use Rattle.sym_state.specs.declared.piece.Piece.{Piece}
 use Rattle.straight_hints.specs.declared.finding.Finding.{Finding}
-use Rattle.cert_check.specs.Given.{Finds, Refused}
-use Rattle.cert_check.specs.Units.{call_found}
+use Rattle.cert_check.specs.Given.{Refused}
 use Rattle.cert_check.specs.declared.refusal.Refusal.{Refusal}
-use Rattle.command_flow.specs.Commands.{call_ends, emptied, pieces_shown}
-use Rattle.command_flow.specs.Finding.{AreRecords, IsRecord, Onward, called_finding, command_found, commands_found, record_of}
+use Rattle.command_flow.specs.Between.{nothing}
+use Rattle.command_flow.specs.Commands.{Left, call_ends, emptied, pieces_shown, started_between, started_visit}
+use Rattle.command_flow.specs.Finding.{AreRecords, IsRecord, Onward, called_finding, command_found, commands_found, executed_finding, record_of, visited_finding}
 use Rattle.command_flow.specs.declared.between.Between.{Between}
 use Rattle.command_flow.specs.declared.finding.Found.{Found}
 use Rattle.command_flow.proofs.Deciding.{then_fails}
+use Rattle.command_flow.proofs.Flowing.{then_refused}
 
 -- where no piece is to be shown no hint is taken
 pub none_taken : (admits : Cond) (place : Place) (states : List State) (hints left : List Hint) → call_ends admits place [] states hints ≡ Ok left → left ≡ hints
@@ -39,15 +42,65 @@ none_taken admits place (state ∷ states) hints left e = by state.stack e
     by [] e = none_taken admits place states hints left e
     by (s ∷ stack) e = absurd (cc)
 
--- what is found on a walk is what is found for its call, where the states at its end are emptied
-pub found_ends : (finding : Finding) (style : Style) (cert : Cert) (admits : Cond) (name : NameId) (place : Place) (state : State) (given : List State) (hints : List Hint)
-    → admits ≡ cert.cond → Finds (call_found finding style cert (state ∷ []) (Named name) place) given hints
-    → called_finding finding style cert name place state ≡ call_ends admits place [] given hints
-found_ends finding style cert admits name place state given hints same finds =
-    ap (λ (r : Result _ Refusal). then_do r (λ course. call_ends cert.cond place [] course.given course.found)) finds.is
-    ∙ ap (λ (l : List State). call_ends cert.cond place [] l finds.course.found) finds.given
-    ∙ ap (λ (l : List Hint). call_ends cert.cond place [] given l) finds.found
-    ∙ ap (λ (a : Cond). call_ends a place [] given hints) (sym same)
+-- a call at whose end no piece is to be shown leaves the hints that it was handed
+pub ends_same : {T : Type 0} (admits : Cond) (place : Place) (states : List State) (hints begun left : List Hint) (result : Result T Refusal) → begun ≡ hints
+    → MatchResult result (λ x. call_ends admits place [] states begun ≡ Ok left) (Refused (call_ends admits place [] states begun))
+    → MatchResult result (λ x. call_ends admits place [] states hints ≡ Ok hints) (Refused (call_ends admits place [] states hints))
+ends_same admits place states hints begun left (Ok x) same is =
+    let ends : call_ends admits place [] states hints ≡ Ok left = ap (λ (l : List Hint). call_ends admits place [] states l) (sym same) ∙ is in
+    ends ∙ ap (λ (l : List Hint). let r : Left = Ok l in r) (none_taken admits place states hints left ends)
+ends_same admits place states hints begun left (Err refusal) same refused =
+    λ memory. ap (λ (l : List Hint). call_ends admits place [] states l) (sym same) ∙ refused memory
+
+-- a call from pieces
+from_same : (finding : Finding) (style other : Style) (cert : Cert) (admits : Cond) (name : NameId) (place : Place) (starts pieces : List Piece) (at_entry : Bool)
+    → other ≡ style → admits ≡ cert.cond → starts ≡ pieces → called_finding finding style cert name place (started style cert.cond pieces true at_entry)
+    ≡ called_finding finding style cert name place (started other admits starts true at_entry)
+from_same finding style other cert admits name place starts pieces at_entry one two three =
+    sym (ap (λ (s : State). called_finding finding style cert name place s)
+    (ap (λ (x : Style). started x admits starts true at_entry) one ∙ ap (λ (x : Cond). started style x starts true at_entry) two
+    ∙ ap (λ (l : List Piece). started style cert.cond l true at_entry) three))
+
+-- what EXECUTE comes to
+pub execute_refused : (finding : Finding) (style other : Style) (cert : Cert) (admits : Cond) (name : NameId) (place : Place) (between : Between) (starts : List Piece)
+    (refusal : Refusal) → other ≡ style → admits ≡ cert.cond → starts ≡ between.globals ∷ []
+    → Refused (called_finding finding style cert name place (started other admits starts true false)) refusal
+    → Refused (executed_finding finding style cert name place between) refusal
+execute_refused finding style other cert admits name place between starts refusal one two three refused =
+    then_refused (called_finding finding style cert name place (started_between style cert.cond between))
+    (λ hints. let next : Onward = Ok (record { between = record { globals = nothing; entry = between.entry }; hints = hints }) in next) refusal
+    (λ memory. from_same finding style other cert admits name place starts (between.globals ∷ []) false one two three ∙ refused memory)
+
+pub execute_ok : (finding : Finding) (style other : Style) (cert : Cert) (admits : Cond) (name : NameId) (place : Place) (between : Between) (starts : List Piece)
+    (hints : List Hint) (after : Piece) → other ≡ style → admits ≡ cert.cond → starts ≡ between.globals ∷ [] → after ≡ nothing
+    → called_finding finding style cert name place (started other admits starts true false) ≡ Ok hints
+    → executed_finding finding style cert name place between ≡ Ok (record { between = record { globals = after; entry = between.entry }; hints = hints })
+execute_ok finding style other cert admits name place between starts hints after one two three four is =
+    ap (λ (r : Left). then_do r (λ found. let next : Onward = Ok (record { between = record { globals = nothing; entry = between.entry }; hints = found }) in next))
+    (from_same finding style other cert admits name place starts (between.globals ∷ []) false one two three ∙ is)
+    ∙ ap (λ (p : Piece). let next : Onward = Ok (record { between = record { globals = p; entry = between.entry }; hints = hints }) in next) (sym four)
+
+-- what ITERATE and REVERSE come to
+pub visit_refused : (finding : Finding) (style other : Style) (cert : Cert) (admits : Cond) (name : NameId) (place : Place) (between : Between) (first : Piece)
+    (refusal : Refusal) → other ≡ style → admits ≡ cert.cond → first ≡ nothing
+    → Refused (called_finding finding style cert name place (started other admits (first ∷ (between.entry ∷ [])) true true)) refusal
+    → Refused (visited_finding finding style cert name place between) refusal
+visit_refused finding style other cert admits name place between first refusal one two three refused =
+    then_refused (called_finding finding style cert name place (started_visit style cert.cond nothing between.entry))
+    (λ hints. let next : Onward = Ok (record { between = record { globals = nothing; entry = nothing }; hints = hints }) in next) refusal
+    (λ memory. from_same finding style other cert admits name place (first ∷ (between.entry ∷ [])) (nothing ∷ (between.entry ∷ [])) true one two
+    (ap (λ (p : Piece). p ∷ (between.entry ∷ [])) three) ∙ refused memory)
+
+pub visit_ok : (finding : Finding) (style other : Style) (cert : Cert) (admits : Cond) (name : NameId) (place : Place) (between : Between) (first : Piece)
+    (hints : List Hint) (globals entry : Piece) → other ≡ style → admits ≡ cert.cond → first ≡ nothing → globals ≡ nothing → entry ≡ nothing
+    → called_finding finding style cert name place (started other admits (first ∷ (between.entry ∷ [])) true true) ≡ Ok hints
+    → visited_finding finding style cert name place between ≡ Ok (record { between = record { globals = globals; entry = entry }; hints = hints })
+visit_ok finding style other cert admits name place between first hints globals entry one two three four five is =
+    ap (λ (r : Left). then_do r (λ found. let next : Onward = Ok (record { between = record { globals = nothing; entry = nothing }; hints = found }) in next))
+    (from_same finding style other cert admits name place (first ∷ (between.entry ∷ [])) (nothing ∷ (between.entry ∷ [])) true one two
+    (ap (λ (p : Piece). p ∷ (between.entry ∷ [])) three) ∙ is)
+    ∙ ap (λ (p : Piece). let next : Onward = Ok (record { between = record { globals = p; entry = nothing }; hints = hints }) in next) (sym four)
+    ∙ ap (λ (p : Piece). let next : Onward = Ok (record { between = record { globals = globals; entry = p }; hints = hints }) in next) (sym five)
 
 -- the commands from one number on
 found_from : (finding : Finding) (style : Style) (cert : Cert) (index i : ℕ) (between : Between) (parts : List CommandPart) (commands : List CommandAt)

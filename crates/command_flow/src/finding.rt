@@ -91,11 +91,7 @@ fn commands_found(
 }
 
 /// Appends the record of the command of a number, where a hint was found.
-fn push_record(
-    parts: &mut Vec<CommandPart>,
-    index: u32,
-    hints: Seq<Hint>,
-) -> Result<(), NoMemory>
+fn push_record(parts: &mut Vec<CommandPart>, index: u32, hints: Seq<Hint>) -> Result<(), NoMemory>
     ensures { OnOk result (parts.new.items ≡ parts.old.items ++ rule.record_of index hints) }
 {
     if !hints.as_slice().is_empty() {
@@ -276,12 +272,7 @@ fn walked_finding(
 }
 
 /// Each state at the end of a call has an empty stack, and no hint is taken there.
-fn all_emptied(
-    cond: &Cond,
-    place: Place,
-    states: &[State],
-    hints: &[Hint],
-) -> Result<(), Refusal>
+fn all_emptied(cond: &Cond, place: Place, states: &[State], hints: &[Hint]) -> Result<(), Refusal>
     requires states { All HasBounds states.now }
     requires written { Each IsHint hints.now }
     ensures { MatchResult result (λ _. commands.call_ends cond.now place [] states.now hints.now ≡ Ok hints.now)
