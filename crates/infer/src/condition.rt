@@ -81,7 +81,7 @@ fn push_line(
 fn holds_names(name: &[u8]) -> bool
     ensures { result ≡ rule.holds_names name.now }
 {
-    name == b"author" || name == b"editor"
+    name == b"author".as_slice() || name == b"editor".as_slice()
 }
 
 /// The types of the standard styles that a style defines before READ.

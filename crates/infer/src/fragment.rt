@@ -1,6 +1,7 @@
 //! The kind fragment (docs/ANALYSER.md, "The kind fragment").
 
 ghost use Rattle.std.specs.Prelude.{◌≡◌};
+ghost use Rattle.std.specs.List.{list_all};
 ghost use Rattle.infer.specs.Fragment as rule;
 
 use bst_meaning::style_parts::kind_of;
@@ -24,12 +25,29 @@ pub(crate) fn finding_of(style: &Style) -> Finding
 fn is_of_fragment(style: &Style) -> bool
     ensures { result ≡ rule.is_of_fragment style.now }
 {
-    let bodies = style.bodies.as_slice();
-    let commands = style.commands.as_slice();
-    bodies.iter().all(|body| is_body_within(style, body))
-        && commands
-            .iter()
-            .all(|at| is_command_within(style, at.command))
+    bodies_within(style) && commands_within(style)
+}
+
+/// Whether none stands in a body of a style.
+fn bodies_within(style: &Style) -> bool
+    ensures { result ≡ list_all (rule.is_body_within style.now) style.now.bodies }
+{
+    style
+        .bodies
+        .as_slice()
+        .iter()
+        .all(|body| is_body_within(style, body))
+}
+
+/// Whether no command of a style calls one.
+fn commands_within(style: &Style) -> bool
+    ensures { result ≡ list_all (λ at. rule.is_command_within style.now at.command) style.now.commands }
+{
+    style
+        .commands
+        .as_slice()
+        .iter()
+        .all(|at| is_command_within(style, at.command))
 }
 
 /// Whether none stands in a body.
