@@ -1,5 +1,5 @@
 -- The commands of which hints are found, in order, and their records.
-use Rattle.std.proofs.Common.{◌≡◌, ℕ, zero, suc, ◌+◌, ◌<◌, Bool, true, false, List, [], ◌∷◌, ◌++◌, drop, length, None, Some, Result, Ok, Err, slice_get, get_or, refl, sym, ap, subst, ◌∙◌, add-one, arith}
+use Rattle.std.proofs.Common.{◌≡◌, ℕ, zero, suc, ◌+◌, ◌<◌, Bool, true, false, List, [], ◌∷◌, ◌++◌, drop, length, None, Some, Result, Ok, Err, OnOk, slice_get, get_or, refl, sym, ap, subst, ◌∙◌, add-one, arith}
 use Rattle.std.specs.Prelude.{nat_lt}
 use Rattle.std.specs.Result.{MatchResult}
 use Rattle.std.proofs.lemmas.Bool.{and_from, and_parts}
@@ -22,6 +22,7 @@ use Rattle.sym_state.specs.Starting.{started}
 use Rattle.sym_state.specs.State.{State}
 use Rattle.sym_state.specs.declared.hint.Hint.{Hint}
 use Rattle.sym_state.specs.declared.piece.Piece.{Piece}
+use Rattle.sym_state.specs.declared.symbol.Sym.{Sym}
 use Rattle.straight_hints.specs.declared.finding.Finding.{Finding}
 use Rattle.cert_check.specs.Given.{Refused}
 use Rattle.cert_check.specs.declared.refusal.Refusal.{Refusal}
@@ -34,13 +35,16 @@ use Rattle.command_flow.proofs.Deciding.{then_fails}
 use Rattle.command_flow.proofs.Flowing.{then_refused}
 
 -- where no piece is to be shown no hint is taken
-pub none_taken : (admits : Cond) (place : Place) (states : List State) (hints left : List Hint) → call_ends admits place [] states hints ≡ Ok left → left ≡ hints
+none_at : (admits : Cond) (place : Place) (state : State) (stack : List Sym) (states : List State) (hints left : List Hint)
+    → (call_ends admits place [] states hints ≡ Ok left → left ≡ hints)
+    → then_do (then_do (emptied place stack hints) (pieces_shown admits place state [])) (call_ends admits place [] states) ≡ Ok left → left ≡ hints
+none_at admits place state [] states hints left later e = later e
+none_at admits place state (s ∷ stack) states hints left later e = absurd (cc)
+
+none_taken : (admits : Cond) (place : Place) (states : List State) (hints left : List Hint) → call_ends admits place [] states hints ≡ Ok left → left ≡ hints
 none_taken admits place [] hints left e = let same : hints ≡ left = cc in sym same
-none_taken admits place (state ∷ states) hints left e = by state.stack e
-  where
-    by : (stack : List _) → then_do (then_do (emptied place stack hints) (pieces_shown admits place state [])) (call_ends admits place [] states) ≡ Ok left → left ≡ hints
-    by [] e = none_taken admits place states hints left e
-    by (s ∷ stack) e = absurd (cc)
+none_taken admits place (state ∷ states) hints left e =
+    none_at admits place state state.stack states hints left (λ ends. none_taken admits place states hints left ends) e
 
 -- a call at whose end no piece is to be shown leaves the hints that it was handed
 pub ends_same : {T : Type 0} (admits : Cond) (place : Place) (states : List State) (hints begun left : List Hint) (result : Result T Refusal) → begun ≡ hints
@@ -191,3 +195,8 @@ pub before_next : (style : Style) (index : ℕ) (parts more : List CommandPart) 
 before_next style index parts more hints there are written put =
     subst (λ (n : ℕ). AreBefore style n more) (sym (add-one index))
     (subst (AreBefore style (suc index)) (sym put) (more_before style index parts hints there are written))
+
+-- what a call says where it succeeds
+pub put_on : {A E : Type 0} (P : Type 0) (r : Result A E) (x : A) → r ≡ Ok x → OnOk r P → P
+put_on P (Ok y) x e put = put
+put_on P (Err fault) x e put = absurd (cc)

@@ -50,7 +50,7 @@ records_written style (part ∷ parts) few are = (record_written style part few 
 pub found_written : (style : Style) (admits : Cond) (parts : List CommandPart) → IsSound style → IsCond style.names admits → AreRecords style parts
     → IsCert style (record (bare admits) { commands = parts })
 found_written style admits parts sound is are = record {
-  list = (lit≤, lit≤);
+  list = (lit≤ tt, lit≤ tt);
   cond = is;
   summaries = tt;
   few_summaries = omega arith;

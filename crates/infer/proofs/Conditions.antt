@@ -14,6 +14,7 @@ use Rattle.name_table.specs.declared.names.Kind.{Kind}
 use Rattle.name_table.specs.declared.names.Kind.TheVariants.{Field}
 use Rattle.name_table.specs.declared.names.NameId.{NameId}
 use Rattle.name_table.specs.declared.style.Style.{Style}
+use Rattle.bst_meaning.specs.declared.condition.Cond.{Cond}
 use Rattle.bst_meaning.specs.declared.condition.NamesLine.{NamesLine}
 use Rattle.cert_format.specs.CondText.{IsCond, IsNamesLine, is_below, is_chain}
 use Rattle.cert_format.specs.Items.{is_field, is_type}
@@ -62,7 +63,7 @@ line_kept : (all : List (List ℕ × Kind)) (id : ℕ) (name : List ℕ) (kind :
 line_kept all id name Field is =
     let field : is_field (kind_at (record { 0 = id }) all) ≡ true = ap is_field is in
     elim (holds_names name) as (λ t. Each (IsNamesLine all) (cond t (record { field = record { 0 = id }; most = 1000 } ∷ []) [])) [
-      | true ↦ ((field, lit≤), tt)
+      | true ↦ ((field, lit≤ tt), tt)
       | false ↦ tt
     ]
 line_kept all id name _ is = tt
@@ -114,14 +115,14 @@ lines_rise id [] = record { chain = refl; from = tt }
 lines_rise id (entry ∷ names) = line_rises id entry.0 entry.1 (names_lines (suc id) names) (lines_rise (suc id) names)
 
 -- the default condition keeps the limits and the order
-pub default_kept : (style : Style) → IsCond style.names (default_cond style)
+default_kept : (style : Style) → IsCond style.names (default_cond style)
 default_kept style =
     let defined : List ℕ → Bool = λ name. is_some (type_function name style) in
     record {
-      entries = lit≤;
-      key = lit≤;
-      preamble = lit≤;
-      length = lit≤;
+      entries = lit≤ tt;
+      key = lit≤ tt;
+      preamble = lit≤ tt;
+      length = lit≤ tt;
       bounds = lines_kept style.names 0 style.names refl;
       names_rise = (lines_rise 0 style.names).chain;
       fields = tt;
@@ -129,3 +130,13 @@ default_kept style =
       types = each_filtered defined (λ name. is_type name ≡ true) standard_types (each_of is_type standard_types refl);
       types_rise = chain_filtered (λ a b. is_lt (slice_cmp nat_cmp a b)) defined standard_types refl;
     }
+
+-- and so does a condition with its parts
+pub kept_as : (style : Style) (names : List NamesLine) (nonblank : List NameId) (types : List (List ℕ)) → names ≡ names_lines 0 style.names → nonblank ≡ []
+    → types ≡ defined_types style standard_types
+    → IsCond style.names
+    (record { entries = 10000; key = 250; preamble = 20000; length = 10000; names = names; nonblank = nonblank; types = types; other = true })
+kept_as style names nonblank types one two three =
+    let same : (let made : Cond = record { entries = 10000; key = 250; preamble = 20000; length = 10000; names = names; nonblank = nonblank; types = types; other = true }
+    in made) ≡ default_cond style = cc in
+    subst (IsCond style.names) (sym same) (default_kept style)
