@@ -1,6 +1,5 @@
 -- The opening pieces are within the bounds of calls.
-use Rattle.std.proofs.Common.{◌≡◌, ℕ, suc, ◌+◌, ◌≤◌, max, Bool, List, [], ◌∷◌, ◌++◌, length, map, refl, sym, ap, subst, ◌∙◌, ◌⊎◌, inl, inr, arith}
-use Rattle.std.specs.List.{AllByRecursion}
+use Rattle.std.proofs.Common.{◌≡◌, ℕ, suc, ◌+◌, ◌≤◌, Bool, List, [], ◌∷◌, ◌++◌, length, map, refl, sym, ap, subst, inl, inr, arith}
 use Rattle.std.proofs.Math.Nat.{max-le}
 use Rattle.name_table.specs.declared.names.Kind.{Kind}
 use Rattle.name_table.specs.declared.style.Style.{Style}
@@ -11,14 +10,12 @@ use Rattle.bst_meaning.specs.Invariant.{IsWellFormed}
 use Rattle.bst_meaning.specs.declared.entry.EntryList.{EntryList}
 use Rattle.bst_meaning.specs.declared.value.Value.{Value}
 use Rattle.bst_meaning.specs.declared.value.Value.TheVariants.{Int, Str}
-use Rattle.sym_state.specs.Entailing.{line_count}
-use Rattle.sym_state.specs.Starting.{IsFit, IsNumbered, symbol_count, symbols_of}
+use Rattle.sym_state.specs.Starting.{symbol_count}
 use Rattle.sym_state.specs.WellMade.{is_variable}
 use Rattle.sym_state.specs.declared.symbol.Bind.{Bind}
-use Rattle.sym_state.specs.declared.symbol.Sym.{Sym}
 use Rattle.cert_check.specs.Certified.{IsShort}
 use Rattle.command_flow.specs.Between.{exact_fact, exact_facts, exactly, opened, own_symbols}
-use Rattle.command_flow.specs.Ready.{AreReady, IsReady}
+use Rattle.command_flow.specs.Ready.{AreReady}
 use Rattle.command_flow.proofs.Openings.{Makes, entrys_of_kind, is_entrys, makes_entrys, makes_globals}
 use Rattle.command_flow.proofs.Shaped.{IsGood, opened_good}
 
