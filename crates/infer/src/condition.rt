@@ -15,7 +15,7 @@ use name_table::style::{Style, TypeTarget};
 use std::alloc::Global;
 
 /// The types of the standard styles, upwards by their bytes.
-pub const STANDARD_TYPES: [&[u8]; 14] = [
+const STANDARD_TYPES: [&[u8]; 14] = [
     b"article",
     b"book",
     b"booklet",
