@@ -1,11 +1,11 @@
 -- The hints that are found for a token in a state (docs/ANALYSER.md, "Hints"): where a rule takes one, the first that serves there.
-use Rattle.std.specs.Prelude.{ℕ, Bool, true, false, if◌then◌else◌, List, [], ◌∷◌, map, Option, None, Some, Result, Ok, Err}
+use Rattle.std.specs.Prelude.{Bool, if◌then◌else◌, List, [], ◌∷◌, map, Option, None, Some, Result, Ok, Err}
 use Rattle.std.specs.Option.{option_map_or}
 use Rattle.lin_facts.specs.declared.row.Row.{Row}
 use Rattle.name_table.specs.declared.builtin.Builtin.{Builtin}
 use Rattle.name_table.specs.declared.style.Style.{Style}
 use Rattle.bst_meaning.specs.declared.condition.Cond.{Cond}
-use Rattle.sym_state.specs.Cases.{Labelled, Split, above_of, split_of}
+use Rattle.sym_state.specs.Cases.{above_of, split_of}
 use Rattle.sym_state.specs.Demands.{Rule, Gives, Refuses, Demands, OneOperand, TwoOperands, ThreeOperands, Steps, BothSteps, Chooses, one_of, two_of, three_of}
 use Rattle.sym_state.specs.Effects.{rule_of}
 use Rattle.sym_state.specs.State.{State}
