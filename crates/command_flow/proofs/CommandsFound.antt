@@ -22,29 +22,17 @@ use Rattle.sym_state.specs.Starting.{started}
 use Rattle.sym_state.specs.State.{State}
 use Rattle.sym_state.specs.declared.hint.Hint.{Hint}
 use Rattle.sym_state.specs.declared.piece.Piece.{Piece}
-use Rattle.sym_state.specs.declared.symbol.Sym.{Sym}
 use Rattle.straight_hints.specs.declared.finding.Finding.{Finding}
 use Rattle.cert_check.specs.Given.{Refused}
 use Rattle.cert_check.specs.declared.refusal.Refusal.{Refusal}
 use Rattle.command_flow.specs.Between.{nothing}
-use Rattle.command_flow.specs.Commands.{Left, call_ends, emptied, pieces_shown, started_between, started_visit}
+use Rattle.command_flow.specs.Commands.{Left, call_ends, started_between, started_visit}
 use Rattle.command_flow.specs.Finding.{AreRecords, IsRecord, Onward, called_finding, command_found, commands_found, executed_finding, record_of, visited_finding}
 use Rattle.command_flow.specs.declared.between.Between.{Between}
 use Rattle.command_flow.specs.declared.finding.Found.{Found}
 use Rattle.command_flow.proofs.Deciding.{then_fails}
 use Rattle.command_flow.proofs.Flowing.{then_refused}
-
--- where no piece is to be shown no hint is taken
-none_at : (admits : Cond) (place : Place) (state : State) (stack : List Sym) (states : List State) (hints left : List Hint)
-    → (call_ends admits place [] states hints ≡ Ok left → left ≡ hints)
-    → then_do (then_do (emptied place stack hints) (pieces_shown admits place state [])) (call_ends admits place [] states) ≡ Ok left → left ≡ hints
-none_at admits place state [] states hints left later e = later e
-none_at admits place state (s ∷ stack) states hints left later e = absurd (cc)
-
-none_taken : (admits : Cond) (place : Place) (states : List State) (hints left : List Hint) → call_ends admits place [] states hints ≡ Ok left → left ≡ hints
-none_taken admits place [] hints left e = let same : hints ≡ left = cc in sym same
-none_taken admits place (state ∷ states) hints left e =
-    none_at admits place state state.stack states hints left (λ ends. none_taken admits place states hints left ends) e
+use Rattle.command_flow.proofs.FoundRecords.{ends_free}
 
 -- a call at whose end no piece is to be shown leaves the hints that it was handed
 pub ends_same : {T : Type 0} (admits : Cond) (place : Place) (states : List State) (hints begun left : List Hint) (result : Result T Refusal) → begun ≡ hints
@@ -52,7 +40,7 @@ pub ends_same : {T : Type 0} (admits : Cond) (place : Place) (states : List Stat
     → MatchResult result (λ x. call_ends admits place [] states hints ≡ Ok hints) (Refused (call_ends admits place [] states hints))
 ends_same admits place states hints begun left (Ok x) same is =
     let ends : call_ends admits place [] states hints ≡ Ok left = ap (λ (l : List Hint). call_ends admits place [] states l) (sym same) ∙ is in
-    ends ∙ ap (λ (l : List Hint). let r : Left = Ok l in r) (none_taken admits place states hints left ends)
+    ends ∙ ap (λ (l : List Hint). let r : Left = Ok l in r) (ends_free admits place [] states hints left (λ state. refl) ends).0
 ends_same admits place states hints begun left (Err refusal) same refused =
     λ memory. ap (λ (l : List Hint). call_ends admits place [] states l) (sym same) ∙ refused memory
 

@@ -62,7 +62,7 @@ nothing_more admits place pieces free state =
     ap (λ (r : Left). then_do r (pieces_shown admits place state pieces)) (nothing_shown admits place state []) ∙ free state
 
 -- at the end of a call each stack is empty, and such pieces leave no hint
-ends_free : (admits : Cond) (place : Place) (pieces : List Piece) (states : List State) (hints left : List Hint) → AreFree admits place pieces
+pub ends_free : (admits : Cond) (place : Place) (pieces : List Piece) (states : List State) (hints left : List Hint) → AreFree admits place pieces
     → call_ends admits place [] states hints ≡ Ok left → (left ≡ hints) × (call_ends admits place pieces states [] ≡ Ok [])
 ends_free admits place pieces [] hints left free e = (ok_is hints left e, refl)
 ends_free admits place pieces (state ∷ states) hints left free e =

@@ -17,5 +17,5 @@ pub mod Flowing
 pub mod Records
 pub mod Opened
 pub mod Deciding
-pub mod CommandsFound
 pub mod FoundRecords
+pub mod CommandsFound

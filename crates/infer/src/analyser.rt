@@ -4,6 +4,7 @@ ghost use Rattle.std.specs.Prelude.{◌≡◌, ◌≢◌, Ok, Err, IfOk, MatchRe
 ghost use Rattle.name_table.specs.Sound.{IsSound};
 ghost use Rattle.cert_format.specs.CertText.{IsCert};
 ghost use Rattle.cert_format.specs.CondText.{IsCond};
+ghost use Rattle.command_flow.specs.Checks.{Checks};
 ghost use Rattle.infer.specs.Infer as rule;
 ghost use Rattle.infer.specs.declared.unknown.UnknownReason.TheVariants.{NoMemory as WantOfMemory};
 
@@ -14,6 +15,7 @@ use bv_base::seq::Seq;
 use cert_check::refusal::{Reason, Refusal};
 use cert_format::cert::Cert;
 use command_flow::find;
+use command_flow::laws::found_records_are_accepted;
 use name_table::style::Style;
 use std::alloc::Global;
 
@@ -25,7 +27,9 @@ pub fn infer(alloc: Global, style: &Style, cond: Cond) -> Result<Cert, Unknown>
         (λ unknown. unknown.reason ≢ WantOfMemory → rule.infer_of style.now cond ≡ Err unknown) }
     ensures kept { IfOk result (λ cert. cert.cond ≡ cond) }
     ensures written { IfOk result (IsCert style.now) }
+    ensures accepted { IfOk result (Checks style.now) }
 {
+    found_records_are_accepted();
     let mut cert = bare(alloc, cond);
     match find(alloc, finding_of(style), style, &cert) {
         Ok(parts) => {
