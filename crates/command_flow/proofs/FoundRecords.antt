@@ -33,10 +33,11 @@ use Rattle.cert_check.specs.declared.refusal.Reason.TheVariants.{CommandShape}
 use Rattle.command_flow.specs.Between.{nothing, opened}
 use Rattle.command_flow.specs.Checks.{Checks, commands_checked, loops_checked, summaries_checked}
 use Rattle.command_flow.specs.Commands.{Left, Onward, call_ends, called, command_checked, command_taken, emptied, executed, is_shaped, parts_of, piece_shown, pieces_shown, started_between, started_visit, visited}
-use Rattle.command_flow.specs.Finding.{Found, called_finding, command_found, commands_found, executed_finding, record_of, records_found, visited_finding}
+use Rattle.command_flow.specs.Finding.{called_finding, command_found, commands_found, executed_finding, record_of, records_found, visited_finding}
 use Rattle.command_flow.specs.Records.{record_at}
 use Rattle.command_flow.specs.declared.between.Between.{Between}
 use Rattle.command_flow.specs.declared.between.Parts.{Parts}
+use Rattle.command_flow.specs.declared.finding.Found.{Found}
 
 -- the law of hints that are found: a call reads them
 abbrev pub FoundIsRead : Type 0
@@ -61,7 +62,7 @@ nothing_more admits place pieces free state =
     ap (λ (r : Left). then_do r (pieces_shown admits place state pieces)) (nothing_shown admits place state []) ∙ free state
 
 -- at the end of a call each stack is empty, and such pieces leave no hint
-ends_free : (admits : Cond) (place : Place) (pieces : List Piece) (states : List State) (hints left : List Hint) → AreFree admits place pieces
+pub ends_free : (admits : Cond) (place : Place) (pieces : List Piece) (states : List State) (hints left : List Hint) → AreFree admits place pieces
     → call_ends admits place [] states hints ≡ Ok left → (left ≡ hints) × (call_ends admits place pieces states [] ≡ Ok [])
 ends_free admits place pieces [] hints left free e = (ok_is hints left e, refl)
 ends_free admits place pieces (state ∷ states) hints left free e =

@@ -18,3 +18,4 @@ pub mod Records
 pub mod Opened
 pub mod Deciding
 pub mod FoundRecords
+pub mod CommandsFound
