@@ -7,6 +7,7 @@ pub mod CommandLemmas
 pub mod ReadsLemmas
 pub mod BegunLemmas
 pub mod RunLemmas
+pub mod StyleLemmas
 pub mod RefusalPlaces
 pub mod SitePlaces
 pub mod TreeLemmas
