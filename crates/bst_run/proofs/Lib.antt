@@ -2,6 +2,7 @@ pub mod AuxPlaces
 pub mod FileFaultLemmas
 pub mod ChainLemmas
 pub mod CheckLemmas
+pub mod InferLemmas
 pub mod DeliveryLemmas
 pub mod CommandLemmas
 pub mod ReadsLemmas
