@@ -113,7 +113,7 @@ mod begun;
 mod check;
 mod commands;
 mod data;
-mod infer;
+mod inferring;
 mod loops;
 mod refusals;
 mod run;
