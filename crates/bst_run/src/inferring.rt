@@ -173,8 +173,7 @@ fn unrejected(alloc: Global, style: &Style, cert: &Cert) -> Result<(), Stop>
     requires sound { IsSound style.now }
     requires certified { IsCertified style.now cert.now }
     ensures decides { stops.Decides (rule.unrejected (checked style.now cert.now)) result }
-    ensures held { IfOk result (λ _. checked style.now cert.now ≡ Ok []) }
-    ensures safe { IfOk result (λ _. Safe style.now cert.now.cond) }
+    ensures held { IfOk result (λ _. (checked style.now cert.now ≡ Ok []) × Safe style.now cert.now.cond) }
     ensures inside { IfErr result stops.IsInside }
 {
     match command_flow::check(alloc, style, cert) {
