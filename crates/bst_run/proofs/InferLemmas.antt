@@ -1,5 +1,5 @@
 -- From the style and the condition to the certificate that is found.
-use Rattle.std.proofs.Common.{◌≡◌, ℕ, List, Option, None, Some, Result, Ok, Err, subst}
+use Rattle.std.proofs.Common.{◌≡◌, ◌↔◌, ℕ, List, Option, None, Some, Result, Ok, Err, subst}
 use Rattle.std.specs.Prelude.{IfSome, IfOk, IfErr}
 use Rattle.std.specs.FinMap.{get}
 use Rattle.bv_base.specs.Outside.{Listing}
@@ -8,6 +8,11 @@ use Rattle.bv_base.specs.declared.limits.TheConstants.{STYLE_BYTES}
 use Rattle.name_table.specs.declared.style.Style.{Style}
 use Rattle.bst_parse.specs.Reading.{style_of}
 use Rattle.bst_meaning.specs.declared.condition.Cond.{Cond}
+use Rattle.cert_format.specs.CertText.{CertText, IsCert}
+use Rattle.cert_format.specs.Spelling.{text_of}
+use Rattle.cert_format.specs.Texts.{cert_of}
+use Rattle.cert_format.specs.UnitSpelling.{cert_lines}
+use Rattle.cert_format.specs.declared.cert.Cert.{Cert}
 use Rattle.bst_run.specs.declared.outcome.Outcome.{Outcome}
 use Rattle.bst_run.specs.declared.stop.Stop.{Stop}
 use Rattle.bst_run.specs.Files.{file_in}
@@ -67,3 +72,8 @@ writes (Some t) told' style_name cond_name bytes bytes' style admits (Ok outcome
 pub written_under : (style : Style) (own admits : Cond) (result : Result Outcome Stop) → own ≡ admits
     → IfOk result (IsWritten style own) → IfOk result (IsWritten style admits)
 written_under style own admits result same written = subst (λ (c : Cond). IfOk result (IsWritten style c)) same written
+
+-- what is printed of a certificate is read as it
+pub printed_text : (style : Style) (text : List ℕ) (cert : Cert) → (cert_of style text ≡ Ok cert) ↔ CertText style text cert → IsCert style cert
+    → text ≡ text_of (cert_lines style cert) → cert_of style text ≡ Ok cert
+printed_text style text cert law kept spelled = law.1 (record { kept = kept; spelled = spelled })

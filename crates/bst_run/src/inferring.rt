@@ -76,12 +76,7 @@ fn cond_for<F: Files>(
 }
 
 /// The condition in the file of this name.
-fn cond_in<F: Files>(
-    alloc: Global,
-    files: &mut F,
-    name: &str,
-    style: &Style,
-) -> Result<Cond, Stop>
+fn cond_in<F: Files>(alloc: Global, files: &mut F, name: &str, style: &Style) -> Result<Cond, Stop>
     requires sound { IsSound style.now }
     ensures reads { Reads ⟦<F as Files>⟧ files.old files.new (λ told. rule.cond_named told name.now style.now) result }
     ensures begun { Begins (F.told files.old) (λ told. file_begun told name.now) (F.begun files.old) (F.begun files.new) result }
@@ -148,7 +143,8 @@ fn printed(alloc: Global, style: &Style, cert: &Cert) -> Result<Outcome, Stop>
     ensures decided { IfOk result (λ outcome. stops.IsDecided outcome.status) }
     ensures inside { IfErr result stops.IsInside }
 {
-    let text = short_text(alloc, Text::from_vec(print(alloc, cert, style)?))?;
+    let spelled = print(alloc, cert, style)?;
+    let text = short_text(alloc, Text::from_vec(spelled))?;
     read_as_the_certificate();
     certificates_are_certified();
     unrejected(alloc, style, cert)?;

@@ -172,8 +172,7 @@ const ASSIGNS: &[u8] =
     b"ENTRY{t}{}{} STRINGS{s} FUNCTION{g}{+} FUNCTION{f}{t empty$ 'skip$ {t 's :=} if$} READ ITERATE{f}";
 
 /// Assigns a key to a variable of the entry.
-const KEEPS: &[u8] =
-    b"ENTRY{}{}{m} FUNCTION{g}{+} FUNCTION{f}{cite$ 'm :=} READ ITERATE{f}";
+const KEEPS: &[u8] = b"ENTRY{}{}{m} FUNCTION{g}{+} FUNCTION{f}{cite$ 'm :=} READ ITERATE{f}";
 
 /// Assigns the preamble to a global variable.
 const HOLDS: &[u8] =
@@ -268,7 +267,9 @@ fn compare_found(rt: &impl Abort, alloc: Global, rows: &[Found]) -> Result<(), F
     for row in rows {
         let lists = row.lists;
         let lines = row.lines;
-        let cert = format!(in alloc; "bstcert 1\nentries 10000\nkey 250\npreamble 20000\nlength 10000\n{lists}othertype yes\nend\n{lines}done\n")?;
+        let cert = format!(in alloc;
+            "bstcert 1\nentries 10000\nkey 250\npreamble 20000\nlength 10000\n{lists}othertype yes\nend\n{lines}done\n"
+        )?;
         let mut files = MemFiles::new(alloc);
         files.add("a.bst", row.style.as_bytes())?;
         compare_written(rt, alloc, &mut files, cert.as_bytes())?;
