@@ -24,8 +24,8 @@ use Rattle.bst_run.proofs.ReadsLemmas.{reads_next, reads_nothing, reads_stopped}
 use Rattle.bst_run.proofs.StyleLemmas.{is_style, style_reads, there}
 
 -- the style and the condition are read in turn, and then a certificate is looked for
-pub infer_reads : {F : Type 0} (see : Ghosts F) (old mid new : F) (style_name : List ℕ) (cond_name : Option (List ℕ)) (bytes bytes' : List ℕ) (style : Style) (admits : Cond)
-    (result : Result Outcome Stop)
+pub infer_reads : {F : Type 0} (see : Ghosts F) (old mid new : F) (style_name : List ℕ) (cond_name : Option (List ℕ)) (bytes bytes' : List ℕ)
+    (style : Style) (admits : Cond) (result : Result Outcome Stop)
     → bytes' ≡ bytes
     → Reads {F = F} {A = List ℕ} see old mid (λ t. file_in t STYLE_BYTES style_name) (Ok bytes) → Decides {A = Style} (read_style (style_of bytes')) (Ok style)
     → Reads {F = F} {A = Cond} see mid new (λ t. cond_for t cond_name style) (Ok admits)
@@ -37,7 +37,8 @@ infer_reads see old mid new style_name cond_name bytes bytes' style admits resul
     (reads_nothing see new (inferred style admits) result decides inside))
 
 -- the style is read, and the condition isn't
-pub cond_unread : {F : Type 0} (see : Ghosts F) (old mid new : F) (style_name : List ℕ) (cond_name : Option (List ℕ)) (bytes bytes' : List ℕ) (style : Style) (stop : Stop)
+pub cond_unread : {F : Type 0} (see : Ghosts F) (old mid new : F) (style_name : List ℕ) (cond_name : Option (List ℕ)) (bytes bytes' : List ℕ)
+    (style : Style) (stop : Stop)
     → bytes' ≡ bytes
     → Reads {F = F} {A = List ℕ} see old mid (λ t. file_in t STYLE_BYTES style_name) (Ok bytes) → Decides {A = Style} (read_style (style_of bytes')) (Ok style)
     → Reads {F = F} {A = Cond} see mid new (λ t. cond_for t cond_name style) (Err stop)
@@ -47,7 +48,8 @@ cond_unread see old mid new style_name cond_name bytes bytes' style stop e style
     (reads_stopped {A = Cond} {B = Outcome} see mid new (λ t. cond_for t cond_name style) (λ t. inferred style) stop cond_file)
 
 -- what is written of the style and the condition that were read is written of the files
-pub writes : (told told' : Option Listing) (style_name : List ℕ) (cond_name : Option (List ℕ)) (bytes bytes' : List ℕ) (style : Style) (admits : Cond) (result : Result Outcome Stop)
+pub writes : (told told' : Option Listing) (style_name : List ℕ) (cond_name : Option (List ℕ)) (bytes bytes' : List ℕ)
+    (style : Style) (admits : Cond) (result : Result Outcome Stop)
     → told' ≡ told → bytes' ≡ bytes
     → Gives {A = List ℕ} told (λ t. file_in t STYLE_BYTES style_name) (Ok bytes) → Decides {A = Style} (read_style (style_of bytes')) (Ok style)
     → Gives {A = Cond} told' (λ t. cond_for t cond_name style) (Ok admits) → IfOk result (IsWritten style admits)

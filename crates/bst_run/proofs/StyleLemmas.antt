@@ -20,15 +20,16 @@ use Rattle.bst_run.proofs.BegunLemmas.{begins_after, begins_next, begins_refused
 use Rattle.bst_run.proofs.ReadsLemmas.{reads_next, reads_nothing}
 
 -- the style is read, and then what comes after it
-pub style_reads : {F A : Type 0} (see : Ghosts F) (old mid new : F) (style_name bytes bytes' : List ℕ) (style : Style) (next : Listing → Style → Result A Outcome)
-    (result : Result A Stop)
+pub style_reads : {F A : Type 0} (see : Ghosts F) (old mid new : F) (style_name bytes bytes' : List ℕ) (style : Style)
+    (next : Listing → Style → Result A Outcome) (result : Result A Stop)
     → bytes' ≡ bytes → Reads {F = F} {A = List ℕ} see old mid (λ t. file_in t STYLE_BYTES style_name) (Ok bytes)
     → Decides {A = Style} (read_style (style_of bytes')) (Ok style) → Reads {F = F} {A = A} see mid new (λ t. next t style) result
     → Reads {F = F} {A = A} see old new (λ t. then_do (file_in t STYLE_BYTES style_name) (λ b. then_do (read_style (style_of b)) (next t))) result
 style_reads {A = A} see old mid new style_name bytes bytes' style next result e style_file read more =
     reads_next see old mid new (λ t. file_in t STYLE_BYTES style_name) bytes (λ t b. then_do (read_style (style_of b)) (next t)) result style_file
     (reads_next see mid mid new (λ t. read_style (style_of bytes)) style next result
-    (reads_nothing see mid (read_style (style_of bytes)) (Ok style) (subst (λ (b : List ℕ). Decides {A = Style} (read_style (style_of b)) (Ok style)) e read) tt)
+    (reads_nothing see mid (read_style (style_of bytes)) (Ok style)
+    (subst (λ (b : List ℕ). Decides {A = Style} (read_style (style_of b)) (Ok style)) e read) tt)
     more)
 
 -- a file that was read is there
@@ -68,7 +69,8 @@ module _ (after : Listing → List Begun) where
       (begins_refused {A = Style} B told (read_style (style_of bytes')) (λ t _. after t) new stop refused)
 
   -- the style is read, and then more is begun
-  pub style_read_begun : {B : Type 0} (told told' : Option Listing) (style_name bytes bytes' : List ℕ) (style : Style) (old mid new : List Begun) (result : Result B Stop)
+  pub style_read_begun : {B : Type 0} (told told' : Option Listing) (style_name bytes bytes' : List ℕ) (style : Style) (old mid new : List Begun)
+      (result : Result B Stop)
       → told' ≡ told → bytes' ≡ bytes → Gives {A = List ℕ} told (λ t. file_in t STYLE_BYTES style_name) (Ok bytes)
       → Begins {A = List ℕ} told (λ t. file_begun t style_name) old mid (Ok bytes)
       → Decides {A = Style} (read_style (style_of bytes')) (Ok style) → Begins {A = B} told' after mid new result

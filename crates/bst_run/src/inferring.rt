@@ -46,7 +46,8 @@ pub fn infer<F: Files>(
     cond_name: Option<&str>,
 ) -> Result<Outcome, Stop>
     ensures reads { Reads ⟦<F as Files>⟧ files.old files.new (λ told. rule.infer_outcome told style_name.now (name_in cond_name.entry)) result }
-    ensures begun { Begins (F.told files.old) (λ told. infer_begun told style_name.now (name_in cond_name.entry)) (F.begun files.old) (F.begun files.new) result }
+    ensures begun { Begins (F.told files.old) (λ told. infer_begun told style_name.now (name_in cond_name.entry))
+        (F.begun files.old) (F.begun files.new) result }
     ensures decided { IfOk result (λ outcome. stops.IsDecided outcome.status) }
     ensures safe { IfOk result (λ outcome. IfSome (F.told files.old) (λ told.
         rule.IsWriting told style_name.now (name_in cond_name.entry) outcome)) }

@@ -14,5 +14,6 @@ returns-clause-answer g c =
 
 pub returns-clause-begun : goal.returns-clause-begun
 returns-clause-begun g c =
-    told_begun g.F.Files c.args.files.now c.infer-found.new.files (λ t. infer_begun t c.args.style.now (name_in c.args.cond)) (g.F.Files.told c.args.files.now) c.infer-found.result c.told.result
+    told_begun g.F.Files c.args.files.now c.infer-found.new.files (λ t. infer_begun t c.args.style.now (name_in c.args.cond))
+    (g.F.Files.told c.args.files.now) c.infer-found.result c.told.result
     c.infer-found.ensures.begun c.infer-found.ensures.reads.cause c.told.ensures
