@@ -1,11 +1,10 @@
 -- What the words `infer STYLE` and `infer STYLE COND` come to (docs/COMMANDS.md, "A certificate that is found").
-use Rattle.std.specs.Prelude.{◌≡◌, ℕ, ◌≤◌, nat_lt, if◌then◌else◌, List, [], ◌++◌, length, codes, Option, None, Some, Result, Ok, Err}
+use Rattle.std.specs.Prelude.{◌≡◌, ℕ, ◌≤◌, nat_lt, if◌then◌else◌, List, [], length, codes, Option, None, Some, Result, Ok, Err}
 use Rattle.std.specs.FinMap.{get}
 use Rattle.bv_base.specs.Answers.{then_do}
 use Rattle.bv_base.specs.Outside.{Listing}
+use Rattle.bv_base.specs.Places.{first_place}
 use Rattle.bv_base.specs.declared.limits.TheConstants.{STYLE_BYTES}
-use Rattle.bv_base.specs.declared.place.Place.{Place}
-use Rattle.bv_base.specs.declared.status.Status.TheVariants as status
 use Rattle.name_table.specs.declared.style.Style.{Style}
 use Rattle.bst_parse.specs.Reading.{style_of}
 use Rattle.bst_meaning.specs.Safe.{Safe}
@@ -20,32 +19,12 @@ use Rattle.command_flow.specs.Checks.{checked}
 use Rattle.infer.specs.DefaultCond.{default_cond}
 use Rattle.infer.specs.Infer.{infer_of}
 use Rattle.infer.specs.declared.unknown.Unknown.{Unknown}
-use Rattle.infer.specs.declared.unknown.UnknownReason.{UnknownReason}
-use Rattle.infer.specs.declared.unknown.UnknownReason.TheVariants.{Demand, Loop, TooManyCases, WalkTooLong, WalkTooDeep, UnknownFunction, Rejected, NoMemory}
 use Rattle.bst_run.specs.declared.outcome.Outcome.{Outcome}
+use Rattle.bst_run.specs.Delivery.{Sunk, IsFront}
 use Rattle.bst_run.specs.Files.{file_in}
-use Rattle.bst_run.specs.Refusals.{demand_name, number_text, operand_of}
-use Rattle.bst_run.specs.Report.{bad_cert, last_line, placed_line}
+use Rattle.bst_run.specs.Report.{bad_cert, unknown, written}
 use Rattle.bst_run.specs.Sources.{read_style}
-
--- the first place of a text
-abbrev pub start : Place
-start = record { line = 1; column = 1 }
-
--- why no certificate is found, in words
-abbrev pub reason_text : UnknownReason → List ℕ
-reason_text (Demand demand) = demand_name demand.kind ++ number_text (operand_of demand.operand)
-reason_text Loop = codes "Loop"
-reason_text TooManyCases = codes "TooManyCases"
-reason_text WalkTooLong = codes "WalkTooLong"
-reason_text WalkTooDeep = codes "WalkTooDeep"
-reason_text UnknownFunction = codes "UnknownFunction"
-reason_text Rejected = codes "Rejected"
-reason_text NoMemory = codes "NoMemory"
-
--- no certificate is found: the place, and why
-abbrev pub unknown : Place → List ℕ → Outcome
-unknown place reason = last_line status.Unknown (placed_line (codes "unknown") place reason)
+use Rattle.bst_run.specs.Unknowns.{reason_text}
 
 -- the certificate that is found
 abbrev pub shown : Result Cert Unknown → Result Cert Outcome
@@ -59,13 +38,9 @@ unrejected (Err refusal) = Err (unknown refusal.place (codes "Rejected"))
 
 -- the text of a certificate that keeps the limit of such files
 abbrev pub short_text : List ℕ → Result (List ℕ) Outcome
-short_text text = if nat_lt STYLE_BYTES (length text) then Err (unknown start (codes "CertTooLong")) else Ok text
+short_text text = if nat_lt STYLE_BYTES (length text) then Err (unknown first_place (codes "CertTooLong")) else Ok text
 
--- a certificate is written
-abbrev pub written : List ℕ → Outcome
-written text = record { status = status.Done; out = text; err = [] }
-
--- it is, where its text is short and the rules hold of it
+-- a certificate is written, where its text is short and the rules hold of it
 abbrev pub printed : Style → Cert → Result Outcome Outcome
 printed style cert =
     then_do (short_text (text_of (cert_lines style cert))) (λ text. then_do (unrejected (checked style cert)) (λ held. Ok (written text)))
@@ -79,10 +54,14 @@ abbrev pub read_cond : Result Cond CertFault → Result Cond Outcome
 read_cond (Ok admits) = Ok admits
 read_cond (Err fault) = Err (bad_cert fault)
 
--- the condition in the file of this name, and the default one where none is named
+-- the condition in the file of this name
+abbrev pub cond_named : Listing → List ℕ → Style → Result Cond Outcome
+cond_named told name style = then_do (file_in told STYLE_BYTES name) (λ text. read_cond (cond_of style text))
+
+-- that, and the default one where none is named
 abbrev pub cond_for : Listing → Option (List ℕ) → Style → Result Cond Outcome
 cond_for told None style = Ok (default_cond style)
-cond_for told (Some name) style = then_do (file_in told STYLE_BYTES name) (λ text. read_cond (cond_of style text))
+cond_for told (Some name) style = cond_named told name style
 
 -- a certificate for a style
 abbrev pub inferred_for : Listing → Option (List ℕ) → Style → Result Outcome Outcome
@@ -102,6 +81,12 @@ pub record IsCertifiedBy (style : Style) (admits : Cond) (text : List ℕ) : Typ
   pub safe : Safe style admits
   pub short : length text ≤ STYLE_BYTES
 
+-- an outcome writes such a text
+pub record IsWritten (style : Style) (admits : Cond) (outcome : Outcome) : Type 0 where
+  pub text : List ℕ
+  pub certified : IsCertifiedBy style admits text
+  pub printed : outcome ≡ written text
+
 -- the style that the first file holds has such a text under the condition that the second holds, or the default one
 pub record IsInferred (told : Listing) (style_name : List ℕ) (cond_name : Option (List ℕ)) : Type 0 where
   pub bytes : List ℕ
@@ -112,3 +97,13 @@ pub record IsInferred (told : Listing) (style_name : List ℕ) (cond_name : Opti
   pub cond_given : cond_for told cond_name style ≡ Ok admits
   pub text : List ℕ
   pub certified : IsCertifiedBy style admits text
+
+-- an outcome writes that text
+pub record IsWriting (told : Listing) (style_name : List ℕ) (cond_name : Option (List ℕ)) (outcome : Outcome) : Type 0 where
+  pub found : IsInferred told style_name cond_name
+  pub printed : outcome ≡ written found.text
+
+-- what was put on standard output is a front of that text
+pub record IsSafelyInferred (told : Listing) (style_name : List ℕ) (cond_name : Option (List ℕ)) (out : Sunk) : Type 0 where
+  pub found : IsInferred told style_name cond_name
+  pub printed : IsFront found.text out

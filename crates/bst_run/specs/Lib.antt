@@ -1,5 +1,6 @@
 pub mod DataFaults
 pub mod Refusals
+pub mod Unknowns
 pub mod Report
 pub mod Stops
 pub mod Reads
@@ -9,11 +10,11 @@ pub mod Requests
 pub mod FileFaults
 pub mod FileNames
 pub mod AuxChain
-pub mod Inferred
 pub mod InputTrees
 pub mod Sources
 pub mod Ran
 pub mod Under
 pub mod FilesBegun
 pub mod Delivery
+pub mod Inferred
 pub mod Top
