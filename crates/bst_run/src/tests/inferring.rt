@@ -265,18 +265,36 @@ fn a_condition_is_read_by_its_grammar(rt: HostRuntime) -> Result<(), Fail> {
 /// Asserts which certificate is found for each style, and that it is accepted.
 fn compare_found(rt: &impl Abort, alloc: Global, rows: &[Found]) -> Result<(), Fail> {
     for row in rows {
-        let lists = row.lists;
-        let lines = row.lines;
-        let cert = format!(in alloc;
-            "bstcert 1\nentries 10000\nkey 250\npreamble 20000\nlength 10000\n{lists}othertype yes\nend\n{lines}done\n"
-        )?;
-        let mut files = MemFiles::new(alloc);
-        files.add("a.bst", row.style.as_bytes())?;
-        compare_written(rt, alloc, &mut files, cert.as_bytes())?;
-        files.add("b.cert", cert.as_bytes())?;
-        let said = judged_by(alloc, &mut files)?;
-        assert_eq!(rt; said.as_str(), "accepted");
+        let cert = certificate(alloc, row.lists, row.lines)?;
+        compare_certificate(rt, alloc, row.style.as_bytes(), cert.as_bytes())?;
     }
+    Ok(())
+}
+
+/// The certificate under the default condition with these lists, and these lines behind it.
+fn certificate(alloc: Global, lists: &str, lines: &str) -> Result<String, Fail> {
+    let numbers = "entries 10000\nkey 250\npreamble 20000\nlength 10000\n";
+    Ok(format!(in alloc; "bstcert 1\n{numbers}{lists}othertype yes\nend\n{lines}done\n")?)
+}
+
+/// Asserts that this certificate is found for a style, and that it is accepted.
+fn compare_certificate(
+    rt: &impl Abort,
+    alloc: Global,
+    style: &[u8],
+    cert: &[u8],
+) -> Result<(), Fail> {
+    let mut files = MemFiles::new(alloc);
+    files.add("a.bst", style)?;
+    compare_written(rt, alloc, &mut files, cert)?;
+    files.add("b.cert", cert)?;
+    compare_accepted(rt, alloc, &mut files)
+}
+
+/// Asserts that the certificate in these files is accepted.
+fn compare_accepted(rt: &impl Abort, alloc: Global, files: &mut MemFiles) -> Result<(), Fail> {
+    let said = judged_by(alloc, files)?;
+    assert_eq!(rt; said.as_str(), "accepted");
     Ok(())
 }
 
