@@ -1,5 +1,5 @@
 -- The certificate that is found keeps the limits and the canonical form, and the bare one that it begins with is one of the style.
-use Rattle.std.proofs.Common.{◌≡◌, ◌≤◌, List, [], ◌∷◌, length, Option, None, IfSome, lit≤, refl, sym, subst, arith}
+use Rattle.std.proofs.Common.{◌≡◌, ◌≤◌, List, [], ◌∷◌, length, Option, None, IfSome, lit≤, refl, sym, ap, subst, ◌∙◌, arith}
 use Rattle.std.proofs.lemmas.List.Elements.{All-nil}
 use Rattle.bv_base.specs.declared.limits.TheConstants.{STYLE_BYTES}
 use Rattle.name_table.specs.Sound.{Each, IsSound}
@@ -7,6 +7,7 @@ use Rattle.name_table.specs.declared.style.Style.{Style}
 use Rattle.bst_meaning.specs.declared.condition.Cond.{Cond}
 use Rattle.cert_format.specs.CertText.{IsCert, IsCommandPart}
 use Rattle.cert_format.specs.CondText.{IsCond}
+use Rattle.cert_format.specs.declared.cert.Cert.{Cert}
 use Rattle.cert_format.specs.declared.cert.CommandPart.{CommandPart}
 use Rattle.sym_state.specs.declared.piece.Piece.{Piece}
 use Rattle.cert_check.specs.Certified.{IsCertified}
@@ -47,7 +48,7 @@ records_written : (style : Style) (parts : List CommandPart) → length style.co
 records_written style [] few are = tt
 records_written style (part ∷ parts) few are = (record_written style part few are.0, records_written style parts few are.1)
 
-pub found_written : (style : Style) (admits : Cond) (parts : List CommandPart) → IsSound style → IsCond style.names admits → AreRecords style parts
+found_written : (style : Style) (admits : Cond) (parts : List CommandPart) → IsSound style → IsCond style.names admits → AreRecords style parts
     → IsCert style (record (bare admits) { commands = parts })
 found_written style admits parts sound is are = record {
   list = (lit≤ tt, lit≤ tt);
@@ -59,3 +60,11 @@ found_written style admits parts sound is are = record {
   commands = records_written style parts sound.few_commands are.each;
   rise = are.rise;
 }
+
+-- and so does one that begins as the bare one
+pub written_as : (style : Style) (admits : Cond) (begun : Cert) (parts commands : List CommandPart) → IsSound style → IsCond style.names admits
+    → begun ≡ bare admits → commands ≡ parts → AreRecords style parts → IsCert style (record begun { commands = commands })
+written_as style admits begun parts commands sound is one two are =
+    subst (IsCert style)
+    (sym (ap (λ (c : Cert). record c { commands = commands }) one ∙ ap (λ (l : List CommandPart). record (bare admits) { commands = l }) two))
+    (found_written style admits parts sound is are)
