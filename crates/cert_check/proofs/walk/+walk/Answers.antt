@@ -54,8 +54,8 @@ pub named-returns-in-Some-Builtin : goal.named-returns-in-Some-Builtin
 named-returns-in-Some-Builtin t c =
     let enter = body_walked c.args.scope.now c.args.more in
     record {
-      takes = built_in_takes c.args.scope.now enter (chosen_in c.args.scope.now enter c.args.place) (kind_of c.args.scope.now.style c.args.name) _ c.args.name
-          c.args.place c.args.state c.args.course.now c.entering_nothing.new.self c.entering_nothing.result (search rules) (search rules)
+      takes = built_in_takes c.args.scope.now enter (chosen_in c.args.scope.now enter c.args.place) (kind_of c.args.scope.now.style c.args.name)
+          c.in-Some-Builtin.op c.args.name c.args.place c.args.state c.args.course.now c.entering_nothing.new.self c.entering_nothing.result (search rules) (search rules)
           c.entering_nothing.ensures.takes;
     }
 
