@@ -97,7 +97,8 @@ if_else_safe scope list enter place at (c ∷ (b ∷ (a ∷ rest))) n s told fit
     let chose : choice scope enter call place found course ≡ Ok after = subst (λ (three : Three). choice scope enter call place three course ≡ Ok after) met.is taken.2 in
     let hints = hints_of_choice scope found course in
     let weighed = above_of scope.cert.cond popped a hints in
-    let split = then_ok (placed place weighed) (λ labelled. cases_entered scope enter call place found labelled.cases (behind hints labelled.hints course)) after chose in
+    let split = then_ok (placed place weighed) (λ labelled. cases_entered scope enter call place found labelled.cases (behind hints labelled.hints course))
+    after chose in
     let cases = placed_ok place weighed split.0 split.1 in
     let below = tops_below scope.style s.state (c ∷ (b ∷ (a ∷ rest))) s.made tops in
     let lower = All-tail (λ (x : Sym). x.0 < s.state.next) b (a ∷ rest) (All-tail (λ (x : Sym). x.0 < s.state.next) c (b ∷ (a ∷ rest)) below) in
@@ -127,7 +128,8 @@ if_else_safe scope list enter place at (c ∷ (b ∷ (a ∷ rest))) n s told fit
     let case : Bool × State = (positive, state) in
     let here = among_all (CaseFollows scope s.state rest) case split.0.cases one.among follow in
     let calls : Calls scope call rest = λ name inner made less. name_moved scope enter (if_else scope enter place rest) place name inner told moves made (if_else_moved scope enter place rest inner told moves made less) in
-    let entered = case_entered scope enter call place found rest s.state case split.0.cases (behind hints split.0.hints course) after told moves calls follow one.among split.2 in
+    let entered = case_entered scope enter call place found rest s.state case split.0.cases (behind hints split.0.hints course) after told moves
+    calls follow one.among split.2 in
     let reached : Reaches scope list s.c.frames s state s.v bare = record {
       follows = here.follows;
       agrees = agrees_self s.state.next s.v;

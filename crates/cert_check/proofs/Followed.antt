@@ -160,8 +160,8 @@ rehinted scope room start before after hints short moved = record {
 }
 
 -- so do those that were found for a rule
-left_short : (finding : Option Finding) (left after : List Hint) (find : Finding → List Hint) → (All HasFewUses (handed finding left find) → All HasFewUses after)
-    → All HasFewUses left → All HasFewUses (left_behind finding left after)
+left_short : (finding : Option Finding) (left after : List Hint) (find : Finding → List Hint)
+    → (All HasFewUses (handed finding left find) → All HasFewUses after) → All HasFewUses left → All HasFewUses (left_behind finding left after)
 left_short None left after find short all = short all
 left_short (Some finding) left after find short all = all
 

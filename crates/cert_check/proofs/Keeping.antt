@@ -113,7 +113,8 @@ plain_moved scope o place state course after told made e =
     let hints = hints_at scope o state course in
     let effect = confined (is_within scope (written_by o state)) (effect_of scope.style scope.cert.cond state o hints) in
     let mid = then_ok (placed place effect) (λ given. gives place given.state (behind hints given.hints course)) after e in
-    let inside = confined_ok (is_within scope (written_by o state)) (effect_of scope.style scope.cert.cond state o hints) mid.0 (placed_ok place effect mid.0 mid.1) in
+    let inside = confined_ok (is_within scope (written_by o state)) (effect_of scope.style scope.cert.cond state o hints) mid.0
+    (placed_ok place effect mid.0 mid.1) in
     behind_moved scope 1 state course after (λ finding. plain_hints finding scope.style scope.cert.cond state o) mid.0.hints
     (effect_keeps HasFewUses scope.style scope.cert.cond state o hints mid.0 inside.1)
     (one_given scope 1 state mid.0.state place (behind hints mid.0.hints course) after
@@ -143,7 +144,8 @@ pub split_moved : (scope : Scope) (asked : Test) (place : Place) (state : State)
     → split scope asked place state course ≡ Ok after → Moved scope 1 state course after
 split_moved scope asked place state course after made fits e =
     let hints = hints_of_test scope asked state course in
-    let mid = then_ok (placed place (split_of scope.cert.cond state asked hints)) (λ cases. gives_all place cases.states (behind hints cases.hints course)) after e in
+    let mid = then_ok (placed place (split_of scope.cert.cond state asked hints)) (λ cases. gives_all place cases.states (behind hints cases.hints course))
+    after e in
     let cases = placed_ok place (split_of scope.cert.cond state asked hints) mid.0 mid.1 in
     behind_moved scope 1 state course after (λ finding. test_hints finding scope.cert.cond state asked) mid.0.hints
     (hints_keep HasFewUses scope.cert.cond state asked hints mid.0 cases)

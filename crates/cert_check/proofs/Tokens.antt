@@ -230,11 +230,14 @@ pub test_safe : (scope : Scope) (list : EntryList) (n : ℕ) (s : Start scope li
 test_safe scope list n s o asked place at course after is formed e safe =
     let t = tested o asked is in
     let hints = hints_of_test scope asked s.state course in
-    let mid = then_ok (placed place (split_of scope.cert.cond s.state asked hints)) (λ cases. gives_all place cases.states (behind hints cases.hints course)) after e in
-    let one = test_found (spot_at scope list s at) asked o hints mid.0 t.function (placed_ok place (split_of scope.cert.cond s.state asked hints) mid.0 mid.1) in
+    let mid = then_ok (placed place (split_of scope.cert.cond s.state asked hints)) (λ cases. gives_all place cases.states (behind hints cases.hints course))
+    after e in
+    let cases = placed_ok place (split_of scope.cert.cond s.state asked hints) mid.0 mid.1 in
+    let one = test_found (spot_at scope list s at) asked o hints mid.0 t.function cases in
     let given = gives_all_ok place mid.0.states (behind hints mid.0.hints course) after mid.2 in
     safe one.after one.covers.assignment (with_effect scope.style (built_in o (context_of scope.style s.c) s.c.stack) at s.c)
     (subst (λ (c : Course). IsAmong one.after c.given) (sym given) (among_later one.after course.given mid.0.states one.among))
     (covered_reached scope list s o at one.after t.plain
     (among_all (Follows scope s.state) one.after mid.0.states one.among
-    (split_follow scope asked s.state hints mid.0 s.made (test_fits o s.state asked is) (placed_ok place (split_of scope.cert.cond s.state asked hints) mid.0 mid.1))) (λ outside. (s.laws.kept scope.style o at s.c).entries t.still) formed one.covers)
+    (split_follow scope asked s.state hints mid.0 s.made (test_fits o s.state asked is) cases))
+    (λ outside. (s.laws.kept scope.style o at s.c).entries t.still) formed one.covers)

@@ -185,9 +185,9 @@ called style cert states target place hints scope course after given left scope_
 }
 
 -- a call whose hints are found
-pub called_finding : (finding : Finding) (style : Style) (cert : Cert) (states : List State) (target : Target) (place : Place) (scope : Scope) (course after : Course)
-    (given : List State) (found : List Hint) → scope ≡ everywhere style cert → course ≡ searching finding → target_from scope place target states course ≡ Ok after
-    → given ≡ after.given → found ≡ after.found → Finds (call_found finding style cert states target place) given found
+pub called_finding : (finding : Finding) (style : Style) (cert : Cert) (states : List State) (target : Target) (place : Place) (scope : Scope)
+    (course after : Course) (given : List State) (found : List Hint) → scope ≡ everywhere style cert → course ≡ searching finding
+    → target_from scope place target states course ≡ Ok after → given ≡ after.given → found ≡ after.found → Finds (call_found finding style cert states target place) given found
 called_finding finding style cert states target place scope course after given found scope_is course_is e given_is found_is = record {
   course = after;
   is = call_is style cert states target place (searching finding) scope course scope_is course_is ∙ e;

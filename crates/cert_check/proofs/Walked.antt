@@ -181,7 +181,8 @@ choice_moved scope enter call place a b c rest state course after told enters ca
     let old = All-head (λ (s : Sym). s.0 < state.next) a rest lowest in
     let hints = hints_of_choice scope found course in
     let weighed = above_of scope.cert.cond popped a hints in
-    let split = then_ok (placed place weighed) (λ labelled. cases_entered scope enter call place found labelled.cases (behind hints labelled.hints course)) after chose in
+    let split = then_ok (placed place weighed) (λ labelled. cases_entered scope enter call place found labelled.cases (behind hints labelled.hints course))
+    after chose in
     let cases = placed_ok place weighed split.0 split.1 in
     behind_moved scope 65 state course after (λ finding. above_hints finding scope.cert.cond popped a) split.0.hints
     (labelled_hints_keep HasFewUses scope.cert.cond popped a hints split.0 cases)

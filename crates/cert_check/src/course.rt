@@ -652,9 +652,10 @@ fn confined(
     requires plain { effects.is_plain op ≡ true }
     requires hints { All HasFewUses hints.old }
     ensures gives { MatchResult result
-        (λ after. courses.placed place (rule.confined (rule.is_within scope.now (rule.written_by op state.now)) (effects.effect_of scope.now.style scope.now.cert.cond state.now op hints.old))
-        ≡ Ok (record { state = after; hints = hints.new }))
-        (Refused (courses.placed place (rule.confined (rule.is_within scope.now (rule.written_by op state.now)) (effects.effect_of scope.now.style scope.now.cert.cond state.now op hints.old)))) }
+        (λ after. courses.placed place (rule.confined (rule.is_within scope.now (rule.written_by op state.now))
+        (effects.effect_of scope.now.style scope.now.cert.cond state.now op hints.old)) ≡ Ok (record { state = after; hints = hints.new }))
+        (Refused (courses.placed place (rule.confined (rule.is_within scope.now (rule.written_by op state.now))
+        (effects.effect_of scope.now.style scope.now.cert.cond state.now op hints.old)))) }
     ensures few { All HasFewUses hints.new }
 {
     let may = is_within(scope, written_by(op, state));
