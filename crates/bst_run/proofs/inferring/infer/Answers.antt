@@ -1,4 +1,4 @@
-use Rattle.std.proofs.Common.{List, ℕ, Err}
+use Rattle.std.proofs.Common.{Err}
 use Rattle.std.proofs.lemmas.Result.{err_from_is_err_and}
 use Rattle.bst_meaning.specs.declared.condition.Cond.{Cond}
 use Rattle.bst_run.specs.declared.outcome.Outcome.{Outcome}
