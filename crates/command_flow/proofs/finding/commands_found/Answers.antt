@@ -18,7 +18,7 @@ returns-in_err-found-clause-finds c =
 pub loop-index-preserved : goal.loop-index-preserved
 loop-index-preserved c =
     let put = put_on (c.push_record.new.parts.items ≡ c.loop-index.parts.items ++ record_of c.loop-index.index c.in_ok-found.found.hints)
-        c.push_record.result c.in_ok-held.field-0 c.in_ok-held.ensures c.push_record.ensures in
+    c.push_record.result c.in_ok-held.field-0 c.in_ok-held.ensures c.push_record.ensures in
     let there : c.loop-index.index < length c.as_slice-at-items.result.now = (let within = c.loop-index-test.true in omega (arith, within)) in
     record {
       left = found_next c.args.finding c.args.checker.now.style c.args.checker.now.cert c.loop-index.index c.loop-index.between c.loop-index.parts.items
