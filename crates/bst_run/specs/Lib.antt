@@ -1,6 +1,5 @@
 pub mod DataFaults
 pub mod Refusals
-pub mod Unknowns
 pub mod Report
 pub mod Stops
 pub mod Reads
@@ -16,5 +15,4 @@ pub mod Ran
 pub mod Under
 pub mod FilesBegun
 pub mod Delivery
-pub mod Inferred
 pub mod Top

@@ -113,7 +113,6 @@ mod begun;
 mod check;
 mod commands;
 mod data;
-mod inferring;
 mod loops;
 mod refusals;
 mod run;

@@ -52,5 +52,3 @@ pub mod UnitSteps
 pub mod TableSteps
 pub mod LoopSteps
 pub mod TurnSteps
-pub mod FoundHints
-pub mod FoundWalks

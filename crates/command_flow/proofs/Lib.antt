@@ -17,5 +17,3 @@ pub mod Flowing
 pub mod Records
 pub mod Opened
 pub mod Deciding
-pub mod FoundRecords
-pub mod CommandsFound

@@ -5,4 +5,3 @@ pub mod Checks
 pub mod Places
 pub mod Ready
 pub mod Records
-pub mod Finding

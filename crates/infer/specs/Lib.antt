@@ -1,3 +1,0 @@
-pub mod DefaultCond
-pub mod Fragment
-pub mod Infer

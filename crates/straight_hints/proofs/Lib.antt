@@ -1,6 +1,0 @@
-pub mod Bounded
-pub mod CasesTaken
-pub mod Every
-pub mod RulesTaken
-pub mod Short
-pub mod Written
