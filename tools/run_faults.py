@@ -61,16 +61,21 @@ class Stood:
 
 WHERE = ("the top of the stack", "the value below the top", "the third value")
 COUNTS = ("the stack is empty", "only one is on the stack", "only two are on the stack")
+# Why an execution error is answered that no run over no entries comes to.
+UNSHOWN = {
+    "refused": "by the checker's rules a run may come to this, and the certificate doesn't rule it out",
+    "unknown": "by the checker's rules a run may come to this, and no proof is found that rules it out",
+}
 
 
 def explain_run(block, style, answer, program):
     """What stood at an execution error."""
     stood = Stood(style, answer, program)
     show_head(block, style, stood.command or style.command_at(stood.offset), stood.offset)
-    if answer.kind == "refused" and not stood.reached:
+    if answer.kind in UNSHOWN and not stood.reached:
         block.mark(style, stood.offset, len(stood.lexeme.text), "^")
         may_be_missing(block, stood)
-        block.note("why", "by the checker's rules a run may come to this, and the certificate doesn't rule it out")
+        block.note("why", UNSHOWN[answer.kind])
         return
     if answer.name not in ("EmptyPop", "WrongKind"):
         # The kinds are looked at first, so here they are right.
@@ -89,7 +94,7 @@ def explain_run(block, style, answer, program):
             name, line, it = found
             block.note("entry", f"{answer.rest}, @{text(it.kind)} at {block.called(name)}:{line}, " + (
                 "with " + ", ".join(it.fields) if it.fields else "without fields"))
-    if answer.kind == "refused":
+    if answer.kind in UNSHOWN:
         block.note("why", "a run of this style over no entries comes to this place")
 
 

@@ -12,7 +12,7 @@ use Rattle.bst_run.specs.declared.outcome.Outcome.{Outcome}
 use Rattle.bst_run.specs.declared.stop.Stop.{Stop}
 use Rattle.bst_run.specs.declared.stop.Stop.TheVariants.{Told, Absent, Failed, TooLong, NoMemory as Wanting}
 use Rattle.bst_run.specs.Delivery.{Sunk, IsFront, IsDelivered, Whole, OutFailed, ErrFailed, OutWanting, ErrWanting, Delivers}
-use Rattle.bst_run.specs.Forms.{Form, Check, Run, RunUnder}
+use Rattle.bst_run.specs.Forms.{Form, Check, Infer, Run, RunUnder}
 use Rattle.bst_run.specs.Reads.{Reads}
 use Rattle.bst_run.specs.Report.{usage, absent, unread, too_long}
 use Rattle.bst_run.specs.Stops.{Gives, HasCause, IsDecided, IsRefusing, told_of}
@@ -240,6 +240,10 @@ promised told (Check style cert) o out front acceptance = record {
   found = acceptance.found;
   printed = subst (λ (x : Outcome). IsFront x.out out) acceptance.printed front;
 }
+promised told (Infer style cond) o out front writing = record {
+  found = writing.found;
+  printed = subst (λ (x : Outcome). IsFront x.out out) writing.printed front;
+}
 promised told (Run aux steps) o out front acceptance = tt
 promised told (RunUnder aux steps cert) o out front acceptance = tt
 
@@ -261,6 +265,7 @@ form_safe see old new form (Ok o) given out err answer delivered more =
 -- what an outcome promises, Done promises
 done_well : (told : Listing) (form : Form) (o : Outcome) → Promises told form o → IsDoneWell told form
 done_well told (Check style cert) o acceptance = acceptance.found
+done_well told (Infer style cond) o writing = writing.found
 done_well told (Run aux steps) o acceptance = tt
 done_well told (RunUnder aux steps cert) o acceptance = tt
 

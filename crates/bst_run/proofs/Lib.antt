@@ -2,11 +2,13 @@ pub mod AuxPlaces
 pub mod FileFaultLemmas
 pub mod ChainLemmas
 pub mod CheckLemmas
+pub mod InferLemmas
 pub mod DeliveryLemmas
 pub mod CommandLemmas
 pub mod ReadsLemmas
 pub mod BegunLemmas
 pub mod RunLemmas
+pub mod StyleLemmas
 pub mod RefusalPlaces
 pub mod SitePlaces
 pub mod TreeLemmas

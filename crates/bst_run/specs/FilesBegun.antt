@@ -22,7 +22,7 @@ use Rattle.bst_run.specs.declared.outcome.Outcome.{Outcome}
 use Rattle.bst_run.specs.declared.stop.Stop.{Stop}
 use Rattle.bst_run.specs.AuxChain.{aux_in, aux_file, needs_of, take_input, with_item, with_names}
 use Rattle.bst_run.specs.Files.{file_in, with_ending}
-use Rattle.bst_run.specs.Forms.{Form, Check, Run, RunUnder}
+use Rattle.bst_run.specs.Forms.{Form, Check, Infer, Run, RunUnder}
 use Rattle.bst_run.specs.Requests.{fault_after, nothing}
 use Rattle.bst_run.specs.Sources.{database_named, read_style, sources_of, style_named}
 use Rattle.bst_run.specs.Stops.{outcome_of}
@@ -93,11 +93,23 @@ sources_begun_for told needs =
 abbrev pub sources_begun : Listing → List ℕ → List Begun
 sources_begun told name = needs_begun told name ++ then_begun (needs_of told name) (sources_begun_for told)
 
+-- the style, and once it is read what comes after it
+abbrev pub style_begun : Listing → List ℕ → List Begun → List Begun
+style_begun told style after =
+    file_begun told style ++ then_begun (file_in told STYLE_BYTES style) (λ bytes. then_begun (read_style (style_of bytes)) (λ _. after))
+
 -- the style, and then the certificate
 abbrev pub check_begun : Listing → List ℕ → List ℕ → List Begun
-check_begun told style cert =
-    file_begun told style
-    ++ then_begun (file_in told STYLE_BYTES style) (λ bytes. then_begun (read_style (style_of bytes)) (λ _. file_begun told cert))
+check_begun told style cert = style_begun told style (file_begun told cert)
+
+-- a condition, where one is named
+abbrev pub cond_begun : Listing → Option (List ℕ) → List Begun
+cond_begun told None = []
+cond_begun told (Some name) = file_begun told name
+
+-- the style, and then the condition
+abbrev pub infer_begun : Listing → List ℕ → Option (List ℕ) → List Begun
+infer_begun told style cond = style_begun told style (cond_begun told cond)
 
 -- what a run reads, and then the certificate
 abbrev pub under_begun : Listing → List ℕ → List ℕ → List Begun
@@ -106,6 +118,7 @@ under_begun told aux cert = sources_begun told aux ++ then_begun (sources_of tol
 -- what the words of a form begin, over these files
 abbrev pub files_begun : Listing → Form → List Begun
 files_begun told (Check style cert) = check_begun told style cert
+files_begun told (Infer style cond) = infer_begun told style cond
 files_begun told (Run aux steps) = sources_begun told aux
 files_begun told (RunUnder aux steps cert) = under_begun told aux cert
 

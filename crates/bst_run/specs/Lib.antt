@@ -1,5 +1,6 @@
 pub mod DataFaults
 pub mod Refusals
+pub mod Unknowns
 pub mod Report
 pub mod Stops
 pub mod Reads
@@ -15,4 +16,5 @@ pub mod Ran
 pub mod Under
 pub mod FilesBegun
 pub mod Delivery
+pub mod Inferred
 pub mod Top

@@ -79,6 +79,10 @@ refused_line refusal = codes "refused " ++ (place_text refusal.place ++ (codes "
 abbrev pub refused : Refusal → Outcome
 refused refusal = last_line status.Refused (refused_line refusal)
 
+-- no certificate is found: the place, and why
+abbrev pub unknown : Place → List ℕ → Outcome
+unknown place reason = last_line status.Unknown (placed_line (codes "unknown") place reason)
+
 -- the rules hold: the style is safe under the condition that is printed
 abbrev pub accepted : Style → Cond → Outcome
 accepted style cond = record {
@@ -86,6 +90,10 @@ accepted style cond = record {
   out = codes "accepted\nlist 1\n" ++ text_of (cond_items style.names cond);
   err = [];
 }
+
+-- a certificate is written
+abbrev pub written : List ℕ → Outcome
+written text = record { status = status.Done; out = text; err = [] }
 
 -- the rules hold, or the first that fails is told
 abbrev pub holding : {A : Type 0} → Result A Refusal → Result (Unit {0}) Outcome

@@ -37,7 +37,7 @@ IsDecided status.WriteFailed = ⊥
 IsDecided status.NoMemory = ⊥
 IsDecided _ = Unit {0}
 
--- one of them that isn't the answer of a certificate that is accepted or of a run
+-- one of them that isn't the answer of a certificate that is accepted or found, or of a run
 abbrev pub IsRefusing : Status → Type 0
 IsRefusing status.Done = ⊥
 IsRefusing status.Fault = ⊥

@@ -17,7 +17,8 @@ use Rattle.command_flow.specs.Checks.{checked}
 use Rattle.bst_run.specs.declared.outcome.Outcome.{Outcome}
 use Rattle.bst_run.specs.Delivery.{Sunk, IsFront, IsDelivered}
 use Rattle.bst_run.specs.Files.{file_in}
-use Rattle.bst_run.specs.Forms.{Form, Check, Run, RunUnder}
+use Rattle.bst_run.specs.Forms.{Form, Check, Infer, Run, RunUnder}
+use Rattle.bst_run.specs.Inferred.{IsInferred, IsSafelyInferred, IsWriting, infer_outcome}
 use Rattle.bst_run.specs.Ran.{run_outcome}
 use Rattle.bst_run.specs.Report.{absent, accepted, holding, unread}
 use Rattle.bst_run.specs.Sources.{read_cert, read_style}
@@ -48,6 +49,7 @@ ended (Err outcome) = outcome
 -- the outcome of the words of a form, over these files
 abbrev pub outcome_in : Listing → Form → Outcome
 outcome_in told (Check style cert) = ended (check_outcome told style cert)
+outcome_in told (Infer style cond) = ended (infer_outcome told style cond)
 outcome_in told (Run aux steps) = ended (run_outcome told aux steps)
 outcome_in told (RunUnder aux steps cert) = ended (under_outcome told aux steps cert)
 
@@ -88,6 +90,7 @@ SaysDone outcome = (outcome.status ≡ status.Done) ⊎ (outcome.out ≢ [])
 -- what such an outcome promises
 abbrev pub Promises : Listing → Form → Outcome → Type 0
 Promises told (Check style cert) outcome = IsAcceptance told style cert outcome
+Promises told (Infer style cond) outcome = IsWriting told style cond outcome
 Promises told _ outcome = Unit {0}
 
 -- the words `run AUX N CERT`
@@ -128,14 +131,18 @@ pub record IsSafelyAccepted (told : Listing) (style_name cert_name : List ℕ) (
   pub printed : IsFront (accepted found.style found.cert.cond).out out
 
 -- what the status Done promises: for the words `check STYLE CERT` that the style that the first file holds is safe under the
--- condition of the certificate that the second holds
+-- condition of the certificate that the second holds, and for `infer STYLE` and `infer STYLE COND` that a certificate is found
+-- of which the rules hold, and so that the style is safe under the condition that was asked for
 abbrev pub IsDoneWell : Listing → Form → Type 0
 IsDoneWell told (Check style cert) = IsAccepted told style cert
+IsDoneWell told (Infer style cond) = IsInferred told style cond
 IsDoneWell told _ = Unit {0}
 
--- what a text on standard output promises: for the words `check STYLE CERT` that the style is safe
+-- what a text on standard output promises: for the words `check STYLE CERT` that the style is safe, and for `infer STYLE` and
+-- `infer STYLE COND` that it is one of a certificate of which the rules hold
 abbrev pub IsPromised : Listing → Form → Sunk → Type 0
 IsPromised told (Check style cert) out = IsSafelyAccepted told style cert out
+IsPromised told (Infer style cond) out = IsSafelyInferred told style cond out
 IsPromised told _ out = Unit {0}
 
 -- by the words `run AUX N CERT` a log was put that begins with `inside`

@@ -11,6 +11,7 @@ ghost use Rattle.bst_run.specs.Top as top;
 
 use crate::check::check;
 use crate::deliver::deliver;
+use crate::inferring::infer;
 use crate::outcome::Outcome;
 use crate::report::{absent, too_long, unread, usage};
 use crate::run::run;
@@ -23,8 +24,9 @@ use bv_base::sink::Sink;
 use bv_base::status::Status;
 use std::alloc::Global;
 
-/// Decides the certificate of the words `check STYLE CERT`, or takes the first steps of the words `run AUX N` or
-/// `run AUX N CERT`, and answers by the status, a text on `out`, and a text on `err` that ends with the last line.
+/// Decides the certificate of the words `check STYLE CERT`, finds one for the words `infer STYLE` or `infer STYLE COND`, or takes the
+/// first steps of the words `run AUX N` or `run AUX N CERT`, and answers by the status, a text on `out`, and a text on `err` that ends
+/// with the last line.
 pub fn command<F: Files, O: Sink, E: Sink>(
     alloc: Global,
     words: &[String],
@@ -33,10 +35,13 @@ pub fn command<F: Files, O: Sink, E: Sink>(
     err: &mut E,
 ) -> Status
     // Whatever `check` put on `out`, the style is safe: over every entry list that fits it and meets the condition that is printed,
-    // no number of steps comes to an execution error, and each call that ends leaves the literal stack empty.
+    // no number of steps comes to an execution error, and each call that ends leaves the literal stack empty. Whatever `infer` put on
+    // `out` is a front of the text of a certificate of the style in the first file, whose condition is the given or the default one,
+    // unchanged, and of which every rule holds: so the style is safe under that condition.
     ensures safe { O.written out.new ≢ O.written out.old → IfSome (forms.form_of words.now) (λ form. IfSome (F.told files.old) (λ told.
         top.IsPromised told form (sunk ⟦<O as Sink>⟧ out.old out.new))) }
-    // Where `check` is done it is safe under the condition of the certificate, whatever `out` tells.
+    // Where `check` is done it is safe under the condition of the certificate, whatever `out` tells, and where `infer` is done there is
+    // a certificate that shows it safe under the given or the default condition.
     ensures done { result ≡ Status.Done → IfSome (forms.form_of words.now) (λ form. IfSome (F.told files.old) (λ told. top.IsDoneWell told form)) }
     // Where a run under a certificate told that the entries meet its condition, the run came to no execution error.
     ensures inside { IfSome (forms.form_of words.now) (λ form. top.IsInside form (sunk ⟦<E as Sink>⟧ err.old err.new) → result ≢ Status.Fault) }
@@ -113,6 +118,7 @@ fn answer<F: Files>(alloc: Global, form: Form<'_>, files: &mut F) -> Result<Outc
 {
     match form {
         Form::Check(style, cert) => answer_check(alloc, style, cert, files),
+        Form::Infer(style, cond) => answer_infer(alloc, style, cond, files),
         Form::Run(aux, steps) => answer_run(alloc, aux, steps, files),
         Form::RunUnder(aux, steps, cert) => answer_run_under(alloc, aux, steps, cert, files),
     }
@@ -129,6 +135,21 @@ fn answer_check<F: Files>(
     ensures begun { IfSome (F.told files.old) (λ told. HasBegun ⟦<F as Files>⟧ files.old files.new (files_begun told (forms.Check style.now cert.now)) (given_of result)) }
 {
     let found = check(alloc, files, style, cert);
+    told(alloc, found)
+}
+
+/// What the words `infer STYLE` and `infer STYLE COND` come to.
+fn answer_infer<F: Files>(
+    alloc: Global,
+    style: &str,
+    cond: Option<&str>,
+    files: &mut F,
+) -> Result<Outcome, NoMemory>
+    ensures answer { IfOk result (λ outcome. top.IsAnswer ⟦<F as Files>⟧ files.old files.new (forms.Infer style.now (forms.name_in cond.entry)) outcome) }
+    ensures begun { IfSome (F.told files.old) (λ told.
+        HasBegun ⟦<F as Files>⟧ files.old files.new (files_begun told (forms.Infer style.now (forms.name_in cond.entry))) (given_of result)) }
+{
+    let found = infer(alloc, files, style, cond);
     told(alloc, found)
 }
 

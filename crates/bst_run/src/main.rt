@@ -6,6 +6,7 @@ mod command;
 mod data_fault;
 mod deliver;
 mod files;
+mod inferring;
 pub mod laws;
 mod outcome;
 mod refusal;
@@ -15,6 +16,7 @@ mod stop;
 #[cfg(test)]
 mod tests;
 mod under;
+mod unknown;
 mod words;
 
 use crate::command::command;

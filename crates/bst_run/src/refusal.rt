@@ -27,7 +27,8 @@ pub fn name_of(reason: Reason) -> &'static str
     }
 }
 
-fn demand_name(kind: DemandKind) -> &'static str
+/// The name of a demand.
+pub fn demand_name(kind: DemandKind) -> &'static str
     ensures { result.now ≡ refusals.demand_name kind }
 {
     match kind {

@@ -113,6 +113,14 @@ fn refused_line(alloc: Global, refusal: Refusal) -> Result<String, NoMemory>
     }
 }
 
+/// No certificate is found.
+pub fn unknown(alloc: Global, place: Place, reason: &str) -> Result<Outcome, NoMemory>
+    ensures { IfOk result (λ outcome. outcome ≡ report.unknown place reason.now) }
+{
+    let line = placed_line(alloc, "unknown", place, reason)?;
+    Ok(last_line(alloc, Status::Unknown, line))
+}
+
 /// The rules hold: the style is safe under the condition that is printed.
 pub fn accepted(alloc: Global, style: &Style, cond: &Cond) -> Result<Outcome, NoMemory>
     ensures { IfOk result (λ outcome. outcome ≡ report.accepted style.now cond.now) }
@@ -125,6 +133,17 @@ pub fn accepted(alloc: Global, style: &Style, cond: &Cond) -> Result<Outcome, No
         out: Text::from_vec(text),
         err: Text::from_vec(Vec::new(alloc)),
     })
+}
+
+/// A certificate is written.
+pub fn written(alloc: Global, text: Text) -> Outcome
+    ensures { result ≡ report.written text }
+{
+    Outcome {
+        status: Status::Done,
+        out: text,
+        err: Text::from_vec(Vec::new(alloc)),
+    }
 }
 
 /// The outcome with this status whose last line stands alone.

@@ -17,6 +17,8 @@ pub const MOST_STEPS: u64 = 999_999_999;
 pub enum Form<'a> {
     /// Decide the certificate in the second file for the style in the first.
     Check(&'a str, &'a str),
+    /// Find a certificate for the style in the first file, under the condition in the second or the default one.
+    Infer(&'a str, Option<&'a str>),
     /// Run this many steps of the style that the `.aux` file names.
     Run(&'a str, u32),
     /// The same under the certificate in the last file.
@@ -28,8 +30,10 @@ pub fn form_of(words: &[String]) -> Option<Form<'_>>
     ensures { option_map forms.form_in result ≡ forms.form_of words.now }
 {
     match words {
+        [word, style] if word.as_str() == "infer" => Some(Form::Infer(style.as_str(), None)),
         [word, first, second] => match word.as_str() {
             "check" => Some(Form::Check(first.as_str(), second.as_str())),
+            "infer" => Some(Form::Infer(first.as_str(), Some(second.as_str()))),
             "run" => run_form(first.as_str(), second.as_bytes()),
             _ => None,
         },

@@ -39,8 +39,8 @@ use Rattle.refinements.specs.Covered.{above_case}
 use Rattle.refinements.proofs.Framing.{above_left}
 use Rattle.refinements.proofs.Kept.{above_made}
 use Rattle.refinements.proofs.Signs.{labelled_sign_found}
-use Rattle.cert_check.specs.Courses.{placed}
-use Rattle.cert_check.specs.Walks.{Call, Enter, Onward, Scope, built_in, cases_entered, choice, if_else, name_entered}
+use Rattle.cert_check.specs.Courses.{behind, placed}
+use Rattle.cert_check.specs.Walks.{Call, Enter, Onward, Scope, built_in, cases_entered, choice, hints_of_choice, if_else, name_entered}
 use Rattle.cert_check.proofs.Bodies.{returned, unframed}
 use Rattle.cert_check.proofs.Choosing.{case_entered, function_safe, name_safe}
 use Rattle.cert_check.proofs.Entering.{OnwardSafe, after_function}
@@ -95,16 +95,18 @@ if_else_safe scope list enter place at (c ∷ (b ∷ (a ∷ rest))) n s told fit
     let taken = then_ok (placed place operands) (λ three. choice scope enter call place three course) after e in
     let met = three_ok s.state a b c rest taken.0 (placed_ok place operands taken.0 taken.1) in
     let chose : choice scope enter call place found course ≡ Ok after = subst (λ (three : Three). choice scope enter call place three course ≡ Ok after) met.is taken.2 in
-    let weighed = above_of scope.cert.cond popped a course.hints in
-    let split = then_ok (placed place weighed) (λ labelled. cases_entered scope enter call place found labelled.cases (record course { hints = labelled.hints })) after chose in
+    let hints = hints_of_choice scope found course in
+    let weighed = above_of scope.cert.cond popped a hints in
+    let split = then_ok (placed place weighed) (λ labelled. cases_entered scope enter call place found labelled.cases (behind hints labelled.hints course))
+    after chose in
     let cases = placed_ok place weighed split.0 split.1 in
     let below = tops_below scope.style s.state (c ∷ (b ∷ (a ∷ rest))) s.made tops in
     let lower = All-tail (λ (x : Sym). x.0 < s.state.next) b (a ∷ rest) (All-tail (λ (x : Sym). x.0 < s.state.next) c (b ∷ (a ∷ rest)) below) in
     let under = All-tail (λ (x : Sym). x.0 < s.state.next) a rest lower in
     let old = All-head (λ (x : Sym). x.0 < s.state.next) a rest lower in
     let follow = cases_follow scope s.state rest split.0.cases under
-    (above_made scope.style scope.cert.cond popped a course.hints split.0 (rest_made scope.style s.state rest s.made under) old cases)
-    (above_left scope.cert.cond popped a course.hints split.0 cases) in
+    (above_made scope.style scope.cert.cond popped a hints split.0 (rest_made scope.style s.state rest s.made under) old cases)
+    (above_left scope.cert.cond popped a hints split.0 cases) in
     let spot : Spot = spot_at scope list s at in
     let top = function_is (s.v.value c.0) (kind_met spot Func c met.top) in
     let middle = function_is (s.v.value b.0) (kind_met spot Func b met.middle) in
@@ -120,13 +122,14 @@ if_else_safe scope list enter place at (c ∷ (b ∷ (a ∷ rest))) n s told fit
     let fine = subst (IsWellFormed scope.style list) there formed in
     let bare_fine : IsWellFormed scope.style list bare =
     unframed scope.style list (entered_tokens scope.style machine at) at Whole bare fine in
-    let one = labelled_sign_found scope.style scope.cert.cond list s.v popped bare s.below a lowest.0 course.hints split.0
+    let one = labelled_sign_found scope.style scope.cert.cond list s.v popped bare s.below a lowest.0 hints split.0
     (moved scope.style scope.cert.cond list s.v s.state s.c s.below rest (reverse rest) (s.c.events ++ []) (s.c.log ++ []) s.stands (reverse-reverse rest)) lowest.1 cases in
     let state : State = above_case popped a positive in
     let case : Bool × State = (positive, state) in
     let here = among_all (CaseFollows scope s.state rest) case split.0.cases one.among follow in
     let calls : Calls scope call rest = λ name inner made less. name_moved scope enter (if_else scope enter place rest) place name inner told moves made (if_else_moved scope enter place rest inner told moves made less) in
-    let entered = case_entered scope enter call place found rest s.state case split.0.cases (record course { hints = split.0.hints }) after told moves calls follow one.among split.2 in
+    let entered = case_entered scope enter call place found rest s.state case split.0.cases (behind hints split.0.hints course) after told moves
+    calls follow one.among split.2 in
     let reached : Reaches scope list s.c.frames s state s.v bare = record {
       follows = here.follows;
       agrees = agrees_self s.state.next s.v;

@@ -140,7 +140,7 @@ both_all : {A : Type 0} (P Q R : A → Type 0) → ((x : A) → P x → Q x → 
 both_all P Q R gives [] first second = All-nil R
 both_all P Q R gives (x ∷ xs) first second = All-cons R x xs (gives x first.0 second.0) (both_all P Q R gives xs first.1 second.1)
 
-cond_limits : (style : Style) (cond : Cond) → IsCond style.names cond → HasSmallLimits cond × HasSmallFields cond
+pub cond_limits : (style : Style) (cond : Cond) → IsCond style.names cond → HasSmallLimits cond × HasSmallFields cond
 cond_limits style cond is =
     let key = is.key in
     let preamble = is.preamble in

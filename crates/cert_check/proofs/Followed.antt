@@ -1,5 +1,5 @@
 -- A state that follows another: it is well made, and it keeps what a unit may not change. What a rule gives of a state.
-use Rattle.std.proofs.Common.{◌≡◌, ℕ, ◌+◌, ◌*◌, ◌≤◌, List, [], ◌∷◌, ◌++◌, Ok, refl, sym, ap, subst, ◌∙◌, arith, append_assoc, inl, inr}
+use Rattle.std.proofs.Common.{◌≡◌, ℕ, ◌+◌, ◌*◌, ◌≤◌, List, [], ◌∷◌, ◌++◌, Option, None, Some, Ok, refl, sym, ap, subst, ◌∙◌, arith, append_assoc, inl, inr}
 use Rattle.std.specs.List.{All}
 use Rattle.std.proofs.lemmas.List.{append-nil}
 use Rattle.std.proofs.lemmas.List.Elements.{All-append, All-cons, All-head, All-nil, All-tail, All-weaker}
@@ -13,7 +13,8 @@ use Rattle.sym_state.specs.WellMade.{WellMade}
 use Rattle.sym_state.specs.declared.hint.Hint.{Hint}
 use Rattle.sym_state.specs.declared.symbol.Fact.{Fact}
 use Rattle.refinements.specs.Covered.{IsAmong}
-use Rattle.cert_check.specs.Courses.{Course, counts, gives, gives_all}
+use Rattle.straight_hints.specs.declared.finding.Finding.{Finding}
+use Rattle.cert_check.specs.Courses.{Course, behind, counts, gives, gives_all, handed, left_behind}
 use Rattle.cert_check.specs.Walks.{Scope}
 pub use Rattle.cert_check.specs.Safely.{Follows, Grows}
 use Rattle.cert_check.proofs.Inverted.{counts_ok, gives_all_ok, gives_ok}
@@ -151,6 +152,25 @@ pub rehinted : (scope : Scope) (room : ℕ) (start : State) (before after : Cour
     → Moved scope room start (record before { hints = hints }) after → Moved scope room start before after
 rehinted scope room start before after hints short moved = record {
   short = λ all. moved.short (short all);
+  count = moved.count;
+  more = moved.more;
+  given = moved.given;
+  follow = moved.follow;
+  few = moved.few;
+}
+
+-- so do those that were found for a rule
+left_short : (finding : Option Finding) (left after : List Hint) (find : Finding → List Hint)
+    → (All HasFewUses (handed finding left find) → All HasFewUses after) → All HasFewUses left → All HasFewUses (left_behind finding left after)
+left_short None left after find short all = short all
+left_short (Some finding) left after find short all = all
+
+-- what holds behind a rule that was handed hints
+pub behind_moved : (scope : Scope) (room : ℕ) (start : State) (before after : Course) (find : Finding → List Hint) (hints : List Hint)
+    → (All HasFewUses (handed before.finding before.hints find) → All HasFewUses hints)
+    → Moved scope room start (behind (handed before.finding before.hints find) hints before) after → Moved scope room start before after
+behind_moved scope room start before after find hints short moved = record {
+  short = λ all. moved.short (left_short before.finding before.hints hints find short all);
   count = moved.count;
   more = moved.more;
   given = moved.given;

@@ -46,12 +46,13 @@ use Rattle.builtin_effects.proofs.Keeping.{effects_keep}
 use Rattle.refinements.proofs.Framing.{split_left}
 use Rattle.refinements.proofs.HintsTaken.{hints_keep}
 use Rattle.refinements.proofs.Kept.{split_made}
+use Rattle.straight_hints.specs.Found.{plain_hints, test_hints}
 use Rattle.cert_check.specs.declared.refusal.Refusal.{Refusal}
-use Rattle.cert_check.specs.Courses.{Course, counts, gives, gives_all, placed}
+use Rattle.cert_check.specs.Courses.{Course, behind, counts, gives, gives_all, placed}
 use Rattle.cert_check.specs.Certified.{IsCertified, IsLoopOf, IsPieceOf, IsPostOf, IsSummaryOf}
 use Rattle.cert_check.specs.Uses.{Passage, around, comes_by, left_state, passage}
-use Rattle.cert_check.specs.Walks.{Come, Scope, comes_by_case, comes_to, confined, entering_nothing, is_within, leaves, literal, literal_state, loop_used, may_write, plain, split, summary_used, test_of, variable, written_by}
-use Rattle.cert_check.proofs.Followed.{Follows, Moved, all_given, counted_moved, grows_of, left_follows, one_given, rehinted}
+use Rattle.cert_check.specs.Walks.{Come, Scope, comes_by_case, comes_to, confined, entering_nothing, hints_at, hints_of_test, is_within, leaves, literal, literal_state, loop_used, may_write, plain, split, summary_used, test_of, variable, written_by}
+use Rattle.cert_check.proofs.Followed.{Follows, Moved, all_given, behind_moved, counted_moved, grows_of, left_follows, one_given, rehinted}
 use Rattle.cert_check.proofs.Inverted.{confined_ok, placed_ok}
 use Rattle.cert_check.proofs.LeftFew.{left_few}
 use Rattle.cert_check.proofs.LeftFollowing.{posts_follow}
@@ -109,13 +110,15 @@ effect_few scope state o hints after made e =
 pub plain_moved : (scope : Scope) (o : Builtin) (place : Place) (state : State) (course after : Course) → Told scope → WellMade scope.style state
     → plain scope o place state course ≡ Ok after → Moved scope 1 state course after
 plain_moved scope o place state course after told made e =
-    let effect = confined (is_within scope (written_by o state)) (effect_of scope.style scope.cert.cond state o course.hints) in
-    let mid = then_ok (placed place effect) (λ given. gives place given.state (record course { hints = given.hints })) after e in
-    let inside = confined_ok (is_within scope (written_by o state)) (effect_of scope.style scope.cert.cond state o course.hints) mid.0 (placed_ok place effect mid.0 mid.1) in
-    rehinted scope 1 state course after mid.0.hints
-    (effect_keeps HasFewUses scope.style scope.cert.cond state o course.hints mid.0 inside.1)
-    (one_given scope 1 state mid.0.state place (record course { hints = mid.0.hints }) after
-    (effect_follows scope state o course.hints mid.0 told made inside.0 inside.1) (effect_few scope state o course.hints mid.0 made inside.1) mid.2)
+    let hints = hints_at scope o state course in
+    let effect = confined (is_within scope (written_by o state)) (effect_of scope.style scope.cert.cond state o hints) in
+    let mid = then_ok (placed place effect) (λ given. gives place given.state (behind hints given.hints course)) after e in
+    let inside = confined_ok (is_within scope (written_by o state)) (effect_of scope.style scope.cert.cond state o hints) mid.0
+    (placed_ok place effect mid.0 mid.1) in
+    behind_moved scope 1 state course after (λ finding. plain_hints finding scope.style scope.cert.cond state o) mid.0.hints
+    (effect_keeps HasFewUses scope.style scope.cert.cond state o hints mid.0 inside.1)
+    (one_given scope 1 state mid.0.state place (behind hints mid.0.hints course) after
+    (effect_follows scope state o hints mid.0 told made inside.0 inside.1) (effect_few scope state o hints mid.0 made inside.1) mid.2)
 
 all_follow : (scope : Scope) (state : State) (states : List State) → All (WellMade scope.style) states → All (LeavesVariables state) states
     → All (Follows scope state) states
@@ -140,11 +143,14 @@ split_few scope asked state hints cases e =
 pub split_moved : (scope : Scope) (asked : Test) (place : Place) (state : State) (course after : Course) → WellMade scope.style state → IsTestOf state asked
     → split scope asked place state course ≡ Ok after → Moved scope 1 state course after
 split_moved scope asked place state course after made fits e =
-    let mid = then_ok (placed place (split_of scope.cert.cond state asked course.hints)) (λ cases. gives_all place cases.states (record course { hints = cases.hints })) after e in
-    let cases = placed_ok place (split_of scope.cert.cond state asked course.hints) mid.0 mid.1 in
-    rehinted scope 1 state course after mid.0.hints (hints_keep HasFewUses scope.cert.cond state asked course.hints mid.0 cases)
-    (all_given scope 1 state place mid.0.states (record course { hints = mid.0.hints }) after
-    (split_follow scope asked state course.hints mid.0 made fits cases) (split_few scope asked state course.hints mid.0 cases) mid.2)
+    let hints = hints_of_test scope asked state course in
+    let mid = then_ok (placed place (split_of scope.cert.cond state asked hints)) (λ cases. gives_all place cases.states (behind hints cases.hints course))
+    after e in
+    let cases = placed_ok place (split_of scope.cert.cond state asked hints) mid.0 mid.1 in
+    behind_moved scope 1 state course after (λ finding. test_hints finding scope.cert.cond state asked) mid.0.hints
+    (hints_keep HasFewUses scope.cert.cond state asked hints mid.0 cases)
+    (all_given scope 1 state place mid.0.states (behind hints mid.0.hints course) after
+    (split_follow scope asked state hints mid.0 made fits cases) (split_few scope asked state hints mid.0 cases) mid.2)
 
 -- no built-in function is the test of a symbol that is named
 pub test_fits : (o : Builtin) (state : State) (asked : Test) → test_of o ≡ Some asked → IsTestOf state asked

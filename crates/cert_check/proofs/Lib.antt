@@ -52,3 +52,5 @@ pub mod UnitSteps
 pub mod TableSteps
 pub mod LoopSteps
 pub mod TurnSteps
+pub mod FoundHints
+pub mod FoundWalks

@@ -26,8 +26,8 @@ use Rattle.sym_state.specs.declared.symbol.Sym.{Sym}
 use Rattle.refinements.proofs.Covering.{both_weighed, weighed_each}
 use Rattle.refinements.proofs.Labels.{labelled_all, labels_dropped, sign_cases}
 use Rattle.cert_check.specs.declared.refusal.Refusal.{Refusal}
-use Rattle.cert_check.specs.Courses.{Course, Walk, counts, gives_all, placed}
-use Rattle.cert_check.specs.Walks.{Call, Enter, Onward, Scope, body_walked, built_in, cases_entered, choice, chosen, chosen_in, entered, entered_by, entering, exact_target, function_entered, has_summary, if_else, is_wizard, name_entered, named, walked}
+use Rattle.cert_check.specs.Courses.{Course, Walk, behind, counts, gives_all, placed}
+use Rattle.cert_check.specs.Walks.{Call, Enter, Onward, Scope, body_walked, built_in, cases_entered, choice, chosen, chosen_in, entered, entered_by, entering, exact_target, function_entered, has_summary, hints_of_choice, if_else, is_wizard, name_entered, named, walked}
 use Rattle.cert_check.proofs.Inverted.{placed_ok}
 use Rattle.cert_check.proofs.Walked.{three_ok}
 
@@ -137,12 +137,15 @@ cases_same scope enter place three rest (case ∷ cases) course all =
     ]
 
 choice_same : (scope : Scope) (enter : Enter) (place : Place) (three : Three) (rest : List Sym) (course : Course) (w : Result Labelled Refusal)
-    → placed place (above_of scope.cert.cond three.rest three.lowest course.hints) ≡ w → three.rest.stack ≡ reverse rest
-    → then_do w (λ labelled. cases_entered scope enter (name_entered scope enter (if_else scope enter place rest) place) place three labelled.cases (record course { hints = labelled.hints }))
-    ≡ then_do w (λ labelled. cases_entered scope enter (by_own_stack scope enter place) place three labelled.cases (record course { hints = labelled.hints }))
+    → placed place (above_of scope.cert.cond three.rest three.lowest (hints_of_choice scope three course)) ≡ w → three.rest.stack ≡ reverse rest
+    → then_do w (λ labelled. cases_entered scope enter (name_entered scope enter (if_else scope enter place rest) place) place three labelled.cases
+    (behind (hints_of_choice scope three course) labelled.hints course))
+    ≡ then_do w (λ labelled. cases_entered scope enter (by_own_stack scope enter place) place three labelled.cases
+    (behind (hints_of_choice scope three course) labelled.hints course))
 choice_same scope enter place three rest course (Ok labelled) e is =
-    let stacks = above_stacks scope.cert.cond three.rest three.lowest course.hints labelled (placed_ok place _ labelled e) in
-    cases_same scope enter place three rest labelled.cases (record course { hints = labelled.hints })
+    let hints = hints_of_choice scope three course in
+    let stacks = above_stacks scope.cert.cond three.rest three.lowest hints labelled (placed_ok place _ labelled e) in
+    cases_same scope enter place three rest labelled.cases (behind hints labelled.hints course)
     (subst (λ (stack : List Sym). All (λ one. one.1.stack ≡ stack) labelled.cases) is stacks)
 choice_same scope enter place three rest course (Err refusal) e is = refl
 

@@ -33,8 +33,8 @@ use Rattle.sym_state.proofs.Ensured.{Ensures, ensured}
 use Rattle.sym_state.proofs.KnownKinds.{name_is}
 use Rattle.sym_state.proofs.Pushing.{stack_of_tops, without}
 use Rattle.builtin_effects.proofs.EffectsCover.{effect_covers}
-use Rattle.cert_check.specs.Courses.{Course, gives, placed}
-use Rattle.cert_check.specs.Walks.{Scope, confined, is_within, plain, written_by}
+use Rattle.cert_check.specs.Courses.{Course, behind, gives, placed}
+use Rattle.cert_check.specs.Walks.{Scope, confined, hints_at, is_within, plain, written_by}
 use Rattle.cert_check.proofs.Inverted.{confined_ok, placed_ok}
 use Rattle.cert_check.proofs.Keeping.{Told, effect_follows}
 use Rattle.cert_check.proofs.Safety.{SafeAfter, SafeFor, Start, spot_at}
@@ -164,11 +164,13 @@ pub plain_safe : (scope : Scope) (list : EntryList) (n : ℕ) (s : Start scope l
     → plain scope o place s.state course ≡ Ok after → SafeAfter scope list n s.c.frames s after.given
     → SafeFor scope.style n (with_effect scope.style (built_in o (context_of scope.style s.c) s.c.stack) at s.c)
 plain_safe scope list n s o place at course after told is formed e safe =
-    let effect = confined (is_within scope (written_by o s.state)) (effect_of scope.style scope.cert.cond s.state o course.hints) in
-    let mid = then_ok (placed place effect) (λ given. gives place given.state (record course { hints = given.hints })) after e in
-    let inside = confined_ok (is_within scope (written_by o s.state)) (effect_of scope.style scope.cert.cond s.state o course.hints) mid.0 (placed_ok place effect mid.0 mid.1) in
-    let covers = effect_covers (spot_at scope list s at) o course.hints mid.0 inside.1 in
+    let hints = hints_at scope o s.state course in
+    let effect = confined (is_within scope (written_by o s.state)) (effect_of scope.style scope.cert.cond s.state o hints) in
+    let mid = then_ok (placed place effect) (λ given. gives place given.state (behind hints given.hints course)) after e in
+    let inside = confined_ok (is_within scope (written_by o s.state)) (effect_of scope.style scope.cert.cond s.state o hints) mid.0
+    (placed_ok place effect mid.0 mid.1) in
+    let covers = effect_covers (spot_at scope list s at) o hints mid.0 inside.1 in
     safe mid.0.state covers.assignment (with_effect scope.style (built_in o (context_of scope.style s.c) s.c.stack) at s.c)
-    (given_among place mid.0.state (record course { hints = mid.0.hints }) after mid.2)
-    (covered_reached scope list s o at mid.0.state is (effect_follows scope s.state o course.hints mid.0 told s.made inside.0 inside.1)
-    (plain_entries scope list s o at covers.effect course.hints mid.0 inside.1 covers.gives) formed covers)
+    (given_among place mid.0.state (behind hints mid.0.hints course) after mid.2)
+    (covered_reached scope list s o at mid.0.state is (effect_follows scope s.state o hints mid.0 told s.made inside.0 inside.1)
+    (plain_entries scope list s o at covers.effect hints mid.0 inside.1 covers.gives) formed covers)

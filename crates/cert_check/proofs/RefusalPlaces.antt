@@ -45,11 +45,11 @@ use Rattle.cert_check.proofs.ReadPieces.{each_each}
 use Rattle.cert_check.specs.declared.limits.TheConstants.{MOST_DEPTH}
 use Rattle.cert_check.specs.declared.refusal.Reason.{Reason}
 use Rattle.cert_check.specs.declared.refusal.Refusal.{Refusal}
-use Rattle.cert_check.specs.Courses.{Course, Walk, counts, gives, gives_all, placed, refuses}
+use Rattle.cert_check.specs.Courses.{Course, Walk, behind, counts, gives, gives_all, placed, refuses}
 use Rattle.cert_check.specs.Places.{IsOfBody, IsOfUnit}
 use Rattle.cert_check.specs.Units.{all_end, all_entail, all_tested, all_turned, beginning, body_of, call_walked, loop_checked, none_left, own_walked, place_of, summary_checked, target_entered, target_from, tested, turn, turn_state, turned, turned_from}
 use Rattle.cert_check.specs.Uses.{Passage, around, comes_by, left_state, passage}
-use Rattle.cert_check.specs.Walks.{Call, Enter, Onward, Scope, body_walked, built_in, cases_entered, choice, chosen, chosen_in, comes_to, confined, entered, entered_by, entering, entering_nothing, exact_target, function_entered, has_summary, if_else, is_target, is_within, is_wizard, leaves, literal_state, loop_around, loop_by, loop_of, loop_used, may_write, name_entered, named, plain, repeated, split, summary_used, taken, taken_from, test_of, token_taken, type_called, type_functions, type_walked, types_called, use_of, variable, walked, written_by}
+use Rattle.cert_check.specs.Walks.{Call, Enter, Onward, Scope, body_walked, built_in, cases_entered, choice, chosen, chosen_in, comes_to, confined, entered, entered_by, entering, entering_nothing, exact_target, function_entered, has_summary, hints_at, hints_of_choice, hints_of_test, if_else, is_target, is_within, is_wizard, leaves, literal_state, loop_around, loop_by, loop_of, loop_used, may_write, name_entered, named, plain, repeated, split, summary_used, taken, taken_from, test_of, token_taken, type_called, type_functions, type_walked, types_called, use_of, variable, walked, written_by}
 
 module _ (P : Place → Type 0) where
   -- such a place is that of the refusal, where there is one
@@ -91,15 +91,17 @@ module _ (P : Place → Type 0) where
   -- rules that enter nothing
   plain_fails : (scope : Scope) (o : Builtin) (place : Place) (state : State) (course : Course) → P place → Fails (plain scope o place state course)
   plain_fails scope o place state course at =
-      let effect = confined (is_within scope (written_by o state)) (effect_of scope.style scope.cert.cond state o course.hints) in
-      then_faulty FailsAt (placed place effect) (λ after. gives place after.state (record course { hints = after.hints })) (placed_fails place effect at)
-      (λ after _. gives_fails place after.state (record course { hints = after.hints }) at)
+      let hints = hints_at scope o state course in
+      let effect = confined (is_within scope (written_by o state)) (effect_of scope.style scope.cert.cond state o hints) in
+      then_faulty FailsAt (placed place effect) (λ after. gives place after.state (behind hints after.hints course)) (placed_fails place effect at)
+      (λ after _. gives_fails place after.state (behind hints after.hints course) at)
 
   split_fails : (scope : Scope) (asked : Test) (place : Place) (state : State) (course : Course) → P place → Fails (split scope asked place state course)
   split_fails scope asked place state course at =
-      let cases = split_of scope.cert.cond state asked course.hints in
-      then_faulty FailsAt (placed place cases) (λ found. gives_all place found.states (record course { hints = found.hints })) (placed_fails place cases at)
-      (λ found _. gives_all_fails place found.states (record course { hints = found.hints }) at)
+      let hints = hints_of_test scope asked state course in
+      let cases = split_of scope.cert.cond state asked hints in
+      then_faulty FailsAt (placed place cases) (λ found. gives_all place found.states (behind hints found.hints course)) (placed_fails place cases at)
+      (λ found _. gives_all_fails place found.states (behind hints found.hints course) at)
 
   variable_fails : (name : NameId) (place : Place) (state : State) (course : Course) → P place → Fails (variable name place state course)
   variable_fails name place state course at = by_bound (bound name state) _
@@ -173,10 +175,11 @@ module _ (P : Place → Type 0) where
   chosen_fails scope enter call place stack at enters calls state course =
       let operands = three_by Int Func Func stack state in
       then_faulty FailsAt (placed place operands) (λ three. choice scope enter call place three course) (placed_fails place operands at) (λ three _.
-      let weighed = above_of scope.cert.cond three.rest three.lowest course.hints in
-      then_faulty FailsAt (placed place weighed) (λ labelled. cases_entered scope enter call place three labelled.cases (record course { hints = labelled.hints }))
+      let hints = hints_of_choice scope three course in
+      let weighed = above_of scope.cert.cond three.rest three.lowest hints in
+      then_faulty FailsAt (placed place weighed) (λ labelled. cases_entered scope enter call place three labelled.cases (behind hints labelled.hints course))
       (placed_fails place weighed at) (λ labelled _.
-      cases_fail scope enter call place three labelled.cases (record course { hints = labelled.hints }) at enters calls))
+      cases_fail scope enter call place three labelled.cases (behind hints labelled.hints course) at enters calls))
 
   -- `while$`
   came_fails : (scope : Scope) (place : Place) (one : Loop) → P place → OnwardFails (loop_used scope place one)

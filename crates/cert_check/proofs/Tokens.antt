@@ -50,8 +50,8 @@ use Rattle.refinements.specs.Covered.{IsAmong, function_of}
 use Rattle.refinements.proofs.Covering.{among_later}
 use Rattle.refinements.proofs.Found.{test_found}
 use Rattle.cert_check.specs.declared.refusal.Refusal.{Refusal}
-use Rattle.cert_check.specs.Courses.{Course, gives, gives_all, placed}
-use Rattle.cert_check.specs.Walks.{Enter, Scope, literal, number_of, split, test_of, token_taken, variable}
+use Rattle.cert_check.specs.Courses.{Course, behind, gives, gives_all, placed}
+use Rattle.cert_check.specs.Walks.{Enter, Scope, hints_of_test, literal, number_of, split, test_of, token_taken, variable}
 use Rattle.cert_check.proofs.Inverted.{gives_all_ok, gives_ok, placed_ok}
 use Rattle.cert_check.proofs.Followed.{Follows, among_all}
 use Rattle.cert_check.proofs.Keeping.{Told, bound_below, number_is, of_text, split_follow, test_fits, token_follows, top_follows}
@@ -229,11 +229,15 @@ pub test_safe : (scope : Scope) (list : EntryList) (n : ℕ) (s : Start scope li
     → SafeFor scope.style n (with_effect scope.style (built_in o (context_of scope.style s.c) s.c.stack) at s.c)
 test_safe scope list n s o asked place at course after is formed e safe =
     let t = tested o asked is in
-    let mid = then_ok (placed place (split_of scope.cert.cond s.state asked course.hints)) (λ cases. gives_all place cases.states (record course { hints = cases.hints })) after e in
-    let one = test_found (spot_at scope list s at) asked o course.hints mid.0 t.function (placed_ok place (split_of scope.cert.cond s.state asked course.hints) mid.0 mid.1) in
-    let given = gives_all_ok place mid.0.states (record course { hints = mid.0.hints }) after mid.2 in
+    let hints = hints_of_test scope asked s.state course in
+    let mid = then_ok (placed place (split_of scope.cert.cond s.state asked hints)) (λ cases. gives_all place cases.states (behind hints cases.hints course))
+    after e in
+    let cases = placed_ok place (split_of scope.cert.cond s.state asked hints) mid.0 mid.1 in
+    let one = test_found (spot_at scope list s at) asked o hints mid.0 t.function cases in
+    let given = gives_all_ok place mid.0.states (behind hints mid.0.hints course) after mid.2 in
     safe one.after one.covers.assignment (with_effect scope.style (built_in o (context_of scope.style s.c) s.c.stack) at s.c)
     (subst (λ (c : Course). IsAmong one.after c.given) (sym given) (among_later one.after course.given mid.0.states one.among))
     (covered_reached scope list s o at one.after t.plain
     (among_all (Follows scope s.state) one.after mid.0.states one.among
-    (split_follow scope asked s.state course.hints mid.0 s.made (test_fits o s.state asked is) (placed_ok place (split_of scope.cert.cond s.state asked course.hints) mid.0 mid.1))) (λ outside. (s.laws.kept scope.style o at s.c).entries t.still) formed one.covers)
+    (split_follow scope asked s.state hints mid.0 s.made (test_fits o s.state asked is) cases))
+    (λ outside. (s.laws.kept scope.style o at s.c).entries t.still) formed one.covers)

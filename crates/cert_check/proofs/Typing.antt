@@ -1,6 +1,7 @@
 -- `call.type$`: the machine enters one of the functions that are walked.
-use Rattle.std.proofs.Common.{◌≡◌, ℕ, List, [], ◌∷◌, ◌++◌, reverse, Option, Some, Ok, refl, sym, ap, subst, arith, inl, inr}
+use Rattle.std.proofs.Common.{◌≡◌, ℕ, List, [], ◌∷◌, ◌++◌, reverse, Option, None, Some, Ok, refl, sym, ap, subst, ◌∙◌, arith, inl, inr}
 use Rattle.std.specs.Option.{option_map}
+use Rattle.std.proofs.lemmas.List.{append-nil}
 use Rattle.bv_base.specs.declared.place.Place.{Place}
 use Rattle.bv_base.proofs.ThenLemmas.{then_ok, where_ok}
 use Rattle.name_table.specs.TypeTarget.{target_of}
@@ -20,12 +21,15 @@ use Rattle.bst_meaning.specs.Machine.{call_step, context_of, with_effect, with_f
 use Rattle.sym_state.specs.State.{State}
 use Rattle.sym_state.specs.Stands.{Stands}
 use Rattle.sym_state.specs.WellMade.{WellMade}
+use Rattle.sym_state.specs.declared.hint.Hint.{Hint}
 use Rattle.sym_state.proofs.Frames.{agrees_self}
 use Rattle.sym_state.proofs.Pushing.{moved, with_stack}
 use Rattle.builtin_effects.proofs.EntryCovers.{entry_given}
 use Rattle.refinements.specs.Covered.{IsAmong}
-use Rattle.cert_check.specs.Courses.{Course, counts}
-use Rattle.cert_check.specs.Walks.{Enter, Scope, entered, type_called, type_functions, type_walked, typed, types_called}
+use Rattle.straight_hints.specs.Found.{plain_hints}
+use Rattle.straight_hints.specs.declared.finding.Finding.{Finding}
+use Rattle.cert_check.specs.Courses.{Course, behind, counts, found_with, gives, handed, left_behind}
+use Rattle.cert_check.specs.Walks.{Enter, Scope, entered, plain, type_called, type_functions, type_walked, typed, types_called}
 use Rattle.cert_check.proofs.Bodies.{EnterSafe, returned, unframed}
 use Rattle.cert_check.proofs.Choosing.{frame_safe}
 use Rattle.cert_check.proofs.Entering.{OnwardSafe, UseSafe, after_function, called_safe, entered_safe}
@@ -63,6 +67,29 @@ type_one scope enter place name (first ∷ names) state course after told enters
     let one = then_ok (type_called scope enter place first state course) (types_called scope enter place names state) after e in
     type_one scope enter place name names state one.0 after told enters made among one.2
 
+-- the course behind a rule that takes no hint, for which none is found
+left_same : (finding : Option Finding) (left : List Hint) (find : Finding → List Hint) → left_behind finding left (handed finding left find) ≡ left
+left_same None left find = refl
+left_same (Some finding) left find = refl
+
+found_same : (finding : Option Finding) (left found : List Hint) (find : Finding → List Hint) → ((finding : Finding) → find finding ≡ [])
+    → found_with finding found (handed finding left find) ≡ found
+found_same None left found find none = refl
+found_same (Some finding) left found find none = ap (λ (l : List Hint). found ++ l) (none finding) ∙ append-nil found
+
+none_taken : (course : Course) (find : Finding → List Hint) → ((finding : Finding) → find finding ≡ [])
+    → behind (handed course.finding course.hints find) (handed course.finding course.hints find) course ≡ course
+none_taken course find none =
+    let hints = handed course.finding course.hints find in
+    ap (λ (l : List Hint). record course { hints = l; found = found_with course.finding course.found hints }) (left_same course.finding course.hints find)
+    ∙ ap (λ (l : List Hint). record course { found = l }) (found_same course.finding course.hints course.found find none)
+
+-- `skip$` takes no hint
+skipped : (scope : Scope) (place : Place) (state : State) (course after : Course) → gives place state course ≡ Ok after
+    → plain scope op.Skip place state course ≡ Ok after
+skipped scope place state course after e =
+    ap (gives place state) (none_taken course (λ finding. plain_hints finding scope.style scope.cert.cond state op.Skip) (λ finding. refl)) ∙ e
+
 -- a function that is entered is walked, and `skip$` changes nothing
 walk_safe : (scope : Scope) (list : EntryList) (n : ℕ) (enter : Enter) (name : NameId) (place at : Place) (t : Start scope list) → Told scope → Fits scope.style list
     → EnterSafe scope list n enter → IsTyped scope.style name → IsWellFormed scope.style list (call_step scope.style (kind_of scope.style name) name at t.c)
@@ -74,7 +101,7 @@ walk_safe scope list n enter name place at t told fits enters (inr is) formed co
     let there = ap (λ (k : Option Kind). call_step scope.style k name at t.c) is in
     subst (SafeFor scope.style n) (sym there)
     (plain_safe scope list n t op.Skip place at course after told refl (subst (IsWellFormed scope.style list) there formed)
-    (subst (λ (k : Option Kind). type_walked enter k place t.state course ≡ Ok after) is e) safe)
+    (skipped scope place t.state course after (subst (λ (k : Option Kind). type_walked enter k place t.state course ≡ Ok after) is e)) safe)
 
 type_safe : (scope : Scope) (list : EntryList) (n : ℕ) (enter : Enter) (name : NameId) (place at : Place) (t : Start scope list) → Told scope → Fits scope.style list
     → EnterSafe scope list n enter → UseSafe scope list n (Named name) → IsTyped scope.style name

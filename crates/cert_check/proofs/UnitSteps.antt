@@ -6,7 +6,7 @@ use Rattle.std.specs.Result.{MatchResult}
 use Rattle.std.proofs.lemmas.List.Elements.{All-cons, All-head, All-nil, All-tail, All-weaker}
 use Rattle.bv_base.specs.Answers.{then_do}
 use Rattle.bv_base.specs.declared.place.Place.{Place}
-use Rattle.bv_base.proofs.ThenLemmas.{ok, ok_is}
+use Rattle.bv_base.proofs.ThenLemmas.{ok_is}
 use Rattle.name_table.specs.Sound.{IsSound}
 use Rattle.name_table.specs.declared.names.NameId.{NameId}
 use Rattle.name_table.specs.declared.style.BodyId.{BodyId}
@@ -22,13 +22,14 @@ use Rattle.sym_state.specs.Starting.{IsFit, IsNumbered, started, symbols_of}
 use Rattle.sym_state.specs.WellMade.{HasBounds}
 use Rattle.sym_state.specs.declared.hint.Hint.{Hint}
 use Rattle.sym_state.specs.declared.piece.Piece.{Piece}
+use Rattle.straight_hints.specs.declared.finding.Finding.{Finding}
 use Rattle.cert_check.specs.declared.limits.TheConstants.{MOST_DEPTH}
 use Rattle.cert_check.specs.declared.refusal.Refusal.{Refusal}
 use Rattle.cert_check.specs.Certified.{IsCertified, IsSummaryOf}
 use Rattle.cert_check.specs.Courses.{Course, Walk, placed}
-use Rattle.cert_check.specs.Given.{Leads, Refused}
+use Rattle.cert_check.specs.Given.{Finds, Leads, Refused}
 use Rattle.cert_check.specs.Room.{GivesRoom, HasRoom, KeepsRoom}
-use Rattle.cert_check.specs.Units.{all_end, beginning, body_of, call_walked, checked_at, everywhere, none_left, own_walked, place_of, summary_checked, target_entered, target_from}
+use Rattle.cert_check.specs.Units.{all_end, beginning, body_of, call_found, call_walked, checked_at, everywhere, none_left, own_walked, place_of, searching, summary_checked, target_entered, target_from}
 use Rattle.cert_check.specs.Walks.{Scope}
 use Rattle.cert_check.proofs.RoomLeft.{body_room, named_room, room_on, started_room, target_room}
 use Rattle.cert_check.proofs.WalkSteps.{then_goes}
@@ -167,12 +168,29 @@ pub none_checks : (style : Style) (cert : Cert) (k : ℕ) → None ≡ slice_get
 none_checks style cert k found = ap (λ (o : Option Summary). option_map_or (summary_checked style cert) o (Ok [])) (sym found)
 
 -- a call from its parts
+call_is : (style : Style) (cert : Cert) (states : List State) (target : Target) (place : Place) (begun : Course) (scope : Scope) (course : Course)
+    → scope ≡ everywhere style cert → course ≡ begun
+    → target_from (everywhere style cert) place target states begun ≡ target_from scope place target states course
+call_is style cert states target place begun scope course scope_is course_is =
+    sym (ap (λ (s : Scope). target_from s place target states begun) scope_is) ∙ sym (ap (λ (c : Course). target_from scope place target states c) course_is)
+
 pub called : (style : Style) (cert : Cert) (states : List State) (target : Target) (place : Place) (hints : List Hint) (scope : Scope) (course after : Course)
     (given : List State) (left : List Hint) → scope ≡ everywhere style cert → course ≡ beginning hints → target_from scope place target states course ≡ Ok after
     → given ≡ after.given → left ≡ after.hints → Leads (call_walked style cert states target place hints) given left
-called style cert states target place hints scope course after given left scope_is course_is e given_is left_is = (
-  after.count,
-  sym (ap (λ (s : Scope). target_from s place target states (beginning hints)) scope_is) ∙ sym (ap (λ (c : Course). target_from scope place target states c) course_is)
-      ∙ e ∙ ap (λ (l : List State). let c : Course = record { given = l; hints = after.hints; count = after.count } in ok {E = Refusal} c) (sym given_is)
-      ∙ ap (λ (h : List Hint). let c : Course = record { given = given; hints = h; count = after.count } in ok {E = Refusal} c) (sym left_is),
-)
+called style cert states target place hints scope course after given left scope_is course_is e given_is left_is = record {
+  course = after;
+  is = call_is style cert states target place (beginning hints) scope course scope_is course_is ∙ e;
+  given = sym given_is;
+  left = sym left_is;
+}
+
+-- a call whose hints are found
+pub called_finding : (finding : Finding) (style : Style) (cert : Cert) (states : List State) (target : Target) (place : Place) (scope : Scope)
+    (course after : Course) (given : List State) (found : List Hint) → scope ≡ everywhere style cert → course ≡ searching finding
+    → target_from scope place target states course ≡ Ok after → given ≡ after.given → found ≡ after.found → Finds (call_found finding style cert states target place) given found
+called_finding finding style cert states target place scope course after given found scope_is course_is e given_is found_is = record {
+  course = after;
+  is = call_is style cert states target place (searching finding) scope course scope_is course_is ∙ e;
+  given = sym given_is;
+  found = sym found_is;
+}

@@ -39,10 +39,11 @@ use Rattle.refinements.specs.Covered.{IsAmong}
 use Rattle.refinements.proofs.Framing.{above_left}
 use Rattle.refinements.proofs.HintsTaken.{labelled_hints_keep}
 use Rattle.refinements.proofs.Kept.{above_made}
+use Rattle.straight_hints.specs.Found.{above_hints}
 use Rattle.cert_check.specs.Certified.{IsLoopOf, IsSummaryOf}
-use Rattle.cert_check.specs.Courses.{Course, counts, gives, gives_all, placed}
-use Rattle.cert_check.specs.Walks.{Call, Enter, Onward, Scope, body_walked, built_in, cases_entered, choice, chosen, chosen_in, entered, entered_by, entering, exact_target, function_entered, has_summary, if_else, is_target, is_wizard, literal_state, name_entered, named, repeated, summary_used, taken, taken_from, test_of, token_taken, type_called, type_functions, type_walked, types_called, use_of, walked}
-use Rattle.cert_check.proofs.Followed.{Follows, HasFewNew, Moved, among_all, counted_moved, follows_self, follows_twice, left_follows, moved_from, moved_self, moved_twice, moved_within, one_given, rehinted}
+use Rattle.cert_check.specs.Courses.{Course, behind, counts, gives, gives_all, placed}
+use Rattle.cert_check.specs.Walks.{Call, Enter, Onward, Scope, body_walked, built_in, cases_entered, choice, chosen, chosen_in, entered, entered_by, entering, exact_target, function_entered, has_summary, hints_of_choice, if_else, is_target, is_wizard, literal_state, name_entered, named, repeated, summary_used, taken, taken_from, test_of, token_taken, type_called, type_functions, type_walked, types_called, use_of, walked}
+use Rattle.cert_check.proofs.Followed.{Follows, HasFewNew, Moved, among_all, behind_moved, counted_moved, follows_self, follows_twice, left_follows, moved_from, moved_self, moved_twice, moved_within, one_given, rehinted}
 use Rattle.cert_check.proofs.Inverted.{gives_all_ok, placed_ok}
 use Rattle.cert_check.proofs.Keeping.{Told, element, loop_moved, nothing_entered, token_few, token_follows, used_moved, variable_moved}
 use Rattle.cert_check.proofs.Repeating.{TwoMet, repeated_ok, without_two}
@@ -178,14 +179,17 @@ choice_moved scope enter call place a b c rest state course after told enters ca
     let lowest = All-tail (λ (s : Sym). s.0 < state.next) b (a ∷ rest) lower in
     let under = All-tail (λ (s : Sym). s.0 < state.next) a rest lowest in
     let old = All-head (λ (s : Sym). s.0 < state.next) a rest lowest in
-    let weighed = above_of scope.cert.cond popped a course.hints in
-    let split = then_ok (placed place weighed) (λ labelled. cases_entered scope enter call place found labelled.cases (record course { hints = labelled.hints })) after chose in
+    let hints = hints_of_choice scope found course in
+    let weighed = above_of scope.cert.cond popped a hints in
+    let split = then_ok (placed place weighed) (λ labelled. cases_entered scope enter call place found labelled.cases (behind hints labelled.hints course))
+    after chose in
     let cases = placed_ok place weighed split.0 split.1 in
-    rehinted scope 65 state course after split.0.hints (labelled_hints_keep HasFewUses scope.cert.cond popped a course.hints split.0 cases)
-    (cases_moved scope enter call place found rest state split.0.cases (record course { hints = split.0.hints }) after told enters calls
+    behind_moved scope 65 state course after (λ finding. above_hints finding scope.cert.cond popped a) split.0.hints
+    (labelled_hints_keep HasFewUses scope.cert.cond popped a hints split.0 cases)
+    (cases_moved scope enter call place found rest state split.0.cases (behind hints split.0.hints course) after told enters calls
     (cases_follow scope state rest split.0.cases under
-    (above_made scope.style scope.cert.cond popped a course.hints split.0 (rest_made scope.style state rest made under) old cases)
-    (above_left scope.cert.cond popped a course.hints split.0 cases)) split.2)
+    (above_made scope.style scope.cert.cond popped a hints split.0 (rest_made scope.style state rest made under) old cases)
+    (above_left scope.cert.cond popped a hints split.0 cases)) split.2)
 
 -- the state without the two functions follows
 pub popped_follows : (scope : Scope) (state : State) (met : TwoMet state (reverse state.stack)) → WellMade scope.style state

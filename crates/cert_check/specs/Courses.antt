@@ -1,21 +1,25 @@
 -- How far a walk has come (docs/CHECKER.md, "The walk"): a rule takes a course and gives one, or fails at a place with a reason.
-use Rattle.std.specs.Prelude.{ℕ, ◌+◌, nat_le, nat_lt, if◌then◌else◌, List, [], ◌∷◌, ◌++◌, length, Result, Ok, Err}
+use Rattle.std.specs.Prelude.{ℕ, ◌+◌, nat_le, nat_lt, if◌then◌else◌, List, [], ◌∷◌, ◌++◌, length, Option, None, Some, Result, Ok, Err}
 use Rattle.bv_base.specs.Answers.{then_do}
 use Rattle.bv_base.specs.declared.place.Place.{Place}
 use Rattle.sym_state.specs.State.{State}
 use Rattle.sym_state.specs.declared.demand.EffectFault.{EffectFault}
 use Rattle.sym_state.specs.declared.demand.EffectFault.TheVariants as fault
 use Rattle.sym_state.specs.declared.hint.Hint.{Hint}
+use Rattle.straight_hints.specs.declared.finding.Finding.{Finding}
 use Rattle.cert_check.specs.declared.limits.TheConstants.{MOST_CASES, MOST_COUNT}
 use Rattle.cert_check.specs.declared.refusal.Reason.{Reason}
 use Rattle.cert_check.specs.declared.refusal.Reason.TheVariants.{Demand, NotEntailed, HintsShort, TooManyCases, NoMemory, WalkTooLong, WrongHint}
 use Rattle.cert_check.specs.declared.refusal.Refusal.{Refusal}
 
--- the states that the token in hand has given so far, the hints that are left, and how much the unit's walk has counted
+-- the states that the token in hand has given so far, the hints of the certificate that are left, and how much the unit's walk has
+-- counted; where hints are found and not read, how that is done, and those that were found so far
 pub record Course : Type 0 where
   pub given : List State
   pub hints : List Hint
   pub count : ℕ
+  pub finding : Option Finding
+  pub found : List Hint
 
 -- the course after a rule, or the first rule that fails
 abbrev pub Walk : Type 0
@@ -52,3 +56,25 @@ gives place state course =
 abbrev pub gives_all : Place → List State → Course → Walk
 gives_all place [] course = Ok course
 gives_all place (state ∷ states) course = then_do (gives place state course) (gives_all place states)
+
+-- the hints that a rule is handed: those that are left, or those that are found for it
+abbrev pub handed : Option Finding → List Hint → (Finding → List Hint) → List Hint
+handed None left find = left
+handed (Some finding) left find = find finding
+
+-- those of the certificate that are left behind a rule: all of them where hints are found
+abbrev pub left_behind : Option Finding → List Hint → List Hint → List Hint
+left_behind None before after = after
+left_behind (Some finding) before after = before
+
+-- those that were found, with those that a rule was handed
+abbrev pub found_with : Option Finding → List Hint → List Hint → List Hint
+found_with None found hints = found
+found_with (Some finding) found hints = found ++ hints
+
+-- the course behind a rule that was handed hints and left some
+abbrev pub behind : List Hint → List Hint → Course → Course
+behind hints after course = record course {
+  hints = left_behind course.finding course.hints after;
+  found = found_with course.finding course.found hints;
+}

@@ -1,12 +1,15 @@
 -- What calls of the checker give, beside what the rules say (docs/CHECKER.md, "The walk").
-use Rattle.std.specs.Prelude.{◌≡◌, ◌≢◌, ℕ, ◌≤◌, List, Result, Ok, Err}
+use Rattle.std.specs.Prelude.{◌≡◌, ◌≢◌, ◌≤◌, Bool, List, Result, Ok, Err}
 use Rattle.std.specs.List.{All}
 use Rattle.std.specs.Result.{MatchResult}
+use Rattle.bst_meaning.specs.declared.condition.Cond.{Cond}
 use Rattle.sym_state.specs.State.{State}
+use Rattle.sym_state.specs.Cases.{above_of}
 use Rattle.sym_state.specs.Entailing.{line_count}
 use Rattle.sym_state.specs.WellMade.{IsBounded}
 use Rattle.sym_state.specs.declared.hint.Hint.{Hint}
 use Rattle.sym_state.specs.declared.piece.Piece.{Piece}
+use Rattle.sym_state.specs.declared.symbol.Sym.{Sym}
 use Rattle.cert_check.specs.declared.refusal.Reason.TheVariants.{NoMemory}
 use Rattle.cert_check.specs.declared.refusal.Refusal.{Refusal}
 use Rattle.cert_check.specs.Courses.{Course, Walk}
@@ -20,8 +23,24 @@ abbrev pub Takes : {T : Type 0} → Walk → Course → Result T Refusal → Typ
 Takes wanted after result = MatchResult result (λ _. wanted ≡ Ok after) (Refused wanted)
 
 -- the course that is wanted has these states at its end, and leaves these hints
-abbrev pub Leads : Walk → List State → List Hint → Type 0
-Leads wanted states hints = (count : ℕ) × (wanted ≡ Ok (record { given = states; hints = hints; count = count }))
+pub record Leads (wanted : Walk) (states : List State) (hints : List Hint) : Type 0 where
+  pub course : Course
+  pub is : wanted ≡ Ok course
+  pub given : course.given ≡ states
+  pub left : course.hints ≡ hints
+
+-- it has these states at its end, and these hints were found on its way
+pub record Finds (wanted : Walk) (states : List State) (hints : List Hint) : Type 0 where
+  pub course : Course
+  pub is : wanted ≡ Ok course
+  pub given : course.given ≡ states
+  pub found : course.found ≡ hints
+
+-- the cases of whether an integer is above 0, by hints of which some are left
+pub record AreCases (admits : Cond) (state : State) (s : Sym) (cases : List (Bool × State)) : Type 0 where
+  pub hints : List Hint
+  pub left : List Hint
+  pub are : above_of admits state s hints ≡ Ok (record { cases = cases; hints = left })
 
 -- a piece that may be shown
 pub record CanEnd (piece : Piece) : Type 0 where

@@ -23,6 +23,7 @@ use Rattle.sym_state.specs.declared.hint.Hint.{Hint}
 use Rattle.sym_state.specs.declared.hint.Hint.TheVariants.{Case}
 use Rattle.sym_state.specs.declared.piece.Piece.{Piece}
 use Rattle.sym_state.specs.declared.symbol.Kinds.TheVariants.{Int}
+use Rattle.straight_hints.specs.declared.finding.Finding.{Finding}
 use Rattle.cert_check.specs.declared.limits.TheConstants.{MOST_DEPTH}
 use Rattle.cert_check.specs.declared.refusal.Reason.TheVariants.{HintsLeft}
 use Rattle.cert_check.specs.declared.refusal.Refusal.{Refusal}
@@ -77,7 +78,11 @@ none_left place (hint ∷ hints) = refuses place HintsLeft
 
 -- a walk that begins with these hints
 abbrev pub beginning : List Hint → Course
-beginning hints = record { given = []; hints = hints; count = 0 }
+beginning hints = record { given = []; hints = hints; count = 0; finding = None; found = [] }
+
+-- a walk that finds its hints
+abbrev pub searching : Finding → Course
+searching finding = record { given = []; hints = []; count = 0; finding = Some finding; found = [] }
 
 -- a unit's own body is walked from a state, of a name that isn't a function of the style its call
 abbrev pub own_walked : Scope → Place → Target → Option BodyId → Onward
@@ -176,3 +181,8 @@ target_from scope place target (state ∷ states) course =
 -- the call of a command: its states and the hints that are left
 abbrev pub call_walked : Style → Cert → List State → Target → Place → List Hint → Walk
 call_walked style cert states target place hints = target_from (everywhere style cert) place target states (beginning hints)
+
+-- the call of a command whose hints are found: its states and those hints, or the first rule that fails. None is found for a `while$`
+-- and for what has a summary: hints are short there.
+abbrev pub call_found : Finding → Style → Cert → List State → Target → Place → Walk
+call_found finding style cert states target place = target_from (everywhere style cert) place target states (searching finding)

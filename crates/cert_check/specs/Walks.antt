@@ -48,7 +48,8 @@ use Rattle.sym_state.specs.declared.symbol.Sym.{Sym}
 use Rattle.sym_state.specs.declared.test.Test.{Test}
 use Rattle.sym_state.specs.declared.test.Test.TheVariants as test
 use Rattle.cert_check.specs.declared.refusal.Reason.TheVariants as reason
-use Rattle.cert_check.specs.Courses.{Course, Walk, counts, gives, gives_all, placed, refuses}
+use Rattle.straight_hints.specs.Found.{above_hints, plain_hints, test_hints}
+use Rattle.cert_check.specs.Courses.{Course, Walk, behind, counts, gives, gives_all, handed, placed, refuses}
 use Rattle.cert_check.specs.Uses.{Passage, around, comes_by, is_among, left_state, passage}
 
 -- where a walk is: the style and the certificate, and the variables that the scope which is checked may write: all where none is listed
@@ -84,17 +85,27 @@ confined true outcome = outcome
 confined false (Err (fault.Demand demand)) = Err (fault.Demand demand)
 confined false _ = Err (fault.NotEntailed 0)
 
--- a built-in function that is neither a test nor enters a function gives one state
+-- the hints for a built-in function that is neither a test nor enters a function
+abbrev pub hints_at : Scope → Builtin → State → Course → List Hint
+hints_at scope op state course = handed course.finding course.hints (λ finding. plain_hints finding scope.style scope.cert.cond state op)
+
+-- it gives one state
 abbrev pub plain : Scope → Builtin → Place → State → Course → Walk
 plain scope op place state course =
-    then_do (placed place (confined (is_within scope (written_by op state)) (effect_of scope.style scope.cert.cond state op course.hints)))
-    (λ after. gives place after.state (record course { hints = after.hints }))
+    let hints = hints_at scope op state course in
+    then_do (placed place (confined (is_within scope (written_by op state)) (effect_of scope.style scope.cert.cond state op hints)))
+    (λ after. gives place after.state (behind hints after.hints course))
+
+-- the hints for a test
+abbrev pub hints_of_test : Scope → Test → State → Course → List Hint
+hints_of_test scope asked state course = handed course.finding course.hints (λ finding. test_hints finding scope.cert.cond state asked)
 
 -- a test gives the states of its cases
 abbrev pub split : Scope → Test → Place → State → Course → Walk
 split scope asked place state course =
-    then_do (placed place (split_of scope.cert.cond state asked course.hints)) (λ cases.
-    gives_all place cases.states (record course { hints = cases.hints }))
+    let hints = hints_of_test scope asked state course in
+    then_do (placed place (split_of scope.cert.cond state asked hints)) (λ cases.
+    gives_all place cases.states (behind hints cases.hints course))
 
 -- a variable or a field puts its symbol on top
 abbrev pub variable : NameId → Place → State → Course → Walk
@@ -195,11 +206,17 @@ cases_entered scope enter call place three (case ∷ cases) course =
     then_do (function_entered scope enter call place (exact_target scope.style case.1 (if case.0 then three.middle else three.top)) case.1 course)
     (cases_entered scope enter call place three cases)
 
+-- the hints for the cases of `if$`
+abbrev pub hints_of_choice : Scope → Three → Course → List Hint
+hints_of_choice scope three course =
+    handed course.finding course.hints (λ finding. above_hints finding scope.cert.cond three.rest three.lowest)
+
 -- `if$`: an integer and two functions, of which those are entered whose cases are kept
 abbrev pub choice : Scope → Enter → Call → Place → Three → Course → Walk
 choice scope enter call place three course =
-    then_do (placed place (above_of scope.cert.cond three.rest three.lowest course.hints)) (λ labelled.
-    cases_entered scope enter call place three labelled.cases (record course { hints = labelled.hints }))
+    let hints = hints_of_choice scope three course in
+    then_do (placed place (above_of scope.cert.cond three.rest three.lowest hints)) (λ labelled.
+    cases_entered scope enter call place three labelled.cases (behind hints labelled.hints course))
 
 -- `if$` on the stack of a state, its top first
 abbrev pub chosen : Scope → Enter → Call → Place → List Sym → State → Course → Walk

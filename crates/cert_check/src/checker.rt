@@ -2,10 +2,11 @@
 
 ghost use Rattle.std.specs.Prelude.{◌≡◌, [], Ok, IfOk, OnErr, MatchResult, option_map, slice_get};
 ghost use Rattle.std.specs.List.{All};
-ghost use Rattle.name_table.specs.Sound.{IsSound};
+ghost use Rattle.name_table.specs.Sound.{Each, IsSound};
+ghost use Rattle.cert_format.specs.CertText.{IsHint};
 ghost use Rattle.sym_state.specs.Demands.{HasFewUses};
 ghost use Rattle.cert_check.specs.Certified.{IsCertified};
-ghost use Rattle.cert_check.specs.Given.{Leads, Refused};
+ghost use Rattle.cert_check.specs.Given.{Finds, Leads, Refused};
 ghost use Rattle.cert_check.specs.Room.{HasRoom, IsEnd};
 ghost use Rattle.cert_check.specs.Units as rule;
 
@@ -23,7 +24,8 @@ use name_table::names::NameId;
 use name_table::style::Style;
 use std::alloc::Global;
 use std::marker::Model;
-use sym_state::hint::Hints;
+use straight_hints::Finding;
+use sym_state::hint::{Hint, Hints};
 use sym_state::state::State;
 
 /// A style and a certificate that is checked for it.
@@ -116,6 +118,29 @@ impl<'a> Checker<'a> {
         target_from(&scope, place, target, states, &mut course)?;
         *hints = Hints::new(course.rest());
         Ok(course.take_given())
+    }
+
+    /// Calls a target from states, where hints are found and not read: the states at its end, and those hints. No hint is found
+    /// for a `while$` and for a function that has a summary: they are short there.
+    pub fn find_call(
+        &self,
+        finding: Finding,
+        states: Vec<State>,
+        target: Target,
+        place: Place,
+    ) -> Result<(Vec<State>, Vec<Hint>), Refusal>
+        requires room { All (HasRoom self.now.style 64 0) states.items }
+        ensures finds { MatchResult result
+            (λ p. Finds (rule.call_found finding self.now.style self.now.cert states.items target place) p.0.items p.1.items)
+            (Refused (rule.call_found finding self.now.style self.now.cert states.items target place)) }
+        ensures made { IfOk result (λ p. All (IsEnd self.now.style) p.0.items) }
+        ensures written { IfOk result (λ p. Each IsHint p.1.items) }
+    {
+        let scope = self.scope(None);
+        let mut course = Course::searching(self.alloc, finding);
+        target_from(&scope, place, target, states, &mut course)?;
+        let found = course.take_found();
+        Ok((course.take_given(), found))
     }
 
     /// A walk that may write these variables, or all where none is listed.

@@ -1,8 +1,9 @@
 //! How far a walk has come.
 
-ghost use Rattle.std.specs.Prelude.{◌≡◌, ◌≢◌, ◌<◌, ◌≤◌, ◌+◌, ◌*◌, ℕ, [], ◌∷◌, ◌++◌, length, reverse, true, false, IfOk, OnOk, Ok, Err, MatchResult, MatchOption};
+ghost use Rattle.std.specs.Prelude.{◌≡◌, ◌≢◌, ◌<◌, ◌≤◌, ◌+◌, ◌*◌, ℕ, [], ◌∷◌, ◌++◌, length, reverse, true, false, None, Some, IfOk, OnOk, Ok, Err, MatchResult, MatchOption};
 ghost use Rattle.std.specs.List.{All};
 ghost use Rattle.bv_base.specs.Answers.{then_do};
+ghost use Rattle.name_table.specs.Sound.{Each};
 ghost use Rattle.sym_state.specs.Cases.{above_of};
 ghost use Rattle.sym_state.specs.Demands.{HasFewUses, one_of, without};
 ghost use Rattle.sym_state.specs.Effects as effects;
@@ -11,9 +12,10 @@ ghost use Rattle.sym_state.specs.Results as results;
 ghost use Rattle.sym_state.specs.WellMade.{HasBounds, IsBounded};
 ghost use Rattle.sym_state.specs.declared.demand.EffectFault.TheVariants.{NoMemory as WantOfMemoryThere};
 ghost use Rattle.sym_state.specs.declared.symbol.Kinds.TheVariants.{Int as IntKind};
+ghost use Rattle.cert_format.specs.CertText.{IsHint};
 ghost use Rattle.cert_format.specs.declared.cert.Loop.{Loop};
 ghost use Rattle.cert_check.specs.Courses as courses;
-ghost use Rattle.cert_check.specs.Given.{CanEnd, Refused, Takes};
+ghost use Rattle.cert_check.specs.Given.{AreCases, CanEnd, Refused, Takes};
 ghost use Rattle.cert_check.specs.Room.{AreWithin, HasRoom};
 ghost use Rattle.cert_check.specs.Units as units;
 ghost use Rattle.cert_check.specs.Uses as uses;
@@ -36,6 +38,7 @@ use refinements::{Test, above, split};
 use std::alloc::Global;
 use std::marker::Model;
 use std::mem;
+use straight_hints::{Finding, above_hints, plain_hints, test_hints};
 use sym_state::demand::{Demand, DemandKind, EffectFault};
 use sym_state::hint::{Hint, Hints};
 use sym_state::operands::one;
@@ -43,40 +46,61 @@ use sym_state::piece::Piece;
 use sym_state::state::State;
 use sym_state::symbol::{Kinds, Sym};
 
-/// The states that the token in hand has given so far, the hints that are left, and how much the unit's walk has counted.
+/// The states that the token in hand has given so far, the hints of the certificate that are left, and how much the unit's
+/// walk has counted. Where hints are found and not read, how that is done, and those that were found so far.
 #[derive(Drop)]
 pub(crate) struct Course<'a> {
     alloc: Global,
     given: Vec<State>,
     hints: Hints<'a>,
     count: u32,
+    finding: Option<Finding>,
+    found: Vec<Hint>,
 }
 
 impl<'a> Model for Course<'a> {
     ghost use Rattle.std.specs.Prelude.{◌≤◌};
     ghost use Rattle.std.specs.List.{All};
+    ghost use Rattle.name_table.specs.Sound.{Each};
+    ghost use Rattle.cert_format.specs.CertText.{IsHint};
     ghost use Rattle.sym_state.specs.Demands.{HasFewUses};
     ghost use Rattle.cert_check.specs.Courses as courses;
     ghost use Rattle.cert_check.specs.declared.limits.TheConstants.{MOST_COUNT};
 
     ghost Value = { courses.Course };
 
-    ghost view = { λ c. record { given = c.given.items; hints = c.hints; count = c.count } };
+    ghost view = { λ c. record { given = c.given.items; hints = c.hints; count = c.count; finding = c.finding; found = c.found.items } };
 
-    ghost invariant = { λ c. (c.count ≤ MOST_COUNT) × All HasFewUses c.hints };
+    ghost invariant = { λ c. (c.count ≤ MOST_COUNT) × All HasFewUses c.hints × Each IsHint c.found.items };
 }
 
 impl<'a> Course<'a> {
     /// A walk that begins with these hints.
     pub(crate) fn new(alloc: Global, hints: &'a [Hint]) -> Course<'a>
         requires { All HasFewUses hints.now }
-        ensures { result ≡ record { given = []; hints = hints.now; count = 0 } }
+        ensures { result ≡ units.beginning hints.now }
     {
         Course {
             alloc,
             given: Vec::new(alloc),
             hints: Hints::new(hints),
             count: 0,
+            finding: None,
+            found: Vec::new(alloc),
+        }
+    }
+
+    /// A walk that finds its hints.
+    pub(crate) fn searching(alloc: Global, finding: Finding) -> Course<'a>
+        ensures { result ≡ units.searching finding }
+    {
+        Course {
+            alloc,
+            given: Vec::new(alloc),
+            hints: Hints::new(&[]),
+            count: 0,
+            finding: Some(finding),
+            found: Vec::new(alloc),
         }
     }
 
@@ -159,6 +183,36 @@ impl<'a> Course<'a> {
         self.hints.rest()
     }
 
+    /// The hints that were found, which are taken.
+    pub(crate) fn take_found(&mut self) -> Vec<Hint>
+        ensures found { result.items ≡ self.old.found }
+        ensures written { Each IsHint result.items }
+        ensures counted { self.old.count ≤ MOST_COUNT }
+        ensures rest { self.new ≡ record self.old { found = [] } }
+    {
+        mem::replace(&mut self.found, Vec::new(self.alloc))
+    }
+
+    /// How hints are found, where they are.
+    fn finding(&self) -> Option<Finding>
+        ensures finding { result ≡ self.now.finding }
+        ensures counted { self.now.count ≤ MOST_COUNT }
+    {
+        self.finding
+    }
+
+    /// Hints were found for a rule, behind those that were found before.
+    fn finds(&mut self, place: Place, mut hints: Vec<Hint>) -> Result<(), Refusal>
+        requires written { Each IsHint hints.items }
+        ensures { MatchResult result (λ _. self.new ≡ record self.old { found = self.old.found ++ hints.items })
+            (λ refusal. refusal.reason ≡ WantOfMemory) }
+    {
+        match self.found.append(&mut hints) {
+            Ok(()) => Ok(()),
+            Err(_) => refuse(place, Reason::NoMemory),
+        }
+    }
+
     /// A state comes to a unit by its pre, which the next hints show.
     pub(crate) fn comes(
         &mut self,
@@ -195,17 +249,52 @@ impl<'a> Course<'a> {
         requires room { HasRoom scope.now.style 65 self.old.count state.now }
         ensures takes { Takes (rule.plain scope.now op place state.now self.old) self.new result }
     {
-        let may = is_within(scope, written_by(op, state));
-        match effect(scope.style(), state, scope.cond(), op, &mut self.hints) {
-            Ok(after) => {
-                if may {
-                    self.gives(place, after)
-                } else {
-                    refuse(place, Reason::NotEntailed(0))
-                }
-            }
-            Err(fault) => refuse(place, reason_of(behind_demands(may, fault))),
+        match self.finding() {
+            None => self.plain_read(scope, op, place, state),
+            Some(finding) => self.plain_found(finding, scope, op, place, state),
         }
+    }
+
+    /// The same by hints that are left.
+    fn plain_read(
+        &mut self,
+        scope: &Scope<'_>,
+        op: Builtin,
+        place: Place,
+        state: &State,
+    ) -> Result<(), Refusal>
+        requires reads { self.old.finding ≡ None }
+        requires plain { effects.is_plain op ≡ true }
+        requires room { HasRoom scope.now.style 65 self.old.count state.now }
+        ensures takes { Takes (rule.plain scope.now op place state.now self.old) self.new result }
+    {
+        let after = confined(scope, op, place, state, &mut self.hints)?;
+        self.gives(place, after)
+    }
+
+    /// By hints that are found.
+    fn plain_found(
+        &mut self,
+        finding: Finding,
+        scope: &Scope<'_>,
+        op: Builtin,
+        place: Place,
+        state: &State,
+    ) -> Result<(), Refusal>
+        requires finds { self.old.finding ≡ Some finding }
+        requires plain { effects.is_plain op ≡ true }
+        requires bounds { HasBounds state.now }
+        requires room { state.now.next < 4294967295 }
+        ensures takes { Takes (rule.plain scope.now op place state.now self.old) self.new result }
+    {
+        let hints = held(
+            place,
+            plain_hints(finding, scope.style(), state, scope.cond(), op),
+        )?;
+        let mut left = Hints::new(hints.as_slice());
+        let after = confined(scope, op, place, state, &mut left)?;
+        self.finds(place, hints)?;
+        self.gives(place, after)
     }
 
     /// A test gives the states of its cases.
@@ -219,8 +308,48 @@ impl<'a> Course<'a> {
         requires room { HasRoom scope.now.style 65 self.old.count state.now }
         ensures takes { Takes (rule.split scope.now test place state.now self.old) self.new result }
     {
+        match self.finding() {
+            None => self.split_read(scope, test, place, state),
+            Some(finding) => self.split_found(finding, scope, test, place, state),
+        }
+    }
+
+    /// The same by hints that are left.
+    fn split_read(
+        &mut self,
+        scope: &Scope<'_>,
+        test: Test,
+        place: Place,
+        state: &State,
+    ) -> Result<(), Refusal>
+        requires reads { self.old.finding ≡ None }
+        requires room { HasRoom scope.now.style 65 self.old.count state.now }
+        ensures takes { Takes (rule.split scope.now test place state.now self.old) self.new result }
+    {
         let answer = split(state, scope.cond(), test, &mut self.hints);
         let states = placed(place, answer)?;
+        self.gives_all(place, states)
+    }
+
+    /// By hints that are found.
+    fn split_found(
+        &mut self,
+        finding: Finding,
+        scope: &Scope<'_>,
+        test: Test,
+        place: Place,
+        state: &State,
+    ) -> Result<(), Refusal>
+        requires finds { self.old.finding ≡ Some finding }
+        requires bounds { HasBounds state.now }
+        requires room { state.now.next < 4294967295 }
+        ensures takes { Takes (rule.split scope.now test place state.now self.old) self.new result }
+    {
+        let hints = held(place, test_hints(finding, state, scope.cond(), test))?;
+        let mut left = Hints::new(hints.as_slice());
+        let answer = split(state, scope.cond(), test, &mut left);
+        let states = placed(place, answer)?;
+        self.finds(place, hints)?;
         self.gives_all(place, states)
     }
 
@@ -262,7 +391,7 @@ impl<'a> Course<'a> {
         Ok((three, cases))
     }
 
-    /// The cases of whether an integer is above 0.
+    /// The cases of whether the integer of an `if$` is above 0.
     fn above(
         &mut self,
         scope: &Scope<'_>,
@@ -271,16 +400,48 @@ impl<'a> Course<'a> {
     ) -> Result<Vec<(bool, State)>, Refusal>
         requires bounds { HasBounds three.now.rest }
         requires room { three.now.rest.next + 65 ≤ 2147483648 + 65 * self.old.count }
-        ensures takes { MatchResult result
-            (λ cases. courses.placed place (above_of scope.now.cert.cond three.now.rest three.now.lowest self.old.hints)
-            ≡ Ok (record { cases = cases.items; hints = self.new.hints }))
-            (Refused (courses.placed place (above_of scope.now.cert.cond three.now.rest three.now.lowest self.old.hints))) }
-        ensures rest { self.new ≡ record self.old { hints = self.new.hints } }
+        ensures takes { (enter : rule.Enter) (call : rule.Call) → MatchResult result
+            (λ cases. rule.choice scope.now enter call place three.now self.old
+            ≡ rule.cases_entered scope.now enter call place three.now cases.items self.new)
+            (Refused (rule.choice scope.now enter call place three.now self.old)) }
+        ensures cases { IfOk result (λ cases. AreCases scope.now.cert.cond three.now.rest three.now.lowest cases.items) }
+        ensures counted { OnOk result (self.new.count ≡ self.old.count) }
     {
-        self.above_in(scope, place, &three.rest, three.lowest)
+        match self.finding() {
+            None => self.above_in(scope, place, &three.rest, three.lowest),
+            Some(finding) => self.above_found(finding, scope, place, three),
+        }
     }
 
-    /// The same of a symbol in a state.
+    /// The same by hints that are found.
+    fn above_found(
+        &mut self,
+        finding: Finding,
+        scope: &Scope<'_>,
+        place: Place,
+        three: &Three,
+    ) -> Result<Vec<(bool, State)>, Refusal>
+        requires finds { self.old.finding ≡ Some finding }
+        requires bounds { HasBounds three.now.rest }
+        requires room { three.now.rest.next < 4294967295 }
+        ensures takes { (enter : rule.Enter) (call : rule.Call) → MatchResult result
+            (λ cases. rule.choice scope.now enter call place three.now self.old
+            ≡ rule.cases_entered scope.now enter call place three.now cases.items self.new)
+            (Refused (rule.choice scope.now enter call place three.now self.old)) }
+        ensures cases { IfOk result (λ cases. AreCases scope.now.cert.cond three.now.rest three.now.lowest cases.items) }
+        ensures counted { OnOk result (self.new.count ≡ self.old.count) }
+    {
+        let hints = held(
+            place,
+            above_hints(finding, &three.rest, scope.cond(), three.lowest),
+        )?;
+        let mut left = Hints::new(hints.as_slice());
+        let cases = sign_cases(scope, place, &three.rest, three.lowest, &mut left)?;
+        self.finds(place, hints)?;
+        Ok(cases)
+    }
+
+    /// The cases of whether an integer in a state is above 0, by hints that are left.
     fn above_in(
         &mut self,
         scope: &Scope<'_>,
@@ -295,8 +456,7 @@ impl<'a> Course<'a> {
             (Refused (courses.placed place (above_of scope.now.cert.cond state.now sym self.old.hints))) }
         ensures rest { self.new ≡ record self.old { hints = self.new.hints } }
     {
-        let answer = above(state, scope.cond(), sym, &mut self.hints);
-        placed(place, answer)
+        sign_cases(scope, place, state, sym, &mut self.hints)
     }
 
     /// The integer on top is given up: the cases of whether it is above 0.
@@ -401,6 +561,26 @@ fn integer(place: Place, state: &State) -> Result<(Sym, State), Refusal>
     Ok((operand, rest))
 }
 
+/// The cases of whether an integer in a state is above 0.
+fn sign_cases(
+    scope: &Scope<'_>,
+    place: Place,
+    state: &State,
+    sym: Sym,
+    hints: &mut Hints<'_>,
+) -> Result<Vec<(bool, State)>, Refusal>
+    requires bounds { HasBounds state.now }
+    requires room { state.now.next < 4294967295 }
+    requires hints { All HasFewUses hints.old }
+    ensures gives { MatchResult result
+        (λ cases. courses.placed place (above_of scope.now.cert.cond state.now sym hints.old) ≡ Ok (record { cases = cases.items; hints = hints.new }))
+        (Refused (courses.placed place (above_of scope.now.cert.cond state.now sym hints.old))) }
+    ensures few { All HasFewUses hints.new }
+{
+    let answer = above(state, scope.cond(), sym, hints);
+    placed(place, answer)
+}
+
 /// Puts a state behind those that were given.
 fn put(place: Place, given: &mut Vec<State>, state: State) -> Result<(), Refusal>
     ensures { MatchResult result (λ _. given.new.items ≡ given.old.items ++ state ∷ []) (λ refusal. refusal.reason ≡ WantOfMemory) }
@@ -457,6 +637,38 @@ fn with_top(mut state: State, sym: Sym) -> Result<State, NoMemory>
 {
     state.push(sym)?;
     Ok(state)
+}
+
+/// What a built-in function gives of a state, where the unit may write what it writes.
+fn confined(
+    scope: &Scope<'_>,
+    op: Builtin,
+    place: Place,
+    state: &State,
+    hints: &mut Hints<'_>,
+) -> Result<State, Refusal>
+    requires bounds { HasBounds state.now }
+    requires next { state.now.next < 4294967295 }
+    requires plain { effects.is_plain op ≡ true }
+    requires hints { All HasFewUses hints.old }
+    ensures gives { MatchResult result
+        (λ after. courses.placed place (rule.confined (rule.is_within scope.now (rule.written_by op state.now))
+        (effects.effect_of scope.now.style scope.now.cert.cond state.now op hints.old)) ≡ Ok (record { state = after; hints = hints.new }))
+        (Refused (courses.placed place (rule.confined (rule.is_within scope.now (rule.written_by op state.now))
+        (effects.effect_of scope.now.style scope.now.cert.cond state.now op hints.old)))) }
+    ensures few { All HasFewUses hints.new }
+{
+    let may = is_within(scope, written_by(op, state));
+    match effect(scope.style(), state, scope.cond(), op, hints) {
+        Ok(after) => {
+            if may {
+                Ok(after)
+            } else {
+                refuse(place, Reason::NotEntailed(0))
+            }
+        }
+        Err(fault) => refuse(place, reason_of(behind_demands(may, fault))),
+    }
 }
 
 /// The variable that `:=` writes, which the exact function on top names.

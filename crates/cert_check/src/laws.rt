@@ -1,6 +1,6 @@
 //! What every certificate that was read has, and what one whose units are all checked says of the machine.
 
-ghost use Rattle.std.specs.Prelude.{◌≡◌, ◌≤◌, ◌⊎◌, ℕ, [], ◌∷◌, List, length, Some, Ok, Err, slice_get};
+ghost use Rattle.std.specs.Prelude.{◌≡◌, ◌≤◌, ◌⊎◌, ℕ, [], ◌∷◌, ◌++◌, List, length, None, Some, Ok, Err, slice_get};
 ghost use Rattle.std.specs.List.{All};
 ghost use Rattle.bv_base.specs.declared.limits.TheConstants.{STYLE_BYTES};
 ghost use Rattle.bv_base.specs.declared.place.Place.{Place};
@@ -11,16 +11,18 @@ ghost use Rattle.bst_meaning.specs.declared.entry.EntryList.{EntryList};
 ghost use Rattle.bst_meaning.specs.declared.value.Target.{Target};
 ghost use Rattle.cert_format.specs.Texts.{cert_of};
 ghost use Rattle.cert_format.specs.declared.cert.Cert.{Cert};
+ghost use Rattle.cert_format.specs.declared.cert.CommandPart.{CommandPart};
 ghost use Rattle.cert_format.specs.declared.cert.Loop.{Loop};
 ghost use Rattle.cert_format.specs.declared.cert.Summary.{Summary};
 ghost use Rattle.sym_state.specs.State.{State};
 ghost use Rattle.sym_state.specs.WellMade.{WellMade};
 ghost use Rattle.sym_state.specs.declared.hint.Hint.{Hint};
+ghost use Rattle.straight_hints.specs.declared.finding.Finding.{Finding};
 ghost use Rattle.cert_check.specs.Certified.{IsCertified};
 ghost use Rattle.cert_check.specs.Courses.{Course};
 ghost use Rattle.cert_check.specs.Places.{IsOfBody, IsOfUnit};
 ghost use Rattle.cert_check.specs.Safely.{EntersSafely, IsAllChecked, RepeatsSafely};
-ghost use Rattle.cert_check.specs.Units.{call_walked, everywhere, loop_checked, summary_checked};
+ghost use Rattle.cert_check.specs.Units.{call_found, call_walked, everywhere, loop_checked, summary_checked};
 ghost use Rattle.cert_check.specs.Walks.{Scope, loop_used, summary_used};
 ghost use Rattle.cert_check.specs.declared.refusal.Refusal.{Refusal};
 
@@ -69,4 +71,13 @@ pub fn refusals_of_units_in_the_style()
         → IsOfUnit style refusal.place }
     ensures calls { (style : Style) (cert : Cert) (states : List State) (target : Target) (place : Place) (hints : List Hint) (refusal : Refusal)
         → call_walked style cert states target place hints ≡ Err refusal → (refusal.place ≡ place) ⊎ IsOfBody style refusal.place }
+{}
+
+/// A call whose hints are found reads them: with these before others the checker's rules come to the same states, and leave the
+/// others, also where the certificate has other records of commands.
+pub fn found_hints_are_read()
+    ensures { (finding : Finding) (style : Style) (cert : Cert) (parts : List CommandPart) (states : List State) (target : Target) (place : Place)
+        (after : Course) (rest : List Hint) → call_found finding style cert states target place ≡ Ok after
+        → call_walked style (record cert { commands = parts }) states target place (after.found ++ rest)
+        ≡ Ok (record after { hints = rest; finding = None; found = [] }) }
 {}

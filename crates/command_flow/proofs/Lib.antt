@@ -17,3 +17,5 @@ pub mod Flowing
 pub mod Records
 pub mod Opened
 pub mod Deciding
+pub mod FoundRecords
+pub mod CommandsFound

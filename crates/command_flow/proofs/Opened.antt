@@ -1,23 +1,23 @@
 -- The opening pieces are within the bounds of calls.
-use Rattle.std.proofs.Common.{◌≡◌, ℕ, suc, ◌+◌, ◌≤◌, max, Bool, List, [], ◌∷◌, ◌++◌, length, map, refl, sym, ap, subst, ◌∙◌, ◌⊎◌, inl, inr, arith}
-use Rattle.std.specs.List.{AllByRecursion}
+use Rattle.std.proofs.Common.{◌≡◌, ℕ, suc, ◌+◌, ◌≤◌, Bool, List, [], ◌∷◌, ◌++◌, length, map, refl, sym, ap, subst, inl, inr, arith}
 use Rattle.std.proofs.Math.Nat.{max-le}
 use Rattle.name_table.specs.declared.names.Kind.{Kind}
 use Rattle.name_table.specs.declared.style.Style.{Style}
 use Rattle.name_table.specs.Sound.{IsSound}
-use Rattle.bst_meaning.specs.Config.{Variable, opening_entry_variable, opening_global, opening_variables}
+use Rattle.bst_meaning.specs.Config.{Variable, opening, opening_entry_variable, opening_global, opening_variables}
+use Rattle.bst_meaning.specs.Entries.{Fits}
+use Rattle.bst_meaning.specs.Invariant.{IsWellFormed}
+use Rattle.bst_meaning.specs.declared.entry.EntryList.{EntryList}
 use Rattle.bst_meaning.specs.declared.value.Value.{Value}
 use Rattle.bst_meaning.specs.declared.value.Value.TheVariants.{Int, Str}
-use Rattle.sym_state.specs.Entailing.{line_count}
-use Rattle.sym_state.specs.Starting.{IsFit, IsNumbered, symbol_count, symbols_of}
+use Rattle.sym_state.specs.Starting.{symbol_count}
 use Rattle.sym_state.specs.WellMade.{is_variable}
 use Rattle.sym_state.specs.declared.symbol.Bind.{Bind}
-use Rattle.sym_state.specs.declared.symbol.Sym.{Sym}
 use Rattle.cert_check.specs.Certified.{IsShort}
 use Rattle.command_flow.specs.Between.{exact_fact, exact_facts, exactly, opened, own_symbols}
-use Rattle.command_flow.specs.Ready.{AreReady, IsReady}
-use Rattle.command_flow.proofs.Openings.{Makes, is_entrys, makes_entrys, makes_globals}
-use Rattle.command_flow.proofs.Shaped.{IsGood}
+use Rattle.command_flow.specs.Ready.{AreReady}
+use Rattle.command_flow.proofs.Openings.{Makes, entrys_of_kind, is_entrys, makes_entrys, makes_globals}
+use Rattle.command_flow.proofs.Shaped.{IsGood, opened_good}
 
 few_made : (test : Kind → Bool) (variable : ℕ → Kind → List Variable → List Variable) → Makes test variable → (id : ℕ) (names : List (List ℕ × Kind))
     → length (opening_variables variable id names) ≤ length names
@@ -58,7 +58,7 @@ exactly_short xs few =
     let facts = few_exact 0 xs in
     record { stack = omega arith; symbols = omega (arith, symbols, few); lines = omega (arith, vars, facts, few) }
 
-pub opened_ready : (style : Style) → IsSound style → IsGood style (opened style) → AreReady style (opened style)
+opened_ready : (style : Style) → IsSound style → IsGood style (opened style) → AreReady style (opened style)
 opened_ready style sound good =
     let names = sound.few_names in
     let globals = few_made (is_variable _) opening_global makes_globals 0 style.names in
@@ -75,3 +75,11 @@ opened_ready style sound good =
         fit = good.entry.fit;
       };
     }
+
+-- they are, since those of the machine over no entries are well formed
+pub opens_ready : (style : Style) → IsSound style → ((list : EntryList) → Fits style list → IsWellFormed style list (opening style list))
+    → AreReady style (opened style)
+opens_ready style sound formed =
+    let list : EntryList = record { entries = []; preamble = [] } in
+    let fits : Fits style list = record { entries = tt; preamble_bytes = tt } in
+    opened_ready style sound (opened_good style (formed list fits).globals.values (entrys_of_kind style))

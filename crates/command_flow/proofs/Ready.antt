@@ -71,7 +71,7 @@ pieces_room style admits pieces whole at_entry sound small ready few =
     (started_room style admits pieces whole at_entry sound small (all_numbered style pieces ready)
     (All-weaker (IsReady style) (IsFit style) (λ piece one. one.fit) pieces ready) (omega (arith, symbols)))
 
-nothing_ready : (style : Style) → IsReady style nothing
+pub nothing_ready : (style : Style) → IsReady style nothing
 nothing_ready style = record {
   short = record { stack = omega arith; symbols = omega arith; lines = omega arith };
   numbered = record { facts = All-nil _; rows = All-nil _ };

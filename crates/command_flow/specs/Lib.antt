@@ -5,3 +5,4 @@ pub mod Checks
 pub mod Places
 pub mod Ready
 pub mod Records
+pub mod Finding

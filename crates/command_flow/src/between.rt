@@ -216,7 +216,7 @@ pub(crate) fn copied(alloc: Global, piece: &Piece) -> Result<Piece, NoMemory>
 }
 
 /// The piece that says nothing.
-fn nothing(alloc: Global) -> Piece
+pub(crate) fn nothing(alloc: Global) -> Piece
     ensures { result ≡ rule.nothing }
 {
     Piece {

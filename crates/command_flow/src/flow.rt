@@ -76,7 +76,7 @@ fn walked(
 }
 
 /// One state.
-fn one(alloc: Global, state: State) -> Result<Vec<State>, NoMemory>
+pub(crate) fn one(alloc: Global, state: State) -> Result<Vec<State>, NoMemory>
     ensures { IfOk result (λ states. states.items ≡ state ∷ []) }
 {
     let mut states = Vec::new(alloc);

@@ -1,18 +1,23 @@
 //! What it means that a certificate is accepted, and where it isn't.
 
-ghost use Rattle.std.specs.Prelude.{◌≡◌, ◌⊎◌, [], Ok, Err};
+ghost use Rattle.std.specs.Prelude.{◌≡◌, ◌⊎◌, [], List, Ok, Err};
 ghost use Rattle.name_table.specs.Sound.{IsSound};
 ghost use Rattle.name_table.specs.declared.style.Style.{Style};
 ghost use Rattle.bst_meaning.specs.Safe.{Safe};
 ghost use Rattle.cert_format.specs.declared.cert.Cert.{Cert};
+ghost use Rattle.cert_format.specs.declared.cert.CommandPart.{CommandPart};
+ghost use Rattle.straight_hints.specs.declared.finding.Finding.{Finding};
 ghost use Rattle.cert_check.specs.Certified.{IsCertified};
 ghost use Rattle.cert_check.specs.Places.{IsOfUnit};
 ghost use Rattle.cert_check.specs.declared.refusal.Refusal.{Refusal};
 ghost use Rattle.command_flow.specs.Checks.{checked, Checks};
+ghost use Rattle.command_flow.specs.Finding.{records_found};
 ghost use Rattle.command_flow.specs.Places.{IsOfCommand};
 
 use bst_meaning::laws::runs_are_well_formed;
-use cert_check::laws::{checked_units_are_safe, refusals_of_units_in_the_style};
+use cert_check::laws::{
+    checked_units_are_safe, found_hints_are_read, refusals_of_units_in_the_style,
+};
 
 /// Where every rule holds of a certificate, its style is safe under its condition: over no entry list that fits the style and
 /// meets the condition does a run come to an execution error, and every call that ends leaves the literal stack empty.
@@ -29,4 +34,12 @@ pub fn refusals_in_the_style()
         → IsOfCommand style refusal.place ⊎ IsOfUnit style refusal.place }
 {
     refusals_of_units_in_the_style();
+}
+
+/// The records that are found for a style are those of a certificate of it that checks, where that has no summary and no loop.
+pub fn found_records_are_accepted()
+    ensures { (finding : Finding) (style : Style) (cert : Cert) (parts : List CommandPart) → cert.summaries ≡ [] → cert.loops ≡ []
+        → records_found finding style cert ≡ Ok parts → Checks style (record cert { commands = parts }) }
+{
+    found_hints_are_read();
 }

@@ -4,9 +4,11 @@
 mod between;
 mod decision;
 mod ends;
+mod finding;
 mod flow;
 pub mod laws;
 mod moving;
 mod shape;
 
 pub use decision::check;
+pub use finding::find;

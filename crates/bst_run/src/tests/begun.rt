@@ -90,12 +90,17 @@ const SECOND_STYLE: &[File] = &[
     },
 ];
 
-static BEGINNINGS: [Beginning; 10] = [
+static BEGINNINGS: [Beginning; 15] = [
     begins!(["check", "a.bst"], BOTH => ""),
     begins!(["check", "a.bst", "b.cert"], BOTH => "a.bst\nb.cert\n"),
     begins!(["check", "a.bst", "c.cert"], BOTH => "a.bst\n-c.cert\n"),
     begins!(["check", "a.bst", "b.cert"], NO_STYLE => "a.bst\n"),
     begins!(["check", "c.bst", "b.cert"], BOTH => "-c.bst\n"),
+    begins!(["infer", "a.bst"], BOTH => "a.bst\n"),
+    begins!(["infer", "a.bst", "b.cert"], BOTH => "a.bst\nb.cert\n"),
+    begins!(["infer", "a.bst", "c.cond"], BOTH => "a.bst\n-c.cond\n"),
+    begins!(["infer", "a.bst", "b.cert"], NO_STYLE => "a.bst\n"),
+    begins!(["infer", "c.bst", "b.cert"], BOTH => "-c.bst\n"),
     begins!(["run", "p.aux", "9"], TREE => "p.aux\ni.aux\nk.aux\nj.aux\na.bst\n-d.bib\n"),
     // The first file has depth 0, and sixteen may lie below it.
     begins!(["run", "p.aux", "9"], ITSELF => "p.aux\np.aux\np.aux\np.aux\np.aux\np.aux\np.aux\np.aux\np.aux\np.aux\np.aux\np.aux\np.aux\np.aux\np.aux\np.aux\np.aux\n"),

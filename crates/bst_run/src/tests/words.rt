@@ -14,12 +14,17 @@ const STYLE: &[File] = &[File {
 }];
 
 /// Words of a form without their files, and words of none.
-pub static WORDS: [Example; 7] = [
+pub static WORDS: [Example; 12] = [
     answered!(["check", "a.bst", "b.cert"], &[], Failing::Nothing => NoFile, "", "no file a.bst\n"),
     answered!(["check", "a.bst", "b.cert"], STYLE, Failing::Nothing => NoFile, "", "no file b.cert\n"),
     answered!(["check", "a.bst"], STYLE, Failing::Nothing => Usage, "", USAGE),
     answered!(["check", "a.bst", "b.cert", "c"], STYLE, Failing::Nothing => Usage, "", USAGE),
     answered!(["Check", "a.bst", "b.cert"], STYLE, Failing::Nothing => Usage, "", USAGE),
+    answered!(["infer"], STYLE, Failing::Nothing => Usage, "", USAGE),
+    answered!(["infer", "a.bst", "c.cond", "c"], STYLE, Failing::Nothing => Usage, "", USAGE),
+    answered!(["Infer", "a.bst"], STYLE, Failing::Nothing => Usage, "", USAGE),
+    answered!(["run", "a.aux"], STYLE, Failing::Nothing => Usage, "", USAGE),
+    answered!(["gen", "1", "1"], STYLE, Failing::Nothing => Usage, "", USAGE),
     answered!(["--help"], STYLE, Failing::Nothing => Usage, "", USAGE),
     answered!([], STYLE, Failing::Nothing => Usage, "", USAGE),
 ];

@@ -4,12 +4,12 @@ use Rattle.std.specs.Vec.Iter.{into_iter_items}
 use Rattle.name_table.specs.Sound.{IsTokenSound}
 use Rattle.name_table.specs.declared.style.Style.{Style}
 use Rattle.name_table.specs.declared.style.TokenAt.{TokenAt}
-use Rattle.bst_meaning.specs.StyleParts.{tokens_of}
+use Rattle.bst_meaning.specs.StyleParts.{kind_of, tokens_of}
 use Rattle.sym_state.specs.State.{State}
-use Rattle.cert_check.specs.Walks.{body_walked}
+use Rattle.cert_check.specs.Walks.{body_walked, chosen_in}
 use Rattle.cert_check.proofs.LoopSteps.{branch_is, called_refused, called_room, next_called}
 use Rattle.cert_check.proofs.OwnStacks.{by_own_stack}
-use Rattle.cert_check.proofs.WalkSteps.{begun_room, each_at, first_room, item_at, body_refused, body_takes, case_within, chosen_refused, chosen_takes, next_entered, next_taken, next_walked, rest_room, rest_within, token_kept, tokens_sound}
+use Rattle.cert_check.proofs.WalkSteps.{begun_room, built_in_takes, each_at, first_room, item_at, body_refused, body_takes, case_within, chosen_refused, chosen_takes, next_entered, next_taken, next_walked, rest_room, rest_within, token_kept, tokens_sound}
 use Rattle.cert_check.proofs.walk.+walk.Goals as goal
 
 -- a body
@@ -47,6 +47,16 @@ body_walked-returns t c =
           c.end.new.self c.tokens_of.result.now c.in_ok-given.given.items c.end.result (omega arith) c.in_ok-given.ensures.1
           (c.tokens_of.ensures ∙ ap (λ (style : Style). tokens_of style c.args.body) c.style.ensures)
           c.in_ok-given.ensures.0 c.in_ok-walked.ensures.takes c.end.ensures.takes;
+    }
+
+-- a built-in function that enters nothing
+pub named-returns-in-Some-Builtin : goal.named-returns-in-Some-Builtin
+named-returns-in-Some-Builtin t c =
+    let enter = body_walked c.args.scope.now c.args.more in
+    record {
+      takes = built_in_takes c.args.scope.now enter (chosen_in c.args.scope.now enter c.args.place) (kind_of c.args.scope.now.style c.args.name)
+          c.in-Some-Builtin.op c.args.name c.args.place c.args.state c.args.course.now c.entering_nothing.new.self c.entering_nothing.result (search rules) (search rules)
+          c.entering_nothing.ensures.takes;
     }
 
 -- the next case

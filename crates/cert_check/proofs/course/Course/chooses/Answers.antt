@@ -1,5 +1,4 @@
-use Rattle.std.proofs.Common.{◌≡◌, ℕ, sym, ap, subst}
-use Rattle.cert_check.specs.Courses.{Course}
+use Rattle.std.proofs.Common.{◌≡◌, ℕ, sym, subst}
 use Rattle.cert_check.specs.Room.{AreWithin}
 use Rattle.cert_check.proofs.CasesWithin.{cases_within}
 use Rattle.cert_check.proofs.course.Course.chooses.Goals as goal
@@ -7,6 +6,6 @@ use Rattle.cert_check.proofs.course.Course.chooses.Goals as goal
 pub returns-clause-cases : goal.returns-clause-cases
 returns-clause-cases c known few =
     subst (λ (count : ℕ). AreWithin c.args.scope.now.style known count c.in_ok-cases.cases.items)
-    (sym (ap (λ (course : Course). course.count) c.above.ensures.rest))
-    (cases_within c.args.scope.now.style c.args.scope.now.cert.cond c.args.place c.args.state.now c.in_ok-three.three c.args.self.now.hints _ known
-    c.args.self.now.count c.requires.room few (c.in_ok-three.ensures) (c.in_ok-cases.ensures.takes))
+    (sym c.in_ok-cases.ensures.counted)
+    (cases_within c.args.scope.now.style c.args.scope.now.cert.cond c.args.place c.args.state.now c.in_ok-three.three c.in_ok-cases.cases.items known
+    c.args.self.now.count c.requires.room few c.in_ok-three.ensures c.in_ok-cases.ensures.cases)

@@ -1,0 +1,19 @@
+use Rattle.std.proofs.Common.{refl}
+use Rattle.bst_run.specs.FilesBegun.{infer_begun}
+use Rattle.bst_run.specs.Forms.{Infer, name_in}
+use Rattle.bst_run.specs.Inferred.{infer_outcome}
+use Rattle.bst_run.proofs.BegunLemmas.{told_begun}
+use Rattle.bst_run.proofs.CommandLemmas.{told_answer}
+use Rattle.bst_run.proofs.command.answer_infer.Goals as goal
+
+pub returns-clause-answer : goal.returns-clause-answer
+returns-clause-answer g c =
+    told_answer g.F.Files c.args.files.now c.infer-found.new.files (Infer c.args.style.now (name_in c.args.cond))
+    (λ t. infer_outcome t c.args.style.now (name_in c.args.cond)) c.infer-found.result c.told.result
+    c.infer-found.ensures.reads c.infer-found.ensures.decided c.infer-found.ensures.safe (λ under. absurd under) (λ t. refl) c.told.ensures
+
+pub returns-clause-begun : goal.returns-clause-begun
+returns-clause-begun g c =
+    told_begun g.F.Files c.args.files.now c.infer-found.new.files (λ t. infer_begun t c.args.style.now (name_in c.args.cond))
+    (g.F.Files.told c.args.files.now) c.infer-found.result c.told.result
+    c.infer-found.ensures.begun c.infer-found.ensures.reads.cause c.told.ensures

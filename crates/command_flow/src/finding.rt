@@ -1,0 +1,282 @@
+//! The commands of a style whose hints are found (docs/ANALYSER.md, "Commands").
+
+ghost use Rattle.std.specs.Prelude.{◌≡◌, ◌≤◌, Bool, true, [], ◌∷◌, ◌++◌, Ok, IfOk, OnOk, MatchResult, length};
+ghost use Rattle.std.specs.List.{All};
+ghost use Rattle.name_table.specs.Sound.{Each, IsSound};
+ghost use Rattle.bst_meaning.specs.declared.value.Target.TheVariants.{Named};
+ghost use Rattle.cert_format.specs.CertText.{IsHint};
+ghost use Rattle.sym_state.specs.Starting.{started};
+ghost use Rattle.sym_state.specs.WellMade.{HasBounds, HasSmallFields};
+ghost use Rattle.cert_check.specs.Certified.{IsCertified};
+ghost use Rattle.cert_check.specs.Given.{Finds, Refused};
+ghost use Rattle.cert_check.specs.Room.{HasRoom};
+ghost use Rattle.cert_check.specs.Units.{call_found};
+ghost use Rattle.command_flow.specs.Between as between;
+ghost use Rattle.command_flow.specs.Commands as commands;
+ghost use Rattle.command_flow.specs.Finding as rule;
+ghost use Rattle.command_flow.specs.Ready.{AreReady, Decides, IsReady};
+
+use crate::between::{Between, nothing, opened};
+use crate::ends::call_ends;
+use crate::flow::{one, state_of};
+use bst_meaning::condition::Cond;
+use bst_meaning::laws::runs_are_well_formed;
+use bst_meaning::value::Target;
+use bv_base::memory::NoMemory;
+use bv_base::place::Place;
+use bv_base::seq::Seq;
+use cert_check::refusal::Refusal;
+use cert_check::{Checker, held};
+use cert_format::cert::{Cert, CommandPart};
+use name_table::names::NameId;
+use name_table::style::{Command, CommandAt, Style};
+use std::alloc::Global;
+use std::slice::from_ref;
+use straight_hints::Finding;
+use sym_state::hint::{Hint, Hints};
+use sym_state::piece::Piece;
+use sym_state::state::State;
+
+/// What stands after a command, and the hints that were found for it.
+#[derive(Drop)]
+pub struct Found {
+    pub between: Between,
+    pub hints: Seq<Hint>,
+}
+
+/// The records of a style's commands whose hints are found, or the first rule that fails, with its place. A command for
+/// which no hint is found has no record. The certificate is the bare one of the condition under which the style is walked.
+pub fn find(
+    alloc: Global,
+    finding: Finding,
+    style: &Style,
+    bare: &Cert,
+) -> Result<Vec<CommandPart>, Refusal>
+    requires sound { IsSound style.now }
+    requires certified { IsCertified style.now bare.now }
+    ensures finds { MatchResult result (λ parts. rule.records_found finding style.now bare.now ≡ Ok parts.items)
+        (Refused (rule.records_found finding style.now bare.now)) }
+    ensures written { IfOk result (λ parts. rule.AreRecords style.now parts.items) }
+{
+    runs_are_well_formed();
+    let checker = held(Place::START, Checker::new(alloc, style, bare))?;
+    commands_found(&checker, alloc, finding, style, &bare.cond)
+}
+
+/// Commands in the style's order.
+fn commands_found(
+    checker: &Checker<'_>,
+    alloc: Global,
+    finding: Finding,
+    style: &Style,
+    cond: &Cond,
+) -> Result<Vec<CommandPart>, Refusal>
+    requires sound { IsSound style.now }
+    requires small { HasSmallFields cond.now }
+    requires style { style.now ≡ checker.now.style }
+    requires cond { cond.now ≡ checker.now.cert.cond }
+    requires opened { AreReady style.now (between.opened style.now) }
+    ensures finds { MatchResult result (λ parts. rule.records_found finding checker.now.style checker.now.cert ≡ Ok parts.items)
+        (Refused (rule.records_found finding checker.now.style checker.now.cert)) }
+    ensures written { IfOk result (λ parts. rule.AreRecords style.now parts.items) }
+{
+    let mut parts = Vec::new(alloc);
+    let mut between = held(Place::START, opened(alloc, style))?;
+    for (index, at) in style.commands.as_slice().iter().enumerate() {
+        let found = command_found(checker, alloc, finding, style, cond, *at, between)?;
+        held(at.place, push_record(&mut parts, index as u32, found.hints))?;
+        between = found.between;
+    }
+    Ok(parts)
+}
+
+/// Appends the record of the command of a number, where a hint was found.
+fn push_record(parts: &mut Vec<CommandPart>, index: u32, hints: Seq<Hint>) -> Result<(), NoMemory>
+    ensures { OnOk result (parts.new.items ≡ parts.old.items ++ rule.record_of index hints) }
+{
+    if !hints.as_slice().is_empty() {
+        parts.push(CommandPart {
+            index,
+            after: None,
+            visit: None,
+            keeps: None,
+            hints,
+        })?;
+    }
+    Ok(())
+}
+
+/// A command: READ, SORT and declarations change nothing that is known.
+fn command_found(
+    checker: &Checker<'_>,
+    alloc: Global,
+    finding: Finding,
+    style: &Style,
+    cond: &Cond,
+    at: CommandAt,
+    between: Between,
+) -> Result<Found, Refusal>
+    requires sound { IsSound style.now }
+    requires small { HasSmallFields cond.now }
+    requires style { style.now ≡ checker.now.style }
+    requires cond { cond.now ≡ checker.now.cert.cond }
+    requires between { AreReady style.now between }
+    ensures decides { Decides (rule.command_found finding checker.now.style checker.now.cert at.command at.place between) result }
+    ensures ready { IfOk result (λ found. AreReady style.now found.between) }
+    ensures written { IfOk result (λ found. Each IsHint found.hints) }
+{
+    match at.command {
+        Command::Execute(name) => executed_finding(
+            checker, alloc, finding, style, cond, name, at.place, between,
+        ),
+        Command::Iterate(name) | Command::Reverse(name) => visited_finding(
+            checker, alloc, finding, style, cond, name, at.place, between,
+        ),
+        _ => Ok(Found {
+            between,
+            hints: Seq::new(alloc),
+        }),
+    }
+}
+
+/// EXECUTE: nothing is known of the global variables after it.
+fn executed_finding(
+    checker: &Checker<'_>,
+    alloc: Global,
+    finding: Finding,
+    style: &Style,
+    cond: &Cond,
+    name: NameId,
+    place: Place,
+    between: Between,
+) -> Result<Found, Refusal>
+    requires sound { IsSound style.now }
+    requires small { HasSmallFields cond.now }
+    requires style { style.now ≡ checker.now.style }
+    requires cond { cond.now ≡ checker.now.cert.cond }
+    requires between { AreReady style.now between }
+    ensures decides { Decides (rule.executed_finding finding checker.now.style checker.now.cert name place between) result }
+    ensures ready { IfOk result (λ found. AreReady style.now found.between) }
+    ensures written { IfOk result (λ found. Each IsHint found.hints) }
+{
+    let starts = from_ref(&between.globals);
+    let hints = called_from(
+        checker, alloc, finding, style, cond, name, place, starts, false,
+    )?;
+    Ok(Found {
+        between: Between {
+            globals: nothing(alloc),
+            entry: between.entry,
+        },
+        hints,
+    })
+}
+
+/// ITERATE and REVERSE: nothing is known of the global variables where a visit begins, and of the entries after all visits.
+fn visited_finding(
+    checker: &Checker<'_>,
+    alloc: Global,
+    finding: Finding,
+    style: &Style,
+    cond: &Cond,
+    name: NameId,
+    place: Place,
+    between: Between,
+) -> Result<Found, Refusal>
+    requires sound { IsSound style.now }
+    requires small { HasSmallFields cond.now }
+    requires style { style.now ≡ checker.now.style }
+    requires cond { cond.now ≡ checker.now.cert.cond }
+    requires between { AreReady style.now between }
+    ensures decides { Decides (rule.visited_finding finding checker.now.style checker.now.cert name place between) result }
+    ensures ready { IfOk result (λ found. AreReady style.now found.between) }
+    ensures written { IfOk result (λ found. Each IsHint found.hints) }
+{
+    let starts = [nothing(alloc), between.entry];
+    let hints = called_from(
+        checker, alloc, finding, style, cond, name, place, &starts, true,
+    )?;
+    Ok(Found {
+        between: Between {
+            globals: nothing(alloc),
+            entry: nothing(alloc),
+        },
+        hints,
+    })
+}
+
+/// A command's name is called from the state that starts from pieces, of which the stack is whole.
+fn called_from(
+    checker: &Checker<'_>,
+    alloc: Global,
+    finding: Finding,
+    style: &Style,
+    cond: &Cond,
+    name: NameId,
+    place: Place,
+    starts: &[Piece],
+    at_entry: bool,
+) -> Result<Seq<Hint>, Refusal>
+    requires sound { IsSound style.now }
+    requires small { HasSmallFields cond.now }
+    requires style { style.now ≡ checker.now.style }
+    requires cond { cond.now ≡ checker.now.cert.cond }
+    requires starts { All (IsReady style.now) starts.now }
+    requires few { length starts.now ≤ 2 }
+    ensures decides { Decides (rule.called_finding finding checker.now.style checker.now.cert name place
+        (started style.now cond.now starts.now true at_entry)) result }
+    ensures written { IfOk result (λ hints. Each IsHint hints) }
+{
+    let state = held(place, state_of(alloc, style, cond, starts, at_entry))?;
+    called_finding(checker, alloc, finding, cond, name, place, state)
+}
+
+/// A command's name is called from a state: the hints that are found, where the stack of each state at the end is empty.
+fn called_finding(
+    checker: &Checker<'_>,
+    alloc: Global,
+    finding: Finding,
+    cond: &Cond,
+    name: NameId,
+    place: Place,
+    state: State,
+) -> Result<Seq<Hint>, Refusal>
+    requires cond { cond.now ≡ checker.now.cert.cond }
+    requires room { HasRoom checker.now.style 64 0 state }
+    ensures decides { Decides (rule.called_finding finding checker.now.style checker.now.cert name place state) result }
+    ensures written { IfOk result (λ hints. Each IsHint hints) }
+{
+    let (given, hints) = walked_finding(checker, alloc, finding, name, place, state)?;
+    all_emptied(cond, place, given.as_slice(), hints.as_slice())?;
+    Ok(Seq::from_vec(hints))
+}
+
+/// A command's name is called from a state: the states at its end, and the hints that are found on the way.
+fn walked_finding(
+    checker: &Checker<'_>,
+    alloc: Global,
+    finding: Finding,
+    name: NameId,
+    place: Place,
+    state: State,
+) -> Result<(Vec<State>, Vec<Hint>), Refusal>
+    requires room { HasRoom checker.now.style 64 0 state }
+    ensures finds { MatchResult result
+        (λ p. Finds (call_found finding checker.now.style checker.now.cert (state ∷ []) (Named name) place) p.0.items p.1.items)
+        (Refused (call_found finding checker.now.style checker.now.cert (state ∷ []) (Named name) place)) }
+    ensures bounds { IfOk result (λ p. All HasBounds p.0.items) }
+    ensures written { IfOk result (λ p. Each IsHint p.1.items) }
+{
+    let states = held(place, one(alloc, state))?;
+    checker.find_call(finding, states, Target::Named(name), place)
+}
+
+/// Each state at the end of a call has an empty stack, and no hint is taken there.
+fn all_emptied(cond: &Cond, place: Place, states: &[State], hints: &[Hint]) -> Result<(), Refusal>
+    requires states { All HasBounds states.now }
+    requires written { Each IsHint hints.now }
+    ensures { MatchResult result (λ _. commands.call_ends cond.now place [] states.now hints.now ≡ Ok hints.now)
+        (Refused (commands.call_ends cond.now place [] states.now hints.now)) }
+{
+    call_ends(cond, place, &[], states, &mut Hints::new(hints))
+}

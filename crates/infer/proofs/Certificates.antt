@@ -1,0 +1,70 @@
+-- The certificate that is found keeps the limits and the canonical form, and the bare one that it begins with is one of the style.
+use Rattle.std.proofs.Common.{◌≡◌, ◌≤◌, List, [], ◌∷◌, length, Option, None, IfSome, lit≤, refl, sym, ap, subst, ◌∙◌, arith}
+use Rattle.std.proofs.lemmas.List.Elements.{All-nil}
+use Rattle.bv_base.specs.declared.limits.TheConstants.{STYLE_BYTES}
+use Rattle.name_table.specs.Sound.{Each, IsSound}
+use Rattle.name_table.specs.declared.style.Style.{Style}
+use Rattle.bst_meaning.specs.declared.condition.Cond.{Cond}
+use Rattle.cert_format.specs.CertText.{IsCert, IsCommandPart}
+use Rattle.cert_format.specs.CondText.{IsCond}
+use Rattle.cert_format.specs.declared.cert.Cert.{Cert}
+use Rattle.cert_format.specs.declared.cert.CommandPart.{CommandPart}
+use Rattle.sym_state.specs.declared.piece.Piece.{Piece}
+use Rattle.cert_check.specs.Certified.{IsCertified}
+use Rattle.cert_check.proofs.Certifying.{cond_limits}
+use Rattle.command_flow.specs.Finding.{AreRecords, IsRecord}
+use Rattle.infer.specs.Infer.{bare}
+
+pub bare_certified : (style : Style) (admits : Cond) → IsCond style.names admits → IsCertified style (bare admits)
+bare_certified style admits is =
+    let limits = cond_limits style admits is in
+    record {
+      limits = limits.0;
+      fields = limits.1;
+      summaries = All-nil _;
+      few_summaries = omega arith;
+      loops = All-nil _;
+      commands = All-nil _;
+      rise = refl;
+    }
+
+-- a piece that isn't there
+no_piece : (P : Piece → Type 0) (piece : Option Piece) → piece ≡ None → IfSome piece P
+no_piece P piece none = subst (λ (o : Option Piece). IfSome o P) (sym none) tt
+
+record_written : (style : Style) (part : CommandPart) → length style.commands ≤ STYLE_BYTES → IsRecord style part → IsCommandPart style part
+record_written style part few is =
+    let there = is.there in
+    record {
+      there = there;
+      small = omega (arith, there, few);
+      after = no_piece _ part.after is.after;
+      visit = no_piece _ part.visit is.visit;
+      keeps = no_piece _ part.keeps is.keeps;
+      hints = is.hints;
+    }
+
+records_written : (style : Style) (parts : List CommandPart) → length style.commands ≤ STYLE_BYTES → Each (IsRecord style) parts → Each (IsCommandPart style) parts
+records_written style [] few are = tt
+records_written style (part ∷ parts) few are = (record_written style part few are.0, records_written style parts few are.1)
+
+found_written : (style : Style) (admits : Cond) (parts : List CommandPart) → IsSound style → IsCond style.names admits → AreRecords style parts
+    → IsCert style (record (bare admits) { commands = parts })
+found_written style admits parts sound is are = record {
+  list = (lit≤ tt, lit≤ tt);
+  cond = is;
+  summaries = tt;
+  few_summaries = omega arith;
+  loops = tt;
+  few_loops = omega arith;
+  commands = records_written style parts sound.few_commands are.each;
+  rise = are.rise;
+}
+
+-- and so does one that begins as the bare one
+pub written_as : (style : Style) (admits : Cond) (begun : Cert) (parts commands : List CommandPart) → IsSound style → IsCond style.names admits
+    → begun ≡ bare admits → commands ≡ parts → AreRecords style parts → IsCert style (record begun { commands = commands })
+written_as style admits begun parts commands sound is one two are =
+    subst (IsCert style)
+    (sym (ap (λ (c : Cert). record c { commands = commands }) one ∙ ap (λ (l : List CommandPart). record (bare admits) { commands = l }) two))
+    (found_written style admits parts sound is are)

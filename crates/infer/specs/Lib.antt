@@ -1,0 +1,3 @@
+pub mod DefaultCond
+pub mod Fragment
+pub mod Infer
