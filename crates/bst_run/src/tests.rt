@@ -113,6 +113,7 @@ mod begun;
 mod check;
 mod commands;
 mod data;
+mod generating;
 mod inferring;
 mod loops;
 mod refusals;
