@@ -47,7 +47,7 @@ macro_rules! made {
 }
 
 /// Styles that are read and shown: no seed was found for which that fails.
-static MADE: [Made; 24] = [
+static MADE: [Made; 20] = [
     made!("0", "1" => "123"),
     made!("0", "2" => "197"),
     made!("1", "2" => "209"),
@@ -59,20 +59,16 @@ static MADE: [Made; 24] = [
     made!("7", "34" => "2239"),
     made!("8", "55" => "3264"),
     made!("9", "89" => "4976"),
-    made!("10", "99" => "6001"),
-    made!("11", "100" => "6077"),
-    made!("42", "200" => "12036"),
-    // The last nine functions call the one before, and no seed gives more in a row.
-    made!("1866", "1826" => "115548"),
-    made!("1866", "300" => "18486"),
-    made!("65535", "300" => "18651"),
-    made!("65536", "300" => "18039"),
-    made!("262143", "400" => "24543"),
-    made!("2147483", "400" => "24731"),
-    made!("123456789", "500" => "31689"),
-    made!("999999998", "500" => "30588"),
-    made!("999999999", "1000" => "61996"),
-    made!("5", "2000" => "127152"),
+    made!("42", "100" => "5749"),
+    // All nine functions call the one before, and no seed gives more in a row.
+    made!("38691", "9" => "310"),
+    made!("65535", "100" => "5937"),
+    made!("65536", "100" => "5994"),
+    made!("262143", "100" => "6116"),
+    made!("2147483", "100" => "5661"),
+    made!("123456789", "100" => "6220"),
+    made!("999999998", "100" => "6004"),
+    made!("999999999", "100" => "5963"),
 ];
 
 /// Numbers that the words may have and may not, and sinks that fail. No file is begun, so none can fail.
