@@ -1,8 +1,27 @@
--- The text of a style that is made is short.
-use Rattle.std.proofs.Common.{◌≡◌, ℕ, zero, suc, ◌+◌, ◌*◌, ◌-◌, ◌<◌, ◌≤◌, ◌^◌, Bool, true, false, cond, nat_eq, List, ◌++◌, codes, length, length-append, refl, arith}
+-- The text of a style that is made is short, and what the style comes to.
+use Rattle.std.proofs.Common.{◌≡◌, ℕ, zero, suc, ◌+◌, ◌*◌, ◌-◌, ◌<◌, ◌≤◌, ◌^◌, Bool, true, false, cond, nat_eq, List, [], ◌++◌, codes, length, length-append, Option, None, Some, Result, Ok, Err, refl, sym, ◌∙◌, ap, subst, arith}
 use Rattle.std.specs.Fmt.{decimal}
+use Rattle.std.specs.Prelude.{IfOk}
 use Rattle.std.proofs.lemmas.Fmt.{length-decimal-le}
-use Rattle.bst_run.specs.Generated.{body_by, function_line, functions, generated, number_of, choice_of, visit_line, visits}
+use Rattle.bv_base.specs.declared.limits.TheConstants.{STYLE_BYTES}
+use Rattle.name_table.specs.declared.style.Style.{Style}
+use Rattle.bst_parse.specs.Reading.{style_of}
+use Rattle.bst_meaning.specs.Safe.{Safe}
+use Rattle.bst_meaning.specs.declared.condition.Cond.{Cond}
+use Rattle.cert_format.specs.declared.cert.Cert.{Cert}
+use Rattle.command_flow.specs.Checks.{checked}
+use Rattle.infer.specs.DefaultCond.{default_cond}
+use Rattle.infer.specs.Infer.{infer_of}
+use Rattle.bst_run.specs.declared.outcome.Outcome.{Outcome}
+use Rattle.bst_run.specs.declared.stop.Stop.{Stop}
+use Rattle.bst_run.specs.declared.words.TheConstants.{MOST_FUNCTIONS}
+use Rattle.bst_run.specs.Generated.{IsGenerating, IsShown, body_by, choice_of, function_line, functions, gen_outcome, generated, number_of, shown_by_default, visit_line, visits}
+use Rattle.bst_run.specs.Inferred.{shown, unrejected}
+use Rattle.bst_run.specs.Report.{generated as told}
+use Rattle.bst_run.specs.Sources.{read_style}
+use Rattle.bst_run.specs.Stops.{Decides}
+use Rattle.bst_run.proofs.ReadsLemmas.{then_decided}
+use Rattle.bst_run.proofs.StyleLemmas.{is_style}
 
 -- a number of functions has at most four digits
 few_digits : (k : ℕ) → k ≤ 2000 → length (decimal k) ≤ 4
@@ -56,7 +75,7 @@ visits_short (suc k) few =
     let line = visit_short (suc k) few in
     omega (arith, before, line, length-append (visits k) (visit_line (suc k)))
 
-pub generated_short : (seed count : ℕ) → count ≤ 2000 → length (generated seed count) ≤ 4194304
+pub generated_short : (seed count : ℕ) → count ≤ MOST_FUNCTIONS → length (generated seed count) ≤ STYLE_BYTES
 generated_short seed count few =
     let made = functions_short seed count few in
     let visited = visits_short count few in
@@ -69,3 +88,49 @@ generated_short seed count few =
       length-append (functions seed count) (codes "READ\n" ++ visits count),
       length-append (codes "READ\n") (visits count),
     )
+
+-- a text that is the one that is made is short
+pub made_short : (seed count : ℕ) (source : List ℕ) → count ≤ MOST_FUNCTIONS → source ≡ generated seed count → length source ≤ STYLE_BYTES
+made_short seed count source few made = subst (λ (t : List ℕ). length t ≤ STYLE_BYTES) (sym made) (generated_short seed count few)
+
+-- the rules of the certificate that is found decide
+pub shown_decided : (style : Style) (admits : Cond) (cert : Cert) (result : Result (Unit {0}) Stop)
+    → admits ≡ default_cond style → infer_of style admits ≡ Ok cert → Decides {A = Unit {0}} (unrejected (checked style cert)) result
+    → Decides {A = Unit {0}} (shown_by_default style) result
+shown_decided style admits cert result same found decides =
+    then_decided {A = Cert} {B = Unit {0}} (shown (infer_of style (default_cond style))) cert (λ c. unrejected (checked style c)) result
+    (ap shown (subst (λ (a : Cond). infer_of style a ≡ Ok cert) same found)) decides
+
+-- where they hold the style is shown
+pub is_shown : (style : Style) (admits : Cond) (cert : Cert) (result : Result (Unit {0}) Stop)
+    → admits ≡ default_cond style → infer_of style admits ≡ Ok cert → cert.cond ≡ admits
+    → IfOk result (λ _. (checked style cert ≡ Ok []) × Safe style cert.cond) → IfOk result (λ _. IsShown style)
+is_shown style admits cert (Err stop) same found under held = tt
+is_shown style admits cert (Ok left) same found under held = record {
+  cert = cert;
+  found = subst (λ (a : Cond). infer_of style a ≡ Ok cert) same found;
+  holds = held.0;
+  safe = subst (Safe style) (under ∙ same) held.1;
+}
+
+module _ (seed count : ℕ) (source : List ℕ) (style : Style) (made : source ≡ generated seed count)
+    (read : Decides {A = Style} (read_style (style_of source)) (Ok style)) where
+  -- the style is read, and then shown
+  pub gen_decided : (left : Unit {0}) (outcome : Outcome) → Decides {A = Unit {0}} (shown_by_default style) (Ok left)
+      → outcome ≡ told count (length source) → gen_outcome seed count ≡ Ok outcome
+  gen_decided left outcome held is =
+      then_decided {A = Style} {B = Outcome} (read_style (style_of (generated seed count))) style _ (Ok outcome)
+      (subst (λ (b : List ℕ). read_style (style_of b) ≡ Ok style) made read)
+      (then_decided {A = Unit {0}} {B = Outcome} (shown_by_default style) left (λ h. Ok (told count (length (generated seed count)))) (Ok outcome) held
+      (ap Ok (sym (is ∙ ap (λ (b : List ℕ). told count (length b)) made))))
+
+  -- the outcome tells of it
+  pub generates : (outcome : Outcome) → IsShown style → outcome ≡ told count (length source) → IsGenerating seed count outcome
+  generates outcome held is = record {
+    made = record {
+      style = style;
+      style_read = is_style (style_of (generated seed count)) style (subst (λ (b : List ℕ). read_style (style_of b) ≡ Ok style) made read);
+      shown = held;
+    };
+    printed = is ∙ ap (λ (b : List ℕ). told count (length b)) made;
+  }
