@@ -359,16 +359,16 @@ gen_told seed count (Err (TooLong name)) (Ok outcome) decides decided safe insid
 gen_told seed count (Err Wanting) (Ok outcome) decides decided safe inside is = absurd (cc)
 
 -- it is what they come to over all files, which are left alone
-pub gen_answer : {F : Type 0} (see : Ghosts F) (files : F) (seed count : ℕ) (found : Result Outcome NoMemory)
-    → IfOk found (IsMadeOf seed count) → IfOk found (λ o. IsAnswer {F = F} see files files (Gen seed count) o)
-gen_answer see files seed count (Err refused) made = tt
-gen_answer see files seed count (Ok o) made = record {
+pub gen_answer : {F : Type 0} (see : Ghosts F) (files : F) (seed count : ℕ) (form : Form) (found : Result Outcome NoMemory)
+    → form ≡ Gen seed count → IfOk found (IsMadeOf seed count) → IfOk found (λ o. IsAnswer {F = F} see files files form o)
+gen_answer see files seed count form (Err refused) same made = tt
+gen_answer {F = F} see files seed count form (Ok o) same made = subst (λ (f : Form). IsAnswer {F = F} see files files f o) (sym same) (record {
   wanted = as_wanted (see.told files);
   cause = decided_cause o.status o (last_begun (see.begun files)) (see.faults files) (see.faults files) made.decided;
   safe = as_safe (see.told files);
   outside = λ under. absurd under;
   made = made;
-}
+})
   where
     as_wanted : (t : Option Listing) → IfSome t (λ told. IsWanted (outcome_in told (Gen seed count)) o)
     as_wanted None = tt

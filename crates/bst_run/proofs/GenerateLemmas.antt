@@ -19,8 +19,8 @@ use Rattle.bst_run.specs.Generated.{IsGenerating, IsShown, body_by, choice_of, f
 use Rattle.bst_run.specs.Inferred.{shown, unrejected}
 use Rattle.bst_run.specs.Report.{generated as told}
 use Rattle.bst_run.specs.Sources.{read_style}
-use Rattle.bst_run.specs.Stops.{Decides}
-use Rattle.bst_run.proofs.ReadsLemmas.{then_decided}
+use Rattle.bst_run.specs.Stops.{Decides, outcome_of}
+use Rattle.bst_run.proofs.ReadsLemmas.{stopped, then_decided}
 use Rattle.bst_run.proofs.StyleLemmas.{is_style}
 
 -- a number of functions has at most four digits
@@ -116,21 +116,29 @@ is_shown style admits cert (Ok left) same found under held = record {
 module _ (seed count : ℕ) (source : List ℕ) (style : Style) (made : source ≡ generated seed count)
     (read : Decides {A = Style} (read_style (style_of source)) (Ok style)) where
   -- the style is read, and then shown
-  pub gen_decided : (left : Unit {0}) (outcome : Outcome) → Decides {A = Unit {0}} (shown_by_default style) (Ok left)
-      → outcome ≡ told count (length source) → gen_outcome seed count ≡ Ok outcome
-  gen_decided left outcome held is =
+  pub gen_decided : (left : Unit {0}) (outcome : Outcome) (bytes : ℕ) → Decides {A = Unit {0}} (shown_by_default style) (Ok left)
+      → bytes ≡ length source → outcome ≡ told count bytes → gen_outcome seed count ≡ Ok outcome
+  gen_decided left outcome bytes held many is =
       then_decided {A = Style} {B = Outcome} (read_style (style_of (generated seed count))) style _ (Ok outcome)
       (subst (λ (b : List ℕ). read_style (style_of b) ≡ Ok style) made read)
       (then_decided {A = Unit {0}} {B = Outcome} (shown_by_default style) left (λ h. Ok (told count (length (generated seed count)))) (Ok outcome) held
-      (ap Ok (sym (is ∙ ap (λ (b : List ℕ). told count (length b)) made))))
+      (ap Ok (sym (is ∙ ap (told count) (many ∙ ap length made)))))
+
+  -- the style is read, and isn't shown
+  pub gen_stopped : (stop : Stop) → Decides {A = Unit {0}} (shown_by_default style) (Err stop) → Decides {A = Outcome} (gen_outcome seed count) (Err stop)
+  gen_stopped stop held =
+      then_decided {A = Style} {B = Outcome} (read_style (style_of (generated seed count))) style _ (Err stop)
+      (subst (λ (b : List ℕ). read_style (style_of b) ≡ Ok style) made read)
+      (stopped {A = Unit {0}} {B = Outcome} (outcome_of stop) (shown_by_default style) (λ h. Ok (told count (length (generated seed count)))) held)
 
   -- the outcome tells of it
-  pub generates : (outcome : Outcome) → IsShown style → outcome ≡ told count (length source) → IsGenerating seed count outcome
-  generates outcome held is = record {
+  pub generates : (outcome : Outcome) (bytes : ℕ) → IsShown style → bytes ≡ length source → outcome ≡ told count bytes
+      → IsGenerating seed count outcome
+  generates outcome bytes held many is = record {
     made = record {
       style = style;
       style_read = is_style (style_of (generated seed count)) style (subst (λ (b : List ℕ). read_style (style_of b) ≡ Ok style) made read);
       shown = held;
     };
-    printed = is ∙ ap (λ (b : List ℕ). told count (length b)) made;
+    printed = is ∙ ap (told count) (many ∙ ap length made);
   }
