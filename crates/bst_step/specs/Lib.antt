@@ -4,5 +4,6 @@ pub mod Surroundings
 pub mod Variables
 pub mod State
 pub mod Moves
+pub mod Frames
 pub mod Lines
 pub mod Machine
