@@ -1,5 +1,5 @@
 use Rattle.std.proofs.Common.{◌≡◌, take}
-use Rattle.bst_step.proofs.opening.copies.Given as goal
+use Rattle.bst_step.proofs.variables.copies.Given as goal
 
 -- so far the copies are the variables
 abbrev pub invariant-loop-variable : goal.invariant-loop-variable

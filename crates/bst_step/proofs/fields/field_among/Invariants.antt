@@ -1,6 +1,6 @@
 use Rattle.std.proofs.Common.{◌≡◌, drop}
 use Rattle.bst_meaning.specs.Machine as rule
-use Rattle.bst_step.proofs.variables.field_in.Given as goal
+use Rattle.bst_step.proofs.fields.field_among.Given as goal
 
 -- the rest of the list has the field that the whole has
 abbrev pub invariant-loop-field : goal.invariant-loop-field
