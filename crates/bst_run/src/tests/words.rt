@@ -8,10 +8,7 @@ pub const USAGE: &str =
     "usage: check STYLE CERT; infer STYLE [COND]; run AUX N [CERT]; gen SEED COUNT\n";
 
 /// The style alone.
-const STYLE: &[File] = &[File {
-    name: "a.bst",
-    bytes: JOINS,
-}];
+const STYLE: &[File] = &[file_of!("a.bst", JOINS)];
 
 /// Words of a form without their files, and words of none.
 pub static WORDS: [Example; 11] = [
