@@ -1,7 +1,9 @@
 //! Straight proofs: proofs of rows that are found without a search over summaries or loops.
 #![tactic(auto)]
 
+mod floors;
 mod known;
+pub mod laws;
 mod lookup;
 mod remainders;
 mod said;
@@ -10,4 +12,5 @@ mod straight;
 #[cfg(test)]
 mod tests;
 
+pub use crate::floors::floor;
 pub use crate::straight::{MOST_REFERENCES, drop_proof, straight_proof};

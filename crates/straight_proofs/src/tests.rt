@@ -5,7 +5,7 @@ ghost use Rattle.std.specs.List.{All};
 ghost use Rattle.sym_state.specs.WellMade.{HasBounds, HasShortText, IsBounded};
 
 use crate::tests::Known::{Integer, Nonblank, TwoLetters};
-use crate::{drop_proof, straight_proof};
+use crate::{drop_proof, floor, straight_proof};
 use bst_meaning::condition::Cond;
 use bv_base::memory::NoMemory;
 use bv_base::seq::Seq;
@@ -22,15 +22,16 @@ use sym_state::proof::{Proof, Reference};
 use sym_state::state::{Parts, State};
 use sym_state::symbol::{Fact, Sym};
 
-/// A row of two terms, of which one taken 0 times is none.
+/// A row of three terms, of which one taken 0 times is none.
 #[derive(Clone, Copy)]
 struct Line {
     constant: i32,
     first: (i32, Term),
     second: (i32, Term),
+    third: (i32, Term),
 }
 
-/// A row with a constant and at most two terms.
+/// A row with a constant and at most three terms.
 macro_rules! line {
     ($constant:expr) => {
         line!($constant, 0 Term::Pos)
@@ -39,10 +40,14 @@ macro_rules! line {
         line!($constant, $first $term, 0 Term::Pos)
     };
     ($constant:expr, $first:literal $term:expr, $second:literal $other:expr) => {
+        line!($constant, $first $term, $second $other, 0 Term::Pos)
+    };
+    ($constant:expr, $first:literal $term:expr, $second:literal $other:expr, $third:literal $last:expr) => {
         Line {
             constant: $constant,
             first: ($first, $term),
             second: ($second, $other),
+            third: ($third, $last),
         }
     };
 }
@@ -301,6 +306,78 @@ static DROPS: [Example; 5] = [
     open!(true, [], [], line!(-1)),
 ];
 
+/// A sum, and the greatest number that it is shown to be at least.
+#[derive(Clone, Copy)]
+struct Floored {
+    given: Given,
+    sum: Line,
+    floor: Option<i64>,
+}
+
+/// A sum with its floor, where no entry is visited.
+macro_rules! floored {
+    ($facts:expr, $rows:expr, $sum:expr, $floor:expr) => {
+        Floored {
+            given: Given {
+                at_entry: false,
+                facts: &$facts,
+                rows: &$rows,
+            },
+            sum: $sum,
+            floor: $floor,
+        }
+    };
+}
+
+/// Sums with floors, and some without.
+static FLOORS: [Floored; 12] = [
+    floored!([], [], line!(7), Some(7)),
+    floored!([], [], line!(0, 1 Value(0)), Some(-2147483648)),
+    floored!([Integer(0, 5)], [], line!(0, 1 Value(0)), Some(5)),
+    floored!([Integer(0, 5)], [], line!(0, -1 Value(0)), Some(-5)),
+    floored!(
+        [Integer(0, 10)],
+        [line!(-2, 1 Value(1), -1 Value(0))],
+        line!(0, 1 Value(1), -1 Value(0)),
+        Some(2)
+    ),
+    floored!(
+        [Integer(0, 10)],
+        [line!(-2, 1 Value(1), -1 Value(0))],
+        line!(0, 1 Value(1)),
+        Some(12)
+    ),
+    floored!(
+        [Integer(0, 5), Integer(1, 7), Integer(2, 3)],
+        [],
+        line!(0, 1 Value(0), 1 Value(1), -1 Value(2)),
+        Some(9)
+    ),
+    floored!(
+        [],
+        [
+            line!(-1, 1 Value(0)),
+            line!(-4, 1 Value(0)),
+            line!(-3, 1 Value(0)),
+            line!(-4, 1 Value(0))
+        ],
+        line!(0, 1 Value(0)),
+        Some(4)
+    ),
+    floored!([], [line!(-1, 1 Value(0))], line!(0, 8 Value(0)), Some(8)),
+    floored!([], [line!(-1, 1 Value(0))], line!(0, 9 Value(0)), None),
+    floored!([], [], line!(0, 1 Value(3)), None),
+    floored!([], [], line!(0, 1 Pos), None),
+];
+
+#[test]
+fn the_floor_is_the_greatest_number_shown(rt: HostRuntime) {
+    for (k, example) in FLOORS.as_slice().iter().enumerate() {
+        let found = has_floor(rt.alloc(), example);
+        assert!(rt; matches!(found, Ok(true)), "sum {k}: {found:?}");
+    }
+}
+
 #[test]
 fn the_first_list_shows_the_goal(rt: HostRuntime) {
     compare(&rt, rt.alloc(), &GOALS);
@@ -336,6 +413,13 @@ fn is_found(alloc: Global, example: &Example) -> Result<bool, NoMemory> {
     let goal = row(alloc, example.goal)?;
     let proof = straight_proof(alloc, &state, &condition(alloc), &goal)?;
     Ok(is_wanted(&proof, example.proof))
+}
+
+/// Whether the floor of a sum is the one that is wanted.
+fn has_floor(alloc: Global, example: &Floored) -> Result<bool, NoMemory> {
+    let state = state(alloc, example.given)?;
+    let sum = row(alloc, example.sum)?;
+    Ok(floor(alloc, &state, &condition(alloc), &sum)? == example.floor)
 }
 
 /// Whether a proof takes these references, once each.
@@ -412,6 +496,10 @@ fn row(alloc: Global, line: Line) -> Result<Row, NoMemory>
         Part {
             coefficient: line.second.0 as i64,
             term: line.second.1,
+        },
+        Part {
+            coefficient: line.third.0 as i64,
+            term: line.third.1,
         },
     ];
     Ok(Row {
