@@ -22,7 +22,7 @@ use sym_state::proof::Reference;
 use sym_state::state::State;
 
 /// The floor of a sum in a state: the greatest number for which a straight proof shows that the sum is at least it. `None`
-/// comes exactly where no number has one. Each list of at most eight references is looked at that the leads leave.
+/// comes exactly where no number has one. As a search that finds none does, it goes over each list of at most eight references.
 pub fn floor(alloc: Global, state: &State, cond: &Cond, sum: &Row) -> Result<Option<i64>, NoMemory>
     requires state { HasBounds state.now }
     requires sum { IsBounded sum.now }

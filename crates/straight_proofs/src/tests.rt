@@ -22,16 +22,15 @@ use sym_state::proof::{Proof, Reference};
 use sym_state::state::{Parts, State};
 use sym_state::symbol::{Fact, Sym};
 
-/// A row of three terms, of which one taken 0 times is none.
+/// A row of two terms, of which one taken 0 times is none.
 #[derive(Clone, Copy)]
 struct Line {
     constant: i32,
     first: (i32, Term),
     second: (i32, Term),
-    third: (i32, Term),
 }
 
-/// A row with a constant and at most three terms.
+/// A row with a constant and at most two terms.
 macro_rules! line {
     ($constant:expr) => {
         line!($constant, 0 Term::Pos)
@@ -40,14 +39,10 @@ macro_rules! line {
         line!($constant, $first $term, 0 Term::Pos)
     };
     ($constant:expr, $first:literal $term:expr, $second:literal $other:expr) => {
-        line!($constant, $first $term, $second $other, 0 Term::Pos)
-    };
-    ($constant:expr, $first:literal $term:expr, $second:literal $other:expr, $third:literal $last:expr) => {
         Line {
             constant: $constant,
             first: ($first, $term),
             second: ($second, $other),
-            third: ($third, $last),
         }
     };
 }
@@ -348,10 +343,10 @@ static FLOORS: [Floored; 12] = [
         Some(12)
     ),
     floored!(
-        [Integer(0, 5), Integer(1, 7), Integer(2, 3)],
-        [],
-        line!(0, 1 Value(0), 1 Value(1), -1 Value(2)),
-        Some(9)
+        [Integer(0, 5), Integer(1, 7)],
+        [line!(-3, 1 Value(2), -1 Value(0))],
+        line!(0, 2 Value(2), 1 Value(1)),
+        Some(23)
     ),
     floored!(
         [],
@@ -496,10 +491,6 @@ fn row(alloc: Global, line: Line) -> Result<Row, NoMemory>
         Part {
             coefficient: line.second.0 as i64,
             term: line.second.1,
-        },
-        Part {
-            coefficient: line.third.0 as i64,
-            term: line.third.1,
         },
     ];
     Ok(Row {
