@@ -4,6 +4,7 @@ pub mod Left
 pub mod Certified
 pub mod Given
 pub mod Walks
+pub mod Here
 pub mod Tables
 pub mod Units
 pub mod Places

@@ -5,13 +5,13 @@ ghost use Rattle.std.specs.List.{All};
 ghost use Rattle.name_table.specs.Sound.{Each, IsSound};
 ghost use Rattle.cert_format.specs.CertText.{IsHint};
 ghost use Rattle.sym_state.specs.Demands.{HasFewUses};
-ghost use Rattle.cert_check.specs.Certified.{IsCertified};
-ghost use Rattle.cert_check.specs.Given.{Finds, Leads, Refused};
+ghost use Rattle.cert_check.specs.Certified.{AreSound, IsCertified};
+ghost use Rattle.cert_check.specs.Given.{Finds, Leads, Refused, Takes};
 ghost use Rattle.cert_check.specs.Room.{HasRoom, IsEnd};
 ghost use Rattle.cert_check.specs.Units as rule;
 
 use crate::course::Course;
-use crate::refusal::Refusal;
+use crate::refusal::{Refusal, Walk};
 use crate::scope::Scope;
 use crate::tables::Tables;
 use crate::turns::loop_checked;
@@ -38,8 +38,7 @@ pub struct Checker<'a> {
 }
 
 impl<'a> Model for Checker<'a> {
-    ghost use Rattle.name_table.specs.Sound.{IsSound};
-    ghost use Rattle.cert_check.specs.Certified.{IsCertified};
+    ghost use Rattle.cert_check.specs.Certified.{AreSound};
     ghost use Rattle.cert_check.specs.Tables.{AreTables};
     ghost use Rattle.cert_check.specs.Units as rule;
 
@@ -47,7 +46,7 @@ impl<'a> Model for Checker<'a> {
 
     ghost view = { λ c. record { style = c.style.now; cert = c.cert.now } };
 
-    ghost invariant = { λ c. IsSound c.style.now × IsCertified c.style.now c.cert.now × AreTables c.style.now c.cert.now c.tables };
+    ghost invariant = { λ c. AreSound c.style.now c.cert.now × AreTables c.style.now c.cert.now c.tables };
 }
 
 impl<'a> Checker<'a> {
@@ -67,9 +66,8 @@ impl<'a> Checker<'a> {
 
     /// Checks the summary of a number: its body is walked from its pre, and each state at its end entails one of its posts.
     /// There is nothing to check where the certificate has none of that number.
-    pub fn check_summary(&self, index: usize) -> Result<(), Refusal>
-        ensures { MatchResult result (λ _. rule.checked_at self.now.style self.now.cert index ≡ Ok [])
-            (Refused (rule.checked_at self.now.style self.now.cert index)) }
+    pub fn check_summary(&self, index: usize) -> Walk
+        ensures { Takes (rule.checked_at self.now.style self.now.cert index) [] result }
     {
         match self.summary(index) {
             Some(summary) => {
@@ -82,9 +80,8 @@ impl<'a> Checker<'a> {
 
     /// Checks the loop of a number: each of its turns is walked from one of its cases, and ends with a case or leaves with an
     /// exit. There is nothing to check where the certificate has none of that number.
-    pub fn check_loop(&self, index: usize) -> Result<(), Refusal>
-        ensures { MatchResult result (λ _. rule.loop_checked_at self.now.style self.now.cert index ≡ Ok [])
-            (Refused (rule.loop_checked_at self.now.style self.now.cert index)) }
+    pub fn check_loop(&self, index: usize) -> Walk
+        ensures { Takes (rule.loop_checked_at self.now.style self.now.cert index) [] result }
     {
         match self.repetition(index) {
             Some(one) => {
@@ -146,8 +143,7 @@ impl<'a> Checker<'a> {
     /// A walk that may write these variables, or all where none is listed.
     fn scope<'s>(&'s self, writes: Option<&'s [NameId]>) -> Scope<'s>
         ensures scope { result ≡ record { style = self.now.style; cert = self.now.cert; writes = option_map (λ names. names.now) writes.entry } }
-        ensures sound { IsSound self.now.style }
-        ensures certified { IsCertified self.now.style self.now.cert }
+        ensures sound { AreSound self.now.style self.now.cert }
     {
         Scope::new(self.style, self.cert, writes, &self.tables)
     }

@@ -1,6 +1,7 @@
 //! The rules of the checker on units: summaries and calls.
 #![tactic(auto)]
 
+mod at;
 mod checker;
 mod choice;
 mod course;

@@ -6,6 +6,6 @@ use Rattle.cert_check.proofs.course.Course.above_found.Goals as goal
 
 pub returns-clause-cases : goal.returns-clause-cases
 returns-clause-cases c =
-    subst (λ (three : Three). AreCases c.args.scope.now.cert.cond three.rest three.lowest c.in_ok-cases.cases.items) c.three.view_is
-    (cases_are c.args.scope.now.cert.cond c.args.place c.three.inside.rest c.three.inside.lowest c.in_ok-cases.cases.items c.new-left.result
+    subst (λ (three : Three). AreCases c.args.at.now.scope.now.cert.cond three.rest three.lowest c.in_ok-cases.cases.items) c.three.view_is
+    (cases_are c.args.at.now.scope.now.cert.cond c.args.at.now.place c.three.inside.rest c.three.inside.lowest c.in_ok-cases.cases.items c.new-left.result
     c.sign_cases.new.hints c.in_ok-cases.ensures.gives)
