@@ -10,3 +10,4 @@ pub mod Units
 pub mod Places
 pub mod Room
 pub mod Safely
+pub mod Tours

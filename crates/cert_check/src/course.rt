@@ -17,6 +17,7 @@ ghost use Rattle.cert_format.specs.declared.cert.Loop.{Loop};
 ghost use Rattle.cert_check.specs.Courses as courses;
 ghost use Rattle.cert_check.specs.Given.{AnswersAt, AreCases, CanEnd, GoesOn, Takes};
 ghost use Rattle.cert_check.specs.Room.{AreWithin, HasRoom};
+ghost use Rattle.cert_check.specs.Tours as tours;
 ghost use Rattle.cert_check.specs.Units as units;
 ghost use Rattle.cert_check.specs.Uses as uses;
 ghost use Rattle.cert_check.specs.Walks as rule;
@@ -141,6 +142,8 @@ impl<'a> Course<'a> {
     pub(crate) fn take_given(&mut self) -> Vec<State>
         ensures given { result.items ≡ self.old.given }
         ensures left { self.new ≡ record self.old { given = [] } }
+        ensures counted { self.old.count ≤ MOST_COUNT }
+        ensures written { Each IsHint self.old.found }
     {
         mem::replace(&mut self.given, Vec::new(self.alloc))
     }
@@ -352,33 +355,48 @@ impl<'a> Course<'a> {
         ensures cases { IfOk result (λ cases. AreCases at.now.scope.now.cert.cond three.now.rest three.now.lowest cases.items) }
         ensures counted { OnOk result (self.new.count ≡ self.old.count) }
     {
+        self.sign(at, &three.rest, three.lowest)
+    }
+
+    /// The cases of whether an integer in a state is above 0.
+    pub(crate) fn sign(
+        &mut self,
+        at: &At<'_>,
+        rest: &State,
+        sym: Sym,
+    ) -> Result<Vec<(bool, State)>, Refusal>
+        requires bounds { HasBounds rest.now }
+        requires room { rest.now.next + 65 ≤ 2147483648 + 65 * self.old.count }
+        ensures takes { GoesOn (tours.signed at.now.scope.now at.now.place rest.now sym self.old)
+            (λ cases. Ok (record { cases = cases.items; course = self.new })) result }
+        ensures cases { IfOk result (λ cases. AreCases at.now.scope.now.cert.cond rest.now sym cases.items) }
+        ensures counted { OnOk result (self.new.count ≡ self.old.count) }
+    {
         match self.finding() {
-            None => self.above_in(at, &three.rest, three.lowest),
-            Some(finding) => self.above_found(finding, at, three),
+            None => self.above_in(at, rest, sym),
+            Some(finding) => self.sign_found(finding, at, rest, sym),
         }
     }
 
     /// The same by hints that are found.
-    fn above_found(
+    fn sign_found(
         &mut self,
         finding: Finding,
         at: &At<'_>,
-        three: &Three,
+        rest: &State,
+        sym: Sym,
     ) -> Result<Vec<(bool, State)>, Refusal>
         requires finds { self.old.finding ≡ Some finding }
-        requires bounds { HasBounds three.now.rest }
-        requires room { three.now.rest.next < 4294967295 }
-        ensures takes { (enter : rule.Enter) (call : rule.Call) → GoesOn (rule.choice at.now.scope.now enter call at.now.place three.now self.old)
-            (λ cases. rule.cases_entered at.now.scope.now enter call at.now.place three.now cases.items self.new) result }
-        ensures cases { IfOk result (λ cases. AreCases at.now.scope.now.cert.cond three.now.rest three.now.lowest cases.items) }
+        requires bounds { HasBounds rest.now }
+        requires room { rest.now.next < 4294967295 }
+        ensures takes { GoesOn (tours.signed at.now.scope.now at.now.place rest.now sym self.old)
+            (λ cases. Ok (record { cases = cases.items; course = self.new })) result }
+        ensures cases { IfOk result (λ cases. AreCases at.now.scope.now.cert.cond rest.now sym cases.items) }
         ensures counted { OnOk result (self.new.count ≡ self.old.count) }
     {
-        let hints = held(
-            at.place,
-            above_hints(finding, &three.rest, at.scope.cond(), three.lowest),
-        )?;
+        let hints = held(at.place, above_hints(finding, rest, at.scope.cond(), sym))?;
         let mut left = Hints::new(hints.as_slice());
-        let cases = sign_cases(at, &three.rest, three.lowest, &mut left)?;
+        let cases = sign_cases(at, rest, sym, &mut left)?;
         self.finds(at.place, hints)?;
         Ok(cases)
     }
@@ -471,7 +489,7 @@ impl<'a> Course<'a> {
 }
 
 /// The integer on top, and the state without it.
-fn integer(place: Place, state: &State) -> Result<(Sym, State), Refusal>
+pub(crate) fn integer(place: Place, state: &State) -> Result<(Sym, State), Refusal>
     ensures one { GoesOn (courses.placed place (one_of IntKind state.now)) (λ p. Ok (record { operand = p.0; rest = p.1 })) result }
     ensures rest { IfOk result (λ p. p.1 ≡ without 1 state.now) }
 {

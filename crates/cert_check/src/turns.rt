@@ -1,7 +1,8 @@
 //! A loop's own check (docs/CHECKER.md, "Units").
 
-ghost use Rattle.std.specs.Prelude.{◌≡◌, ◌≤◌, [], Ok, Some, IfOk, MatchResult, OnOk};
+ghost use Rattle.std.specs.Prelude.{◌≡◌, ◌≤◌, [], ◌∷◌, Ok, Some, IfOk, MatchResult, OnOk};
 ghost use Rattle.std.specs.List.{All};
+ghost use Rattle.sym_state.specs.Starting.{started};
 ghost use Rattle.cert_check.specs.Certified.{AreSound, IsLoopOf, IsPieceOf};
 ghost use Rattle.cert_check.specs.Given.{Takes};
 ghost use Rattle.cert_check.specs.Room.{HasRoom};
@@ -63,10 +64,17 @@ fn turned_from(
 }
 
 /// The state with which a turn starts from a case.
-fn turn_state(at: &At<'_>, alloc: Global, one: &Loop, case: &Piece) -> Result<State, Refusal>
+pub(crate) fn case_state(
+    at: &At<'_>,
+    alloc: Global,
+    whole: bool,
+    entry: bool,
+    case: &Piece,
+) -> Result<State, Refusal>
     requires sound { AreSound at.now.scope.now.style at.now.scope.now.cert }
-    requires case { IsPieceOf at.now.scope.now.style one.now.entry case.now }
-    ensures state { MatchResult result (λ state. state ≡ rule.turn_state at.now.scope.now one.now case.now) (λ refusal. refusal.reason ≡ WantOfMemory) }
+    requires case { IsPieceOf at.now.scope.now.style entry case.now }
+    ensures state { MatchResult result (λ state. state ≡ started at.now.scope.now.style at.now.scope.now.cert.cond (case.now ∷ []) whole entry)
+        (λ refusal. refusal.reason ≡ WantOfMemory) }
     ensures room { IfOk result (HasRoom at.now.scope.now.style 129 0) }
 {
     let pieces = from_ref(case);
@@ -77,8 +85,8 @@ fn turn_state(at: &At<'_>, alloc: Global, one: &Loop, case: &Piece) -> Result<St
             at.scope.style(),
             at.scope.cond(),
             pieces,
-            one.whole,
-            one.entry,
+            whole,
+            entry,
         ),
     )
 }
@@ -92,7 +100,7 @@ fn turn(at: &At<'_>, alloc: Global, one: &Loop, case: &Piece, course: &mut Cours
     ensures takes { Takes (rule.turn at.now.scope.now at.now.place one.now (rule.turn_state at.now.scope.now one.now case.now) course.old) course.new result }
     ensures none { OnOk result (course.new.given ≡ []) }
 {
-    let state = turn_state(at, alloc, one, case)?;
+    let state = case_state(at, alloc, one.whole, one.entry, case)?;
     target_entered(at.scope, at.place, one.test, state, course)?;
     let states = course.take_given();
     all_tested(at, one, states, course)

@@ -37,7 +37,7 @@ pub(crate) fn types_entered(at: &At<'_>, state: &State) -> Result<Vec<NameId>, R
 }
 
 /// The functions of the listed types, and the default function where a type may be another.
-fn type_functions(alloc: Global, style: &Style, cond: &Cond) -> Result<Vec<NameId>, NoMemory>
+pub fn type_functions(alloc: Global, style: &Style, cond: &Cond) -> Result<Vec<NameId>, NoMemory>
     ensures { IfOk result (λ names. names.items ≡ rule.type_functions style.now cond.now) }
 {
     let mut names = listed_functions(alloc, style, cond.types.as_slice())?;
