@@ -1,0 +1,7 @@
+pub mod Floors
+pub mod Reaching
+pub mod Sums
+pub mod Rows
+pub mod Skeletons
+pub mod Cases
+pub mod Candidates
