@@ -96,8 +96,8 @@ with_part part [] = part ∷ []
 with_part part (first ∷ parts) =
     if is_before part.term first.term then part ∷ (first ∷ parts)
     else if same_term part.term first.term then (
-      let sum = part.coefficient +ℤ first.coefficient in
-      if is_zero sum then parts else record { coefficient = sum; term = first.term } ∷ parts)
+    let sum = part.coefficient +ℤ first.coefficient in
+    if is_zero sum then parts else record { coefficient = sum; term = first.term } ∷ parts)
     else first ∷ with_part part parts
 
 -- a row with its parts in the order of terms

@@ -2,3 +2,6 @@
 #![tactic(auto)]
 
 pub mod limits;
+mod reaching;
+
+pub use crate::reaching::{Occurrences, occurring};
