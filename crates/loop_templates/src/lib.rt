@@ -3,5 +3,9 @@
 
 pub mod limits;
 mod reaching;
+mod signed_sums;
+mod terms;
 
 pub use crate::reaching::{Occurrences, occurring};
+pub use crate::signed_sums::sums;
+pub use crate::terms::terms_over;
