@@ -1,4 +1,3 @@
-pub mod Floors
 pub mod Reaching
 pub mod Sums
 pub mod Rows

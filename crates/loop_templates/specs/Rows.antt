@@ -22,7 +22,7 @@ use Rattle.sym_state.specs.Starting.{started}
 use Rattle.sym_state.specs.State.{State}
 use Rattle.sym_state.specs.declared.piece.Piece.{Piece}
 use Rattle.sym_state.specs.declared.symbol.Sym.{Sym}
-use Rattle.loop_templates.specs.Floors.{floor}
+use Rattle.straight_proofs.specs.Floors.{floor}
 use Rattle.straight_proofs.specs.Lookup.{on_term}
 use Rattle.straight_proofs.specs.Remainders.{turned}
 
