@@ -5,6 +5,7 @@ mod floors;
 mod known;
 pub mod laws;
 mod lookup;
+mod on_term;
 mod remainders;
 mod said;
 mod search;
@@ -13,4 +14,5 @@ mod straight;
 mod tests;
 
 pub use crate::floors::floor;
+pub use crate::on_term::rows_on;
 pub use crate::straight::{MOST_REFERENCES, drop_proof, straight_proof};
