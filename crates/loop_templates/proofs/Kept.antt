@@ -1,7 +1,6 @@
 -- Names that are kept, one after the other.
-use Rattle.std.proofs.Common.{◌≡◌, ℕ, zero, suc, ◌+◌, ◌<◌, Bool, true, false, ◌&&◌, cond, List, [], ◌∷◌, ◌++◌, length, map, drop, Option, Some, None, ap, sym, ◌∙◌, refl, arith, add-one, append_assoc}
+use Rattle.std.proofs.Common.{◌≡◌, ℕ, suc, ◌+◌, Bool, true, false, ◌&&◌, cond, List, [], ◌∷◌, ◌++◌, map, drop, Some, ap, sym, ◌∙◌, refl, add-one, append_assoc}
 use Rattle.std.specs.List.{filter}
-use Rattle.std.specs.Option.{option_map_or}
 use Rattle.lin_facts.specs.declared.row.Term.{Term}
 use Rattle.name_table.specs.Names.{kind_at}
 use Rattle.name_table.specs.declared.names.Kind.{Kind}

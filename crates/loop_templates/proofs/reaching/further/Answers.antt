@@ -1,5 +1,5 @@
 -- A step that marks nothing more is the last, and any other leaves one less.
-use Rattle.std.proofs.Common.{◌≡◌, ◌<◌, ◌+◌, rules, length, sym, ap, arith, List, subst}
+use Rattle.std.proofs.Common.{◌≡◌, ◌<◌, rules, length, ap, arith, List, subst}
 use Rattle.name_table.specs.declared.style.Body.{Body}
 use Rattle.loop_templates.proofs.Steps.{step_in_vain, step_taken}
 use Rattle.loop_templates.proofs.reaching.further.Goals as goal

@@ -1,5 +1,5 @@
 -- The sums with the terms so far and with those that are left are all.
-use Rattle.std.proofs.Common.{◌≡◌, ◌++◌, ◌∷◌, drop, flat_map, ℕ, length, map}
+use Rattle.std.proofs.Common.{◌≡◌, ◌++◌, ◌∷◌, flat_map, length, map}
 use Rattle.loop_templates.specs.Sums.{choices, first_added}
 use Rattle.loop_templates.proofs.signed_sums.push_threes_with.Given as goal
 

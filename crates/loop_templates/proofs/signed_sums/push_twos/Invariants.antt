@@ -1,5 +1,5 @@
 -- The sums of the terms so far and of those that are left are all.
-use Rattle.std.proofs.Common.{◌≡◌, ◌++◌, ◌∷◌, drop, flat_map, ℕ, length, map}
+use Rattle.std.proofs.Common.{◌≡◌, ◌++◌, flat_map, length}
 use Rattle.loop_templates.specs.Sums.{choices, first_added}
 use Rattle.loop_templates.proofs.signed_sums.push_twos.Given as goal
 

@@ -1,5 +1,4 @@
 -- The value of one name more.
-use Rattle.std.proofs.Common.{◌≡◌}
 use Rattle.lin_facts.specs.declared.row.Term.TheVariants.{Value}
 use Rattle.loop_templates.specs.Reaching.{is_integer, is_marked}
 use Rattle.loop_templates.proofs.Kept.{value_added}
