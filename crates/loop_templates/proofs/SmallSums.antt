@@ -1,14 +1,14 @@
 -- Sums of a few terms stay within their bounds.
 use Rattle.std.proofs.Common.{◌≡◌, ℕ, suc, ◌+◌, ◌≤◌, true, false, cond, List, [], ◌∷◌, ◌++◌, length, map, ap, refl, arith, ℤ, ◌+ℤ◌}
-use Rattle.std.specs.List.{All, sum_by}
+use Rattle.std.specs.List.{All}
 use Rattle.std.proofs.lemmas.Int.{ints}
 use Rattle.std.proofs.lemmas.List.Elements.{All-nil, All-cons, All-head, All-tail}
 use Rattle.lin_facts.specs.Rows.{IsWithin, same_term}
 use Rattle.lin_facts.specs.declared.row.Part.{Part}
 use Rattle.cert_format.specs.PieceItems.{is_before, is_zero}
-use Rattle.sym_state.proofs.Sums.{size_within}
+use Rattle.sym_state.proofs.Sums.{size_within, sizes, sizes-cons}
 use Rattle.sym_state.specs.Renaming.{row_renamed, term_renamed}
-use Rattle.sym_state.specs.WellMade.{IsBounded, size}
+use Rattle.sym_state.specs.WellMade.{IsBounded}
 use Rattle.straight_proofs.specs.Remainders.{turned}
 use Rattle.loop_templates.specs.Rows.{row_of_parts, summed, with_part}
 use Rattle.loop_templates.specs.Sums.{IsSmallSum}
@@ -39,19 +39,20 @@ negated_small sum h =
     }
 
 -- a part with its term renamed
-abbrev renamed : (ℕ → ℕ) → Part → Part
+abbrev pub renamed : (ℕ → ℕ) → Part → Part
 renamed name part = record { coefficient = part.coefficient; term = term_renamed name part.term }
 
 renamed_length : (name : ℕ → ℕ) (parts : List Part) → length (map (renamed name) parts) ≡ length parts
 renamed_length name [] = refl
 renamed_length name (part ∷ parts) = ap (λ (n : ℕ). suc n) (renamed_length name parts)
 
-renamed_sizes : (name : ℕ → ℕ) (parts : List Part) → AreWithin 1 parts → sum_by (λ part. size part.coefficient) (map (renamed name) parts) ≤ length parts
+renamed_sizes : (name : ℕ → ℕ) (parts : List Part) → AreWithin 1 parts → sizes (map (renamed name) parts) ≤ length parts
 renamed_sizes name [] h = omega arith
 renamed_sizes name (part ∷ parts) h =
     let here = size_within 1 part.coefficient (All-head (λ (p : Part). IsWithin 1 p.coefficient) part parts h) in
     let rest = renamed_sizes name parts (All-tail (λ (p : Part). IsWithin 1 p.coefficient) part parts h) in
-    omega (arith, here, rest)
+    let both = sizes-cons (renamed name part) (map (renamed name) parts) in
+    omega (arith, here, rest, both)
 
 -- a row of a sum is within its bounds, however its terms are renamed
 pub sum_bounded : (name : ℕ → ℕ) (sum : List Part) → IsSmallSum sum → IsBounded (row_renamed name (row_of_parts sum))

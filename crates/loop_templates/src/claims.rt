@@ -1,7 +1,9 @@
 //! What sums come to in a list of states (docs/ANALYSER.md, "Loops").
 
-ghost use Rattle.std.specs.Prelude.{◌≡◌, ◌++◌, ◌^◌, Some, map, option_map, IfOk, IfSome, OnOk};
+ghost use Rattle.std.specs.Prelude.{◌≡◌, ◌++◌, ◌^◌, Some, false, map, option_map, IfOk, IfSome, OnOk};
 ghost use Rattle.std.specs.List.{All, list_all};
+ghost use Rattle.std.specs.Option.{option_map_or};
+ghost use Rattle.std.specs.Ordering.{int_eq};
 ghost use Rattle.lin_facts.specs.Rows.{IsWithin};
 ghost use Rattle.sym_state.specs.Renaming.{row_renamed, term_renamed};
 ghost use Rattle.sym_state.specs.WellMade.{HasBounds, IsBounded};
@@ -138,10 +140,20 @@ fn is_exactly(
     requires negative { negative.now ≡ rule.negated sum.now }
     ensures { IfOk result (λ is. is ≡ rule.is_exactly cond.now sum.now c state.now) }
 {
-    if floor_in(alloc, cond, state, sum)? != Some(c) {
+    if !is_number(floor_in(alloc, cond, state, sum)?, c) {
         return Ok(false);
     }
-    Ok(floor_in(alloc, cond, state, negative)? == Some(-c))
+    Ok(is_number(floor_in(alloc, cond, state, negative)?, -c))
+}
+
+/// Whether a number is there and is this one.
+fn is_number(found: Option<i64>, c: i64) -> bool
+    ensures { result ≡ option_map_or (int_eq c) found false }
+{
+    match found {
+        Some(d) => c == d,
+        None => false,
+    }
 }
 
 /// The least floor of a sum over states, where it has one in each.

@@ -23,18 +23,28 @@ pub(crate) fn row_in_piece(alloc: Global, piece: &Piece, row: &Row) -> Result<Ro
     requires { IsSmallSum row.now.parts }
     ensures { IfOk result (λ found. found ≡ rule.row_in_piece piece.now row.now) }
 {
-    let mut parts = Vec::new(alloc);
-    for part in row.parts.as_slice() {
-        let renamed = Part {
-            coefficient: part.coefficient,
-            term: term_in_piece(piece, part.term),
-        };
-        parts = with_part(alloc, renamed, parts.as_slice())?;
-    }
+    let parts = parts_in_piece(alloc, piece, row.parts.as_slice())?;
     Ok(Row {
         constant: row.constant,
         parts: Seq::from_vec(parts),
     })
+}
+
+/// The parts of a row over names as a piece has them, in the order of terms.
+fn parts_in_piece(alloc: Global, piece: &Piece, parts: &[Part]) -> Result<Vec<Part>, NoMemory>
+    requires { IsSmallSum parts.now }
+    ensures { IfOk result (λ all. all.items ≡ (rule.row_in_piece piece.now (rule.row_of_parts parts.now)).parts) }
+{
+    let mut all = Vec::new(alloc);
+    for part in parts {
+        let renamed = Part {
+            coefficient: part.coefficient,
+            term: term_in_piece(piece, part.term),
+        };
+        let next = with_part(alloc, renamed, all.as_slice())?;
+        all = next;
+    }
+    Ok(all)
 }
 
 /// A part among parts in the order of terms.

@@ -1,7 +1,8 @@
 //! The rows that a list of states has in common (docs/ANALYSER.md, "Loops").
 
-ghost use Rattle.std.specs.Prelude.{◌≡◌, ◌+◌, ◌<◌, ◌≤◌, [], ◌∷◌, ◌++◌, length, map, not, take, IfOk, OnOk};
+ghost use Rattle.std.specs.Prelude.{◌≡◌, ◌+◌, ◌<◌, ◌≤◌, false, [], ◌∷◌, ◌++◌, length, map, not, option_map, take, IfOk, OnOk};
 ghost use Rattle.std.specs.List.{All, filter, list_any};
+ghost use Rattle.std.specs.Option.{option_map_or};
 ghost use Rattle.std.specs.Cmp.Lexicographic.{pointwise};
 ghost use Rattle.cert_format.specs.CertText.{is_within};
 ghost use Rattle.sym_state.specs.Starting as begin;
@@ -46,16 +47,65 @@ pub fn rows_over(
         ≡ rule.rows_over style.now cond.now whole at_entry sums.now (map (λ state. state.now) states.now) piece.now) }
     ensures few { IfOk result (λ rows. length rows.items ≤ MOST_ITEMS) }
 {
-    let start = start(alloc, style, cond, from_ref(piece), whole, at_entry)?;
+    let start = started(alloc, style, cond, whole, at_entry, piece)?;
     let mut rows = Vec::new(alloc);
     for sum in sums {
         if rows.len() >= MOST_ITEMS {
             return Ok(rows);
         }
-        let found = rows_of_sum(alloc, cond, states, sum.as_slice())?;
-        keep_wanted(alloc, &mut rows, cond, &start, piece, found.as_slice())?;
+        keep_of_sum(
+            alloc,
+            &mut rows,
+            cond,
+            &start,
+            piece,
+            states,
+            sum.as_slice(),
+        )?;
     }
     Ok(rows)
+}
+
+/// The state that starts from a piece.
+fn started(
+    alloc: Global,
+    style: &Style,
+    cond: &Cond,
+    whole: bool,
+    at_entry: bool,
+    piece: &Piece,
+) -> Result<State, NoMemory>
+    requires numbered { begin.IsNumbered piece.now }
+    requires fit { begin.IsFit style.now piece.now }
+    requires few { begin.symbols_of piece.now + length style.now.names < 4294967296 }
+    ensures started { IfOk result (λ state. state ≡ begin.started style.now cond.now (piece.now ∷ []) whole at_entry) }
+    ensures bounds { IfOk result HasBounds }
+{
+    let pieces = from_ref(piece);
+    start(alloc, style, cond, pieces, whole, at_entry)
+}
+
+/// Adds those of the rows of a sum that may stand in a piece, as long as there is room.
+fn keep_of_sum(
+    alloc: Global,
+    rows: &mut Vec<Row>,
+    cond: &Cond,
+    start: &State,
+    piece: &Piece,
+    states: &[&State],
+    sum: &[Part],
+) -> Result<(), NoMemory>
+    requires states { All HasBounds (map (λ state. state.now) states.now) }
+    requires sum { IsSmallSum sum.now }
+    requires bounds { HasBounds start.now }
+    requires few { length rows.old.items ≤ MOST_ITEMS }
+    ensures kept { OnOk result (rows.new.items ≡ take MOST_ITEMS (rows.old.items ++ filter (rule.is_wanted cond.now start.now)
+        (map (rule.row_in_piece piece.now) (rule.rows_of_sum cond.now (map (λ state. state.now) states.now) sum.now)))) }
+    ensures few { OnOk result (length rows.new.items ≤ MOST_ITEMS) }
+{
+    let found = rows_of_sum(alloc, cond, states, sum)?;
+    let list = found.as_slice();
+    keep_wanted(alloc, rows, cond, start, piece, list)
 }
 
 /// Adds those of some rows over names that may stand in a piece, as long as there is room.
@@ -75,8 +125,8 @@ fn keep_wanted(
     ensures few { OnOk result (length rows.new.items ≤ MOST_ITEMS) }
 {
     for row in found {
-        let row = row_in_piece(alloc, piece, row)?;
-        keep_one(alloc, rows, cond, start, row)?;
+        let placed = row_in_piece(alloc, piece, row)?;
+        keep_one(alloc, rows, cond, start, placed)?;
     }
     Ok(())
 }
@@ -130,6 +180,14 @@ fn is_said(alloc: Global, cond: &Cond, state: &State, row: &Row) -> Result<bool,
     if is_row_of(state, row) {
         return Ok(true);
     }
+    is_said_of_first(alloc, cond, state, row)
+}
+
+/// Whether a reference in a state says a row of the row's first term.
+fn is_said_of_first(alloc: Global, cond: &Cond, state: &State, row: &Row) -> Result<bool, NoMemory>
+    requires { HasBounds state.now }
+    ensures { IfOk result (λ is. is ≡ list_any (rule.same_row row.now) (rule.said_of_first cond.now state.now row.now.parts)) }
+{
     match row.parts.as_slice() {
         [] => Ok(false),
         [first, ..] => {
@@ -144,13 +202,21 @@ fn is_row_of(state: &State, row: &Row) -> bool
     ensures { result ≡ list_any (rule.same_row row.now) state.now.rows }
 {
     for k in 0..state.rows() {
-        if let Some(other) = state.row(k) {
-            if same_row(row, other) {
-                return true;
-            }
+        if is_same(row, state.row(k)) {
+            return true;
         }
     }
     false
+}
+
+/// Whether a row is there and is this one.
+fn is_same(row: &Row, other: Option<&Row>) -> bool
+    ensures { result ≡ option_map_or (rule.same_row row.now) (option_map (λ other. other.now) other) false }
+{
+    match other {
+        Some(other) => same_row(row, other),
+        None => false,
+    }
 }
 
 /// Whether a row is among some.
