@@ -8,6 +8,8 @@ mod reaching;
 mod rows;
 mod signed_sums;
 mod terms;
+#[cfg(test)]
+mod tests;
 
 pub use crate::reaching::{Occurrences, occurring};
 pub use crate::rows::rows_over;
