@@ -1,17 +1,20 @@
 //! Templates of loops: what a loop's cases can say, by the states that enter it and those behind its turns.
 #![tactic(auto)]
 
-mod claims;
-mod in_piece;
+mod candidates;
+mod cases;
+mod facts;
+mod hints;
+mod kept;
 pub mod limits;
-mod reaching;
+mod lowering;
+mod names;
+mod places;
 mod rows;
-mod signed_sums;
-mod terms;
-#[cfg(test)]
-mod tests;
+pub mod skeletons;
+mod sums;
 
-pub use crate::reaching::{Occurrences, occurring};
-pub use crate::rows::rows_over;
-pub use crate::signed_sums::sums;
-pub use crate::terms::terms_over;
+pub use crate::candidates::{Added, Candidate, Next, exits_of, first_candidate, next_after};
+pub use crate::cases::Frame;
+pub use crate::hints::{entailing, entailing_one};
+pub use crate::sums::Sums;
