@@ -8,6 +8,7 @@ ghost use Rattle.sym_state.specs.Facts.{subject as subject_of};
 ghost use Rattle.loop_templates.specs.Cases as rule;
 ghost use Rattle.loop_templates.specs.Rows as rows;
 
+use crate::limits::MOST_SYMBOLS;
 use crate::skeletons::{Bone, stack_of};
 use bv_base::copied::Copied;
 use bv_base::memory::NoMemory;
@@ -137,6 +138,9 @@ fn push_recorded(
 {
     let facts = facts_of(alloc, state)?;
     let stack = stack_of(alloc, state)?;
+    if stack.len() >= MOST_SYMBOLS {
+        return Err(NoMemory);
+    }
     push_stack(alloc, all, state, facts.as_slice(), stack.as_slice())?;
     push_written(alloc, all, writes, state, facts.as_slice(), places)
 }
