@@ -1,8 +1,10 @@
 -- Cases without rows may start a state.
-use Rattle.std.proofs.Common.{◌≡◌, ℕ, zero, suc, ◌+◌, ◌<◌, ◌≤◌, ◌∙◌, ap, sym, subst, arith, List, [], ◌∷◌, ◌++◌, length, map, take, drop, Option, Some, None}
+use Rattle.std.proofs.Common.{◌≡◌, ℕ, zero, suc, ◌+◌, ◌<◌, ◌≤◌, Bool, ◌∙◌, ap, sym, subst, arith, List, [], ◌∷◌, ◌++◌, length, map, take, drop, Option, Some, None}
 use Rattle.std.specs.List.{All, range_with_len}
 use Rattle.std.proofs.lemmas.List.{length-append, length-map}
 use Rattle.std.proofs.lemmas.List.Elements.{All-nil, All-cons, All-append, All-drop, All-filter, All-map, All-take, All-weaker}
+use Rattle.name_table.specs.declared.names.Kind.{Kind}
+use Rattle.name_table.specs.declared.names.NameId.{NameId}
 use Rattle.name_table.specs.declared.names.TheConstants.{MOST_NAMES}
 use Rattle.name_table.specs.declared.style.Style.{Style}
 use Rattle.sym_state.specs.Facts.{subject}
@@ -168,3 +170,13 @@ pub those_made : (style : Style) (bones : Skeleton) (states those : List State) 
     → All (WellMade style) those
 those_made style bones states those is made =
     subst (λ (all : List State). All (WellMade style) all) (sym is) (All-filter (λ state. same_skeleton bones (skeleton state)) (WellMade style) states made)
+
+-- the names of a case are few behind a short stack
+pub names_few : (at_entry : Bool) (all : List (List ℕ × Kind)) (n : ℕ) (vars names : List NameId) → n < 2147483648 → length all ≤ MOST_NAMES
+    → vars ≡ ids_from (is_variable at_entry) 0 all → names ≡ vars ++ ids_from (is_field at_entry) 0 all → n + length names < 4294967296
+names_few at_entry all n vars names short few is more =
+    let first = ids_from-length (is_variable at_entry) 0 all in
+    let second = ids_from-length (is_field at_entry) 0 all in
+    let one = ap length is in
+    let both = ap length more ∙ length-append vars (ids_from (is_field at_entry) 0 all) in
+    omega (arith, short, few, first, second, one, both)

@@ -1,9 +1,9 @@
 -- Cases are as long as their skeletons, and their lines can be numbered.
-use Rattle.std.proofs.Common.{◌≡◌, ◌≢◌, ℕ, zero, suc, ◌+◌, ◌<◌, ◌≤◌, Bool, true, false, ◌&&◌, ◌||◌, cond, ap, sym, ◌∙◌, refl, subst, arith, List, [], ◌∷◌, ◌++◌, length, map, take, drop, Option}
+use Rattle.std.proofs.Common.{◌≡◌, ◌≢◌, ℕ, zero, suc, ◌+◌, ◌<◌, ◌≤◌, Bool, true, false, ◌&&◌, ◌||◌, cond, ap, sym, ◌∙◌, refl, subst, arith, List, [], ◌∷◌, ◌++◌, length, map, take, drop, get_or, Option, Some, None, Result, Ok, Err, IfOk}
 use Rattle.std.specs.List.{All, filter, flat_map, fold, list_all, range_with_len}
 use Rattle.std.specs.Cmp.Lexicographic.{pointwise}
 use Rattle.std.proofs.lemmas.Bool.{and_parts}
-use Rattle.std.proofs.lemmas.List.{length-append, length-drop, length-map, length-take}
+use Rattle.std.proofs.lemmas.List.{drop_more, length-append, length-drop, length-map, length-take}
 use Rattle.std.proofs.lemmas.List.Elements.{All-nil, All-cons, All-filter, All-head, All-map, All-push, All-tail, All-weaker}
 use Rattle.std.proofs.lemmas.List.FromFn.{length-map-range_with_len}
 use Rattle.bst_meaning.specs.declared.condition.Cond.{Cond}
@@ -17,9 +17,10 @@ use Rattle.sym_state.specs.State.{State}
 use Rattle.sym_state.specs.WellMade.{HasBounds, IsBounded, WellMade, is_field, is_variable}
 use Rattle.sym_state.specs.declared.piece.Piece.{Piece}
 use Rattle.sym_state.specs.declared.symbol.Bind.{Bind}
+use Rattle.sym_state.specs.declared.symbol.Fact.{Fact}
 use Rattle.sym_state.proofs.Started.{ids_from-length}
 use Rattle.loop_templates.specs.Candidates.{CanMatch, IsMade, grown, is_proved, lowered, next_by, proved_rows, settled}
-use Rattle.loop_templates.specs.Cases.{Frame, bare_case, common_facts, facts_for, fields_of, further_facts, given_facts, numbered, ordered_facts, places_behind, places_for, skeleton_facts, taken_symbols, variables_of, with_rows}
+use Rattle.loop_templates.specs.Cases.{Frame, bare_case, case_of, common_facts, entering_case, facts_for, fields_of, further_facts, given_facts, numbered, ordered_facts, piece_of, places_behind, places_for, skeleton_facts, taken_symbols, variables_of, with_rows}
 use Rattle.loop_templates.specs.Rows.{is_wanted, row_in_piece, rows_of_sum, rows_over}
 use Rattle.loop_templates.specs.Skeletons.{IsBoneOf, Skeleton, bone_of, is_among, new_skeletons, same_bone, same_skeleton, skeleton, states_of, with_new}
 use Rattle.loop_templates.specs.declared.candidates.Added.{Added}
@@ -183,3 +184,46 @@ matched_long one state made has =
     let long = as_long one.bones state has in
     let stack = made.stack in
     omega (arith, long, stack)
+
+-- the case of those of some states that have a skeleton, by its parts
+pub case_is : (frame : Frame) (states : List State) (bones : Skeleton) (common those : List State) (bare piece : Piece) → bare ≡ bare_case frame bones common None
+    → common ≡ frame.entering → those ≡ states_of bones states → piece ≡ with_rows frame those bare → piece ≡ case_of frame states bones
+case_is frame states bones common those bare piece is all found made =
+    made
+    ∙ ap (λ (them : List State). with_rows frame them bare) found
+    ∙ ap (with_rows frame (states_of bones states)) (is ∙ ap (λ (them : List State). bare_case frame bones them None) all)
+
+-- that of a state that enters
+pub entering_is : (frame : Frame) (state : State) (bones : Skeleton) (bare piece : Piece) → bones ≡ skeleton state
+    → bare ≡ bare_case frame bones (state ∷ []) (Some state) → piece ≡ with_rows frame (state ∷ []) bare → piece ≡ entering_case frame state
+entering_is frame state bones bare piece same is made =
+    made ∙ ap (with_rows frame (state ∷ [])) (is ∙ ap (λ (them : Skeleton). bare_case frame them (state ∷ []) (Some state)) same)
+
+-- what holds of a value by two facts on it
+pub both_hold : {X E : Type 0} (r : Result X E) (P Q R : X → Type 0) → ((x : X) → P x → Q x → R x) → IfOk r P → IfOk r Q → IfOk r R
+both_hold (Ok x) P Q R shows p q = shows x p q
+both_hold (Err e) P Q R shows p q = tt
+
+-- a case without rows, by its parts
+pub bare_is : (frame : Frame) (bones : Skeleton) (common : List State) (further : Option State) (n v : ℕ) (places : List Bind) (facts : List Fact) (piece : Piece)
+    → n ≡ length bones → v ≡ length (variables_of frame) → places ≡ places_for frame n → facts ≡ facts_for frame bones places common further
+    → piece ≡ piece_of n v places facts → piece ≡ bare_case frame bones common further
+bare_is frame bones common further n v places facts piece long many placed known made =
+    let here : places ≡ places_for frame (length bones) = placed ∙ ap (places_for frame) long in
+    made
+    ∙ ap (λ (m : ℕ). piece_of m v places facts) long
+    ∙ ap (λ (m : ℕ). piece_of (length bones) m places facts) many
+    ∙ ap (piece_of (length bones) (length (variables_of frame)) places) known
+    ∙ ap (λ (them : List Bind). piece_of (length bones) (length (variables_of frame)) them (facts_for frame bones them common further)) here
+
+-- the skeleton of one more state
+pub new_more : (known old new all : List Skeleton) (states : List State) (k : ℕ) (state : State) (bones : Skeleton) → k < length states
+    → state ≡ get_or states k state → bones ≡ skeleton state → new ≡ with_new known old bones
+    → fold (λ new state. with_new known new (skeleton state)) old (drop k states) ≡ all
+    → fold (λ new state. with_new known new (skeleton state)) new (drop (k + 1) states) ≡ all
+new_more known old new all states k state bones within is has made before =
+    let step = λ (new : List Skeleton) (state : State). with_new known new (skeleton state) in
+    ap (λ (front : List Skeleton). fold step front (drop (k + 1) states))
+    (made ∙ ap (with_new known old) has ∙ ap (λ (one : State). with_new known old (skeleton one)) is)
+    ∙ ap (fold step old) (sym (drop_more states k state within))
+    ∙ before
