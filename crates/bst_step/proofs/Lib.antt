@@ -1,5 +1,8 @@
 pub mod StackSteps
 pub mod VariableSteps
+pub mod PlaceLookups
+pub mod PlacesMade
+pub mod FieldSteps
 pub mod EntrySteps
 pub mod StableOrder
 pub mod SortSteps
