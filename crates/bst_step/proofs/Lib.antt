@@ -9,5 +9,7 @@ pub mod SortSteps
 pub mod OpeningSteps
 pub mod RestSteps
 pub mod BrokenLines
+pub mod LateBreaks
+pub mod CutSteps
 pub mod KeySteps
 pub mod PlaceSteps
