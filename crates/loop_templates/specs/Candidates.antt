@@ -1,112 +1,111 @@
 -- Candidates of a loop (docs/ANALYSER.md, "Loops"): the first one, and what comes after a candidate by the states behind its turns.
-use Rattle.std.specs.Prelude.{ℕ, zero, suc, ◌+◌, Bool, true, false, ◌&&◌, nat_eq, nat_le, nat_lt, if◌then◌else◌, List, [], ◌∷◌, ◌++◌, length, map, flat_map, Option, None, Some, is_none, is_some}
-use Rattle.std.specs.List.{filter, list_all, list_any}
-use Rattle.std.specs.Option.{option_map_or}
+use Rattle.std.specs.Prelude.{◌≡◌, ℕ, ◌+◌, ◌-◌, ◌≤◌, Bool, ◌&&◌, nat_le, nat_lt, if◌then◌else◌, List, [], ◌∷◌, ◌++◌, length, map, Option, None, Some, is_none, is_some}
+use Rattle.std.specs.List.{All, filter, list_all, list_any}
 use Rattle.lin_facts.specs.declared.row.Row.{Row}
 use Rattle.bst_meaning.specs.declared.condition.Cond.{Cond}
-use Rattle.cert_format.specs.declared.piece_lines.TheConstants.{MOST_ITEMS}
-use Rattle.cert_format.specs.declared.unit_lines.TheConstants.{MOST_PIECES}
-use Rattle.sym_state.specs.Entailing.{first_before_rows, match_of}
+use Rattle.sym_state.specs.Entailing.{first_unentailed, line_count, match_of}
 use Rattle.sym_state.specs.Renaming.{row_renamed}
 use Rattle.sym_state.specs.State.{State}
+use Rattle.sym_state.specs.WellMade.{HasBounds, IsBounded}
 use Rattle.sym_state.specs.declared.hint.Hint.{Hint}
 use Rattle.sym_state.specs.declared.hint.Hint.TheVariants.{Case}
 use Rattle.sym_state.specs.declared.piece.Piece.{Piece}
 use Rattle.straight_proofs.specs.Straight.{straight_proof}
 use Rattle.straight_hints.specs.Found.{step_found}
 use Rattle.straight_hints.specs.declared.finding.Finding.TheVariants.{Straight}
-use Rattle.loop_templates.specs.declared.limits.TheConstants.{MOST_ADDED}
+use Rattle.loop_templates.specs.declared.candidates.Added.{Added}
+use Rattle.loop_templates.specs.declared.candidates.Candidate.{Candidate}
+use Rattle.loop_templates.specs.declared.candidates.Next.{Next}
+use Rattle.loop_templates.specs.declared.candidates.Next.TheVariants.{Passes, Ends, Goes}
+use Rattle.loop_templates.specs.declared.limits.TheConstants.{MOST_ADDED, MOST_ITEMS, MOST_PIECES}
 use Rattle.loop_templates.specs.Cases.{Frame, case_of, entering_case}
 use Rattle.loop_templates.specs.Skeletons.{Skeleton, new_skeletons, same_skeleton, skeleton, states_of}
 
--- a case that was added for a skeleton
-pub record Added : Type 0 where
-  pub bones : Skeleton
-  pub case : Piece
+-- a stack has no more symbols than a piece may have
+abbrev pub is_short : {X : Type 0} → List X → Bool
+is_short stack = nat_le (length stack) MOST_ITEMS
 
--- the cases of the states that enter, and behind them those that were added
-pub record Candidate : Type 0 where
-  pub first : List Piece
-  pub added : List Added
+-- a certificate may have a case for each of these states
+abbrev pub may_enter : List State → Bool
+may_enter states = nat_le (length states) MOST_PIECES && list_all (λ state. is_short state.stack) states
 
--- the cases of a candidate, in their order
-abbrev pub cases_of : Candidate → List Piece
-cases_of candidate = candidate.first ++ map (λ one. one.case) candidate.added
-
--- a piece may be written
-abbrev pub may_stand : Piece → Bool
-may_stand piece = nat_le (length piece.stack) MOST_ITEMS
-
--- a candidate is within the limits
-abbrev pub is_small : Candidate → Bool
-is_small candidate =
-    nat_le (length candidate.added) MOST_ADDED
-    && (nat_le (length (cases_of candidate)) MOST_PIECES && list_all may_stand (cases_of candidate))
-
--- it is walked where it is within the limits; else the sequence ends
-abbrev pub walked_where_small : Candidate → Option Candidate
-walked_where_small candidate = if is_small candidate then Some candidate else None
-
--- the first candidate: a case for each state that enters
+-- the first candidate: a case for each state that enters, where a certificate may have these; else the sequence ends
 abbrev pub first_candidate : Frame → Option Candidate
-first_candidate frame = walked_where_small (record { first = map (entering_case frame) frame.entering; added = [] })
+first_candidate frame =
+    if may_enter frame.entering
+    then Some (record { first = map (entering_case frame) frame.entering; added = [] })
+    else None
 
--- a case is added for each of these skeletons
-abbrev pub grown : Frame → Candidate → List State → List Skeleton → Candidate
+-- a case of some states is added for a skeleton
+abbrev pub added_for : Frame → List State → Skeleton → Added
+added_for frame states bones = record { bones = bones; case = case_of frame states bones }
+
+-- a candidate has room for so many more
+abbrev pub has_room : Candidate → ℕ → Bool
+has_room candidate more =
+    nat_le more (MOST_ADDED - length candidate.added) && nat_le more ((MOST_PIECES - length candidate.first) - length candidate.added)
+
+-- these skeletons may have cases
+abbrev pub may_grow : Candidate → List Skeleton → Bool
+may_grow candidate new = has_room candidate (length new) && list_all is_short new
+
+-- a case is added for each of these skeletons of states behind a turn, where they may stand; else the sequence ends
+abbrev pub grown : Frame → Candidate → List State → List Skeleton → Next
 grown frame candidate turned new =
-    record candidate { added = candidate.added ++ map (λ bones. record { bones = bones; case = case_of frame turned bones }) new }
+    if may_grow candidate new
+    then Goes (record { first = candidate.first; added = candidate.added ++ map (added_for frame turned) new })
+    else Ends
 
 -- a row of a case has a straight proof in a state
 abbrev pub is_proved : Cond → Piece → Row → State → Bool
 is_proved admits case row state = is_some (straight_proof admits state (row_renamed (match_of state case 0) row))
 
+-- the rows of a case that have one in each of some states
+abbrev pub proved_rows : Cond → Piece → List State → List Row → List Row
+proved_rows admits case states rows = filter (λ row. list_all (is_proved admits case row) states) rows
+
 -- an added case without the rows that have none in some of the states of its skeleton
 abbrev pub lowered : Cond → List State → Added → Added
-lowered admits turned one =
-    let states = states_of one.bones turned in
-    record one { case = record one.case { rows = filter (λ row. list_all (is_proved admits one.case row) states) one.case.rows } }
+lowered admits turned one = record {
+  bones = one.bones;
+  case = record one.case { rows = proved_rows admits one.case (states_of one.bones turned) one.case.rows };
+}
 
 -- it has fewer rows than before
 abbrev pub is_lower : Cond → List State → Added → Bool
 is_lower admits turned one = nat_lt (length (lowered admits turned one).case.rows) (length one.case.rows)
 
--- the places and facts of a case hold in a state
-abbrev pub agrees_with : State → Piece → Bool
-agrees_with state case = is_none (first_before_rows (match_of state case 0) state case)
+-- the places and facts of a case hold in a state: it entails the case without rows
+abbrev pub agrees_with : Cond → State → Piece → Bool
+agrees_with admits state case = is_none (first_unentailed state admits (record case { rows = [] }) 0 [])
 
--- those of the added case of its skeleton do
-abbrev pub is_met : List Added → State → Bool
-is_met added state = list_any (λ one. same_skeleton one.bones (skeleton state) && agrees_with state one.case) added
+-- those of an added case of its skeleton do
+abbrev pub is_met : Cond → List Added → State → Bool
+is_met admits added state = list_any (λ one. same_skeleton one.bones (skeleton state) && agrees_with admits state one.case) added
 
--- what follows a candidate that was walked
-pub data Next : Type 0 where
-  Passes : Next
-  Ends : Next
-  Goes : (candidate : Candidate) → Next
+-- the candidate passes where each state behind a turn entails an added case of its skeleton; else the sequence ends
+abbrev pub passes : Cond → List Added → List State → Next
+passes admits added turned = if list_all (is_met admits added) turned then Passes else Ends
 
--- a candidate follows, where there is one
-abbrev pub goes : Option Candidate → Next
-goes (Some candidate) = Goes candidate
-goes None = Ends
+-- where no skeleton is new: rows without a proof are left out, and where none is, the candidate passes or ends
+abbrev pub settled : Cond → Candidate → List State → Next
+settled admits candidate turned =
+    if list_any (is_lower admits turned) candidate.added
+    then Goes (record { first = candidate.first; added = map (lowered admits turned) candidate.added })
+    else passes admits (map (lowered admits turned) candidate.added) turned
 
--- where no skeleton is new: rows without a proof are left out, and where none is the candidate passes if each state entails its case
-abbrev pub settled : Frame → Candidate → List State → Next
-settled frame candidate turned =
-    if list_any (is_lower frame.admits turned) candidate.added
-    then Goes (record candidate { added = map (lowered frame.admits turned) candidate.added })
-    else if list_all (is_met candidate.added) turned then Passes
-    else Ends
+-- what follows a candidate where these skeletons are new
+abbrev pub next_by : Frame → Candidate → List State → List Skeleton → Next
+next_by frame candidate turned [] = settled frame.admits candidate turned
+next_by frame candidate turned (bones ∷ more) = grown frame candidate turned (bones ∷ more)
 
 -- what follows a candidate, by the states behind its turns
 abbrev pub next_after : Frame → Candidate → List State → Next
-next_after frame candidate turned = elim (new_skeletons (map (λ one. one.bones) candidate.added) turned) [
-  | [] ↦ settled frame candidate turned
-  | bones ∷ more ↦ goes (walked_where_small (grown frame candidate turned (bones ∷ more)))
-]
+next_after frame candidate turned = next_by frame candidate turned (new_skeletons (map (λ one. one.bones) candidate.added) turned)
 
 -- the exits: a case for each skeleton of the states that leave
 abbrev pub exits_of : Frame → List State → List Added
-exits_of frame left = map (λ bones. record { bones = bones; case = case_of frame left bones }) (new_skeletons [] left)
+exits_of frame left = map (added_for frame left) (new_skeletons [] left)
 
 -- the hints by which a state entails a case of this number: a step for each of its rows
 abbrev pub entailing : Cond → State → ℕ → Piece → List Hint
@@ -117,4 +116,19 @@ entailing admits state number case =
 abbrev pub entailing_one : Cond → State → ℕ → List Added → List Hint
 entailing_one admits state number [] = []
 entailing_one admits state number (one ∷ added) =
-    if same_skeleton one.bones (skeleton state) then entailing admits state number one.case else entailing_one admits state (suc number) added
+    if same_skeleton one.bones (skeleton state) then entailing admits state number one.case else entailing_one admits state (number + 1) added
+
+-- a case whose stack is as long as its skeleton, with rows within their bounds, of which the lines can be numbered
+pub record IsMade (one : Added) : Type 0 where
+  pub stack : length one.case.stack ≡ length one.bones
+  pub rows : All IsBounded one.case.rows
+  pub lines : line_count one.case ≤ 2147483648
+
+-- the rows of a case with a stack of this length can be looked for in a state
+abbrev pub CanMatch : ℕ → State → Type 0
+CanMatch n state = HasBounds state × (n ≤ length state.stack)
+
+-- the added cases of what follows are made so
+abbrev pub IsNextMade : Next → Type 0
+IsNextMade (Goes candidate) = All IsMade candidate.added
+IsNextMade _ = Unit {0}

@@ -1,7 +1,6 @@
 -- Cases of a list of states (docs/ANALYSER.md, "Loops"): pieces that bind every place and say what the states have in common.
-use Rattle.std.specs.Prelude.{ℕ, suc, Bool, true, false, ◌&&◌, ◌||◌, not, nat_eq, nat_lt, if◌then◌else◌, List, [], ◌∷◌, ◌++◌, length, map, take, drop, flat_map, filter_map, Option, None, Some}
-use Rattle.std.specs.List.{filter, fold, list_all, list_any, range_with_len}
-use Rattle.std.specs.Option.{option_map_or}
+use Rattle.std.specs.Prelude.{ℕ, suc, ◌+◌, ◌≤◌, Bool, true, false, ◌&&◌, ◌||◌, not, nat_eq, nat_lt, if◌then◌else◌, List, [], ◌∷◌, ◌++◌, length, map, take, drop, flat_map, filter_map, Option, None, Some, IfSome}
+use Rattle.std.specs.List.{All, filter, fold, list_all, list_any, range_with_len}
 use Rattle.std.specs.Ordering.{int_eq}
 use Rattle.std.specs.Cmp.Lexicographic.{pointwise}
 use Rattle.lin_facts.specs.declared.row.Part.{Part}
@@ -9,20 +8,23 @@ use Rattle.name_table.specs.declared.names.NameId.{NameId}
 use Rattle.name_table.specs.declared.style.Style.{Style}
 use Rattle.bst_meaning.specs.StyleParts.{kind_of}
 use Rattle.bst_meaning.specs.declared.condition.Cond.{Cond}
-use Rattle.cert_format.specs.declared.piece_lines.TheConstants.{MOST_ITEMS}
 use Rattle.sym_state.specs.Changes.{bound, kind_facts}
-use Rattle.sym_state.specs.Decided.{Function, ByName, ByNumber, is_known, says_nothing}
+use Rattle.sym_state.specs.Decided.{is_known, says_nothing}
 use Rattle.sym_state.specs.Facts.{subject}
 use Rattle.sym_state.specs.Renaming.{fact_renamed}
 use Rattle.sym_state.specs.Starting.{own_facts}
 use Rattle.sym_state.specs.State.{State}
+use Rattle.sym_state.specs.WellMade.{WellMade, ids_from, is_field, is_variable}
 use Rattle.sym_state.specs.declared.piece.Piece.{Piece}
 use Rattle.sym_state.specs.declared.symbol.Bind.{Bind}
 use Rattle.sym_state.specs.declared.symbol.Fact.{Fact}
 use Rattle.sym_state.specs.declared.symbol.Fact.TheVariants.{Is, Int, Text, Call, Block, Blank, Nonblank, Wellformed}
 use Rattle.sym_state.specs.declared.symbol.Sym.{Sym}
 use Rattle.loop_templates.specs.Rows.{rows_over, symbol_in}
-use Rattle.loop_templates.specs.Skeletons.{Bone, Skeleton, same_kind, skeleton, states_of}
+use Rattle.loop_templates.specs.Skeletons.{IsBoneOf, Skeleton, same_kind, skeleton, states_of}
+use Rattle.loop_templates.specs.declared.limits.TheConstants.{MOST_ITEMS}
+use Rattle.loop_templates.specs.declared.places.Seats.{Seats}
+use Rattle.loop_templates.specs.declared.skeletons.Bone.{Bone}
 
 -- what the cases of a loop have in common: the style and the condition, whether their stacks are whole and whether an entry is
 -- visited, the variables that count as written, the sums, and the states that enter
@@ -43,32 +45,63 @@ is_written writes name = list_any (λ other. nat_eq other.0 name.0) writes
 abbrev pub taken_symbols : List NameId → State → List Sym
 taken_symbols writes state = state.stack ++ filter_map (λ name. bound name state) writes
 
--- a place gets a symbol of its own: that of a written variable, and one that shares its symbol with the stack or with such a variable
-abbrev pub is_own : List NameId → List Sym → Bind → Bool
-is_own writes taken bind = is_written writes bind.name || list_any (λ s. nat_eq s.0 bind.sym.0) taken
+-- a name gets a symbol of its own: a written variable, and what shares its symbol with the stack or with such a variable
+abbrev pub is_own : List NameId → List Sym → State → NameId → Bool
+is_own writes taken state name =
+    is_written writes name || list_any (λ s. nat_eq s.0 (symbol_in state name.0)) taken
 
 -- the case's symbol for a state's, where a place before has it
-abbrev pub shared : Sym → List (Sym × Sym) → Option Sym
+abbrev pub shared : ℕ → List (Sym × Sym) → Option Sym
 shared s [] = None
-shared s (seen ∷ more) = if nat_eq seen.0.0 s.0 then Some seen.1 else shared s more
+shared s (seen ∷ more) = if nat_eq seen.0.0 s then Some seen.1 else shared s more
 
 -- a symbol by its number
 abbrev pub numbered : ℕ → Sym
 numbered next = record { 0 = next }
 
--- places with their symbols, new ones numbered from here: those that aren't their own share them as the state's bindings do
-abbrev pub seated : List NameId → List Sym → ℕ → List (Sym × Sym) → List Bind → List Bind
-seated writes taken next seen [] = []
-seated writes taken next seen (bind ∷ binds) =
-    if is_own writes taken bind then record { name = bind.name; sym = numbered next } ∷ seated writes taken (suc next) seen binds
-    else elim (shared bind.sym seen) [
-      | Some sym ↦ record { name = bind.name; sym = sym } ∷ seated writes taken next seen binds
-      | None ↦ record { name = bind.name; sym = numbered next } ∷ seated writes taken (suc next) ((bind.sym, numbered next) ∷ seen) binds
-    ]
+-- a place with the next symbol
+abbrev pub with_own : NameId → Seats → Seats
+with_own name seats = record {
+  places = seats.places ++ record { name = name; sym = numbered seats.next } ∷ [];
+  seen = seats.seen;
+  next = seats.next + 1;
+}
 
--- the places of all variables and fields behind a stack of this length, shared as in a state
-abbrev pub places_behind : List NameId → ℕ → State → List Bind
-places_behind writes n state = seated writes (taken_symbols writes state) n [] (state.vars ++ state.fields)
+-- a place with the next symbol, which stands for a state's from here on
+abbrev pub with_first : ℕ → NameId → Seats → Seats
+with_first s name seats = record {
+  places = seats.places ++ record { name = name; sym = numbered seats.next } ∷ [];
+  seen = seats.seen ++ (numbered s, numbered seats.next) ∷ [];
+  next = seats.next + 1;
+}
+
+-- a place with a symbol that one before has
+abbrev pub with_shared : Sym → NameId → Seats → Seats
+with_shared sym name seats = record {
+  places = seats.places ++ record { name = name; sym = sym } ∷ [];
+  seen = seats.seen;
+  next = seats.next;
+}
+
+-- the place of a name that isn't its own: it shares its symbol as in a state
+abbrev pub with_place : Option Sym → ℕ → NameId → Seats → Seats
+with_place (Some sym) s name seats = with_shared sym name seats
+with_place None s name seats = with_first s name seats
+
+-- the place of a name
+abbrev pub seat : List NameId → List Sym → State → Seats → NameId → Seats
+seat writes taken state seats name =
+    if is_own writes taken state name then with_own name seats
+    else with_place (shared (symbol_in state name.0) seats.seen) (symbol_in state name.0) name seats
+
+-- the places of names behind others
+abbrev pub seated : List NameId → List Sym → State → Seats → List NameId → Seats
+seated writes taken state seats names = fold (seat writes taken state) seats names
+
+-- the places of names behind a stack of this length, shared as in a state
+abbrev pub places_behind : List NameId → ℕ → State → List NameId → List Bind
+places_behind writes n state names =
+    (seated writes (taken_symbols writes state) state (record { places = []; seen = []; next = n }) names).places
 
 -- a piece with these symbols on its stack and these places, the first of them those of variables
 abbrev pub piece_of : ℕ → ℕ → List Bind → List Fact → Piece
@@ -79,46 +112,66 @@ piece_of n vars places facts =
 abbrev pub facts_on : State → ℕ → List Fact
 facts_on state s = filter (λ fact. nat_eq (subject fact) s) state.facts
 
+-- a fact on another symbol
+abbrev pub moved : Sym → Fact → Fact
+moved sym fact = fact_renamed (λ s. sym.0) fact
+
+-- facts on another symbol
+abbrev pub moved_to : Sym → List Fact → List Fact
+moved_to sym facts = map (moved sym) facts
+
 -- a fact follows in a state for what is bound to a name
 abbrev pub follows_in : NameId → Fact → State → Bool
 follows_in name fact state = is_known state.facts (symbol_in state name.0) fact
 
--- the facts on what is bound to a name that one of these states records and that follow in all
-abbrev pub common_facts : List State → NameId → List Fact
-common_facts states name =
-    filter (λ fact. list_all (follows_in name fact) states) (flat_map (λ state. facts_on state (symbol_in state name.0)) states)
+-- a fact is on a symbol, and follows in all of some states for what is bound to a name
+abbrev pub is_common : List State → NameId → ℕ → Fact → Bool
+is_common states name s fact = nat_eq (subject fact) s && list_all (follows_in name fact) states
 
--- facts on another symbol
-abbrev pub moved_to : Sym → List Fact → List Fact
-moved_to sym facts = map (fact_renamed (λ s. sym.0)) facts
+-- the facts that a state records on a place and that follow in all of some states
+abbrev pub common_at : List State → State → Bind → List Fact
+common_at states state place = moved_to place.sym (filter (is_common states place.name (symbol_in state place.name.0)) state.facts)
 
--- those of a place that isn't written
-abbrev pub facts_of_place : List NameId → List State → Bind → List Fact
-facts_of_place writes states place = if is_written writes place.name then [] else moved_to place.sym (common_facts states place.name)
+-- those on a place that isn't written
+abbrev pub common_of : List NameId → List State → State → Bind → List Fact
+common_of writes states state place = if is_written writes place.name then [] else common_at states state place
 
--- the fact of an exact function
-abbrev pub function_facts : Sym → Option Function → List Fact
-function_facts sym (Some (ByName name)) = Call sym name ∷ []
-function_facts sym (Some (ByNumber number)) = Block sym number ∷ []
-function_facts sym None = []
+-- those of each of the states on each place
+abbrev pub common_facts : List NameId → List Bind → List State → List Fact
+common_facts writes places states = flat_map (λ state. flat_map (common_of writes states state) places) states
+
+-- the fact of a name that is there
+abbrev pub name_facts : Sym → Option NameId → List Fact
+name_facts sym (Some name) = Call sym name ∷ []
+name_facts sym None = []
+
+-- the fact of a block that is there
+abbrev pub block_facts : Sym → Option ℕ → List Fact
+block_facts sym (Some number) = Block sym number ∷ []
+block_facts sym None = []
+
+-- the facts of a symbol by what a skeleton has of it
+abbrev pub bone_facts : Sym → Bone → List Fact
+bone_facts sym bone = kind_facts sym bone.kind ++ (name_facts sym bone.name ++ block_facts sym bone.block)
 
 -- the facts of a skeleton whose symbols are numbered from here
 abbrev pub skeleton_facts : ℕ → Skeleton → List Fact
 skeleton_facts k [] = []
-skeleton_facts k (bone ∷ bones) = (kind_facts (numbered k) bone.kind ++ function_facts (numbered k) bone.function) ++ skeleton_facts (suc k) bones
+skeleton_facts k (bone ∷ bones) = bone_facts (numbered k) bone ++ skeleton_facts (k + 1) bones
 
 -- all facts that a state records on these symbols, which are numbered from here
 abbrev pub stack_facts : State → ℕ → List Sym → List Fact
 stack_facts state k [] = []
-stack_facts state k (s ∷ stack) = moved_to (numbered k) (facts_on state s.0) ++ stack_facts state (suc k) stack
+stack_facts state k (s ∷ stack) = moved_to (numbered k) (facts_on state s.0) ++ stack_facts state (k + 1) stack
 
 -- all that it records on a place that is written
 abbrev pub written_facts : List NameId → State → Bind → List Fact
 written_facts writes state place = if is_written writes place.name then moved_to place.sym (facts_on state (symbol_in state place.name.0)) else []
 
--- the further facts of a state that enters
-abbrev pub further_facts : List NameId → List Bind → State → List Fact
-further_facts writes places state = stack_facts state 0 state.stack ++ flat_map (written_facts writes state) places
+-- the further facts of a state that enters, where the case is one's
+abbrev pub further_facts : List NameId → List Bind → Option State → List Fact
+further_facts writes places None = []
+further_facts writes places (Some state) = stack_facts state 0 state.stack ++ flat_map (written_facts writes state) places
 
 -- the order of the kinds of facts
 abbrev pub fact_rank : Fact → ℕ
@@ -168,34 +221,64 @@ is_given given fact = says_nothing fact || list_any (same_fact fact) given
 abbrev pub given_facts : Style → Cond → List Bind → List Fact
 given_facts style admits places = flat_map (λ place. own_facts admits (kind_of style place.name) place) places
 
--- the facts of a case: in their order, each once, without those that the start gives, and no more than a piece may have
+-- kept facts with one more, which the start doesn't give
+abbrev pub keep : List Fact → List Fact → Fact → List Fact
+keep given kept fact = if is_given given fact then kept else with_fact fact kept
+
+-- facts in their order, each once, without those that the start gives
+abbrev pub ordered_facts : List Fact → List Fact → List Fact
+ordered_facts given facts = fold (keep given) [] facts
+
+-- the facts of a case: of these as many as it keeps
 abbrev pub kept_facts : List Fact → List Fact → List Fact
-kept_facts given facts =
-    take MOST_ITEMS (fold (λ kept fact. with_fact fact kept) [] (filter (λ fact. not (is_given given fact)) facts))
+kept_facts given facts = take MOST_ITEMS (ordered_facts given facts)
 
--- the places of the cases of a frame, behind a stack of this length: shared as in the first state that enters
+-- the variables that a case binds
+abbrev pub variables_of : Frame → List NameId
+variables_of frame = ids_from (is_variable frame.at_entry) 0 frame.style.names
+
+-- the fields that it binds
+abbrev pub fields_of : Frame → List NameId
+fields_of frame = ids_from (is_field frame.at_entry) 0 frame.style.names
+
+-- their places behind a stack of this length, shared as in the first state that enters
 abbrev pub places_for : Frame → ℕ → List Bind
-places_for frame n = elim frame.entering [ [] ↦ [] | first ∷ more ↦ places_behind frame.writes n first ]
+places_for frame n = elim frame.entering [
+  | [] ↦ []
+  | first ∷ more ↦ places_behind frame.writes n first (variables_of frame ++ fields_of frame)
+]
 
--- how many of them are variables
-abbrev pub variables_of : Frame → ℕ
-variables_of frame = elim frame.entering [ [] ↦ 0 | first ∷ more ↦ length first.vars ]
+-- the facts of a case with this skeleton and these places: those that these states have in common, and further ones
+abbrev pub facts_for : Frame → Skeleton → List Bind → List State → Option State → List Fact
+facts_for frame bones places common further =
+    kept_facts (given_facts frame.style frame.admits places)
+    (skeleton_facts 0 bones ++ (further_facts frame.writes places further ++ common_facts frame.writes places common))
 
--- a case with this skeleton, whose unwritten places have what these states have in common, with further facts, and with the rows of a list
--- of states
-abbrev pub case_with : Frame → Skeleton → List State → (List Bind → List Fact) → List State → Piece
-case_with frame bones common further states =
-    let n = length bones in
-    let places = places_for frame n in
-    let facts = skeleton_facts 0 bones ++ (further places ++ flat_map (facts_of_place frame.writes common) places) in
-    let piece = piece_of n (variables_of frame) places (kept_facts (given_facts frame.style frame.admits places) facts) in
+-- a case without rows
+abbrev pub bare_case : Frame → Skeleton → List State → Option State → Piece
+bare_case frame bones common further =
+    let places = places_for frame (length bones) in
+    piece_of (length bones) (length (variables_of frame)) places (facts_for frame bones places common further)
+
+-- with the rows of a list of states
+abbrev pub with_rows : Frame → List State → Piece → Piece
+with_rows frame states piece =
     record piece { rows = rows_over frame.style frame.admits frame.whole frame.at_entry frame.sums states piece }
 
 -- the case of a state that enters, made from that state alone
 abbrev pub entering_case : Frame → State → Piece
-entering_case frame state =
-    case_with frame (skeleton state) (state ∷ []) (λ places. further_facts frame.writes places state) (state ∷ [])
+entering_case frame state = with_rows frame (state ∷ []) (bare_case frame (skeleton state) (state ∷ []) (Some state))
 
--- the case of those of some states that have a skeleton
+-- the case of those of some states that have a skeleton: its places have what all states that enter have in common
 abbrev pub case_of : Frame → List State → Skeleton → Piece
-case_of frame states bones = case_with frame bones frame.entering (λ places. []) (states_of bones states)
+case_of frame states bones = with_rows frame (states_of bones states) (bare_case frame bones frame.entering None)
+
+-- a well-made state from which further facts may come, where its stack is no longer than this
+abbrev pub MayAdd : Style → ℕ → Option State → Type 0
+MayAdd style n further = IfSome further (λ state. WellMade style state × (length state.stack ≤ n))
+
+-- what a case is made of is the style's
+pub record CanStand (frame : Frame) (bones : Skeleton) (common : List State) (further : Option State) : Type 0 where
+  pub each_bone : All (IsBoneOf frame.style) bones
+  pub each_state : All (WellMade frame.style) common
+  pub may_add : MayAdd frame.style (length bones) further

@@ -1,7 +1,7 @@
 -- The rows that a list of states has in common (docs/ANALYSER.md, "Loops"): how low each sum and its negative come in them.
 use Rattle.std.specs.Prelude.{ℕ, Bool, true, false, ◌&&◌, not, if◌then◌else◌, List, [], ◌∷◌, ◌++◌, length, map, take, flat_map, ℤ, pos, neg_ℤ, ◌+ℤ◌, int_lt, Option, None, Some, is_some}
 use Rattle.std.specs.List.{filter, fold, list_all, list_any, filter_map}
-use Rattle.std.specs.Option.{option_and_then, option_map, option_map_or}
+use Rattle.std.specs.Option.{option_and_then, option_map, option_map_or, option_or}
 use Rattle.std.specs.Ordering.{int_eq}
 use Rattle.std.specs.Cmp.Lexicographic.{pointwise}
 use Rattle.lin_facts.specs.Rows.{same_term}
@@ -36,7 +36,9 @@ symbol_in state id = option_map_or (λ s. s.0) (bound (record { 0 = id }) state)
 
 -- the symbol that a piece binds to it
 abbrev pub symbol_of : Piece → ℕ → ℕ
-symbol_of piece id = option_map_or (λ s. s.0) (symbol_at (record { 0 = id }) (piece.vars ++ piece.fields)) 0
+symbol_of piece id =
+    let name : NameId = record { 0 = id } in
+    option_map_or (λ s. s.0) (option_or (symbol_at name piece.vars) (symbol_at name piece.fields)) 0
 
 -- the floor of a sum over names in a state
 abbrev pub floor_in : Cond → State → List Part → Option ℤ
@@ -80,6 +82,11 @@ abbrev pub exact_claims : Cond → List State → List Part → Option ℤ → L
 exact_claims admits states sum (Some c) = if list_all (is_exactly admits sum c) states then both_claims sum c else []
 exact_claims admits states sum None = []
 
+-- what a longer sum is exactly in all states of a list
+abbrev pub exact_rows : Cond → List State → List Part → List Row
+exact_rows admits [] sum = []
+exact_rows admits (state ∷ states) sum = exact_claims admits (state ∷ states) sum (floor_in admits state sum)
+
 -- the rows that a sum gives for a list of states: one term what it is at least and at most in all of them, a longer sum what it is
 -- exactly in all of them
 abbrev pub rows_of_sum : Cond → List State → List Part → List Row
@@ -87,17 +94,19 @@ rows_of_sum admits states [] = []
 rows_of_sum admits states (part ∷ []) =
     let sum : List Part = part ∷ [] in
     claim sum (least_floor admits sum states) ++ claim (negated sum) (least_floor admits (negated sum) states)
-rows_of_sum admits [] sum = []
-rows_of_sum admits (state ∷ states) sum = exact_claims admits (state ∷ states) sum (floor_in admits state sum)
+rows_of_sum admits states (first ∷ (second ∷ parts)) = exact_rows admits states (first ∷ (second ∷ parts))
+
+-- two parts of one term, unless their coefficients come to 0
+abbrev pub summed : Part → Part → List Part
+summed part first =
+    let sum = part.coefficient +ℤ first.coefficient in if is_zero sum then [] else record { coefficient = sum; term = first.term } ∷ []
 
 -- a part among parts in the order of terms: one term stands once, and not where its coefficients come to 0
 abbrev pub with_part : Part → List Part → List Part
 with_part part [] = part ∷ []
 with_part part (first ∷ parts) =
     if is_before part.term first.term then part ∷ (first ∷ parts)
-    else if same_term part.term first.term then (
-    let sum = part.coefficient +ℤ first.coefficient in
-    if is_zero sum then parts else record { coefficient = sum; term = first.term } ∷ parts)
+    else if same_term part.term first.term then summed part first ++ parts
     else first ∷ with_part part parts
 
 -- a row with its parts in the order of terms

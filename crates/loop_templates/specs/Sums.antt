@@ -1,5 +1,7 @@
 -- Sums of terms (docs/ANALYSER.md, "Loops"): of one, two or three different terms, each added or taken away, the first one added.
-use Rattle.std.specs.Prelude.{ℕ, zero, suc, List, [], ◌∷◌, ◌++◌, map, flat_map, ℤ, pos, negsuc}
+use Rattle.std.specs.Prelude.{ℕ, zero, suc, ◌≤◌, List, [], ◌∷◌, ◌++◌, length, map, flat_map, ℤ, pos, negsuc}
+use Rattle.std.specs.List.{All}
+use Rattle.lin_facts.specs.Rows.{IsWithin}
 use Rattle.lin_facts.specs.declared.row.Part.{Part}
 use Rattle.lin_facts.specs.declared.row.Term.{Term}
 
@@ -30,3 +32,8 @@ first_added (term ∷ terms) = map (λ sum. plus term ∷ sum) (signed terms)
 -- the sums of one, two and three of some terms, shorter ones first
 abbrev pub sums : List Term → List (List Part)
 sums terms = flat_map first_added (choices 1 terms ++ (choices 2 terms ++ choices 3 terms))
+
+-- a sum of at most three terms, each with a coefficient of at most 1 in size
+pub record IsSmallSum (sum : List Part) : Type 0 where
+  pub few : length sum ≤ 3
+  pub units : All (λ part. IsWithin 1 part.coefficient) sum

@@ -1,6 +1,7 @@
 //! Sums of terms (docs/ANALYSER.md, "Loops").
 
 ghost use Rattle.std.specs.Prelude.{◌≡◌, ◌++◌, [], ◌∷◌, flat_map, map, IfOk, OnOk};
+ghost use Rattle.std.specs.List.{All};
 ghost use Rattle.loop_templates.specs.Sums as rule;
 
 use bv_base::memory::NoMemory;
@@ -10,7 +11,8 @@ use std::alloc::Global;
 
 /// The sums of one, two and three of some terms, each added or taken away, the first one added: shorter ones first.
 pub fn sums(alloc: Global, terms: &[Term]) -> Result<Vec<Seq<Part>>, NoMemory>
-    ensures { IfOk result (λ all. all.items ≡ rule.sums terms.now) }
+    ensures sums { IfOk result (λ all. all.items ≡ rule.sums terms.now) }
+    ensures small { IfOk result (λ all. All rule.IsSmallSum all.items) }
 {
     let mut all = Vec::new(alloc);
     push_ones(alloc, &mut all, terms)?;

@@ -1,0 +1,26 @@
+-- One state more is looked at.
+use Rattle.std.proofs.Common.{rules, ◌≡◌, ◌<◌, true, false, length, sym, subst, arith}
+use Rattle.sym_state.specs.WellMade.{HasBounds}
+use Rattle.loop_templates.specs.Rows.{is_exactly}
+use Rattle.loop_templates.proofs.Borrowed.{bounds_of_one, fails_here, passes_next}
+use Rattle.loop_templates.proofs.claims.all_exactly.Goals as goal
+
+pub is_exactly-requires-clause-state : goal.is_exactly-requires-clause-state
+is_exactly-requires-clause-state c =
+    let more : c.loop-state.state-index < length c.args.states.now = omega arith in
+    subst (λ state. HasBounds state.now) (sym c.state-item.is)
+    (bounds_of_one c.args.states.now c.loop-state.state-index c.state-item.result more c.requires.states)
+
+pub returns-then-not-branch : goal.returns-then-not-branch
+returns-then-not-branch c =
+    let more : c.loop-state.state-index < length c.args.states.now = omega arith in
+    let fails : is_exactly c.args.cond.now c.args.sum.now c.args.c c.state-item.result.now ≡ false = search rules in
+    fails_here (is_exactly c.args.cond.now c.args.sum.now c.args.c) c.args.states.now c.loop-state.state-index c.state-item.result _ more
+    c.state-item.is fails c.loop-state.invariant
+
+pub loop-state-preserved : goal.loop-state-preserved
+loop-state-preserved c =
+    let more : c.loop-state.state-index < length c.args.states.now = omega arith in
+    let passes : is_exactly c.args.cond.now c.args.sum.now c.args.c c.state-item.result.now ≡ true = search rules in
+    passes_next (is_exactly c.args.cond.now c.args.sum.now c.args.c) c.args.states.now c.loop-state.state-index c.state-item.result _ more
+    c.state-item.is passes c.loop-state.invariant

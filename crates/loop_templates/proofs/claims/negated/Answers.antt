@@ -1,0 +1,11 @@
+-- A sum with each sign turned is small too.
+use Rattle.std.proofs.Common.{◌≡◌, rules, map, subst, sym}
+use Rattle.straight_proofs.specs.Remainders.{turned}
+use Rattle.loop_templates.specs.Sums.{IsSmallSum}
+use Rattle.loop_templates.proofs.SmallSums.{negated_small}
+use Rattle.loop_templates.proofs.claims.negated.Goals as goal
+
+pub returns-clause-small : goal.returns-clause-small
+returns-clause-small c =
+    let all : c.loop-part.all.items ≡ map turned c.args.sum.now = search rules in
+    subst IsSmallSum (sym all) (negated_small c.args.sum.now c.requires)
