@@ -21,6 +21,3 @@ pub mod read;
 mod stop;
 mod styled;
 mod unit_lines;
-
-pub use crate::piece_items::{ROW_SIZE, is_before};
-pub use crate::piece_lines::MOST_ITEMS;

@@ -1,7 +1,8 @@
 -- The sums of at most three terms are small.
-use Rattle.std.proofs.Common.{ℕ, zero, suc, ◌≤◌, List, [], ◌∷◌, ◌++◌, length, map, flat_map, arith}
+use Rattle.std.proofs.Common.{ℕ, zero, suc, ◌≤◌, List, [], ◌∷◌, ◌++◌, length, map, flat_map, ◌≡◌, ap, sym, ◌∙◌, append_assoc, arith}
 use Rattle.std.specs.List.{All}
 use Rattle.std.proofs.lemmas.Int.{ints}
+use Rattle.std.proofs.lemmas.List.Concat.{flat_map-append}
 use Rattle.std.proofs.lemmas.List.Elements.{All-nil, All-cons, All-head, All-tail, All-append}
 use Rattle.lin_facts.specs.Rows.{IsWithin}
 use Rattle.lin_facts.specs.declared.row.Part.{Part}
@@ -79,3 +80,16 @@ sums_small terms =
     gathered (HasFew 3) IsSmallSum first_added (choices 1 terms ++ (choices 2 terms ++ choices 3 terms)) first_small
     (All-append (HasFew 3) (choices 1 terms) (choices 2 terms ++ choices 3 terms) (chosen_few 1 3 terms (omega arith))
     (All-append (HasFew 3) (choices 2 terms) (choices 3 terms) (chosen_few 2 3 terms (omega arith)) (chosen_few 3 3 terms (omega arith))))
+
+-- sums of one term, then of two and of three
+pub all_gathered : (terms : List Term) (ones twos all : List (List Part)) → ones ≡ flat_map first_added (choices 1 terms)
+    → twos ≡ ones ++ flat_map first_added (choices 2 terms) → all ≡ twos ++ flat_map first_added (choices 3 terms) → all ≡ sums terms
+all_gathered terms ones twos all first second third =
+    let c1 = choices 1 terms in
+    let c2 = choices 2 terms in
+    let c3 = choices 3 terms in
+    third
+    ∙ ap (λ (l : List (List Part)). l ++ flat_map first_added c3) (second ∙ ap (λ (l : List (List Part)). l ++ flat_map first_added c2) first)
+    ∙ append_assoc (flat_map first_added c1) (flat_map first_added c2) (flat_map first_added c3)
+    ∙ ap (λ (l : List (List Part)). flat_map first_added c1 ++ l) (sym (flat_map-append first_added c2 c3))
+    ∙ sym (flat_map-append first_added c1 (c2 ++ c3))

@@ -1,12 +1,13 @@
 -- The rows of a small sum are over small sums.
 use Rattle.std.proofs.Common.{true, false, cond, List, [], ◌∷◌, Option, None, Some, ℤ}
+use Rattle.std.specs.Prelude.{neg_ℤ}
 use Rattle.std.specs.List.{All, list_all}
 use Rattle.std.proofs.lemmas.List.Elements.{All-nil, All-cons, All-append}
 use Rattle.bst_meaning.specs.declared.condition.Cond.{Cond}
 use Rattle.lin_facts.specs.declared.row.Part.{Part}
 use Rattle.lin_facts.specs.declared.row.Row.{Row}
 use Rattle.sym_state.specs.State.{State}
-use Rattle.loop_templates.specs.Rows.{both_claims, claim, exact_claims, floor_in, is_exactly, least_floor, negated, rows_of_sum}
+use Rattle.loop_templates.specs.Rows.{at_least_of, both_claims, claim, exact_claims, floor_in, is_exactly, least_floor, negated, rows_of_sum}
 use Rattle.loop_templates.specs.Sums.{IsSmallSum}
 use Rattle.loop_templates.proofs.SmallSums.{negated_small}
 
@@ -15,11 +16,13 @@ abbrev pub HasSmallSum : Row → Type 0
 HasSmallSum row = IsSmallSum row.parts
 
 claim_small : (sum : List Part) (found : Option ℤ) → IsSmallSum sum → All HasSmallSum (claim sum found)
-claim_small sum (Some c) h = All-cons HasSmallSum _ [] h (All-nil HasSmallSum)
+claim_small sum (Some c) h = All-cons HasSmallSum (at_least_of sum c) [] h (All-nil HasSmallSum)
 claim_small sum None h = All-nil HasSmallSum
 
 both_small : (sum : List Part) (c : ℤ) → IsSmallSum sum → All HasSmallSum (both_claims sum c)
-both_small sum c h = All-cons HasSmallSum _ _ h (All-cons HasSmallSum _ [] (negated_small sum h) (All-nil HasSmallSum))
+both_small sum c h =
+    let below = at_least_of (negated sum) (neg_ℤ c) in
+    All-cons HasSmallSum (at_least_of sum c) (below ∷ []) h (All-cons HasSmallSum below [] (negated_small sum h) (All-nil HasSmallSum))
 
 exact_small : (admits : Cond) (states : List State) (sum : List Part) (found : Option ℤ) → IsSmallSum sum
     → All HasSmallSum (exact_claims admits states sum found)

@@ -1,8 +1,8 @@
 -- Rows that are kept of a list, one after the other, as long as there is room.
-use Rattle.std.proofs.Common.{◌≡◌, ℕ, ◌+◌, ◌<◌, ◌≤◌, Bool, List, [], ◌∷◌, ◌++◌, length, map, flat_map, get_or, take, drop, ap, sym, ◌∙◌, add-one}
+use Rattle.std.proofs.Common.{◌≡◌, ℕ, ◌+◌, ◌<◌, ◌≤◌, Bool, true, false, cond, List, [], ◌∷◌, ◌++◌, length, map, flat_map, get_or, take, drop, ap, sym, ◌∙◌, add-one, arith}
 use Rattle.std.specs.List.{filter}
 use Rattle.std.proofs.Math.Seq.{drop-cons}
-use Rattle.std.proofs.lemmas.List.{append-nil, drop_all}
+use Rattle.std.proofs.lemmas.List.{append-nil, drop_all, length-append}
 use Rattle.std.proofs.lemmas.List.Elements.{filter-append}
 use Rattle.loop_templates.proofs.Taken.{take_full, take_more, take_room}
 
@@ -46,3 +46,15 @@ kept_all {X} {Y} test f n k xs old all done few none before =
 -- where there is no room left, those so far are all
 pub kept_full : {X : Type 0} (n : ℕ) (old rest all : List X) → n ≤ length old → length old ≤ n → take n (old ++ rest) ≡ all → old ≡ all
 kept_full n old rest all full few before = sym (take_full n old rest full few) ∙ before
+
+-- one more, where there is room: it is kept where it passes
+pub one_kept : {X : Type 0} (test : X → Bool) (n : ℕ) (x : X) (old new : List X) → length old < n → test x ≡ true → new ≡ old ++ (x ∷ [])
+    → new ≡ take n (old ++ filter test (x ∷ []))
+one_kept {X} test n x old new room passes added =
+    let more = length-append old (x ∷ []) in
+    added ∙ sym (take_room n (old ++ (x ∷ [])) (omega (arith, room, more)))
+    ∙ ap (λ (b : Bool). take n (old ++ cond b (x ∷ []) [])) (sym passes)
+
+pub one_passed : {X : Type 0} (test : X → Bool) (n : ℕ) (x : X) (old : List X) → length old ≤ n → test x ≡ false → old ≡ take n (old ++ filter test (x ∷ []))
+one_passed {X} test n x old few fails =
+    sym (take_room n old few) ∙ ap (λ (l : List X). take n l) (sym (append-nil old)) ∙ ap (λ (b : Bool). take n (old ++ cond b (x ∷ []) [])) (sym fails)

@@ -17,7 +17,7 @@ use Rattle.cert_format.specs.declared.piece_items.TheConstants.{ROW_SIZE}
 use Rattle.cert_format.specs.declared.piece_lines.TheConstants.{MOST_ITEMS}
 use Rattle.sym_state.specs.Changes.{bound, symbol_at}
 use Rattle.sym_state.specs.References.{row_said}
-use Rattle.sym_state.specs.Renaming.{row_renamed}
+use Rattle.sym_state.specs.Renaming.{row_renamed, term_renamed}
 use Rattle.sym_state.specs.Starting.{started}
 use Rattle.sym_state.specs.State.{State}
 use Rattle.sym_state.specs.declared.piece.Piece.{Piece}
@@ -59,10 +59,13 @@ least_floor admits sum (state ∷ states) =
 abbrev pub negated : List Part → List Part
 negated sum = map turned sum
 
+-- a number is the floor of a sum in a state
+abbrev pub is_floor : Cond → List Part → ℤ → State → Bool
+is_floor admits sum c state = option_map_or (int_eq c) (floor_in admits state sum) false
+
 -- a sum is exactly this number in a state: its floor is, and the floor of its negative is the negative
 abbrev pub is_exactly : Cond → List Part → ℤ → State → Bool
-is_exactly admits sum c state =
-    option_map_or (int_eq c) (floor_in admits state sum) false && option_map_or (int_eq (neg_ℤ c)) (floor_in admits state (negated sum)) false
+is_exactly admits sum c state = is_floor admits sum c state && is_floor admits (negated sum) (neg_ℤ c) state
 
 -- the claim that a sum is at least a number
 abbrev pub at_least_of : List Part → ℤ → Row
@@ -113,6 +116,10 @@ with_part part (first ∷ parts) =
 abbrev pub in_order : Row → Row
 in_order row = record row { parts = fold (λ parts part. with_part part parts) [] row.parts }
 
+-- a part over a name as a piece has it
+abbrev pub part_in_piece : Piece → Part → Part
+part_in_piece piece part = record { coefficient = part.coefficient; term = term_renamed (symbol_of piece) part.term }
+
 -- a row over names as a piece has it
 abbrev pub row_in_piece : Piece → Row → Row
 row_in_piece piece row = in_order (row_renamed (symbol_of piece) row)
@@ -138,8 +145,12 @@ is_said admits state row = list_any (same_row row) (state.rows ++ said_of_first 
 abbrev pub is_wanted : Cond → State → Row → Bool
 is_wanted admits start row = is_within ROW_SIZE ROW_SIZE row.constant && not (is_said admits start row)
 
--- the rows of a list of states for a piece that has none yet: by the sums in their order, the first of them that may stand there
+-- the rows of a list of states, by the sums in their order: the first of them that may stand in a piece which starts a state without them
+abbrev pub gathered : Cond → State → Piece → List (List Part) → List State → List Row
+gathered admits start piece sums states =
+    take MOST_ITEMS (filter (is_wanted admits start) (flat_map (λ sum. map (row_in_piece piece) (rows_of_sum admits states sum)) sums))
+
+-- those for a piece that has none yet
 abbrev pub rows_over : Style → Cond → Bool → Bool → List (List Part) → List State → Piece → List Row
 rows_over style admits whole at_entry sums states piece =
-    let start = started style admits (piece ∷ []) whole at_entry in
-    take MOST_ITEMS (filter (is_wanted admits start) (flat_map (λ sum. map (row_in_piece piece) (rows_of_sum admits states sum)) sums))
+    gathered admits (started style admits (piece ∷ []) whole at_entry) piece sums states

@@ -140,10 +140,25 @@ fn is_exactly(
     requires negative { negative.now ≡ rule.negated sum.now }
     ensures { IfOk result (λ is. is ≡ rule.is_exactly cond.now sum.now c state.now) }
 {
-    if !is_number(floor_in(alloc, cond, state, sum)?, c) {
+    if !is_floor(alloc, cond, state, sum, c)? {
         return Ok(false);
     }
-    Ok(is_number(floor_in(alloc, cond, state, negative)?, -c))
+    is_floor(alloc, cond, state, negative, -c)
+}
+
+/// Whether a number is the floor of a sum in a state.
+fn is_floor(
+    alloc: Global,
+    cond: &Cond,
+    state: &State,
+    sum: &[Part],
+    c: i64,
+) -> Result<bool, NoMemory>
+    requires state { HasBounds state.now }
+    requires sum { IsSmallSum sum.now }
+    ensures { IfOk result (λ is. is ≡ rule.is_floor cond.now sum.now c state.now) }
+{
+    Ok(is_number(floor_in(alloc, cond, state, sum)?, c))
 }
 
 /// Whether a number is there and is this one.

@@ -2,6 +2,7 @@
 
 ghost use Rattle.std.specs.Prelude.{◌≡◌, ◌++◌, IfOk, OnOk};
 ghost use Rattle.std.specs.List.{All};
+ghost use Rattle.cert_format.specs.PieceItems as items;
 ghost use Rattle.lin_facts.specs.Rows.{IsWithin};
 ghost use Rattle.sym_state.specs.Changes.{symbol_at};
 ghost use Rattle.sym_state.specs.Renaming.{term_renamed};
@@ -10,7 +11,6 @@ ghost use Rattle.loop_templates.specs.Sums.{IsSmallSum};
 
 use bv_base::memory::NoMemory;
 use bv_base::seq::Seq;
-use cert_format::is_before;
 use lin_facts::follows::same_term;
 use lin_facts::row::{Part, Row, Term};
 use name_table::names::NameId;
@@ -37,14 +37,21 @@ fn parts_in_piece(alloc: Global, piece: &Piece, parts: &[Part]) -> Result<Vec<Pa
 {
     let mut all = Vec::new(alloc);
     for part in parts {
-        let renamed = Part {
-            coefficient: part.coefficient,
-            term: term_in_piece(piece, part.term),
-        };
-        let next = with_part(alloc, renamed, all.as_slice())?;
+        let placed = part_in_piece(piece, *part);
+        let next = with_part(alloc, placed, all.as_slice())?;
         all = next;
     }
     Ok(all)
+}
+
+/// A part over a name as a piece has it.
+fn part_in_piece(piece: &Piece, part: Part) -> Part
+    ensures { result ≡ rule.part_in_piece piece.now part }
+{
+    Part {
+        coefficient: part.coefficient,
+        term: term_in_piece(piece, part.term),
+    }
 }
 
 /// A part among parts in the order of terms.
@@ -87,6 +94,36 @@ fn push_sum(all: &mut Vec<Part>, part: Part, first: Part) -> Result<(), NoMemory
         })?;
     }
     Ok(())
+}
+
+/// Whether a term stands before another in a row.
+fn is_before(a: Term, b: Term) -> bool
+    ensures { result ≡ items.is_before a b }
+{
+    rank(a) < rank(b) || (rank(a) == rank(b) && symbol(a) < symbol(b))
+}
+
+/// The place of a kind of terms in a row.
+fn rank(term: Term) -> u8
+    ensures { result ≡ items.term_rank term }
+{
+    match term {
+        Term::Value(_) => 0,
+        Term::Length(_) => 1,
+        Term::Names(_) => 2,
+        Term::Pos => 3,
+        Term::Count => 4,
+    }
+}
+
+/// The symbol that a term is on, and 0 where it is on none.
+fn symbol(term: Term) -> u32
+    ensures { result ≡ items.term_symbol term }
+{
+    match term {
+        Term::Value(sym) | Term::Length(sym) | Term::Names(sym) => sym,
+        Term::Pos | Term::Count => 0,
+    }
 }
 
 /// A term over a name, by the symbol that a piece binds to it.

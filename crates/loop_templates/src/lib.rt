@@ -23,7 +23,7 @@ mod tests;
 pub use crate::candidates::{Added, Candidate, Next, exits_of, first_candidate, next_after};
 pub use crate::cases::Frame;
 pub use crate::hints::{entailing, entailing_one};
-pub use crate::reaching::{Occurrences, occurring};
+pub use crate::reaching::{Occurrences, is_marked, occurring};
 pub use crate::rows::rows_over;
 pub use crate::signed_sums::sums;
 pub use crate::terms::terms_over;

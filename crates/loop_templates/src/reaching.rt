@@ -70,7 +70,7 @@ fn mark(marks: &mut Vec<bool>, at: u32)
 }
 
 /// Whether a number is marked.
-pub(crate) fn is_marked(marks: &[bool], at: usize) -> bool
+pub fn is_marked(marks: &[bool], at: usize) -> bool
     ensures { result ≡ rule.is_marked marks.now at }
 {
     match marks.get(at) {

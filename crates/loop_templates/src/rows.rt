@@ -12,10 +12,10 @@ ghost use Rattle.loop_templates.specs.Sums.{IsSmallSum};
 
 use crate::claims::rows_of_sum;
 use crate::in_piece::row_in_piece;
+use crate::limits::{MOST_ITEMS, ROW_SIZE};
 use bst_meaning::condition::Cond;
 use bv_base::memory::NoMemory;
 use bv_base::seq::Seq;
-use cert_format::{MOST_ITEMS, ROW_SIZE};
 use lin_facts::follows::same_term;
 use lin_facts::row::{Part, Row};
 use name_table::style::Style;
@@ -48,20 +48,32 @@ pub fn rows_over(
     ensures few { IfOk result (λ rows. length rows.items ≤ MOST_ITEMS) }
 {
     let start = started(alloc, style, cond, whole, at_entry, piece)?;
+    gathered(alloc, cond, &start, piece, sums, states)
+}
+
+/// The rows of sums that may stand in a piece, the first of them.
+fn gathered(
+    alloc: Global,
+    cond: &Cond,
+    start: &State,
+    piece: &Piece,
+    sums: &[Seq<Part>],
+    states: &[&State],
+) -> Result<Vec<Row>, NoMemory>
+    requires states { All HasBounds (map (λ state. state.now) states.now) }
+    requires sums { All IsSmallSum sums.now }
+    requires bounds { HasBounds start.now }
+    ensures rows { IfOk result (λ rows. rows.items
+        ≡ rule.gathered cond.now start.now piece.now sums.now (map (λ state. state.now) states.now)) }
+    ensures few { IfOk result (λ rows. length rows.items ≤ MOST_ITEMS) }
+{
     let mut rows = Vec::new(alloc);
     for sum in sums {
         if rows.len() >= MOST_ITEMS {
             return Ok(rows);
         }
-        keep_of_sum(
-            alloc,
-            &mut rows,
-            cond,
-            &start,
-            piece,
-            states,
-            sum.as_slice(),
-        )?;
+        let parts = sum.as_slice();
+        keep_of_sum(alloc, &mut rows, cond, start, piece, states, parts)?;
     }
     Ok(rows)
 }
@@ -211,7 +223,7 @@ fn is_row_of(state: &State, row: &Row) -> bool
 
 /// Whether a row is there and is this one.
 fn is_same(row: &Row, other: Option<&Row>) -> bool
-    ensures { result ≡ option_map_or (rule.same_row row.now) (option_map (λ other. other.now) other) false }
+    ensures { result ≡ option_map_or (rule.same_row row.now) (option_map (λ other. other.now) other.entry) false }
 {
     match other {
         Some(other) => same_row(row, other),

@@ -21,5 +21,5 @@ loop-k-preserved c =
 
 pub returns : goal.returns
 returns c =
-    let all = c.rows.ensures in
+    let all = c.rows-k-end.ensures in
     any_none (same_row c.args.row.now) c.loop-k.k c.args.state.now.rows _ (omega (arith, all)) c.loop-k.invariant

@@ -1,9 +1,9 @@
 -- One piece is numbered, fits and has few symbols as a list of it does.
-use Rattle.std.proofs.Common.{[], List, ap, sym, subst, arith}
+use Rattle.std.proofs.Common.{◌≡◌, [], ◌∷◌, List, IfOk, ap, sym, subst, arith}
 use Rattle.std.specs.List.{All}
 use Rattle.std.proofs.lemmas.List.Elements.{All-nil, All-cons}
 use Rattle.std.proofs.lemmas.List.Sums.{sum_by-cons}
-use Rattle.sym_state.specs.Starting.{IsFit, IsNumbered, all_symbols, symbols_of}
+use Rattle.sym_state.specs.Starting.{IsFit, IsNumbered, all_symbols, started, symbols_of}
 use Rattle.sym_state.specs.declared.piece.Piece.{Piece}
 use Rattle.loop_templates.proofs.Borrowed.{bounds_where}
 use Rattle.loop_templates.proofs.rows.started.Goals as goal
@@ -19,6 +19,11 @@ start-requires-clause-few c =
     let one = sum_by-cons symbols_of c.args.piece.now [] in
     let few = c.requires.few in
     omega (arith, all, one, few)
+
+pub returns-clause-started : goal.returns-clause-started
+returns-clause-started c =
+    subst (λ (pieces : List Piece). IfOk c.start.result (λ state. state ≡ started c.args.style.now c.args.cond.now pieces c.args.whole c.args.at_entry))
+    c.from_ref-pieces.ensures.value c.start.ensures.started
 
 pub returns-clause-bounds : goal.returns-clause-bounds
 returns-clause-bounds c =

@@ -2,7 +2,7 @@
 use Rattle.std.proofs.Common.{◌≡◌, ◌≤◌, ◌++◌, drop, flat_map, length, map, take}
 use Rattle.std.specs.List.{filter}
 use Rattle.loop_templates.specs.Rows.{is_wanted, row_in_piece, rows_of_sum}
-use Rattle.loop_templates.proofs.rows.rows_over.Given as goal
+use Rattle.loop_templates.proofs.rows.gathered.Given as goal
 
 abbrev pub invariant-loop-sum : goal.invariant-loop-sum
 invariant-loop-sum l = record {
