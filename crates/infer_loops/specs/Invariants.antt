@@ -1,6 +1,6 @@
 -- The invariant of a loop (docs/ANALYSER.md, "Loops"): candidates in sequence, until one passes.
 use Rattle.std.specs.Prelude.{ℕ, zero, suc, ◌+◌, Bool, true, false, ◌&&◌, not, nat_le, if◌then◌else◌, List, [], ◌∷◌, ◌++◌, length, map, flat_map, Option, None, Some}
-use Rattle.std.specs.List.{list_all}
+use Rattle.std.specs.List.{All, list_all}
 use Rattle.std.specs.Option.{option_and_then}
 use Rattle.std.specs.Result.{result_ok}
 use Rattle.lin_facts.specs.declared.row.Part.{Part}
@@ -23,7 +23,7 @@ use Rattle.loop_templates.specs.declared.candidates.Candidate.{Candidate}
 use Rattle.loop_templates.specs.declared.candidates.Next.{Next}
 use Rattle.loop_templates.specs.declared.candidates.Next.TheVariants.{Passes, Ends, Goes}
 use Rattle.loop_templates.specs.declared.limits.TheConstants.{MOST_PIECES}
-use Rattle.loop_templates.specs.Candidates.{entailing_one, exits_of, first_candidate, is_short, next_after}
+use Rattle.loop_templates.specs.Candidates.{HasCases, IsMade, entailing_one, exits_of, first_candidate, is_short, next_after}
 use Rattle.loop_templates.specs.Cases.{Frame}
 use Rattle.loop_templates.specs.Reaching.{Occurring, bodies_entered, occurring, occurring_of, terms_over}
 use Rattle.loop_templates.specs.Sums.{sums}
@@ -89,9 +89,9 @@ frame_over style admits one found entering = record {
 abbrev pub frame_of : Style → Cond → Turning → List State → Frame
 frame_of style admits one entering = frame_over style admits one (occurring_in style admits one) entering
 
--- a candidate is walked by a certificate without units: a turn from each of its cases
-abbrev pub toured : Cert → Frame → Turning → Candidate → Option Tour
-toured cert frame one candidate = result_ok (turns_of (everywhere frame.style cert) one (cases_of candidate) (setting_out Straight))
+-- a candidate is walked: a turn from each of its cases
+abbrev pub toured : Style → Cert → Turning → Candidate → Option Tour
+toured style cert one candidate = result_ok (turns_of (everywhere style cert) one (cases_of candidate) (setting_out Straight))
 
 -- a state is behind a turn, or it leaves
 abbrev pub is_behind : Bool → Ended → Bool
@@ -134,7 +134,7 @@ loop_with frame one candidate tour exits = record {
 -- cases and exits may be written together
 abbrev pub may_be_written : Candidate → List Added → Bool
 may_be_written candidate exits =
-    nat_le (length (cases_of candidate) + length exits) MOST_PIECES && list_all (λ added. is_short added.case.stack) exits
+    nat_le ((length candidate.first + length candidate.added) + length exits) MOST_PIECES && list_all (λ added. is_short added.case.stack) exits
 
 -- the loop of a candidate that passes, where it is within the limits
 abbrev pub loop_of : Frame → Turning → Candidate → Tour → Option Loop
@@ -166,11 +166,23 @@ gone_on later (Onward candidate) = later candidate
 -- the loop of the first candidate that passes, among so many
 abbrev pub sequence : ℕ → Cert → Frame → Turning → Candidate → Option Loop
 sequence zero cert frame one candidate = None
-sequence (suc n) cert frame one candidate = walked_by frame one candidate (sequence n cert frame one) (toured cert frame one candidate)
+sequence (suc n) cert frame one candidate = walked_by frame one candidate (sequence n cert frame one) (toured frame.style cert one candidate)
 
--- the loop that is found for two functions and the states that enter it, if one is: by a certificate that has the condition and no unit
+-- the loop that is found in a frame, if one is
+abbrev pub found_in : Cert → Frame → Turning → Option Loop
+found_in cert frame one = option_and_then (sequence MOST_CANDIDATES cert frame one) (first_candidate frame)
+
+-- the loop that is found for two functions and the states that enter it, if one is
 abbrev pub invariant_of : Style → Cert → Target → Target → List State → Option Loop
 invariant_of style cert test body entering =
-    let one = turning test body entering in
-    let frame = frame_of style cert.cond one entering in
-    option_and_then (sequence MOST_CANDIDATES cert frame one) (first_candidate frame)
+    let one = turning test body entering in found_in cert (frame_of style cert.cond one entering) one
+
+-- a candidate may be walked, and what follows it may be made
+pub record CanWalk (frame : Frame) (candidate : Candidate) : Type 0 where
+  pub cases : HasCases frame candidate
+  pub made : All IsMade candidate.added
+
+-- so may the one that is walked next
+abbrev pub CanGoOn : Frame → Step → Type 0
+CanGoOn frame (Settled found) = Unit {0}
+CanGoOn frame (Onward candidate) = CanWalk frame candidate

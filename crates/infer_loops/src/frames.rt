@@ -1,7 +1,7 @@
 //! What the cases of a loop have in common, by its bodies and the states that enter it.
 
 ghost use Rattle.std.specs.Prelude.{◌≡◌, ◌++◌, ◌&&◌, [], ◌∷◌, flat_map, if◌then◌else◌, IfOk, OnOk};
-ghost use Rattle.std.specs.List.{list_all};
+ghost use Rattle.std.specs.List.{All, list_all};
 ghost use Rattle.bst_meaning.specs.StyleParts as parts;
 ghost use Rattle.loop_templates.specs.Reaching as reaching;
 ghost use Rattle.loop_templates.specs.Sums as sum;
@@ -12,8 +12,10 @@ use bst_meaning::condition::Cond;
 use bst_meaning::style_parts::kind_of;
 use bst_meaning::value::Target;
 use bv_base::memory::NoMemory;
+use bv_base::seq::Seq;
 use cert_check::{Turning, type_functions};
-use loop_templates::{Occurrences, Sums, is_marked, occurring, sums_over, terms_over};
+use lin_facts::row::Part;
+use loop_templates::{Occurrences, is_marked, occurring, sums, terms_over};
 use name_table::builtin::Builtin;
 use name_table::names::{Kind, NameId};
 use name_table::style::{BodyId, Style};
@@ -28,9 +30,23 @@ pub(crate) fn turning(test: Target, body: Target, entering: &[State]) -> Turning
     Turning {
         test,
         body,
-        entry: entering.iter().all(|state| state.is_at_entry()),
-        whole: entering.iter().all(|state| state.is_whole()),
+        entry: are_at_entry(entering),
+        whole: are_whole(entering),
     }
+}
+
+/// Whether each of some states is at an entry.
+fn are_at_entry(states: &[State]) -> bool
+    ensures { result ≡ list_all (λ state. state.at_entry) states.now }
+{
+    states.iter().all(|state| state.is_at_entry())
+}
+
+/// Whether the known stack of each of some states is the whole stack.
+fn are_whole(states: &[State]) -> bool
+    ensures { result ≡ list_all (λ state. state.whole) states.now }
+{
+    states.iter().all(|state| state.is_whole())
 }
 
 /// Which names occur in the bodies of a loop.
@@ -79,7 +95,7 @@ fn push_entered(
     }
 }
 
-/// Adds the bodies of functions.
+/// Adds the bodies of the functions that the style defines.
 fn push_types(roots: &mut Vec<BodyId>, style: &Style, types: &[NameId]) -> Result<(), NoMemory>
     ensures { OnOk result (roots.new.items ≡ roots.old.items ++ flat_map (λ name. reaching.own_body (parts.kind_of style.now name)) types.now) }
 {
@@ -110,7 +126,13 @@ pub(crate) fn written_in(
 {
     let mut names = Vec::new(alloc);
     for id in 0..style.names.len() {
-        push_written(&mut names, found, one.entry, id, style.names.kind(NameId(id)))?;
+        push_written(
+            &mut names,
+            found,
+            one.entry,
+            id,
+            style.names.kind(NameId(id)),
+        )?;
     }
     Ok(names)
 }
@@ -149,9 +171,10 @@ pub(crate) fn sums_in(
     style: &Style,
     one: Turning,
     found: &Occurrences,
-) -> Result<Sums, NoMemory>
-    ensures { IfOk result (λ all. all ≡ rule.sums_in style.now one found.now) }
+) -> Result<Vec<Seq<Part>>, NoMemory>
+    ensures sums { IfOk result (λ all. all.items ≡ rule.sums_in style.now one found.now) }
+    ensures small { IfOk result (λ all. All sum.IsSmallSum all.items) }
 {
     let terms = terms_over(alloc, style, found, one.entry)?;
-    sums_over(alloc, terms.as_slice())
+    sums(alloc, terms.as_slice())
 }

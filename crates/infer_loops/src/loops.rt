@@ -1,11 +1,10 @@
 //! The loop of a candidate that passes, with its exits and its hints.
 
 ghost use Rattle.std.specs.Prelude.{◌≡◌, ◌+◌, ◌<◌, ◌++◌, flat_map, length, map, IfOk, OnOk};
-ghost use Rattle.std.specs.List.{All};
+ghost use Rattle.std.specs.List.{All, list_all};
 ghost use Rattle.cert_check.specs.Tours.{HasEnds, IsEnded};
-ghost use Rattle.loop_templates.specs.Candidates.{IsMade};
-ghost use Rattle.name_table.specs.Sound.{IsSound};
-ghost use Rattle.sym_state.specs.WellMade.{WellMade};
+ghost use Rattle.loop_templates.specs.Candidates.{IsMade, is_short};
+ghost use Rattle.loop_templates.specs.Cases.{IsFrame};
 ghost use Rattle.infer_loops.specs.Invariants as rule;
 
 use crate::ends::ended_states;
@@ -22,6 +21,7 @@ use sym_state::hint::Hint;
 use sym_state::piece::Piece;
 
 /// The loop of a candidate that passes, where it is within the limits.
+#[tactic(auto, using(crate::proofs::FewCases::few_cases))]
 pub(crate) fn loop_of(
     alloc: Global,
     frame: &Frame<'_>,
@@ -29,11 +29,10 @@ pub(crate) fn loop_of(
     candidate: Candidate,
     tour: Tour<'_>,
 ) -> Result<Option<Loop>, NoMemory>
-    requires sound { IsSound frame.now.style }
-    requires entering { All (WellMade frame.now.style) frame.now.entering }
+    requires frame { IsFrame frame.now }
     requires made { All IsMade candidate.added }
     requires ends { HasEnds frame.now.style tour }
-    ensures { IfOk result (λ found. found ≡ rule.loop_of frame.now one candidate tour) }
+    ensures { IfOk result (λ found. found ≡ rule.loop_of frame.now one candidate tour.entry) }
 {
     let left = ended_states(alloc, false, tour.ends.as_slice())?;
     let exits = exits_of(alloc, frame, left.as_slice())?;
@@ -48,8 +47,21 @@ pub(crate) fn loop_of(
 fn may_be_written(candidate: &Candidate, exits: &[Added]) -> bool
     ensures { result ≡ rule.may_be_written candidate.now exits.now }
 {
-    let cases = candidate.first.as_slice().len().saturating_add(candidate.added.as_slice().len());
-    cases.saturating_add(exits.len()) <= MOST_PIECES && exits.iter().all(|one| one.case.stack.as_slice().len() <= MOST_ITEMS)
+    let cases = candidate
+        .first
+        .as_slice()
+        .len()
+        .saturating_add(candidate.added.as_slice().len());
+    cases.saturating_add(exits.len()) <= MOST_PIECES && are_short(exits)
+}
+
+/// Whether the stacks of cases are no longer than those of pieces.
+fn are_short(added: &[Added]) -> bool
+    ensures { result ≡ list_all (λ one. is_short one.case.stack) added.now }
+{
+    added
+        .iter()
+        .all(|one| one.case.stack.as_slice().len() <= MOST_ITEMS)
 }
 
 /// The loop of a candidate with its exits.
@@ -63,9 +75,9 @@ fn loop_with(
 ) -> Result<Loop, NoMemory>
     requires made { All IsMade candidate.added }
     requires exits { All IsMade exits.items }
-    requires few { length candidate.first + length candidate.added < 4294967296 }
+    requires few { (length candidate.first + length candidate.added) + length exits.items < 4294967296 }
     requires ends { HasEnds frame.now.style tour }
-    ensures { IfOk result (λ found. found ≡ rule.loop_with frame.now one candidate tour exits.items) }
+    ensures { IfOk result (λ found. found ≡ rule.loop_with frame.now one candidate tour.entry exits.items) }
 {
     let hints = hints_of(alloc, frame, &candidate, exits.as_slice(), tour)?;
     Ok(Loop {
@@ -113,9 +125,9 @@ fn hints_of(
 ) -> Result<Vec<Hint>, NoMemory>
     requires made { All IsMade candidate.now.added }
     requires exits { All IsMade exits.now }
-    requires few { length candidate.now.first + length candidate.now.added < 4294967296 }
+    requires few { (length candidate.now.first + length candidate.now.added) + length exits.now < 4294967296 }
     requires ends { HasEnds frame.now.style tour }
-    ensures { IfOk result (λ hints. hints.items ≡ rule.hints_of frame.now candidate.now exits.now tour) }
+    ensures { IfOk result (λ hints. hints.items ≡ rule.hints_of frame.now candidate.now exits.now tour.entry) }
 {
     let mut tour = tour;
     let mut last = tour.take_found();
@@ -138,7 +150,7 @@ fn push_hints(
 ) -> Result<(), NoMemory>
     requires made { All IsMade candidate.now.added }
     requires exits { All IsMade exits.now }
-    requires few { length candidate.now.first + length candidate.now.added < 4294967296 }
+    requires few { (length candidate.now.first + length candidate.now.added) + length exits.now < 4294967296 }
     requires end { IsEnded frame.now.style end }
     ensures { OnOk result (hints.new.items ≡ hints.old.items ++ rule.hints_at_end frame.now candidate.now exits.now end) }
 {
@@ -159,13 +171,19 @@ fn shown_at_end(
 ) -> Result<Vec<Hint>, NoMemory>
     requires made { All IsMade candidate.now.added }
     requires exits { All IsMade exits.now }
-    requires few { length candidate.now.first + length candidate.now.added < 4294967296 }
+    requires few { (length candidate.now.first + length candidate.now.added) + length exits.now < 4294967296 }
     requires end { IsEnded frame.now.style end.now }
     ensures { IfOk result (λ hints. hints.items ≡ rule.shown_at_end frame.now candidate.now exits.now end.now) }
 {
     if end.turned {
         let first = candidate.first.as_slice().len() as u32;
-        entailing_one(alloc, frame.admits, &end.state, first, candidate.added.as_slice())
+        entailing_one(
+            alloc,
+            frame.admits,
+            &end.state,
+            first,
+            candidate.added.as_slice(),
+        )
     } else {
         entailing_one(alloc, frame.admits, &end.state, 0, exits)
     }

@@ -1,11 +1,11 @@
 //! Candidates in sequence, until one passes (docs/ANALYSER.md, "Loops").
 
-ghost use Rattle.std.specs.Prelude.{◌≡◌, ◌≤◌, List, Option, length, IfOk};
+ghost use Rattle.std.specs.Prelude.{◌≡◌, ◌≤◌, Option, length, IfOk};
 ghost use Rattle.std.specs.List.{All};
 ghost use Rattle.cert_check.specs.Tours.{HasEnds};
 ghost use Rattle.cert_format.specs.declared.cert.Loop.{Loop as LoopOf};
+ghost use Rattle.loop_templates.specs.Cases.{IsFrame};
 ghost use Rattle.loop_templates.specs.declared.candidates.Candidate.{Candidate as CandidateOf};
-ghost use Rattle.name_table.specs.Sound.{IsSound};
 ghost use Rattle.sym_state.specs.WellMade.{WellMade};
 ghost use Rattle.infer_loops.specs.Invariants as rule;
 
@@ -57,28 +57,48 @@ pub fn invariant(
         whole: one.whole,
         at_entry: one.entry,
         writes: writes.as_slice(),
-        sums: &sums,
+        sums: sums.as_slice(),
         entering,
     };
-    match first_candidate(alloc, &frame)? {
-        Some(candidate) => sequence(alloc, checker, &frame, one, candidate),
+    found_in(alloc, checker, &frame, one)
+}
+
+/// The loop that is found in a frame.
+fn found_in(
+    alloc: Global,
+    checker: &Checker<'_>,
+    frame: &Frame<'_>,
+    one: Turning,
+) -> Result<Option<Loop>, NoMemory>
+    requires style { frame.now.style ≡ checker.now.style }
+    requires entry { frame.now.at_entry ≡ one.entry }
+    requires frame { IsFrame frame.now }
+    ensures { IfOk result (λ found. found ≡ rule.found_in checker.now.cert frame.now one) }
+{
+    match first_candidate(alloc, frame)? {
+        Some(candidate) => sequence(alloc, checker, frame, one, candidate, MOST_CANDIDATES),
         None => Ok(None),
     }
 }
 
-/// The loop of the first candidate that passes, from this one on.
+/// The loop of the first candidate that passes, from this one on, among so many.
 fn sequence(
     alloc: Global,
     checker: &Checker<'_>,
     frame: &Frame<'_>,
     one: Turning,
     first: Candidate,
+    most: u32,
 ) -> Result<Option<Loop>, NoMemory>
-    ensures { IfOk result (λ found. found ≡ rule.sequence MOST_CANDIDATES checker.now.cert frame.now one first) }
+    requires style { frame.now.style ≡ checker.now.style }
+    requires entry { frame.now.at_entry ≡ one.entry }
+    requires frame { IsFrame frame.now }
+    requires first { rule.CanWalk frame.now first }
+    ensures { IfOk result (λ found. found ≡ rule.sequence most checker.now.cert frame.now one first) }
 {
     let mut candidate = first;
-    for _ in 0..MOST_CANDIDATES {
-        match step(alloc, checker, frame, one, candidate)? {
+    for _ in 0..most {
+        match stepped(alloc, checker, frame, one, candidate)? {
             Step::Settled(found) => return Ok(found),
             Step::Onward(next) => candidate = next,
         }
@@ -87,15 +107,20 @@ fn sequence(
 }
 
 /// What comes of a candidate, which is walked.
-fn step(
+fn stepped(
     alloc: Global,
     checker: &Checker<'_>,
     frame: &Frame<'_>,
     one: Turning,
     candidate: Candidate,
 ) -> Result<Step, NoMemory>
-    ensures { (later : CandidateOf → Option LoopOf)
-        → IfOk result (λ step. rule.walked_by frame.now one candidate later (rule.toured checker.now.cert frame.now one candidate) ≡ rule.gone_on later step) }
+    requires style { frame.now.style ≡ checker.now.style }
+    requires entry { frame.now.at_entry ≡ one.entry }
+    requires frame { IsFrame frame.now }
+    requires candidate { rule.CanWalk frame.now candidate }
+    ensures comes { (later : CandidateOf → Option LoopOf)
+        → IfOk result (λ step. rule.walked_by frame.now one candidate later (rule.toured frame.now.style checker.now.cert one candidate) ≡ rule.gone_on later step) }
+    ensures goes { IfOk result (rule.CanGoOn frame.now) }
 {
     match toured(alloc, checker, one, &candidate)? {
         Some(tour) => settled(alloc, frame, one, candidate, tour),
@@ -111,11 +136,12 @@ fn settled(
     candidate: Candidate,
     tour: Tour<'_>,
 ) -> Result<Step, NoMemory>
-    requires sound { IsSound frame.now.style }
-    requires entering { All (WellMade frame.now.style) frame.now.entering }
+    requires frame { IsFrame frame.now }
+    requires candidate { rule.CanWalk frame.now candidate }
     requires ends { HasEnds frame.now.style tour }
-    ensures { (later : CandidateOf → Option LoopOf)
-        → IfOk result (λ step. rule.settled_by frame.now one candidate tour later (rule.next_of frame.now candidate tour) ≡ rule.gone_on later step) }
+    ensures comes { (later : CandidateOf → Option LoopOf)
+        → IfOk result (λ step. rule.settled_by frame.now one candidate tour.entry later (rule.next_of frame.now candidate tour.entry) ≡ rule.gone_on later step) }
+    ensures goes { IfOk result (rule.CanGoOn frame.now) }
 {
     let turned = ended_states(alloc, true, tour.ends.as_slice())?;
     match next_after(alloc, frame, &candidate, turned.as_slice())? {

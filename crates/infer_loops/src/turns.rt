@@ -1,8 +1,7 @@
 //! Turns of a loop from the cases of a candidate.
 
-ghost use Rattle.std.specs.Prelude.{◌≡◌, IfOk, IfSome, MatchResult, OnOk};
+ghost use Rattle.std.specs.Prelude.{◌≡◌, ◌≢◌, None, IfOk, IfSome, OnOk};
 ghost use Rattle.std.specs.List.{All};
-ghost use Rattle.std.specs.Result.{result_ok};
 ghost use Rattle.cert_check.specs.Certified.{IsPieceOf};
 ghost use Rattle.cert_check.specs.Given.{Takes};
 ghost use Rattle.cert_check.specs.Tours as tours;
@@ -11,7 +10,7 @@ ghost use Rattle.cert_check.specs.declared.refusal.Reason.TheVariants.{NoMemory 
 ghost use Rattle.infer_loops.specs.Invariants as rule;
 
 use bv_base::memory::NoMemory;
-use cert_check::refusal::{Reason, Walk};
+use cert_check::refusal::{Reason, Refusal, Walk};
 use cert_check::{Checker, Tour, Turning};
 use loop_templates::{Added, Candidate};
 use std::alloc::Global;
@@ -20,6 +19,7 @@ use straight_hints::Finding;
 use sym_state::piece::Piece;
 
 /// A candidate is walked. `None` comes where its walk fails.
+#[tactic(auto, using(crate::proofs::NextTurns::none_toured, crate::proofs::NextTurns::none_ends))]
 pub(crate) fn toured<'t>(
     alloc: Global,
     checker: &Checker<'_>,
@@ -28,13 +28,24 @@ pub(crate) fn toured<'t>(
 ) -> Result<Option<Tour<'t>>, NoMemory>
     requires first { All (IsPieceOf checker.now.style one.entry) candidate.now.first }
     requires added { All (λ added. IsPieceOf checker.now.style one.entry added.case) candidate.now.added }
-    ensures tour { IfOk result (λ tour. tour ≡ result_ok (tours.turns_of (units.everywhere checker.now.style checker.now.cert) one (rule.cases_of candidate.now)
-        (tours.setting_out Finding.Straight))) }
+    ensures tour { IfOk result (λ tour. tour ≡ rule.toured checker.now.style checker.now.cert one candidate.now) }
     ensures ends { IfOk result (λ tour. IfSome tour (tours.HasEnds checker.now.style)) }
 {
     let mut tour = Tour::new(alloc, Finding::Straight);
-    let walk = turns_from(checker, one, candidate, &mut tour);
-    if is_walked(walk)? { Ok(Some(tour)) } else { Ok(None) }
+    match turns_from(checker, one, candidate, &mut tour) {
+        Ok(()) => Ok(Some(tour)),
+        Err(refusal) => ended(refusal),
+    }
+}
+
+/// Where a walk fails the sequence ends, but for want of memory.
+fn ended<'t>(refusal: Refusal) -> Result<Option<Tour<'t>>, NoMemory>
+    ensures { IfOk result (λ tour. (tour ≡ None) × (refusal.reason ≢ WantOfMemory)) }
+{
+    match refusal.reason {
+        Reason::NoMemory => Err(NoMemory),
+        _ => Ok(None),
+    }
 }
 
 /// A turn from each case of a candidate.
@@ -68,12 +79,7 @@ fn turns_of(checker: &Checker<'_>, one: Turning, cases: &[Piece], tour: &mut Tou
 }
 
 /// A turn from each of these cases, which were added.
-fn turns_added(
-    checker: &Checker<'_>,
-    one: Turning,
-    added: &[Added],
-    tour: &mut Tour<'_>,
-) -> Walk
+fn turns_added(checker: &Checker<'_>, one: Turning, added: &[Added], tour: &mut Tour<'_>) -> Walk
     requires added { All (λ added. IsPieceOf checker.now.style one.entry added.case) added.now }
     requires none { tours.GivesNone tour.old }
     ensures takes { Takes (tours.turns_of (units.everywhere checker.now.style checker.now.cert) one (rule.added_cases added.now) tour.old) tour.new result }
@@ -83,17 +89,4 @@ fn turns_added(
         checker.find_turn(one, &one_added.case, tour)?;
     }
     Ok(())
-}
-
-/// Whether a walk came to its end.
-fn is_walked(walk: Walk) -> Result<bool, NoMemory>
-    ensures { IfOk result (λ walked. MatchResult walk (λ _. walked ≡ true) (λ refusal. (walked ≡ false) × (refusal.reason ≢ WantOfMemory))) }
-{
-    match walk {
-        Ok(()) => Ok(true),
-        Err(refusal) => match refusal.reason {
-            Reason::NoMemory => Err(NoMemory),
-            _ => Ok(false),
-        },
-    }
 }

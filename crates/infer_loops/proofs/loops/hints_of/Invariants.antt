@@ -8,7 +8,7 @@ use Rattle.infer_loops.proofs.loops.hints_of.Given as goal
 
 abbrev pub invariant-loop-end : goal.invariant-loop-end
 invariant-loop-end l = record {
-  hints : l.hints.items ++ flat_map (hints_at_end l.frame.now l.candidate l.exits) (into_iter_items l.end-iterator)
-      ≡ flat_map (hints_at_end l.frame.now l.candidate l.exits) l.fn.tour.ends;
-  ends : All (IsEnded l.frame.now.style) (into_iter_items l.end-iterator);
+  hints : l.hints.items ++ flat_map (hints_at_end l.frame l.candidate l.exits) (into_iter_items l.end-iterator)
+      ≡ flat_map (hints_at_end l.frame l.candidate l.exits) l.fn.tour.ends;
+  ends : All (IsEnded l.frame.style) (into_iter_items l.end-iterator);
 }

@@ -7,7 +7,7 @@ use Rattle.infer_loops.proofs.turns.turns_added.Given as goal
 
 abbrev pub invariant-loop-one_added : goal.invariant-loop-one_added
 invariant-loop-one_added l = record {
-  turned : turns_of (everywhere l.checker.now.style l.checker.now.cert) l.one (added_cases (drop l.one_added-index l.added)) l.tour
-      ≡ turns_of (everywhere l.checker.now.style l.checker.now.cert) l.one (added_cases l.added) l.initial.tour;
-  keeps : KeepsTour l.checker.now.style l.initial.tour l.tour;
+  turned : turns_of (everywhere l.checker.style l.checker.cert) l.one (added_cases (drop l.one_added-index l.added)) l.tour
+      ≡ turns_of (everywhere l.checker.style l.checker.cert) l.one (added_cases l.added) l.initial.tour;
+  keeps : KeepsTour l.checker.style l.initial.tour l.tour;
 }

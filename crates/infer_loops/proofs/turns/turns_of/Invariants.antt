@@ -6,7 +6,7 @@ use Rattle.infer_loops.proofs.turns.turns_of.Given as goal
 
 abbrev pub invariant-loop-case : goal.invariant-loop-case
 invariant-loop-case l = record {
-  turned : turns_of (everywhere l.checker.now.style l.checker.now.cert) l.one (drop l.case-index l.cases) l.tour
-      ≡ turns_of (everywhere l.checker.now.style l.checker.now.cert) l.one l.cases l.initial.tour;
-  keeps : KeepsTour l.checker.now.style l.initial.tour l.tour;
+  turned : turns_of (everywhere l.checker.style l.checker.cert) l.one (drop l.case-index l.cases) l.tour
+      ≡ turns_of (everywhere l.checker.style l.checker.cert) l.one l.cases l.initial.tour;
+  keeps : KeepsTour l.checker.style l.initial.tour l.tour;
 }
