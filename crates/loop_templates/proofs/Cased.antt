@@ -9,9 +9,9 @@ use Rattle.name_table.specs.declared.names.TheConstants.{MOST_NAMES}
 use Rattle.name_table.specs.declared.style.Style.{Style}
 use Rattle.sym_state.specs.Facts.{subject}
 use Rattle.sym_state.specs.Fitting.{FactFits}
-use Rattle.sym_state.specs.Starting.{IsFit, IsNumbered, all_symbols, placed, symbols_of}
+use Rattle.sym_state.specs.Starting.{IsFit, IsNumbered, placed, symbols_of}
 use Rattle.sym_state.specs.State.{State}
-use Rattle.sym_state.specs.WellMade.{HasByteText, HasShortText, HasSmallInteger, IsBounded, IsOfStyle, IsTermBelow, WellMade, ids_from, is_field, is_variable}
+use Rattle.sym_state.specs.WellMade.{HasBounds, HasByteText, HasShortText, HasSmallInteger, IsBounded, IsOfStyle, IsTermBelow, WellMade, ids_from, is_field, is_variable}
 use Rattle.sym_state.specs.declared.piece.Piece.{Piece}
 use Rattle.sym_state.specs.declared.symbol.Bind.{Bind}
 use Rattle.sym_state.specs.declared.symbol.Sym.{Sym}
@@ -86,7 +86,8 @@ few_symbols frame bones common further =
     (syms_below m (take v places) (All-take P v places below))
     (syms_below m (drop v places) (All-drop P v places below))))
 
-more_added : (frame : Frame) (n m : ℕ) (further : Option State) → n ≤ m → MayAdd frame.style n further → MayAdd frame.style m further
+-- what may be added to a short stack may be to a longer one
+pub more_added : (frame : Frame) (n m : ℕ) (further : Option State) → n ≤ m → MayAdd frame.style n further → MayAdd frame.style m further
 more_added frame n m None few may = may
 more_added frame n m (Some state) few may = (may.0, (let short = may.1 in omega (arith, few, short)))
 
@@ -136,7 +137,7 @@ pub is_fit : (frame : Frame) (bones : Skeleton) (common : List State) (further :
 is_fit frame bones common further piece can is = subst (IsFit frame.style) (sym is) (case_fit frame bones common further can)
 
 pub has_few : (frame : Frame) (bones : Skeleton) (common : List State) (further : Option State) (piece : Piece) → length bones < 2147483648
-    → length frame.style.names ≤ MOST_NAMES → piece ≡ bare_case frame bones common further → all_symbols (piece ∷ []) + length frame.style.names < 4294967296
+    → length frame.style.names ≤ MOST_NAMES → piece ≡ bare_case frame bones common further → symbols_of piece + length frame.style.names < 4294967296
 has_few frame bones common further piece short few is =
     let symbols = few_symbols frame bones common further in
     let same = ap symbols_of is in
@@ -154,8 +155,8 @@ entering_stands frame state bones is made = record {
 pub named_of : (frame : Frame) (n : ℕ) (places : List Bind) → places ≡ places_for frame n → All (λ place. place.name.0 < length frame.style.names) places
 named_of frame n places is = subst (λ (all : List Bind). All (λ (place : Bind). place.name.0 < length frame.style.names) all) (sym is) (places_named frame n)
 
-pub alone_made : (style : Style) (state : State) → WellMade style state → All (WellMade style) (state ∷ [])
-alone_made style state made = All-cons (WellMade style) state [] made (All-nil (WellMade style))
+pub alone_bounded : (style : Style) (state : State) → WellMade style state → All HasBounds (state ∷ [])
+alone_bounded style state made = All-cons HasBounds state [] made.bounds (All-nil HasBounds)
 
 -- a case that is added has what it is made of
 pub later_stands : (frame : Frame) (bones : Skeleton) (common : List State) → common ≡ frame.entering → All (IsBoneOf frame.style) bones
@@ -166,10 +167,12 @@ later_stands frame bones common is boned made = record {
   may_add = tt;
 }
 
-pub those_made : (style : Style) (bones : Skeleton) (states those : List State) → those ≡ states_of bones states → All (WellMade style) states
-    → All (WellMade style) those
-those_made style bones states those is made =
-    subst (λ (all : List State). All (WellMade style) all) (sym is) (All-filter (λ state. same_skeleton bones (skeleton state)) (WellMade style) states made)
+pub those_bounded : (style : Style) (bones : Skeleton) (states those : List State) → those ≡ states_of bones states → All (WellMade style) states
+    → All HasBounds those
+those_bounded style bones states those is made =
+    subst (λ (all : List State). All HasBounds all) (sym is)
+    (All-filter (λ state. same_skeleton bones (skeleton state)) HasBounds states
+    (All-weaker (WellMade style) HasBounds (λ state h. h.bounds) states made))
 
 -- the names of a case are few behind a short stack
 pub names_few : (at_entry : Bool) (all : List (List ℕ × Kind)) (n : ℕ) (vars names : List NameId) → n < 2147483648 → length all ≤ MOST_NAMES

@@ -30,7 +30,7 @@ use Rattle.loop_templates.specs.Skeletons.{IsBoneOf, Skeleton, bone_of, skeleton
 use Rattle.loop_templates.specs.declared.skeletons.Bone.{Bone}
 
 -- what holds of each item's list holds of all of them
-all_flat : {X Y : Type 0} (P : Y → Type 0) (Q : X → Type 0) (f : X → List Y) (xs : List X) → ((x : X) → Q x → All P (f x)) → All Q xs → All P (flat_map f xs)
+pub all_flat : {X Y : Type 0} (P : Y → Type 0) (Q : X → Type 0) (f : X → List Y) (xs : List X) → ((x : X) → Q x → All P (f x)) → All Q xs → All P (flat_map f xs)
 all_flat P Q f [] each all = All-nil P
 all_flat P Q f (x ∷ xs) each all =
     All-append P (f x) (flat_map f xs) (each x (All-head Q x xs all)) (all_flat P Q f xs each (All-tail Q x xs all))

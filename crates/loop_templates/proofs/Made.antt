@@ -1,5 +1,5 @@
 -- Cases are as long as their skeletons, and their lines can be numbered.
-use Rattle.std.proofs.Common.{◌≡◌, ◌≢◌, ℕ, zero, suc, ◌+◌, ◌<◌, ◌≤◌, Bool, true, false, ◌&&◌, ◌||◌, cond, ap, sym, ◌∙◌, refl, subst, arith, List, [], ◌∷◌, ◌++◌, length, map, take, drop, get_or, Option, Some, None, Result, Ok, Err, IfOk}
+use Rattle.std.proofs.Common.{◌≡◌, ◌≢◌, ℕ, zero, suc, ◌+◌, ◌<◌, ◌≤◌, Bool, true, false, ◌&&◌, ◌||◌, cond, ap, sym, ◌∙◌, refl, subst, arith, List, [], ◌∷◌, ◌++◌, length, map, take, drop, get_or, Option, Some, None}
 use Rattle.std.specs.List.{All, filter, flat_map, fold, list_all, range_with_len}
 use Rattle.std.specs.Cmp.Lexicographic.{pointwise}
 use Rattle.std.proofs.lemmas.Bool.{and_parts}
@@ -20,7 +20,7 @@ use Rattle.sym_state.specs.declared.symbol.Bind.{Bind}
 use Rattle.sym_state.specs.declared.symbol.Fact.{Fact}
 use Rattle.sym_state.proofs.Started.{ids_from-length}
 use Rattle.loop_templates.specs.Candidates.{CanMatch, IsMade, grown, is_proved, lowered, next_by, proved_rows, settled}
-use Rattle.loop_templates.specs.Cases.{Frame, bare_case, case_of, common_facts, entering_case, facts_for, fields_of, further_facts, given_facts, numbered, ordered_facts, piece_of, places_behind, places_for, skeleton_facts, taken_symbols, variables_of, with_rows}
+use Rattle.loop_templates.specs.Cases.{Frame, IsFrame, bare_case, case_of, common_facts, entering_case, facts_for, fields_of, further_facts, given_facts, numbered, ordered_facts, piece_of, places_behind, places_for, skeleton_facts, taken_symbols, variables_of, with_rows}
 use Rattle.loop_templates.specs.Rows.{is_wanted, row_in_piece, rows_of_sum, rows_over}
 use Rattle.loop_templates.specs.Skeletons.{IsBoneOf, Skeleton, bone_of, is_among, new_skeletons, same_bone, same_skeleton, skeleton, states_of, with_new}
 use Rattle.loop_templates.specs.declared.candidates.Added.{Added}
@@ -28,6 +28,7 @@ use Rattle.loop_templates.specs.declared.candidates.Candidate.{Candidate}
 use Rattle.loop_templates.specs.declared.places.Seats.{Seats}
 use Rattle.loop_templates.specs.declared.skeletons.Bone.{Bone}
 use Rattle.loop_templates.proofs.Fit.{skeleton_of_style}
+use Rattle.loop_templates.proofs.Rowed.{rows_bounded}
 use Rattle.loop_templates.proofs.Seated.{names_of, seated_names}
 
 -- one skeleton is as long as the other
@@ -53,7 +54,7 @@ states_long bones n (state ∷ states) is all =
       | false ↦ λ _. rest
     ] refl
 
-fewer : {X : Type 0} (p : X → Bool) (xs : List X) → length (filter p xs) ≤ length xs
+pub fewer : {X : Type 0} (p : X → Bool) (xs : List X) → length (filter p xs) ≤ length xs
 fewer p [] = omega arith
 fewer {X} p (x ∷ xs) =
     let rest = fewer p xs in
@@ -99,13 +100,13 @@ case_stack frame bones common further = length-map-range_with_len numbered 0 (le
 few_taken : {X : Type 0} (n : ℕ) (xs : List X) → length (take n xs) ≤ n
 few_taken n xs = let taken = length-take n xs in omega (arith, taken)
 
-facts_few : (frame : Frame) (bones : Skeleton) (places : List Bind) (common : List State) (further : Option State)
+pub facts_few : (frame : Frame) (bones : Skeleton) (places : List Bind) (common : List State) (further : Option State)
     → length (facts_for frame bones places common further) ≤ 64
 facts_few frame bones places common further =
     few_taken 64 (ordered_facts (given_facts frame.style frame.admits places)
     (skeleton_facts 0 bones ++ (further_facts frame.writes places further ++ common_facts frame.writes places common)))
 
-rows_few : (style : Style) (admits : Cond) (whole at_entry : Bool) (sums : List (List Part)) (states : List State) (piece : Piece)
+pub rows_few : (style : Style) (admits : Cond) (whole at_entry : Bool) (sums : List (List Part)) (states : List State) (piece : Piece)
     → length (rows_over style admits whole at_entry sums states piece) ≤ 64
 rows_few style admits whole at_entry sums states piece =
     few_taken 64 (filter (is_wanted admits (started style admits (piece ∷ []) whole at_entry))
@@ -125,14 +126,14 @@ case_lines frame bones common further states few =
     let rows = rows_few frame.style frame.admits frame.whole frame.at_entry frame.sums states (bare_case frame bones common further) in
     omega (arith, few, all, front, back, facts, rows)
 
--- such a case is one that may be added, where its rows are within their bounds
+-- such a case is one that may be added
 pub made_of : (frame : Frame) (bones : Skeleton) (common : List State) (further : Option State) (states : List State) (piece : Piece)
-    → piece ≡ with_rows frame states (bare_case frame bones common further) → All IsBounded piece.rows → length frame.style.names ≤ MOST_NAMES
-    → IsMade (record { bones = bones; case = piece })
-made_of frame bones common further states piece is rows few = record {
+    → piece ≡ with_rows frame states (bare_case frame bones common further) → IsFrame frame → IsMade (record { bones = bones; case = piece })
+made_of frame bones common further states piece is ready = record {
   stack = ap (λ (it : Piece). length it.stack) is ∙ case_stack frame bones common further;
-  rows = rows;
-  lines = subst (λ (it : Piece). line_count it ≤ 2147483648) (sym is) (case_lines frame bones common further states few);
+  rows = subst (λ (it : Piece). All IsBounded it.rows) (sym is)
+      (rows_bounded frame.style frame.admits frame.whole frame.at_entry frame.sums states (bare_case frame bones common further) ready.sums);
+  lines = subst (λ (it : Piece). line_count it ≤ 2147483648) (sym is) (case_lines frame bones common further states ready.sound.few_names);
 }
 
 -- the new skeletons of well-made states are of the style
@@ -198,11 +199,6 @@ pub entering_is : (frame : Frame) (state : State) (bones : Skeleton) (bare piece
     → bare ≡ bare_case frame bones (state ∷ []) (Some state) → piece ≡ with_rows frame (state ∷ []) bare → piece ≡ entering_case frame state
 entering_is frame state bones bare piece same is made =
     made ∙ ap (with_rows frame (state ∷ [])) (is ∙ ap (λ (them : Skeleton). bare_case frame them (state ∷ []) (Some state)) same)
-
--- what holds of a value by two facts on it
-pub both_hold : {X E : Type 0} (r : Result X E) (P Q R : X → Type 0) → ((x : X) → P x → Q x → R x) → IfOk r P → IfOk r Q → IfOk r R
-both_hold (Ok x) P Q R shows p q = shows x p q
-both_hold (Err e) P Q R shows p q = tt
 
 -- a case without rows, by its parts
 pub bare_is : (frame : Frame) (bones : Skeleton) (common : List State) (further : Option State) (n v : ℕ) (places : List Bind) (facts : List Fact) (piece : Piece)

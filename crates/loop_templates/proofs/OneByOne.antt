@@ -3,7 +3,7 @@ use Rattle.std.proofs.Common.{◌≡◌, ℕ, zero, suc, ◌+◌, ◌<◌, ◌�
 use Rattle.std.specs.List.{All, list_all, list_any}
 use Rattle.std.specs.Option.{option_to_list}
 use Rattle.std.proofs.lemmas.Bool.{cases_lt}
-use Rattle.std.proofs.lemmas.List.{drop_all, drop_more, drop-map, take_all}
+use Rattle.std.proofs.lemmas.List.{append-nil, drop_all, drop_more, drop-map, take_all}
 use Rattle.std.proofs.lemmas.List.Elements.{All-drop, All-head, All-tail}
 
 more : {X : Type 0} (k : ℕ) (xs : List X) → take (suc k) xs ≡ take k xs ++ option_to_list (slice_get xs k)
@@ -49,6 +49,11 @@ one_added {X} {Y} f old new all y xs rest x is made grown before =
     ∙ ap (λ (them : List X). old ++ map f them) (sym is)
     ∙ before
 
+-- where none is left, what those before gave is all
+pub all_added : {X Y : Type 0} (f : X → Y) (old all : List Y) (k : ℕ) (xs : List X) → length xs ≤ k → old ++ map f (drop k xs) ≡ all → old ≡ all
+all_added {X} {Y} f old all k xs done before =
+    sym (append-nil old) ∙ ap (λ (left : List X). old ++ map f left) (sym (drop_all k xs done)) ∙ before
+
 or_more : (a b d : Bool) → ((a || b) || d) ≡ (a || (b || d))
 or_more true b d = refl
 or_more false b d = refl
@@ -62,7 +67,8 @@ one_tried {X} p old new all xs rest x is tried before =
     ∙ ap (λ (them : List X). old || list_any p them) (sym is)
     ∙ before
 
-next_left : {X : Type 0} (xs : List X) (k : ℕ) (x : X) → k < length xs → x ≡ get_or xs k x → drop k xs ≡ x ∷ drop (k + 1) xs
+-- the next one of those that are left
+pub next_left : {X : Type 0} (xs : List X) (k : ℕ) (x : X) → k < length xs → x ≡ get_or xs k x → drop k xs ≡ x ∷ drop (k + 1) xs
 next_left {X} xs k x more is = drop_more xs k x more ∙ ap (λ (y : X). y ∷ drop (k + 1) xs) (sym is)
 
 -- what all of some images have one has

@@ -3,10 +3,11 @@ use Rattle.std.specs.Prelude.{◌≡◌, ℕ, ◌+◌, ◌-◌, ◌≤◌, Bool,
 use Rattle.std.specs.List.{All, filter, list_all, list_any}
 use Rattle.lin_facts.specs.declared.row.Row.{Row}
 use Rattle.bst_meaning.specs.declared.condition.Cond.{Cond}
+use Rattle.cert_format.specs.CertText.{IsPiece}
 use Rattle.sym_state.specs.Entailing.{first_unentailed, line_count, match_of}
 use Rattle.sym_state.specs.Renaming.{row_renamed}
 use Rattle.sym_state.specs.State.{State}
-use Rattle.sym_state.specs.WellMade.{HasBounds, IsBounded}
+use Rattle.sym_state.specs.WellMade.{HasBounds, HasShortText, IsBounded}
 use Rattle.sym_state.specs.declared.hint.Hint.{Hint}
 use Rattle.sym_state.specs.declared.hint.Hint.TheVariants.{Case}
 use Rattle.sym_state.specs.declared.piece.Piece.{Piece}
@@ -49,11 +50,15 @@ has_room candidate more =
 abbrev pub may_grow : Candidate → List Skeleton → Bool
 may_grow candidate new = has_room candidate (length new) && list_all is_short new
 
+-- the candidate with these added cases comes next
+abbrev pub goes : Candidate → List Added → Next
+goes candidate added = Goes (record { first = candidate.first; added = added })
+
 -- a case is added for each of these skeletons of states behind a turn, where they may stand; else the sequence ends
 abbrev pub grown : Frame → Candidate → List State → List Skeleton → Next
 grown frame candidate turned new =
     if may_grow candidate new
-    then Goes (record { first = candidate.first; added = candidate.added ++ map (added_for frame turned) new })
+    then goes candidate (candidate.added ++ map (added_for frame turned) new)
     else Ends
 
 -- a row of a case has a straight proof in a state
@@ -91,7 +96,7 @@ passes admits added turned = if list_all (is_met admits added) turned then Passe
 abbrev pub settled : Cond → Candidate → List State → Next
 settled admits candidate turned =
     if list_any (is_lower admits turned) candidate.added
-    then Goes (record { first = candidate.first; added = map (lowered admits turned) candidate.added })
+    then goes candidate (map (lowered admits turned) candidate.added)
     else passes admits (map (lowered admits turned) candidate.added) turned
 
 -- what follows a candidate where these skeletons are new
@@ -128,7 +133,18 @@ pub record IsMade (one : Added) : Type 0 where
 abbrev pub CanMatch : ℕ → State → Type 0
 CanMatch n state = HasBounds state × (n ≤ length state.stack)
 
--- the added cases of what follows are made so
-abbrev pub IsNextMade : Next → Type 0
-IsNextMade (Goes candidate) = All IsMade candidate.added
-IsNextMade _ = Unit {0}
+-- a case that a certificate may have where it is walked, with texts that states may have
+pub record IsCase (frame : Frame) (case : Piece) : Type 0 where
+  pub piece : IsPiece frame.style frame.at_entry frame.at_entry 0 case
+  pub texts : All HasShortText case.facts
+
+-- the cases of a candidate are such, and those that were added are made so
+pub record HasCases (frame : Frame) (candidate : Candidate) : Type 0 where
+  pub first : All (IsCase frame) candidate.first
+  pub added : All (λ one. IsCase frame one.case) candidate.added
+  pub made : All IsMade candidate.added
+
+-- so are those of what follows
+abbrev pub HasNextCases : Frame → Next → Type 0
+HasNextCases frame (Goes candidate) = HasCases frame candidate
+HasNextCases frame _ = Unit {0}

@@ -1,20 +1,25 @@
 -- Cases of a list of states (docs/ANALYSER.md, "Loops"): pieces that bind every place and say what the states have in common.
-use Rattle.std.specs.Prelude.{ℕ, suc, ◌+◌, ◌≤◌, Bool, true, false, ◌&&◌, ◌||◌, not, nat_eq, nat_lt, if◌then◌else◌, List, [], ◌∷◌, ◌++◌, length, map, take, drop, flat_map, filter_map, Option, None, Some, IfSome}
+use Rattle.std.specs.Prelude.{◌≡◌, ℕ, suc, ◌+◌, ◌≤◌, Bool, true, false, ◌&&◌, ◌||◌, not, nat_eq, nat_lt, if◌then◌else◌, List, [], ◌∷◌, ◌++◌, length, map, take, drop, flat_map, filter_map, Option, None, Some, IfSome}
 use Rattle.std.specs.List.{All, filter, fold, list_all, list_any, range_with_len}
+use Rattle.std.specs.Option.{option_map_or}
 use Rattle.std.specs.Ordering.{int_eq}
 use Rattle.std.specs.Cmp.Lexicographic.{pointwise}
 use Rattle.lin_facts.specs.declared.row.Part.{Part}
+use Rattle.lin_facts.specs.declared.row.Term.{Term}
+use Rattle.lin_facts.specs.declared.row.Term.TheVariants.{Value, Length, Names, Pos, Count}
+use Rattle.name_table.specs.Sound.{IsSound}
 use Rattle.name_table.specs.declared.names.NameId.{NameId}
 use Rattle.name_table.specs.declared.style.Style.{Style}
 use Rattle.bst_meaning.specs.StyleParts.{kind_of}
 use Rattle.bst_meaning.specs.declared.condition.Cond.{Cond}
+use Rattle.cert_format.specs.PieceItems.{is_zero}
 use Rattle.sym_state.specs.Changes.{bound, kind_facts}
 use Rattle.sym_state.specs.Decided.{is_known, says_nothing}
 use Rattle.sym_state.specs.Facts.{subject}
 use Rattle.sym_state.specs.Renaming.{fact_renamed}
 use Rattle.sym_state.specs.Starting.{own_facts}
 use Rattle.sym_state.specs.State.{State}
-use Rattle.sym_state.specs.WellMade.{WellMade, ids_from, is_field, is_variable}
+use Rattle.sym_state.specs.WellMade.{WellMade, ids_from, is_field, is_variable, takes_part}
 use Rattle.sym_state.specs.declared.piece.Piece.{Piece}
 use Rattle.sym_state.specs.declared.symbol.Bind.{Bind}
 use Rattle.sym_state.specs.declared.symbol.Fact.{Fact}
@@ -22,6 +27,7 @@ use Rattle.sym_state.specs.declared.symbol.Fact.TheVariants.{Is, Int, Text, Call
 use Rattle.sym_state.specs.declared.symbol.Sym.{Sym}
 use Rattle.loop_templates.specs.Rows.{rows_over, symbol_in}
 use Rattle.loop_templates.specs.Skeletons.{IsBoneOf, Skeleton, same_kind, skeleton, states_of}
+use Rattle.loop_templates.specs.Sums.{IsSmallSum}
 use Rattle.loop_templates.specs.declared.limits.TheConstants.{MOST_ITEMS}
 use Rattle.loop_templates.specs.declared.places.Seats.{Seats}
 use Rattle.loop_templates.specs.declared.skeletons.Bone.{Bone}
@@ -36,6 +42,30 @@ pub record Frame : Type 0 where
   pub writes : List NameId
   pub sums : List (List Part)
   pub entering : List State
+
+-- the name of a number has a value where a case stands
+abbrev pub has_value : Style → Bool → ℕ → Bool
+has_value style at_entry id = option_map_or (takes_part at_entry) (kind_of style (record { 0 = id })) false
+
+-- a term over such a name; `pos` stands at an entry alone
+abbrev pub IsTermOver : Style → Bool → Term → Type 0
+IsTermOver style at_entry (Value id) = has_value style at_entry id ≡ true
+IsTermOver style at_entry (Length id) = has_value style at_entry id ≡ true
+IsTermOver style at_entry (Names id) = has_value style at_entry id ≡ true
+IsTermOver style at_entry Pos = at_entry ≡ true
+IsTermOver style at_entry Count = Unit {0}
+
+-- a sum of such terms, none of them taken 0 times
+abbrev pub IsSumOver : Style → Bool → List Part → Type 0
+IsSumOver style at_entry sum = All (λ part. (is_zero part.coefficient ≡ false) × IsTermOver style at_entry part.term) sum
+
+-- the style is sound, the states that enter are well made and there is one, and the sums are small ones over names that have a value
+pub record IsFrame (frame : Frame) : Type 0 where
+  pub sound : IsSound frame.style
+  pub entering : All (WellMade frame.style) frame.entering
+  pub some : 1 ≤ length frame.entering
+  pub sums : All IsSmallSum frame.sums
+  pub over : All (IsSumOver frame.style frame.at_entry) frame.sums
 
 -- a variable counts as written
 abbrev pub is_written : List NameId → NameId → Bool

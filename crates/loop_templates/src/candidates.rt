@@ -1,8 +1,7 @@
 //! Candidates of a loop (docs/ANALYSER.md, "Loops").
 
-ghost use Rattle.std.specs.Prelude.{◌≡◌, ◌<◌, ◌++◌, ◌∷◌, [], length, map, IfOk, OnOk};
+ghost use Rattle.std.specs.Prelude.{◌≡◌, ◌<◌, ◌++◌, ◌∷◌, [], length, map, true, IfOk, IfSome, OnOk};
 ghost use Rattle.std.specs.List.{All, list_all};
-ghost use Rattle.name_table.specs.Sound.{IsSound};
 ghost use Rattle.sym_state.specs.WellMade.{HasBounds, WellMade};
 ghost use Rattle.loop_templates.specs.Candidates as rule;
 ghost use Rattle.loop_templates.specs.Cases as cases;
@@ -10,6 +9,7 @@ ghost use Rattle.loop_templates.specs.Skeletons as skeletons;
 ghost use Rattle.loop_templates.specs.Skeletons.{IsBoneOf};
 
 use crate::cases::{Frame, case_of, entering_case};
+use crate::copies::{all_copied, cases_copied};
 use crate::limits::{MOST_ADDED, MOST_ITEMS, MOST_PIECES};
 use crate::lowering::{Lowered, is_met, lower_all};
 use crate::skeletons::{Bone, same_skeleton, skeleton};
@@ -48,13 +48,21 @@ pub enum Next {
 /// The first candidate: a case for each state that enters. `None` comes exactly where these are too many, or the stack of one is
 /// too long, for a certificate.
 pub fn first_candidate(alloc: Global, frame: &Frame<'_>) -> Result<Option<Candidate>, NoMemory>
-    requires sound { IsSound frame.now.style }
-    requires entering { All (WellMade frame.now.style) frame.now.entering }
+    requires frame { cases.IsFrame frame.now }
+    ensures found { IfOk result (λ found. found ≡ rule.first_candidate frame.now) }
+    ensures stand { IfOk result (λ found. IfSome found (rule.HasCases frame.now)) }
+{
+    first_of(alloc, frame)
+}
+
+/// The same.
+fn first_of(alloc: Global, frame: &Frame<'_>) -> Result<Option<Candidate>, NoMemory>
+    requires frame { cases.IsFrame frame.now }
     ensures { IfOk result (λ found. found ≡ rule.first_candidate frame.now) }
 {
     if may_enter(frame.entering) {
         Ok(Some(Candidate {
-            first: Seq::from_vec(entering_cases(alloc, frame)?),
+            first: Seq::from_vec(entering_cases(alloc, frame, frame.entering)?),
             added: Seq::new(alloc),
         }))
     } else {
@@ -78,33 +86,35 @@ fn are_short(states: &[State]) -> bool
         .all(|state| state.stack_len() <= MOST_ITEMS as u64)
 }
 
-/// The cases of the states that enter.
-fn entering_cases(alloc: Global, frame: &Frame<'_>) -> Result<Vec<Piece>, NoMemory>
-    requires sound { IsSound frame.now.style }
-    requires entering { All (WellMade frame.now.style) frame.now.entering }
-    ensures { IfOk result (λ pieces. pieces.items ≡ map (cases.entering_case frame.now) frame.now.entering) }
+/// The cases of states that enter.
+fn entering_cases(
+    alloc: Global,
+    frame: &Frame<'_>,
+    states: &[State],
+) -> Result<Vec<Piece>, NoMemory>
+    requires frame { cases.IsFrame frame.now }
+    requires states { All (WellMade frame.now.style) states.now }
+    ensures { IfOk result (λ pieces. pieces.items ≡ map (cases.entering_case frame.now) states.now) }
 {
     let mut pieces = Vec::new(alloc);
-    for state in frame.entering {
+    for state in states {
         pieces.push(entering_case(alloc, frame, state)?)?;
     }
     Ok(pieces)
 }
 
 /// What follows a candidate, by the states behind its turns.
-#[tactic(auto, using(crate::proofs::Made::new_of_style))]
 pub fn next_after(
     alloc: Global,
     frame: &Frame<'_>,
-    candidate: Candidate,
+    candidate: &Candidate,
     turned: &[State],
 ) -> Result<Next, NoMemory>
-    requires sound { IsSound frame.now.style }
-    requires entering { All (WellMade frame.now.style) frame.now.entering }
+    requires frame { cases.IsFrame frame.now }
     requires turned { All (WellMade frame.now.style) turned.now }
-    requires made { All rule.IsMade candidate.added }
-    ensures next { IfOk result (λ next. next ≡ rule.next_after frame.now candidate turned.now) }
-    ensures made { IfOk result rule.IsNextMade }
+    requires stand { rule.HasCases frame.now candidate.now }
+    ensures next { IfOk result (λ next. next ≡ rule.next_after frame.now candidate.now turned.now) }
+    ensures stand { IfOk result (rule.HasNextCases frame.now) }
 {
     let new = new_skeletons(alloc, candidate.added.as_slice(), turned)?;
     next_by(alloc, frame, candidate, turned, new)
@@ -115,22 +125,20 @@ pub fn next_after(
 fn next_by(
     alloc: Global,
     frame: &Frame<'_>,
-    candidate: Candidate,
+    candidate: &Candidate,
     turned: &[State],
     new: Vec<Seq<Bone>>,
 ) -> Result<Next, NoMemory>
-    requires sound { IsSound frame.now.style }
-    requires entering { All (WellMade frame.now.style) frame.now.entering }
+    requires frame { cases.IsFrame frame.now }
     requires turned { All (WellMade frame.now.style) turned.now }
-    requires made { All rule.IsMade candidate.added }
+    requires made { All rule.IsMade candidate.now.added }
     requires bones { All (All (IsBoneOf frame.now.style)) new.items }
-    ensures next { IfOk result (λ next. next ≡ rule.next_by frame.now candidate turned.now new.items) }
-    ensures made { IfOk result rule.IsNextMade }
+    ensures { IfOk result (λ next. next ≡ rule.next_by frame.now candidate.now turned.now new.items) }
 {
     if new.len() == 0 {
         settled(alloc, frame.admits, candidate, turned)
     } else {
-        grown(alloc, frame, candidate, turned, new)
+        grown(alloc, frame, new, turned, candidate)
     }
 }
 
@@ -138,29 +146,33 @@ fn next_by(
 fn grown(
     alloc: Global,
     frame: &Frame<'_>,
-    candidate: Candidate,
-    turned: &[State],
     new: Vec<Seq<Bone>>,
+    turned: &[State],
+    candidate: &Candidate,
 ) -> Result<Next, NoMemory>
-    requires sound { IsSound frame.now.style }
-    requires entering { All (WellMade frame.now.style) frame.now.entering }
+    requires frame { cases.IsFrame frame.now }
     requires turned { All (WellMade frame.now.style) turned.now }
-    requires made { All rule.IsMade candidate.added }
     requires bones { All (All (IsBoneOf frame.now.style)) new.items }
-    ensures next { IfOk result (λ next. next ≡ rule.grown frame.now candidate turned.now new.items) }
-    ensures made { IfOk result rule.IsNextMade }
+    ensures { IfOk result (λ next. next ≡ rule.grown frame.now candidate.now turned.now new.items) }
 {
-    if may_grow(&candidate, new.as_slice()) {
-        let Candidate { first, added } = candidate;
-        let mut added = added.into_vec();
+    if may_grow(candidate, new.as_slice()) {
+        let mut added = all_copied(alloc, candidate.added.as_slice())?;
         push_added(alloc, &mut added, frame, turned, new)?;
-        Ok(Next::Goes(Candidate {
-            first,
-            added: Seq::from_vec(added),
-        }))
+        goes(alloc, candidate, Seq::from_vec(added))
     } else {
         Ok(Next::Ends)
     }
+}
+
+/// The candidate with these added cases is walked.
+fn goes(alloc: Global, candidate: &Candidate, added: Seq<Added>) -> Result<Next, NoMemory>
+    ensures { IfOk result (λ next. next ≡ rule.goes candidate.now added) }
+{
+    let first = cases_copied(alloc, candidate.first.as_slice())?;
+    Ok(Next::Goes(Candidate {
+        first: Seq::from_vec(first),
+        added,
+    }))
 }
 
 /// Whether these skeletons may have cases.
@@ -195,12 +207,10 @@ fn push_added(
     states: &[State],
     new: Vec<Seq<Bone>>,
 ) -> Result<(), NoMemory>
-    requires sound { IsSound frame.now.style }
-    requires entering { All (WellMade frame.now.style) frame.now.entering }
+    requires frame { cases.IsFrame frame.now }
     requires states { All (WellMade frame.now.style) states.now }
     requires bones { All (All (IsBoneOf frame.now.style)) new.items }
-    ensures added { OnOk result (added.new.items ≡ added.old.items ++ map (rule.added_for frame.now states.now) new.items) }
-    ensures made { All rule.IsMade added.old.items → OnOk result (All rule.IsMade added.new.items) }
+    ensures { OnOk result (added.new.items ≡ added.old.items ++ map (rule.added_for frame.now states.now) new.items) }
 {
     for bones in new {
         added.push(added_for(alloc, frame, states, bones)?)?;
@@ -215,12 +225,10 @@ fn added_for(
     states: &[State],
     bones: Seq<Bone>,
 ) -> Result<Added, NoMemory>
-    requires sound { IsSound frame.now.style }
-    requires entering { All (WellMade frame.now.style) frame.now.entering }
+    requires frame { cases.IsFrame frame.now }
     requires states { All (WellMade frame.now.style) states.now }
     requires bones { All (IsBoneOf frame.now.style) bones }
-    ensures added { IfOk result (λ one. one ≡ rule.added_for frame.now states.now bones) }
-    ensures made { IfOk result rule.IsMade }
+    ensures { IfOk result (λ one. one ≡ rule.added_for frame.now states.now bones) }
 {
     let case = case_of(alloc, frame, states, bones.as_slice())?;
     Ok(Added { bones, case })
@@ -278,22 +286,19 @@ fn is_among(all: &[Seq<Bone>], bones: &[Bone]) -> bool
 }
 
 /// Where no skeleton is new: rows without a proof are left out, and where none is, the candidate passes or ends.
-#[tactic(auto, using(crate::proofs::Made::all_lowered_made))]
 fn settled(
     alloc: Global,
     cond: &Cond,
-    candidate: Candidate,
+    candidate: &Candidate,
     turned: &[State],
 ) -> Result<Next, NoMemory>
     requires turned { All HasBounds turned.now }
-    requires made { All rule.IsMade candidate.added }
-    ensures next { IfOk result (λ next. next ≡ rule.settled cond.now candidate turned.now) }
-    ensures made { IfOk result rule.IsNextMade }
+    requires made { All rule.IsMade candidate.now.added }
+    ensures { IfOk result (λ next. next ≡ rule.settled cond.now candidate.now turned.now) }
 {
-    let Candidate { first, added } = candidate;
-    let Lowered { lower, added } = lower_all(alloc, cond, turned, added)?;
+    let Lowered { lower, added } = lower_all(alloc, cond, turned, candidate.added.as_slice())?;
     if lower {
-        Ok(Next::Goes(Candidate { first, added }))
+        goes(alloc, candidate, added)
     } else {
         passes(alloc, cond, added.as_slice(), turned)
     }
@@ -303,8 +308,7 @@ fn settled(
 fn passes(alloc: Global, cond: &Cond, added: &[Added], turned: &[State]) -> Result<Next, NoMemory>
     requires turned { All HasBounds turned.now }
     requires made { All rule.IsMade added.now }
-    ensures next { IfOk result (λ next. next ≡ rule.passes cond.now added.now turned.now) }
-    ensures made { IfOk result rule.IsNextMade }
+    ensures { IfOk result (λ next. next ≡ rule.passes cond.now added.now turned.now) }
 {
     for state in turned {
         if !is_met(alloc, cond, added, state)? {
@@ -315,13 +319,12 @@ fn passes(alloc: Global, cond: &Cond, added: &[Added], turned: &[State]) -> Resu
 }
 
 /// The exits: a case for each skeleton of the states that leave.
-#[tactic(auto, using(crate::proofs::Made::new_of_style))]
 pub fn exits_of(alloc: Global, frame: &Frame<'_>, left: &[State]) -> Result<Vec<Added>, NoMemory>
-    requires sound { IsSound frame.now.style }
-    requires entering { All (WellMade frame.now.style) frame.now.entering }
+    requires frame { cases.IsFrame frame.now }
     requires left { All (WellMade frame.now.style) left.now }
     ensures exits { IfOk result (λ exits. exits.items ≡ rule.exits_of frame.now left.now) }
     ensures made { IfOk result (λ exits. All rule.IsMade exits.items) }
+    ensures stand { IfOk result (λ exits. All (λ one. rule.is_short one.bones ≡ true → rule.IsCase frame.now one.case) exits.items) }
 {
     let new = new_skeletons(alloc, &[], left)?;
     let mut exits = Vec::new(alloc);

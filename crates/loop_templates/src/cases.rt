@@ -3,23 +3,23 @@
 ghost use Rattle.std.specs.Prelude.{◌≡◌, ◌+◌, ◌<◌, [], ◌∷◌, ◌++◌, length, map, option_map, IfOk};
 ghost use Rattle.std.specs.List.{All, range_with_len};
 ghost use Rattle.name_table.specs.Sound.{IsSound};
-ghost use Rattle.sym_state.specs.Starting.{IsFit, IsNumbered, all_symbols};
-ghost use Rattle.sym_state.specs.WellMade.{IsBounded, WellMade, ids_from, is_field};
-ghost use Rattle.loop_templates.specs.Candidates.{IsMade};
+ghost use Rattle.sym_state.specs.Starting.{IsFit, IsNumbered, symbols_of};
+ghost use Rattle.sym_state.specs.WellMade.{HasBounds, WellMade, ids_from, is_field};
 ghost use Rattle.loop_templates.specs.Cases as rule;
 ghost use Rattle.loop_templates.specs.Skeletons.{IsBoneOf};
+ghost use Rattle.loop_templates.specs.Sums.{IsSmallSum};
 
 use crate::facts::{push_common, push_further, push_skeleton};
-use crate::kept::kept_facts;
+use crate::in_order::kept_facts;
 use crate::limits::MOST_SYMBOLS;
 use crate::names::{fields, variables};
 use crate::places::places_behind;
 use crate::rows::rows_over;
 use crate::skeletons::{Bone, skeleton, states_of};
-use crate::sums::Sums;
 use bst_meaning::condition::Cond;
 use bv_base::memory::NoMemory;
 use bv_base::seq::Seq;
+use lin_facts::row::Part;
 use name_table::names::NameId;
 use name_table::style::Style;
 use std::alloc::Global;
@@ -42,7 +42,7 @@ pub struct Frame<'a> {
     /// The variables that count as written.
     pub writes: &'a [NameId],
     /// The sums whose floors are rows.
-    pub sums: &'a Sums,
+    pub sums: &'a [Seq<Part>],
     /// The states that enter.
     pub entering: &'a [State],
 }
@@ -64,13 +64,13 @@ impl<'a> Model for Frame<'a> {
 }
 
 /// The case of a state that enters, made from that state alone.
-#[tactic(auto, using(crate::proofs::Cased::entering_stands, crate::proofs::Cased::alone_made))]
+#[tactic(auto, using(crate::proofs::Cased::alone_bounded))]
 pub(crate) fn entering_case(
     alloc: Global,
     frame: &Frame<'_>,
     state: &State,
 ) -> Result<Piece, NoMemory>
-    requires sound { IsSound frame.now.style }
+    requires frame { rule.IsFrame frame.now }
     requires state { WellMade frame.now.style state.now }
     ensures { IfOk result (λ piece. piece ≡ rule.entering_case frame.now state.now) }
 {
@@ -81,19 +81,17 @@ pub(crate) fn entering_case(
 }
 
 /// The case of those of some states that have a skeleton.
-#[tactic(auto, using(crate::proofs::Cased::later_stands, crate::proofs::Cased::those_made, crate::proofs::Made::made_of))]
+#[tactic(auto, using(crate::proofs::Cased::later_stands))]
 pub(crate) fn case_of(
     alloc: Global,
     frame: &Frame<'_>,
     states: &[State],
     bones: &[Bone],
 ) -> Result<Piece, NoMemory>
-    requires sound { IsSound frame.now.style }
-    requires entering { All (WellMade frame.now.style) frame.now.entering }
+    requires frame { rule.IsFrame frame.now }
     requires states { All (WellMade frame.now.style) states.now }
     requires bones { All (IsBoneOf frame.now.style) bones.now }
-    ensures case { IfOk result (λ piece. piece ≡ rule.case_of frame.now states.now bones.now) }
-    ensures made { IfOk result (λ piece. IsMade (record { bones = bones.now; case = piece })) }
+    ensures { IfOk result (λ piece. piece ≡ rule.case_of frame.now states.now bones.now) }
 {
     let common = each(alloc, frame.entering)?;
     let piece = bare_case(alloc, frame, bones, common.as_slice(), None)?;
@@ -119,12 +117,12 @@ fn with_rows(
     states: &[&State],
     piece: Piece,
 ) -> Result<Piece, NoMemory>
-    requires states { All (WellMade frame.now.style) (map (λ state. state.now) states.now) }
+    requires sums { All IsSmallSum frame.now.sums }
+    requires states { All HasBounds (map (λ state. state.now) states.now) }
     requires numbered { IsNumbered piece }
     requires fit { IsFit frame.now.style piece }
-    requires few { all_symbols (piece ∷ []) + length frame.now.style.names < 4294967296 }
-    ensures after { IfOk result (λ after. after ≡ rule.with_rows frame.now (map (λ state. state.now) states.now) piece) }
-    ensures bounded { IfOk result (λ after. All IsBounded after.rows) }
+    requires few { symbols_of piece + length frame.now.style.names < 4294967296 }
+    ensures { IfOk result (λ after. after ≡ rule.with_rows frame.now (map (λ state. state.now) states.now) piece) }
 {
     let rows = rows_over(
         alloc,
@@ -156,10 +154,10 @@ fn bare_case(
         ≡ rule.bare_case frame.now bones.now (map (λ state. state.now) common.now) (option_map (λ state. state.now) further.entry)) }
     ensures numbered { IfOk result IsNumbered }
     ensures fit { IfOk result (IsFit frame.now.style) }
-    ensures few { IfOk result (λ piece. all_symbols (piece ∷ []) + length frame.now.style.names < 4294967296) }
+    ensures few { IfOk result (λ piece. symbols_of piece + length frame.now.style.names < 4294967296) }
 {
     if bones.len() < MOST_SYMBOLS {
-        short_case(alloc, frame, bones, common, further)
+        short_case(alloc, frame, common, further, bones)
     } else {
         Err(NoMemory)
     }
@@ -170,9 +168,9 @@ fn bare_case(
 fn short_case(
     alloc: Global,
     frame: &Frame<'_>,
-    bones: &[Bone],
     common: &[&State],
     further: Option<&State>,
+    bones: &[Bone],
 ) -> Result<Piece, NoMemory>
     requires sound { IsSound frame.now.style }
     requires short { length bones.now < MOST_SYMBOLS }

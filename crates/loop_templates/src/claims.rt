@@ -10,6 +10,7 @@ ghost use Rattle.sym_state.specs.WellMade.{HasBounds, IsBounded};
 ghost use Rattle.loop_templates.specs.Rows as rule;
 ghost use Rattle.loop_templates.specs.Sums.{IsSmallSum};
 
+use crate::facts::symbol_in;
 use bst_meaning::condition::Cond;
 use bv_base::memory::NoMemory;
 use bv_base::seq::Seq;
@@ -279,19 +280,9 @@ fn term_in_state(state: &State, term: Term) -> Term
     ensures { result ≡ term_renamed (rule.symbol_in state.now) term }
 {
     match term {
-        Term::Value(id) => Term::Value(symbol_in(state, id)),
-        Term::Length(id) => Term::Length(symbol_in(state, id)),
-        Term::Names(id) => Term::Names(symbol_in(state, id)),
+        Term::Value(id) => Term::Value(symbol_in(state, NameId(id))),
+        Term::Length(id) => Term::Length(symbol_in(state, NameId(id))),
+        Term::Names(id) => Term::Names(symbol_in(state, NameId(id))),
         term => term,
-    }
-}
-
-/// The symbol that a state binds to a name.
-fn symbol_in(state: &State, id: u32) -> u32
-    ensures { result ≡ rule.symbol_in state.now id }
-{
-    match state.bound(NameId(id)) {
-        Some(sym) => sym.0,
-        None => 0,
     }
 }

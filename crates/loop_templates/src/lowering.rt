@@ -8,6 +8,7 @@ ghost use Rattle.loop_templates.specs.Candidates as rule;
 ghost use Rattle.loop_templates.specs.Skeletons.{skeleton as skeleton_of, same_skeleton};
 
 use crate::candidates::Added;
+use crate::copies::{added_with, case_with};
 use crate::skeletons::{has_skeleton, states_of};
 use bst_meaning::condition::Cond;
 use bv_base::copied::Copied;
@@ -29,18 +30,17 @@ pub struct Lowered {
 }
 
 /// Added cases without the rows that have no proof in some of the states of their skeletons.
-#[tactic(auto, using(crate::proofs::Made::lowered_all))]
 pub(crate) fn lower_all(
     alloc: Global,
     cond: &Cond,
     turned: &[State],
-    added: Seq<Added>,
+    added: &[Added],
 ) -> Result<Lowered, NoMemory>
     requires turned { All HasBounds turned.now }
-    requires made { All rule.IsMade added }
+    requires made { All rule.IsMade added.now }
     ensures after { IfOk result (λ after. after ≡ record {
-      lower = list_any (rule.is_lower cond.now turned.now) added;
-      added = map (rule.lowered cond.now turned.now) added;
+      lower = list_any (rule.is_lower cond.now turned.now) added.now;
+      added = map (rule.lowered cond.now turned.now) added.now;
     }) }
     ensures made { IfOk result (λ after. All rule.IsMade after.added) }
 {
@@ -48,37 +48,46 @@ pub(crate) fn lower_all(
         lower: false,
         added: Seq::new(alloc),
     };
-    for one in added.into_vec() {
+    for one in added {
         lower(alloc, cond, turned, &mut after, one)?;
     }
     Ok(after)
 }
 
 /// Adds one of them.
-#[tactic(auto, using(crate::proofs::Made::long_those))]
 fn lower(
     alloc: Global,
     cond: &Cond,
     turned: &[State],
     after: &mut Lowered,
-    one: Added,
+    one: &Added,
 ) -> Result<(), NoMemory>
     requires turned { All HasBounds turned.now }
-    requires made { rule.IsMade one }
+    requires made { rule.IsMade one.now }
     ensures { OnOk result (after.new ≡ record {
-      lower = after.old.lower || rule.is_lower cond.now turned.now one;
-      added = after.old.added ++ rule.lowered cond.now turned.now one ∷ [];
+      lower = after.old.lower || rule.is_lower cond.now turned.now one.now;
+      added = after.old.added ++ rule.lowered cond.now turned.now one.now ∷ [];
     }) }
 {
-    let states = states_of(alloc, one.bones.as_slice(), turned)?;
-    let rows = proved_rows(alloc, cond, &one.case, states.as_slice())?;
-    let before = one.case.rows.as_slice().len();
-    let lower = rows.len() < before;
-    let mut one = one;
-    one.case.rows = Seq::from_vec(rows);
-    after.added.push(one)?;
-    after.lower = after.lower || lower;
+    let rows = rows_left(alloc, cond, turned, one)?;
+    after.lower = after.lower || rows.len() < one.case.rows.as_slice().len();
+    after.added.push(added_with(alloc, one, rows)?)?;
     Ok(())
+}
+
+/// The rows of an added case that have a straight proof in each of the states of its skeleton.
+fn rows_left(
+    alloc: Global,
+    cond: &Cond,
+    turned: &[State],
+    one: &Added,
+) -> Result<Vec<Row>, NoMemory>
+    requires turned { All HasBounds turned.now }
+    requires made { rule.IsMade one.now }
+    ensures { IfOk result (λ rows. rows.items ≡ (rule.lowered cond.now turned.now one.now).case.rows) }
+{
+    let states = states_of(alloc, one.bones.as_slice(), turned)?;
+    proved_rows(alloc, cond, &one.case, states.as_slice())
 }
 
 /// The rows of a case that have a straight proof in each of some states.
@@ -178,20 +187,7 @@ fn agrees_with(alloc: Global, cond: &Cond, state: &State, case: &Piece) -> Resul
     requires lines { line_count case.now ≤ 2147483648 }
     ensures { IfOk result (λ agrees. agrees ≡ rule.agrees_with cond.now state.now case.now) }
 {
-    let bare = without_rows(alloc, case)?;
+    let bare = case_with(alloc, case, Vec::new(alloc))?;
     let line = entails(alloc, state, cond, &bare, 0, &[])?;
     Ok(line.is_none())
-}
-
-/// A case without its rows.
-fn without_rows(alloc: Global, case: &Piece) -> Result<Piece, NoMemory>
-    ensures { IfOk result (λ bare. bare ≡ record case.now { rows = [] }) }
-{
-    Ok(Piece {
-        stack: Seq::from_vec(case.stack.as_slice().to_vec(alloc)?),
-        vars: Seq::from_vec(case.vars.as_slice().to_vec(alloc)?),
-        fields: Seq::from_vec(case.fields.as_slice().to_vec(alloc)?),
-        facts: case.facts.copied(alloc)?,
-        rows: Seq::new(alloc),
-    })
 }

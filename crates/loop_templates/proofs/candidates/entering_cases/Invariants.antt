@@ -4,4 +4,4 @@ use Rattle.loop_templates.specs.Cases.{entering_case}
 use Rattle.loop_templates.proofs.candidates.entering_cases.Given as goal
 
 abbrev pub invariant-loop-state : goal.invariant-loop-state
-invariant-loop-state l = l.pieces.items ++ map (entering_case l.frame) (drop l.state-index l.state-items) ≡ map (entering_case l.frame) l.state-items
+invariant-loop-state l = l.pieces.items ++ map (entering_case l.frame) (drop l.state-index l.states) ≡ map (entering_case l.frame) l.states

@@ -1,8 +1,7 @@
 -- The case for the next skeleton is added.
 use Rattle.std.specs.List.{All}
 use Rattle.std.specs.Vec.Iter.{into_iter_items}
-use Rattle.std.proofs.lemmas.List.Elements.{All-push, All-same}
-use Rattle.loop_templates.specs.Candidates.{IsMade, added_for}
+use Rattle.loop_templates.specs.Candidates.{added_for}
 use Rattle.loop_templates.specs.Skeletons.{IsBoneOf}
 use Rattle.loop_templates.proofs.OneByOne.{first_left, one_added, rest_left}
 use Rattle.loop_templates.proofs.candidates.push_added.Goals as goal
@@ -15,10 +14,8 @@ added_for-requires-clause-bones c =
 pub loop-bones-preserved : goal.loop-bones-preserved
 loop-bones-preserved c = record {
   added = one_added (added_for c.args.frame.now c.args.states.now) c.loop-bones.added.items c.push.new.self.items _ _ (into_iter_items c.loop-bones.bones-iterator)
-      (into_iter_items c.next.new.self) c.in-Some.bones c.in-Some.ensures.steps.0 c.in_ok-added_for.ensures.added c.in_ok-push.ensures.items
+      (into_iter_items c.next.new.self) c.in-Some.bones c.in-Some.ensures.steps.0 c.in_ok-added_for.ensures c.in_ok-push.ensures.items
       c.loop-bones.invariant.added;
   bones = rest_left (All (IsBoneOf c.args.frame.now.style)) (into_iter_items c.loop-bones.bones-iterator) (into_iter_items c.next.new.self) c.in-Some.bones
       c.in-Some.ensures.steps.0 c.loop-bones.invariant.bones;
-  made = λ before. All-same IsMade _ _ c.in_ok-push.ensures.items
-      (All-push IsMade c.loop-bones.added.items c.in_ok-added_for.field-0 (c.loop-bones.invariant.made before) c.in_ok-added_for.ensures.made);
 }
