@@ -1,6 +1,6 @@
 -- The invariant of a loop (docs/ANALYSER.md, "Loops"): candidates in sequence, until one passes.
 use Rattle.std.specs.Prelude.{ℕ, zero, suc, ◌+◌, Bool, true, false, ◌&&◌, not, nat_le, if◌then◌else◌, List, [], ◌∷◌, ◌++◌, length, map, flat_map, Option, None, Some}
-use Rattle.std.specs.List.{All, list_all}
+use Rattle.std.specs.List.{list_all}
 use Rattle.std.specs.Option.{option_and_then}
 use Rattle.std.specs.Result.{result_ok}
 use Rattle.lin_facts.specs.declared.row.Part.{Part}
@@ -23,7 +23,7 @@ use Rattle.loop_templates.specs.declared.candidates.Candidate.{Candidate}
 use Rattle.loop_templates.specs.declared.candidates.Next.{Next}
 use Rattle.loop_templates.specs.declared.candidates.Next.TheVariants.{Passes, Ends, Goes}
 use Rattle.loop_templates.specs.declared.limits.TheConstants.{MOST_PIECES}
-use Rattle.loop_templates.specs.Candidates.{HasCases, IsMade, entailing_one, exits_of, first_candidate, is_short, next_after}
+use Rattle.loop_templates.specs.Candidates.{HasCases, entailing_one, exits_of, first_candidate, is_short, next_after}
 use Rattle.loop_templates.specs.Cases.{Frame}
 use Rattle.loop_templates.specs.Reaching.{Occurring, bodies_entered, occurring, occurring_of, terms_over}
 use Rattle.loop_templates.specs.Sums.{sums}
@@ -172,17 +172,12 @@ sequence (suc n) cert frame one candidate = walked_by frame one candidate (seque
 abbrev pub found_in : Cert → Frame → Turning → Option Loop
 found_in cert frame one = option_and_then (sequence MOST_CANDIDATES cert frame one) (first_candidate frame)
 
--- the loop that is found for two functions and the states that enter it, if one is
+-- the loop that is found for two functions and the states that enter it, if one is: by a certificate that has the condition and no unit
 abbrev pub invariant_of : Style → Cert → Target → Target → List State → Option Loop
 invariant_of style cert test body entering =
     let one = turning test body entering in found_in cert (frame_of style cert.cond one entering) one
 
--- a candidate may be walked, and what follows it may be made
-pub record CanWalk (frame : Frame) (candidate : Candidate) : Type 0 where
-  pub cases : HasCases frame candidate
-  pub made : All IsMade candidate.added
-
--- so may the one that is walked next
+-- the cases of the candidate that is walked next may stand in a certificate
 abbrev pub CanGoOn : Frame → Step → Type 0
 CanGoOn frame (Settled found) = Unit {0}
-CanGoOn frame (Onward candidate) = CanWalk frame candidate
+CanGoOn frame (Onward candidate) = HasCases frame candidate

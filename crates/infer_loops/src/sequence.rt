@@ -4,6 +4,7 @@ ghost use Rattle.std.specs.Prelude.{◌≡◌, ◌≤◌, Option, length, IfOk};
 ghost use Rattle.std.specs.List.{All};
 ghost use Rattle.cert_check.specs.Tours.{HasEnds};
 ghost use Rattle.cert_format.specs.declared.cert.Loop.{Loop as LoopOf};
+ghost use Rattle.loop_templates.specs.Candidates.{HasCases};
 ghost use Rattle.loop_templates.specs.Cases.{IsFrame};
 ghost use Rattle.loop_templates.specs.declared.candidates.Candidate.{Candidate as CandidateOf};
 ghost use Rattle.sym_state.specs.WellMade.{WellMade};
@@ -33,7 +34,8 @@ pub(crate) enum Step {
 }
 
 /// The invariant of the loop on two functions that some states enter: its cases, its exits and the hints by which they are shown, where
-/// one is found. `None` comes exactly where the sequence of candidates ends without one that passes.
+/// one is found. `None` comes exactly where the sequence of candidates ends without one that passes. The checker is that of a
+/// certificate which has the condition and no unit: a `while$` or a function with a summary ends the sequence.
 pub fn invariant(
     alloc: Global,
     checker: &Checker<'_>,
@@ -93,7 +95,7 @@ fn sequence(
     requires style { frame.now.style ≡ checker.now.style }
     requires entry { frame.now.at_entry ≡ one.entry }
     requires frame { IsFrame frame.now }
-    requires first { rule.CanWalk frame.now first }
+    requires first { HasCases frame.now first }
     ensures { IfOk result (λ found. found ≡ rule.sequence most checker.now.cert frame.now one first) }
 {
     let mut candidate = first;
@@ -117,7 +119,7 @@ fn stepped(
     requires style { frame.now.style ≡ checker.now.style }
     requires entry { frame.now.at_entry ≡ one.entry }
     requires frame { IsFrame frame.now }
-    requires candidate { rule.CanWalk frame.now candidate }
+    requires candidate { HasCases frame.now candidate }
     ensures comes { (later : CandidateOf → Option LoopOf)
         → IfOk result (λ step. rule.walked_by frame.now one candidate later (rule.toured frame.now.style checker.now.cert one candidate) ≡ rule.gone_on later step) }
     ensures goes { IfOk result (rule.CanGoOn frame.now) }
@@ -137,7 +139,7 @@ fn settled(
     tour: Tour<'_>,
 ) -> Result<Step, NoMemory>
     requires frame { IsFrame frame.now }
-    requires candidate { rule.CanWalk frame.now candidate }
+    requires candidate { HasCases frame.now candidate }
     requires ends { HasEnds frame.now.style tour }
     ensures comes { (later : CandidateOf → Option LoopOf)
         → IfOk result (λ step. rule.settled_by frame.now one candidate tour.entry later (rule.next_of frame.now candidate tour.entry) ≡ rule.gone_on later step) }

@@ -7,7 +7,7 @@ use Rattle.infer_loops.proofs.sequence.sequence.Goals as goal
 pub loop-init : goal.loop-init
 loop-init c = record {
   comes = λ n is. ap (λ (m : ℕ). sequence m c.args.checker.now.cert c.args.frame.now c.args.one c.args.first) (omega (arith, is));
-  walks = c.requires.first;
+  cases = c.requires.first;
 }
 
 pub returns-in-Settled : goal.returns-in-Settled
@@ -19,7 +19,7 @@ pub loop-preserved : goal.loop-preserved
 loop-preserved c = record {
   comes = onward_there c.args.checker.now.cert c.args.frame.now c.args.one c.args.most c.loop.counter c.loop.candidate c.in-Onward.next _
       c.loop.invariant.comes (λ later. c.in_ok-found.ensures.comes later ∙ ap (gone_on later) c.in-Onward.is);
-  walks = subst (CanGoOn c.args.frame.now) c.in-Onward.is c.in_ok-found.ensures.goes;
+  cases = subst (CanGoOn c.args.frame.now) c.in-Onward.is c.in_ok-found.ensures.goes;
 }
 
 pub returns : goal.returns

@@ -8,12 +8,12 @@ use Rattle.infer_loops.proofs.sequence.stepped.Goals as goal
 
 pub toured-requires-clause-first : goal.toured-requires-clause-first
 toured-requires-clause-first c =
-    first_pieces c.args.frame.now c.args.checker.now.style c.args.one.entry c.args.candidate c.requires.frame.sound c.requires.candidate.cases c.requires.style
+    first_pieces c.args.frame.now c.args.checker.now.style c.args.one.entry c.args.candidate c.requires.frame.sound c.requires.candidate c.requires.style
     c.requires.entry
 
 pub toured-requires-clause-added : goal.toured-requires-clause-added
 toured-requires-clause-added c =
-    added_pieces c.args.frame.now c.args.checker.now.style c.args.one.entry c.args.candidate c.requires.frame.sound c.requires.candidate.cases c.requires.style
+    added_pieces c.args.frame.now c.args.checker.now.style c.args.one.entry c.args.candidate c.requires.frame.sound c.requires.candidate c.requires.style
     c.requires.entry
 
 pub returns-in-Some-clause-comes : goal.returns-in-Some-clause-comes
