@@ -20,7 +20,7 @@ use Rattle.loop_templates.specs.Cases.{CanStand, Frame, MayAdd, bare_case, facts
 use Rattle.loop_templates.specs.Skeletons.{IsBoneOf, Skeleton, bone_of, same_skeleton, skeleton, states_of}
 use Rattle.loop_templates.specs.declared.places.Seats.{Seats}
 use Rattle.loop_templates.proofs.Fit.{count_within, facts_fit, places_within, skeleton_of_style, stack_within}
-use Rattle.loop_templates.proofs.Seated.{AreSeated, all_seated, ids_below, named_below, seated_names, seated_next}
+use Rattle.loop_templates.proofs.Seated.{all_seated, ids_below, named_below, seated_names, seated_next}
 
 -- where places begin
 abbrev start : ℕ → Seats

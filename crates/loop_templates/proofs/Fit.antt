@@ -1,9 +1,9 @@
 -- The facts of cases fit the symbols at their places.
-use Rattle.std.proofs.Common.{◌≡◌, ℕ, zero, suc, ◌+◌, ◌<◌, ◌≤◌, Bool, true, false, cond, ap, sym, ◌∙◌, refl, subst, arith, List, [], ◌∷◌, ◌++◌, length, map, take, drop, nat_eq, Option, Some, None}
+use Rattle.std.proofs.Common.{◌≡◌, ℕ, zero, suc, ◌+◌, ◌<◌, ◌≤◌, Bool, true, false, cond, sym, refl, subst, arith, List, [], ◌∷◌, ◌++◌, length, map, take, drop, nat_eq, Option, Some, None}
 use Rattle.std.specs.Prelude.{IfSome}
 use Rattle.std.specs.List.{All, filter, flat_map, fold, range_with_len}
 use Rattle.std.specs.Option.{option_and_then, option_or}
-use Rattle.std.proofs.lemmas.List.{length-map, take-append-drop}
+use Rattle.std.proofs.lemmas.List.{take-append-drop}
 use Rattle.std.proofs.lemmas.List.Elements.{All-nil, All-cons, All-head, All-tail, All-append, All-filter, All-map, All-take, All-weaker}
 use Rattle.name_table.specs.Sound.{block_of}
 use Rattle.name_table.specs.declared.names.NameId.{NameId}
@@ -16,7 +16,6 @@ use Rattle.sym_state.specs.Fitting.{FactFits}
 use Rattle.sym_state.specs.Starting.{symbol_count, symbols_of}
 use Rattle.sym_state.specs.State.{State}
 use Rattle.sym_state.specs.WellMade.{HasByteText, HasShortText, HasSmallInteger, IsOfStyle, WellMade}
-use Rattle.sym_state.specs.declared.piece.Piece.{Piece}
 use Rattle.sym_state.specs.declared.symbol.Bind.{Bind}
 use Rattle.sym_state.specs.declared.symbol.Fact.{Fact}
 use Rattle.sym_state.specs.declared.symbol.Fact.TheVariants.{Is, Int, Text, Call, Block, Blank, Nonblank, Wellformed}

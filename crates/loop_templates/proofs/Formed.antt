@@ -1,13 +1,12 @@
 -- Rows of cases as certificates have them: their terms stand in their order, each has a place, and none is taken 0 times.
-use Rattle.std.proofs.Common.{◌≡◌, ℕ, zero, suc, ◌+◌, ◌<◌, ◌≤◌, Bool, true, false, ◌&&◌, ◌||◌, not, cond, nat_eq, nat_lt, ap, sym, ◌∙◌, refl, subst, arith, List, [], ◌∷◌, ◌++◌, length, map, Option, Some, None, ℤ, ◌+ℤ◌, pos, negsuc, neg_ℤ}
+use Rattle.std.proofs.Common.{◌≡◌, ℕ, zero, suc, ◌+◌, ◌<◌, ◌≤◌, Bool, true, false, ◌&&◌, ◌||◌, not, cond, nat_eq, nat_lt, ap, sym, ◌∙◌, refl, arith, List, [], ◌∷◌, ◌++◌, map, Option, Some, None, ℤ, ◌+ℤ◌, pos, negsuc, neg_ℤ}
 use Rattle.std.specs.Prelude.{IfSome, is_some}
 use Rattle.std.specs.List.{All, filter, flat_map, fold, list_any}
 use Rattle.std.specs.Option.{option_map_or, option_or}
 use Rattle.std.specs.Cmp.Derive.{both_true}
 use Rattle.std.proofs.lemmas.Bool.{and_parts}
 use Rattle.std.proofs.lemmas.Bool.Decides.{nat_tests}
-use Rattle.std.proofs.lemmas.Int.{ints}
-use Rattle.std.proofs.lemmas.List.Elements.{All-nil, All-cons, All-head, All-tail, All-append, All-take}
+use Rattle.std.proofs.lemmas.List.Elements.{All-nil, All-cons, All-head, All-tail, All-take}
 use Rattle.lin_facts.specs.Rows.{IsWithin, same_term}
 use Rattle.lin_facts.specs.declared.row.Part.{Part}
 use Rattle.lin_facts.specs.declared.row.Row.{Row}
@@ -35,7 +34,7 @@ use Rattle.sym_state.specs.declared.symbol.Bind.{Bind}
 use Rattle.sym_state.specs.declared.symbol.Sym.{Sym}
 use Rattle.straight_proofs.specs.Remainders.{turned}
 use Rattle.loop_templates.specs.Cases.{IsSumOver, IsTermOver, has_value}
-use Rattle.loop_templates.specs.Rows.{is_exactly, is_said, is_wanted, row_in_piece, rows_of_sum, rows_over, summed, symbol_of, with_part}
+use Rattle.loop_templates.specs.Rows.{is_said, is_wanted, row_in_piece, rows_of_sum, rows_over, summed, symbol_of, with_part}
 use Rattle.loop_templates.specs.Sums.{IsSmallSum}
 use Rattle.loop_templates.proofs.Rowed.{kept_hold, parts_few, rows_hold}
 use Rattle.loop_templates.proofs.Seated.{names_of}

@@ -1,6 +1,6 @@
 -- Cases are as long as their skeletons, and their lines can be numbered.
-use Rattle.std.proofs.Common.{◌≡◌, ◌≢◌, ℕ, zero, suc, ◌+◌, ◌<◌, ◌≤◌, Bool, true, false, ◌&&◌, ◌||◌, cond, ap, sym, ◌∙◌, refl, subst, arith, List, [], ◌∷◌, ◌++◌, length, map, take, drop, get_or, Option, Some, None}
-use Rattle.std.specs.List.{All, filter, flat_map, fold, list_all, range_with_len}
+use Rattle.std.proofs.Common.{◌≡◌, ◌≢◌, ℕ, suc, ◌+◌, ◌<◌, ◌≤◌, Bool, true, false, ◌||◌, cond, ap, sym, ◌∙◌, refl, subst, arith, List, [], ◌∷◌, ◌++◌, length, map, take, drop, get_or, Option, Some, None}
+use Rattle.std.specs.List.{All, filter, flat_map, fold, list_all}
 use Rattle.std.specs.Cmp.Lexicographic.{pointwise}
 use Rattle.std.proofs.lemmas.Bool.{and_parts}
 use Rattle.std.proofs.lemmas.List.{drop_more, length-append, length-drop, length-map, length-take}
@@ -19,17 +19,16 @@ use Rattle.sym_state.specs.declared.piece.Piece.{Piece}
 use Rattle.sym_state.specs.declared.symbol.Bind.{Bind}
 use Rattle.sym_state.specs.declared.symbol.Fact.{Fact}
 use Rattle.sym_state.proofs.Started.{ids_from-length}
-use Rattle.loop_templates.specs.Candidates.{CanMatch, IsMade, grown, is_proved, lowered, next_by, proved_rows, settled}
+use Rattle.loop_templates.specs.Candidates.{CanMatch, IsMade, grown, is_proved, lowered, next_by, settled}
 use Rattle.loop_templates.specs.Cases.{Frame, IsFrame, bare_case, case_of, common_facts, entering_case, facts_for, fields_of, further_facts, given_facts, numbered, ordered_facts, piece_of, places_behind, places_for, skeleton_facts, taken_symbols, variables_of, with_rows}
 use Rattle.loop_templates.specs.Rows.{is_wanted, row_in_piece, rows_of_sum, rows_over}
 use Rattle.loop_templates.specs.Skeletons.{IsBoneOf, Skeleton, bone_of, is_among, new_skeletons, same_bone, same_skeleton, skeleton, states_of, with_new}
 use Rattle.loop_templates.specs.declared.candidates.Added.{Added}
 use Rattle.loop_templates.specs.declared.candidates.Candidate.{Candidate}
 use Rattle.loop_templates.specs.declared.places.Seats.{Seats}
-use Rattle.loop_templates.specs.declared.skeletons.Bone.{Bone}
 use Rattle.loop_templates.proofs.Fit.{skeleton_of_style}
 use Rattle.loop_templates.proofs.Rowed.{rows_bounded}
-use Rattle.loop_templates.proofs.Seated.{names_of, seated_names}
+use Rattle.loop_templates.proofs.Seated.{seated_names}
 
 -- one skeleton is as long as the other
 pub same_length : (a b : Skeleton) → same_skeleton a b ≡ true → length a ≡ length b

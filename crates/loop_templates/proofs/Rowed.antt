@@ -1,10 +1,10 @@
 -- The rows of a case are within the bounds of rows.
-use Rattle.std.proofs.Common.{◌≡◌, ℕ, suc, ◌+◌, ◌*◌, ◌≤◌, ◌^◌, Bool, true, false, ◌&&◌, not, cond, refl, subst, arith, List, [], ◌∷◌, ◌++◌, length, map, take, ℤ, ◌+ℤ◌, pos, negsuc}
+use Rattle.std.proofs.Common.{◌≡◌, ℕ, suc, ◌+◌, ◌*◌, ◌≤◌, ◌^◌, Bool, true, false, not, cond, refl, arith, List, [], ◌∷◌, ◌++◌, length, map, ℤ, ◌+ℤ◌, pos, negsuc}
 use Rattle.std.specs.List.{All, filter, flat_map, fold}
 use Rattle.std.proofs.lemmas.Bool.{and_parts}
 use Rattle.std.proofs.lemmas.Bool.Decides.{nat_tests}
 use Rattle.std.proofs.lemmas.List.{length-map}
-use Rattle.std.proofs.lemmas.List.Elements.{All-nil, All-cons, All-head, All-tail, All-append, All-map, All-take, All-weaker}
+use Rattle.std.proofs.lemmas.List.Elements.{All-nil, All-cons, All-head, All-tail, All-map, All-take}
 use Rattle.lin_facts.specs.Rows.{IsWithin, same_term}
 use Rattle.lin_facts.specs.declared.row.Part.{Part}
 use Rattle.lin_facts.specs.declared.row.Row.{Row}

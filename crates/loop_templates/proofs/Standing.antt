@@ -1,13 +1,12 @@
 -- Cases stand in certificates, and so do those of each candidate.
-use Rattle.std.proofs.Common.{◌≡◌, ℕ, suc, ◌+◌, ◌<◌, ◌≤◌, Bool, true, false, ◌&&◌, cond, nat_le, ap, sym, ◌∙◌, refl, subst, arith, List, [], ◌∷◌, ◌++◌, length, map, take, drop, Option, Some, None}
+use Rattle.std.proofs.Common.{◌≡◌, ℕ, ◌+◌, ◌<◌, ◌≤◌, Bool, true, false, cond, nat_le, ap, sym, ◌∙◌, refl, subst, arith, List, [], ◌∷◌, ◌++◌, length, map, take, drop, Option, Some, None}
 use Rattle.std.specs.Prelude.{IfSome}
-use Rattle.std.specs.List.{All, filter, flat_map, list_all, list_any, range_with_len}
+use Rattle.std.specs.List.{All, filter, list_all, list_any, range_with_len}
 use Rattle.std.proofs.lemmas.Bool.{and_parts}
 use Rattle.std.proofs.lemmas.Bool.Decides.{nat_tests}
 use Rattle.std.proofs.Math.Seq.{drop-append_seam, take-append_seam}
 use Rattle.std.proofs.lemmas.List.{drop-map, length-append, length-map, map-append, take-append-drop, take-map}
-use Rattle.std.proofs.lemmas.List.Elements.{All-nil, All-cons, All-append, All-drop, All-filter, All-head, All-map, All-tail, All-take, All-weaker}
-use Rattle.bst_meaning.specs.declared.condition.Cond.{Cond}
+use Rattle.std.proofs.lemmas.List.Elements.{All-nil, All-cons, All-append, All-drop, All-head, All-map, All-tail, All-take, All-weaker}
 use Rattle.cert_format.specs.CertText.{IsFact, IsPiece, IsRow, IsVariable, are_placed, next_behind, places_of}
 use Rattle.cert_format.specs.CondText.{IsField, is_below, is_chain}
 use Rattle.cert_format.specs.declared.items.TheConstants.{MOST_NUMBER}
@@ -19,14 +18,12 @@ use Rattle.name_table.specs.declared.style.Style.{Style}
 use Rattle.sym_state.proofs.Started.{ids_from-length}
 use Rattle.sym_state.specs.Fitting.{FactFits}
 use Rattle.sym_state.specs.State.{State}
-use Rattle.sym_state.specs.WellMade.{HasShortText, WellMade, ids_from, is_field, is_variable}
-use Rattle.sym_state.specs.declared.piece.Piece.{Piece}
+use Rattle.sym_state.specs.WellMade.{WellMade, is_field, is_variable}
 use Rattle.sym_state.specs.declared.symbol.Bind.{Bind}
 use Rattle.sym_state.specs.declared.symbol.Fact.{Fact}
 use Rattle.sym_state.specs.declared.symbol.Sym.{Sym}
 use Rattle.loop_templates.specs.Candidates.{HasCases, HasNextCases, IsCase, IsMade, added_for, exits_of, first_candidate, goes, grown, has_room, is_lower, is_met, is_proved, is_short, lowered, may_enter, may_grow, next_after, next_by, passes, settled}
 use Rattle.loop_templates.specs.Cases.{CanStand, Frame, IsFrame, IsSumOver, bare_case, case_of, common_facts, entering_case, facts_for, fields_of, further_facts, given_facts, numbered, ordered_facts, places_behind, places_for, seated, skeleton_facts, taken_symbols, variables_of, with_rows}
-use Rattle.loop_templates.specs.Rows.{rows_over}
 use Rattle.loop_templates.specs.Skeletons.{IsBoneOf, Skeleton, bone_of, new_skeletons, skeleton, states_of}
 use Rattle.loop_templates.specs.Sums.{IsSmallSum}
 use Rattle.loop_templates.specs.declared.candidates.Added.{Added}
@@ -39,7 +36,7 @@ use Rattle.loop_templates.proofs.Fit.{facts_fit}
 use Rattle.loop_templates.proofs.Formed.{Binds, IsSumOf, rows_placed}
 use Rattle.loop_templates.proofs.Made.{all_lowered_made, case_stack, facts_few, fewer, made_of, new_of_style, rows_few}
 use Rattle.loop_templates.proofs.Seated.{AreSeated, all_seated, names_of, seated_names}
-use Rattle.loop_templates.proofs.Written.{AreTaken, SaysSome, all_taken, behind_least, binds_each, binds_rise, each_of_all, fields_are, is_fact, kept_says, names_rise, numbers_behind, numbers_placed, syms_of, variables_are}
+use Rattle.loop_templates.proofs.Written.{SaysSome, all_taken, behind_least, binds_each, binds_rise, each_of_all, fields_are, is_fact, kept_says, names_rise, numbers_behind, numbers_placed, syms_of, variables_are}
 
 -- places behind a stack of this length, up to a number
 record ArePlaces (frame : Frame) (n m : ℕ) (places : List Bind) : Type 0 where

@@ -1,5 +1,5 @@
 -- The rows of a sum are over it and over its negative.
-use Rattle.std.proofs.Common.{Bool, true, false, cond, List, [], ◌∷◌, ◌++◌, Option, None, Some, ℤ, neg_ℤ}
+use Rattle.std.proofs.Common.{Bool, true, false, cond, List, [], ◌∷◌, Option, None, Some, ℤ, neg_ℤ}
 use Rattle.std.specs.List.{All, list_all}
 use Rattle.std.proofs.lemmas.List.Elements.{All-nil, All-cons, All-append}
 use Rattle.bst_meaning.specs.declared.condition.Cond.{Cond}

@@ -1,25 +1,24 @@
 -- Cases as certificates have them: their names, their symbols and their facts.
-use Rattle.std.proofs.Common.{◌≡◌, ℕ, zero, suc, ◌+◌, ◌<◌, ◌≤◌, Bool, true, false, ◌&&◌, ◌||◌, not, cond, min, max, nat_lt, nat_le, ap, sym, ◌∙◌, refl, subst, arith, List, [], ◌∷◌, ◌++◌, length, map, take, drop, slice_get, Option, Some, None, option_map, ℤ, pos, negsuc}
+use Rattle.std.proofs.Common.{◌≡◌, ℕ, zero, suc, ◌+◌, ◌<◌, ◌≤◌, Bool, true, false, ◌&&◌, ◌||◌, cond, nat_lt, nat_le, ap, sym, ◌∙◌, refl, subst, arith, List, [], ◌∷◌, ◌++◌, length, map, drop, slice_get, Option, Some, None, option_map, ℤ, pos, negsuc}
 use Rattle.std.specs.Prelude.{is_some}
 use Rattle.std.specs.List.{All, fold, range_with_len}
 use Rattle.std.specs.Cmp.Derive.{both_true}
 use Rattle.std.proofs.lemmas.Bool.{and_parts}
 use Rattle.std.proofs.lemmas.Bool.Decides.{nat_tests}
 use Rattle.std.proofs.lemmas.List.{map-append}
-use Rattle.std.proofs.lemmas.List.Elements.{All-nil, All-cons, All-head, All-tail, All-weaker}
+use Rattle.std.proofs.lemmas.List.Elements.{All-nil, All-cons, All-head, All-tail}
 use Rattle.bv_base.specs.declared.limits.TheConstants.{GREATEST_INTEGER}
 use Rattle.name_table.specs.Names.{kind_at}
 use Rattle.name_table.specs.Numbers.{has_32_bits}
-use Rattle.name_table.specs.Sound.{AreNumbered, Each, IsSound, block_of}
+use Rattle.name_table.specs.Sound.{AreNumbered, Each, IsSound}
 use Rattle.name_table.specs.declared.names.Kind.{Kind}
 use Rattle.name_table.specs.declared.names.Kind.TheVariants as kind
 use Rattle.name_table.specs.declared.names.NameId.{NameId}
 use Rattle.name_table.specs.declared.style.Body.{Body}
-use Rattle.name_table.specs.declared.style.BodyId.{BodyId}
 use Rattle.name_table.specs.declared.style.Style.{Style}
 use Rattle.cert_format.specs.CertText.{IsFact, IsVariable, are_placed, is_within, next_behind}
 use Rattle.cert_format.specs.CondText.{IsField, is_below, is_chain}
-use Rattle.cert_format.specs.PieceItems.{body_of, next_after}
+use Rattle.cert_format.specs.PieceItems.{next_after}
 use Rattle.cert_format.specs.declared.cond_lines.TheConstants.{MOST}
 use Rattle.cert_format.specs.declared.items.TheConstants.{MOST_NUMBER}
 use Rattle.cert_format.proofs.CertTargets.{block_number_found}

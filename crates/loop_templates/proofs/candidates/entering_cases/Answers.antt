@@ -1,5 +1,5 @@
 -- The case of one more state is added.
-use Rattle.std.proofs.Common.{subst, sym, drop, arith}
+use Rattle.std.proofs.Common.{subst, sym, drop}
 use Rattle.sym_state.specs.WellMade.{WellMade}
 use Rattle.loop_templates.specs.Cases.{entering_case}
 use Rattle.loop_templates.proofs.OneByOne.{next_left, one_added}

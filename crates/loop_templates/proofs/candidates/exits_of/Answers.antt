@@ -1,7 +1,6 @@
 -- The exits are the definition's.
-use Rattle.std.proofs.Common.{◌≡◌, ap, sym, subst, ◌∙◌, List, [], ◌++◌, map}
-use Rattle.std.specs.List.{All}
-use Rattle.loop_templates.specs.Candidates.{IsMade, added_for}
+use Rattle.std.proofs.Common.{ap, ◌∙◌, List, [], ◌++◌, map}
+use Rattle.loop_templates.specs.Candidates.{added_for}
 use Rattle.loop_templates.specs.declared.candidates.Added.{Added}
 use Rattle.loop_templates.proofs.Made.{new_of_style}
 use Rattle.loop_templates.proofs.Standing.{exits_are_cases, exits_made}

@@ -1,5 +1,5 @@
 -- The case is the definition's.
-use Rattle.std.proofs.Common.{rules, ◌≡◌, ap, subst, sym, ◌∙◌, List, length, map, option_map, IfOk, refl}
+use Rattle.std.proofs.Common.{rules, ◌≡◌, ap, sym, ◌∙◌, length, map, option_map, refl}
 use Rattle.std.proofs.lemmas.Result.{IfOk-weaker}
 use Rattle.loop_templates.specs.Cases.{bare_case, facts_for, piece_of, variables_of}
 use Rattle.loop_templates.proofs.Made.{bare_is}

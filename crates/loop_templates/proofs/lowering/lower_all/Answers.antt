@@ -1,5 +1,5 @@
 -- The next case is added.
-use Rattle.std.proofs.Common.{ap, subst, sym, ◌∙◌, drop, refl, arith}
+use Rattle.std.proofs.Common.{ap, subst, sym, drop, refl, arith}
 use Rattle.loop_templates.specs.Candidates.{IsMade, is_lower, lowered}
 use Rattle.loop_templates.proofs.Made.{lowered_all}
 use Rattle.loop_templates.proofs.OneByOne.{all_added, next_left, one_added, one_tried}
