@@ -61,7 +61,12 @@ fn check_loops(checker: &Checker<'_>, cert: &Cert) -> Walk
 }
 
 /// Checks the commands in the style's order.
-fn check_commands(checker: &Checker<'_>, alloc: Global, style: &Style, cert: &Cert) -> Walk
+fn check_commands<'a>(
+    checker: &'a Checker<'a>,
+    alloc: Global,
+    style: &'a Style,
+    cert: &'a Cert,
+) -> Walk
     requires sound { IsSound style.now }
     requires certified { IsCertified style.now cert.now }
     requires style { style.now ≡ checker.now.style }

@@ -67,12 +67,12 @@ pub fn find(
 }
 
 /// Commands in the style's order.
-fn commands_found(
-    checker: &Checker<'_>,
+fn commands_found<'a>(
+    checker: &'a Checker<'a>,
     alloc: Global,
     finding: Finding,
-    style: &Style,
-    cond: &Cond,
+    style: &'a Style,
+    cond: &'a Cond,
 ) -> Result<Vec<CommandPart>, Refusal>
     requires sound { IsSound style.now }
     requires small { HasSmallFields cond.now }
