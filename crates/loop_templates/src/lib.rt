@@ -19,8 +19,6 @@ mod rows;
 mod signed_sums;
 pub mod skeletons;
 mod terms;
-#[cfg(test)]
-mod tests;
 
 pub use crate::candidates::{Added, Candidate, Next, exits_of, first_candidate, next_after};
 pub use crate::cases::Frame;
