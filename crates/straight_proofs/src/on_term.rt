@@ -17,12 +17,7 @@ use sym_state::proof::Reference;
 use sym_state::state::State;
 
 /// The rows that references say of a term in a state, in the order of the references. A row of the state isn't among them.
-pub fn rows_on(
-    alloc: Global,
-    state: &State,
-    cond: &Cond,
-    term: Term,
-) -> Result<Vec<Row>, NoMemory>
+pub fn rows_on(alloc: Global, state: &State, cond: &Cond, term: Term) -> Result<Vec<Row>, NoMemory>
     requires { HasBounds state.now }
     ensures { IfOk result (λ rows. rows.items ≡ filter_map (said.row_said cond.now state.now) (rule.on_term term)) }
 {
