@@ -179,14 +179,6 @@ kept_from {T} style tour after mid r rises =
     on_ok_weaker r (λ kept. let high = kept.count in record { none = kept.none; count = omega (arith, rises, high); ends = kept.ends })
 
 -- what a case of the integer comes to
-pub turned_takes : {T : Type 0} (scope : Scope) (place : Place) (one : Turning) (state : State) (tour after : Tour) (mid : Course) (r : Result T Refusal)
-    → target_entered scope place one.body state tour.course ≡ Ok mid
-    → MatchResult r (λ _. after ≡ turn_ended tour.ends mid) (λ refusal. refusal.reason ≡ NoMemory)
-    → Takes (turned_or_left scope place one true state tour) after r
-turned_takes {T} scope place one state tour after mid (Ok x) e is =
-    ap (λ (w : Walk). then_do w (λ inner. Ok (turn_ended tour.ends inner))) e ∙ ap (λ (t : Tour). Ok t) (sym is)
-turned_takes {T} scope place one state tour after mid (Err refusal) e wants differs = absurd (differs wants)
-
 pub turned_kept : {T : Type 0} (scope : Scope) (place : Place) (one : Turning) (state : State) (tour after : Tour) (mid : Course) (r : Result T Refusal)
     → IsSound scope.style → IsCertified scope.style scope.cert → HasRoom scope.style 64 tour.course.count state → GivesNone tour
     → target_entered scope place one.body state tour.course ≡ Ok mid → mid.count ≤ MOST_COUNT → Each IsHint mid.found
