@@ -43,6 +43,11 @@ macro_rules! given {
     };
 }
 
+#[test]
+fn styles_without_hints_have_a_bare_certificate(rt: HostRuntime) -> Result<(), Fail> {
+    compare_found(&rt, rt.alloc(), &BARE)
+}
+
 /// Styles that want no hint: the condition is the default one.
 static BARE: [Found; 12] = [
     found!("", "" => ""),
@@ -62,6 +67,11 @@ static BARE: [Found; 12] = [
     found!("ENTRY{}{}{} INTEGERS{n} FUNCTION{f}{n 'skip$ 'skip$ if$} READ ITERATE{f}", "" => "command 4\nhints\nkeep\nkeep\nend\n"),
     found!("ENTRY{}{}{} INTEGERS{n} FUNCTION{f}{n {pop$} 'skip$ if$} READ EXECUTE{f}", "" => ""),
 ];
+
+#[test]
+fn straight_proofs_are_found(rt: HostRuntime) -> Result<(), Fail> {
+    compare_found(&rt, rt.alloc(), &STRAIGHT)
+}
 
 /// Steps by straight proofs, and where one is a choice the general rule.
 static STRAIGHT: [Found; 21] = [
@@ -96,6 +106,11 @@ static STRAIGHT: [Found; 21] = [
     found!("ENTRY{}{m}{} FUNCTION{f}{m int.to.chr$ pop$} READ EXECUTE{skip$} ITERATE{f}", "" => "command 4\nhints\nstep 1 1:e1\nstep 1 1:f1\nend\n"),
     found!("ENTRY{}{}{} INTEGERS{n} FUNCTION{f}{n int.to.chr$ pop$} READ EXECUTE{f}", "" => "command 4\nhints\nstep 1 1:e2\nstep 1 1:f2\nend\n"),
 ];
+
+#[test]
+fn no_certificate_is_found_for_a_reason(rt: HostRuntime) -> Result<(), Fail> {
+    compare(&rt, rt.alloc(), &UNFOUND)
+}
 
 /// Styles for which no certificate is found, with the place and the reason.
 static UNFOUND: [Example; 31] = [
@@ -161,6 +176,11 @@ const NAMES: &[u8] =
 
 const TYPES: &[u8] = b"ENTRY{}{}{} FUNCTION{misc}{pop$} READ ITERATE{call.type$}";
 
+#[test]
+fn a_condition_that_is_given_is_kept(rt: HostRuntime) -> Result<(), Fail> {
+    compare(&rt, rt.alloc(), &GIVEN)
+}
+
 /// A condition that is given stands in the certificate as it is, and each of its lines is used.
 static GIVEN: [Example; 15] = [
     given!(b"ENTRY{t u}{}{} FUNCTION{misc}{} READ", b"entries 9\nkey 8\npreamble 7\nlength 6\nnames t 5\nnonblank u\ntype misc\nothertype no\nend\n" => Done, "bstcert 1\nentries 9\nkey 8\npreamble 7\nlength 6\nnames t 5\nnonblank u\ntype misc\nothertype no\nend\ndone\n", ""),
@@ -180,6 +200,12 @@ static GIVEN: [Example; 15] = [
     given!(TYPES, b"entries 9\nkey 9\npreamble 9\nlength 9\nothertype no\nend\n" => Done, "bstcert 1\nentries 9\nkey 9\npreamble 9\nlength 9\nothertype no\nend\ndone\n", ""),
     given!(TYPES, b"entries 9\nkey 9\npreamble 9\nlength 9\ntype misc\nothertype no\nend\n" => Unknown, "", "unknown 1:28 EmptyPop 1\n"),
 ];
+
+#[test]
+fn a_condition_is_read_by_its_grammar(rt: HostRuntime) -> Result<(), Fail> {
+    compare(&rt, rt.alloc(), &BAD)?;
+    compare(&rt, rt.alloc(), &FAILING)
+}
 
 /// What is no condition of the style, in the words of a certificate that is none.
 static BAD: [Example; 8] = [
@@ -207,32 +233,6 @@ static FAILING: [Example; 9] = [
     answered!(["infer", "a.bst"], BOTH, Failing::Out => WriteFailed, "", ""),
     answered!(["infer", "a.bst"], NO_STYLE, Failing::Err => WriteFailed, "", ""),
 ];
-
-#[test]
-fn styles_without_hints_have_a_bare_certificate(rt: HostRuntime) -> Result<(), Fail> {
-    compare_found(&rt, rt.alloc(), &BARE)
-}
-
-#[test]
-fn straight_proofs_are_found(rt: HostRuntime) -> Result<(), Fail> {
-    compare_found(&rt, rt.alloc(), &STRAIGHT)
-}
-
-#[test]
-fn no_certificate_is_found_for_a_reason(rt: HostRuntime) -> Result<(), Fail> {
-    compare(&rt, rt.alloc(), &UNFOUND)
-}
-
-#[test]
-fn a_condition_that_is_given_is_kept(rt: HostRuntime) -> Result<(), Fail> {
-    compare(&rt, rt.alloc(), &GIVEN)
-}
-
-#[test]
-fn a_condition_is_read_by_its_grammar(rt: HostRuntime) -> Result<(), Fail> {
-    compare(&rt, rt.alloc(), &BAD)?;
-    compare(&rt, rt.alloc(), &FAILING)
-}
 
 /// Asserts which certificate is found for each style, and that it is accepted.
 fn compare_found(rt: &impl Abort, alloc: Global, rows: &[Found]) -> Result<(), Fail> {

@@ -1,13 +1,10 @@
 //! Runs under certificates.
 
-use crate::tests::check::{JOINS, NO_ENTRIES};
+use crate::tests::check::{JOINS, NINES, NO_ENTRIES};
 use crate::tests::run::{KEYS, ONE, TYPES, ZZ};
-use crate::tests::{Example, Failing, File};
+use crate::tests::{Example, Failing, File, compare};
 use bv_base::status::Status;
-
-/// Lets in entries of every type.
-const NINES: &[u8] =
-    b"bstcert 1\nentries 9\nkey 9\npreamble 9\nlength 9\nothertype yes\nend\ndone\n";
+use std::test::Fail;
 
 /// The same, and entries of the style's own type `misc`.
 const MISC: &[u8] =
@@ -32,8 +29,13 @@ macro_rules! under {
     };
 }
 
+#[test]
+fn a_run_under_a_certificate_tells_of_its_condition(rt: HostRuntime) -> Result<(), Fail> {
+    compare(&rt, rt.alloc(), &UNDER)
+}
+
 /// Whether the entries meet the condition stands before all warnings, also where the steps are taken.
-pub static UNDER: [Example; 10] = [
+static UNDER: [Example; 10] = [
     under!(ONE, TYPES, b"@misc{k}\n", MISC, "1000" => Done, "x\n", "inside\n"),
     under!(ONE, TYPES, b"@output{k}\n", MISC, "1000" => Fault, "", "outside\nunmet k othertype yes\nfault 1:30 EmptyPop k\n"),
     under!(ONE, KEYS, b"@misc{k}", NO_ENTRIES, "99" => Done, "k\n", "outside\nunmet - entries 0\n"),
@@ -59,9 +61,14 @@ const LISTED: &[u8] =
 const OTHERS: &[u8] =
     b"bstcert 1\nentries 3\nkey 4\npreamble 4\nlength 13\nnames author 2\nnonblank title\ntype misc\nothertype yes\nend\ndone\n";
 
+#[test]
+fn the_first_line_that_is_not_kept_is_told(rt: HostRuntime) -> Result<(), Fail> {
+    compare(&rt, rt.alloc(), &UNMET)
+}
+
 /// The first line that isn't kept is told with the entry: each line unmet on the first entry, where later lines and later
 /// entries are unmet too, and on the last.
-pub static UNMET: [Example; 17] = [
+static UNMET: [Example; 17] = [
     // All lines are kept, up to their numbers.
     under!(b"\\citation{a,b,last}\n\\bibstyle{s}\n\\bibdata{d}\n", TITLES, b"@preamble{{1234}}@misc{a,title={1234567890123}}@misc{b,title={t},author={A and B}}@misc{last,title={t}}", LISTED, "999" => Done, "a\nb\nlast\n", "inside\n"),
     // The number of entries comes before all else, and the preamble before each entry.
