@@ -84,22 +84,37 @@ macro_rules! judged {
     };
 }
 
+/// The certificate that is found for a style.
+macro_rules! found {
+    ($style:expr, $lists:expr => $lines:expr) => {
+        Found {
+            style: $style,
+            lists: $lists,
+            lines: $lines,
+        }
+    };
+}
+
 mod around;
+mod bare;
 mod begun;
 mod check;
 mod counted;
 mod data;
 mod demands;
 mod executed;
+mod found;
 mod generating;
-mod inferring;
+mod given;
 mod leaving;
 mod limits;
 mod run;
 mod shaped;
+mod straight;
 mod turns;
 mod typed;
 mod under;
+mod unfound;
 mod units;
 mod uses;
 mod visited;

@@ -103,21 +103,11 @@ static CONDITIONS: [Example; 3] = [
     checked!(FIELDS, b"bstcert 1\nentries 9\nkey 9\npreamble 9\nlength 9\nnonblank title\nnonblank author\nothertype no\nend\ndone\n" => BadCert, "", "bad certificate 7:10 NotCanonical\n"),
 ];
 
-/// Writes a name by a pattern with a wrong letter, and by one that is well formed.
-const WRONG_PATTERN: &[u8] =
-    b"ENTRY{}{}{} FUNCTION{f}{\"A B\" #1 \"{ff~}{xx}\" format.name$ write$} READ EXECUTE{f}";
-
+/// Writes a name by a pattern that is well formed.
 const PATTERN: &[u8] =
     b"ENTRY{}{}{} FUNCTION{f}{\"A B\" #1 \"{ff~}{ll}\" format.name$ write$} READ EXECUTE{f}";
 
-/// The same by a variable that holds the pattern.
-const WRONG_HELD: &[u8] =
-    b"STRINGS{s} ENTRY{}{}{} FUNCTION{f}{\"{ff~}{xx}\" 's := \"A B\" #1 s format.name$ write$} READ EXECUTE{f}";
-
-const HELD: &[u8] =
-    b"STRINGS{s} ENTRY{}{}{} FUNCTION{f}{\"{ff~}{ll}\" 's := \"A B\" #1 s format.name$ write$} READ EXECUTE{f}";
-
-/// The name that is wanted is there, as the symbols of the two styles say it.
+/// The name that is wanted is there, as the symbols of that style say it, and of one whose variable holds the pattern.
 const ONE_NAME: &[u8] =
     b"bstcert 1\nentries 9\nkey 9\npreamble 9\nlength 9\nothertype yes\nend\ncommand 3\nhints\nstep 1 1:e3\nstep 1 1:c2 1:f3\nend\ndone\n";
 
@@ -134,10 +124,12 @@ fn hints_and_summaries_decide(rt: HostRuntime) -> Result<(), Fail> {
 
 /// Certificates with hints and summaries.
 static HINTED: [Example; 11] = [
-    checked!(WRONG_PATTERN, ONE_NAME => Refused, "", "refused 1:46 BadPattern 1\n"),
+    // A pattern with a wrong letter, and one without.
+    checked!(b"ENTRY{}{}{} FUNCTION{f}{\"A B\" #1 \"{ff~}{xx}\" format.name$ write$} READ EXECUTE{f}", ONE_NAME => Refused, "", "refused 1:46 BadPattern 1\n"),
     checked!(PATTERN, ONE_NAME => Done, ACCEPTED_NINE, ""),
-    checked!(WRONG_HELD, ONE_NAME_HELD => Refused, "", "refused 1:65 BadPattern 1\n"),
-    checked!(HELD, ONE_NAME_HELD => Done, ACCEPTED_NINE, ""),
+    // The same by a variable that holds it.
+    checked!(b"STRINGS{s} ENTRY{}{}{} FUNCTION{f}{\"{ff~}{xx}\" 's := \"A B\" #1 s format.name$ write$} READ EXECUTE{f}", ONE_NAME_HELD => Refused, "", "refused 1:65 BadPattern 1\n"),
+    checked!(b"STRINGS{s} ENTRY{}{}{} FUNCTION{f}{\"{ff~}{ll}\" 's := \"A B\" #1 s format.name$ write$} READ EXECUTE{f}", ONE_NAME_HELD => Done, ACCEPTED_NINE, ""),
     checked!(JOINS, b"bstcert 1\nentries 9\nkey 9\npreamble 9\nlength 9\nothertype yes\nend\ncommand 3\nhints\nkeep\nend\ndone\n" => Refused, "", "refused 1:57 HintsLeft\n"),
     // Without its hints the first step is missing.
     checked!(PATTERN, NINES => Refused, "", "refused 1:46 HintsShort\n"),

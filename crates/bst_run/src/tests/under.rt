@@ -6,17 +6,9 @@ use crate::tests::{Example, Failing, File, compare};
 use bv_base::status::Status;
 use std::test::Fail;
 
-/// The same, and entries of the style's own type `misc`.
+/// Lets in entries of every type, those of the style's own type `misc` too.
 const MISC: &[u8] =
     b"bstcert 1\nentries 9\nkey 9\npreamble 9\nlength 9\ntype misc\nothertype yes\nend\ndone\n";
-
-/// Enters the function of each entry's type once more while it is running.
-const AGAIN: &[u8] =
-    b"ENTRY{}{}{} INTEGERS{n} FUNCTION{misc}{cite$ write$ newline$ n #0 > {#0 'n := call.type$} 'skip$ if$} FUNCTION{f}{#1 'n := call.type$} READ ITERATE{f}";
-
-/// Its summary is used in its own check.
-const AGAIN_CERT: &[u8] =
-    b"bstcert 1\nentries 9\nkey 9\npreamble 9\nlength 9\ntype misc\nothertype no\nend\nsummary misc\nentry\nwrites n\npre\npost\nhints\nkeep\nkeep\nuse 0\ncase 0\ncase 0\nend\ncommand 5\nhints\nuse 0\nend\ndone\n";
 
 /// What is answered to a run of so many steps under a certificate over the files `p.aux`, `s.bst`, `d.bib` and `b.cert`.
 macro_rules! under {
@@ -42,7 +34,8 @@ static UNDER: [Example; 10] = [
     under!(b"\\citation{longer.key}\n\\bibstyle{s}\n\\bibdata{d}\n", KEYS, b"@misc{longer.key}", NINES, "99" => Done, "longer.key\n", "outside\nunmet longer.key key 9\n"),
     under!(ZZ, JOINS, b"", NINES, "11" => Done, "ab\n", "inside\nWarning--no entry zz\n"),
     under!(ZZ, JOINS, b"", NINES, "10" => Budget, "ab\n", "inside\nWarning--no entry zz\nbudget 10\n"),
-    under!(ONE, AGAIN, b"@misc{k}", AGAIN_CERT, "99" => Done, "k\nk\n", "inside\n"),
+    // Each entry's type is entered once more while it is running, and its summary is used in its own check.
+    under!(ONE, b"ENTRY{}{}{} INTEGERS{n} FUNCTION{misc}{cite$ write$ newline$ n #0 > {#0 'n := call.type$} 'skip$ if$} FUNCTION{f}{#1 'n := call.type$} READ ITERATE{f}", b"@misc{k}", b"bstcert 1\nentries 9\nkey 9\npreamble 9\nlength 9\ntype misc\nothertype no\nend\nsummary misc\nentry\nwrites n\npre\npost\nhints\nkeep\nkeep\nuse 0\ncase 0\ncase 0\nend\ncommand 5\nhints\nuse 0\nend\ndone\n", "99" => Done, "k\nk\n", "inside\n"),
     // A last line stands alone.
     under!(ONE, KEYS, b"@misc{k}", b"", "99" => BadCert, "", "bad certificate 1:1 Syntax\n"),
     under!(ONE, b"ENTRY{}{}{} FUNCTION{f}{*} READ EXECUTE{f}", b"@misc{k}", NINES, "99" => Refused, "", "refused 1:25 EmptyPop 1\n"),
