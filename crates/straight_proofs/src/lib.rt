@@ -7,7 +7,6 @@ pub mod laws;
 mod lookup;
 mod on_term;
 mod remainders;
-mod said;
 mod search;
 mod straight;
 #[cfg(test)]

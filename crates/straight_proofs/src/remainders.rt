@@ -1,16 +1,15 @@
 //! What is left of a goal from which rows are subtracted, and its lead (docs/STATES.md, "Straight proofs").
 
-ghost use Rattle.std.specs.Prelude.{◌≡◌, ℕ, ◌+◌, ◌≤◌, ◌^◌, ◌++◌, ◌-ℤ◌, length, map, IfOk};
+ghost use Rattle.std.specs.Prelude.{◌≡◌, ℕ, ◌+◌, ◌^◌, ◌++◌, ◌-ℤ◌, map, IfOk};
 ghost use Rattle.std.specs.List.{All};
 ghost use Rattle.lin_facts.specs.Rows.{IsSmall, IsWithin};
-ghost use Rattle.lin_facts.specs.Rows as sums;
 ghost use Rattle.sym_state.specs.Cases.{absurdity};
 ghost use Rattle.straight_proofs.specs.Remainders as rule;
 ghost use Rattle.straight_proofs.specs.Remainders.{HasRoom};
 
 use bv_base::memory::NoMemory;
 use bv_base::seq::Seq;
-use lin_facts::follows::same_term;
+use lin_facts::follows::coefficient_of;
 use lin_facts::row::{Part, Row, Term};
 use std::alloc::Global;
 
@@ -98,21 +97,6 @@ fn same_sign(m: i64, n: i64) -> bool
     ensures { result ≡ rule.same_sign m n }
 {
     (0 < m && 0 < n) || (m < 0 && n < 0)
-}
-
-/// How often parts take a term.
-fn coefficient_of(parts: &[Part], term: Term) -> i64
-    requires few { length parts.now ≤ 288 }
-    requires small { All (λ part. IsWithin (2 ^ 45) part.coefficient) parts.now }
-    ensures value { result ≡ sums.coefficient_of parts.now term }
-{
-    let mut sum = 0i64;
-    for part in parts {
-        if same_term(part.term, term) {
-            sum += part.coefficient;
-        }
-    }
-    sum
 }
 
 /// A remainder less a row.

@@ -6,17 +6,16 @@ ghost use Rattle.lin_facts.specs.Rows.{IsSmall};
 ghost use Rattle.sym_state.specs.WellMade.{HasBounds};
 ghost use Rattle.straight_proofs.specs.Lookup.{rows_in_reach};
 ghost use Rattle.straight_proofs.specs.Remainders as subtracting;
-ghost use Rattle.straight_proofs.specs.Remainders.{HasRoom};
 ghost use Rattle.straight_proofs.specs.Straight as rule;
 
 use crate::known::Known;
 use crate::lookup::references_to;
 use crate::remainders::{fits, lead, minus};
-use crate::said::row_said;
 use bv_base::memory::NoMemory;
 use lin_facts::row::{Row, Term};
 use std::alloc::Global;
 use sym_state::proof::Reference;
+use sym_state::references::row_said;
 
 /// The first list of at most so many references that shows a remainder, its last reference first.
 #[cycle(search)]
@@ -27,7 +26,7 @@ pub(crate) fn list_within(
 ) -> Result<Option<Vec<Reference>>, NoMemory>
     requires state { HasBounds known.now.state.now }
     requires rows { known.now.rows.now ≡ rows_in_reach known.now.state.now }
-    requires room { HasRoom most remainder.now }
+    requires room { subtracting.HasRoom most remainder.now }
     ensures { IfOk result (λ found. option_map (λ list. reverse list.items) found ≡ rule.list_within most known.now.cond.now known.now.state.now remainder.now) }
 {
     match lead(remainder) {
@@ -54,7 +53,7 @@ pub(crate) fn first_list(
 ) -> Result<Option<Vec<Reference>>, NoMemory>
     requires state { HasBounds known.now.state.now }
     requires rows { known.now.rows.now ≡ rows_in_reach known.now.state.now }
-    requires room { HasRoom (most + 1) remainder.now }
+    requires room { subtracting.HasRoom (most + 1) remainder.now }
     ensures { IfOk result (λ found. option_map (λ list. reverse list.items) found
         ≡ rule.first_list (λ r. option_and_then (rule.list_within most known.now.cond.now known.now.state.now)
         (rule.left_behind known.now.cond.now known.now.state.now leads remainder.now r)) references.now) }
@@ -80,7 +79,7 @@ fn list_behind(
 ) -> Result<Option<Vec<Reference>>, NoMemory>
     requires state { HasBounds known.now.state.now }
     requires rows { known.now.rows.now ≡ rows_in_reach known.now.state.now }
-    requires room { HasRoom (most + 1) remainder.now }
+    requires room { subtracting.HasRoom (most + 1) remainder.now }
     ensures { IfOk result (λ found. option_map (λ list. reverse list.items) found
         ≡ option_and_then (rule.list_within most known.now.cond.now known.now.state.now)
         (rule.left_behind known.now.cond.now known.now.state.now leads remainder.now reference)) }
@@ -111,9 +110,9 @@ pub(crate) fn left_behind(
 ) -> Result<Option<Row>, NoMemory>
     requires state { HasBounds known.now.state.now }
     requires rows { known.now.rows.now ≡ rows_in_reach known.now.state.now }
-    requires room { HasRoom 1 remainder.now }
+    requires room { subtracting.HasRoom 1 remainder.now }
     ensures said { IfOk result (λ left. left ≡ rule.left_behind known.now.cond.now known.now.state.now leads remainder.now reference) }
-    ensures room { (more : ℕ) → HasRoom (more + 1) remainder.now → IfOk result (λ left. IfSome left (HasRoom more)) }
+    ensures room { (more : ℕ) → subtracting.HasRoom (more + 1) remainder.now → IfOk result (λ left. IfSome left (subtracting.HasRoom more)) }
 {
     match row_said(known.alloc, known.state, known.cond, reference)? {
         Some(row) => less(known.alloc, leads, remainder, &row),
@@ -128,11 +127,11 @@ fn less(
     remainder: &Row,
     row: &Row,
 ) -> Result<Option<Row>, NoMemory>
-    requires remainder { HasRoom 1 remainder.now }
+    requires remainder { subtracting.HasRoom 1 remainder.now }
     requires row { IsSmall row.now }
     ensures said { IfOk result (λ left. left ≡ (if subtracting.fits leads remainder.now row.now
         then Some (subtracting.minus remainder.now row.now) else None)) }
-    ensures room { (more : ℕ) → HasRoom (more + 1) remainder.now → IfOk result (λ left. IfSome left (HasRoom more)) }
+    ensures room { (more : ℕ) → subtracting.HasRoom (more + 1) remainder.now → IfOk result (λ left. IfSome left (subtracting.HasRoom more)) }
 {
     if fits(leads, remainder, row) {
         Ok(Some(minus(alloc, remainder, row)?))

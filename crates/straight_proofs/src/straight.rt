@@ -36,7 +36,8 @@ pub fn straight_proof(
     ensures shown { IfOk result (λ found. IfSome found (λ proof. shows cond.now state.now proof goal.now ≡ true)) }
     ensures few { IfOk result (λ found. IfSome found (λ proof. length proof.uses ≤ MOST_REFERENCES)) }
 {
-    first_proof(alloc, state, cond, goal)
+    let list = first_list_of(alloc, state, cond, goal)?;
+    proof_where(alloc, list)
 }
 
 /// The straight proof that a case can't come about, which shows that -1 is at least 0: its first reference may be any that
@@ -47,24 +48,8 @@ pub fn drop_proof(alloc: Global, state: &State, cond: &Cond) -> Result<Option<Pr
     ensures shown { IfOk result (λ found. IfSome found (λ proof. shows cond.now state.now proof absurdity ≡ true)) }
     ensures few { IfOk result (λ found. IfSome found (λ proof. length proof.uses ≤ MOST_REFERENCES)) }
 {
-    first_drop(alloc, state, cond)
-}
-
-/// The proof of the first list that shows a goal.
-fn first_proof(
-    alloc: Global,
-    state: &State,
-    cond: &Cond,
-    goal: &Row,
-) -> Result<Option<Proof>, NoMemory>
-    requires state { HasBounds state.now }
-    requires goal { IsBounded goal.now }
-    ensures { IfOk result (λ found. found ≡ rule.straight_proof cond.now state.now goal.now) }
-{
-    match first_list_of(alloc, state, cond, goal)? {
-        Some(list) => Ok(Some(proof_of(alloc, list.as_slice())?)),
-        None => Ok(None),
-    }
+    let list = drop_list(alloc, state, cond)?;
+    proof_where(alloc, list)
 }
 
 /// The first list that shows a goal, its last reference first.
@@ -87,17 +72,6 @@ fn first_list_of(
         rows: rows.as_slice(),
     };
     list_within(&known, goal, MOST_REFERENCES)
-}
-
-/// The proof of the first list that shows that a case can't come about.
-fn first_drop(alloc: Global, state: &State, cond: &Cond) -> Result<Option<Proof>, NoMemory>
-    requires { HasBounds state.now }
-    ensures { IfOk result (λ found. found ≡ rule.drop_proof cond.now state.now) }
-{
-    match drop_list(alloc, state, cond)? {
-        Some(list) => Ok(Some(proof_of(alloc, list.as_slice())?)),
-        None => Ok(None),
-    }
 }
 
 /// The list that shows that a case can't come about, its last reference first.
@@ -125,6 +99,16 @@ fn list_among_all(known: &Known) -> Result<Option<Vec<Reference>>, NoMemory>
     let goal = never(known.alloc);
     let all = references(known.alloc, known.state)?;
     first_list(known, None, &goal, MOST_REFERENCES - 1, all.as_slice())
+}
+
+/// The proof by a list, where there is one, its last reference first.
+fn proof_where(alloc: Global, list: Option<Vec<Reference>>) -> Result<Option<Proof>, NoMemory>
+    ensures { IfOk result (λ found. found ≡ option_map rule.proof_of (option_map (λ list. reverse list.items) list)) }
+{
+    match list {
+        Some(list) => Ok(Some(proof_of(alloc, list.as_slice())?)),
+        None => Ok(None),
+    }
 }
 
 /// The proof that takes each of these references once, the last of them first.

@@ -1,9 +1,15 @@
--- What is found shows that the case can't come about, by few references.
+-- What is found is the proof by the first list, and shows that the case can't come about by few references.
+use Rattle.std.proofs.Common.{option_map, ap, ◌∙◌}
+use Rattle.std.proofs.lemmas.Result.{IfOk-weaker}
+use Rattle.straight_proofs.specs.Straight.{proof_of}
 use Rattle.straight_proofs.proofs.AddingUp.{drop_is_short, drop_shows}
 use Rattle.straight_proofs.proofs.straight.drop_proof.Goals as goal
 
+pub returns-clause-first : goal.returns-clause-first
+returns-clause-first c = IfOk-weaker c.proof_where.result _ _ (λ found is. is ∙ ap (option_map proof_of) c.in_ok-list.ensures) c.proof_where.ensures
+
 pub returns-clause-shown : goal.returns-clause-shown
-returns-clause-shown c = drop_shows c.args.cond.now c.args.state.now c.first_drop.result c.first_drop.ensures
+returns-clause-shown c = drop_shows c.args.cond.now c.args.state.now c.proof_where.result (returns-clause-first c)
 
 pub returns-clause-few : goal.returns-clause-few
-returns-clause-few c = drop_is_short c.args.cond.now c.args.state.now c.first_drop.result c.first_drop.ensures
+returns-clause-few c = drop_is_short c.args.cond.now c.args.state.now c.proof_where.result (returns-clause-first c)
