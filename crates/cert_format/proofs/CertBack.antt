@@ -29,22 +29,22 @@ use Rattle.cert_format.specs.declared.cert.Cert.{Cert}
 use Rattle.cert_format.specs.declared.cert.CommandPart.{CommandPart}
 use Rattle.cert_format.specs.declared.cert.Loop.{Loop}
 use Rattle.cert_format.specs.declared.cert.Summary.{Summary}
-use Rattle.cert_format.specs.declared.cert_lines.CertSoFar.{CertSoFar}
-use Rattle.cert_format.specs.declared.cert_lines.CertStage.TheVariants as stage
-use Rattle.cert_format.specs.declared.cond_lines.CondSoFar.{CondSoFar}
-use Rattle.cert_format.specs.declared.cond_lines.Stage.{Stage}
-use Rattle.cert_format.specs.declared.cond_lines.Stage.TheVariants as part
+use Rattle.cert_format.specs.declared.so_far.CertSoFar.{CertSoFar}
+use Rattle.cert_format.specs.declared.so_far.CertStage.TheVariants as stage
+use Rattle.cert_format.specs.declared.so_far.CondSoFar.{CondSoFar}
+use Rattle.cert_format.specs.declared.so_far.Stage.{Stage}
+use Rattle.cert_format.specs.declared.so_far.Stage.TheVariants as part
 use Rattle.cert_format.specs.declared.items.TheConstants.{MOST_NUMBER}
-use Rattle.cert_format.specs.declared.piece_lines.PieceSoFar.{PieceSoFar}
-use Rattle.cert_format.specs.declared.piece_lines.PieceStage.{PieceStage}
+use Rattle.cert_format.specs.declared.so_far.PieceSoFar.{PieceSoFar}
+use Rattle.cert_format.specs.declared.so_far.PieceStage.{PieceStage}
 use Rattle.cert_format.specs.declared.stop.Stop.{Stop}
-use Rattle.cert_format.specs.declared.unit_lines.Mark.{Mark}
-use Rattle.cert_format.specs.declared.unit_lines.Mark.TheVariants.{Pre, Post, Case, Exit, After, Visit, Keeps}
-use Rattle.cert_format.specs.declared.unit_lines.UnitKind.{UnitKind}
-use Rattle.cert_format.specs.declared.unit_lines.UnitKind.TheVariants as unit
-use Rattle.cert_format.specs.declared.unit_lines.UnitSoFar.{UnitSoFar}
-use Rattle.cert_format.specs.declared.unit_lines.UnitStage.{UnitStage}
-use Rattle.cert_format.specs.declared.unit_lines.UnitStage.TheVariants as ustage
+use Rattle.cert_format.specs.declared.so_far.Mark.{Mark}
+use Rattle.cert_format.specs.declared.so_far.Mark.TheVariants.{Pre, Post, Case, Exit, After, Visit, Keeps}
+use Rattle.cert_format.specs.declared.so_far.UnitKind.{UnitKind}
+use Rattle.cert_format.specs.declared.so_far.UnitKind.TheVariants as unit
+use Rattle.cert_format.specs.declared.so_far.UnitSoFar.{UnitSoFar}
+use Rattle.cert_format.specs.declared.so_far.UnitStage.{UnitStage}
+use Rattle.cert_format.specs.declared.so_far.UnitStage.TheVariants as ustage
 use Rattle.cert_format.proofs.CertItems.{positive_taken}
 use Rattle.cert_format.proofs.CertKept.{ended_taken, last_taken}
 use Rattle.cert_format.proofs.CertRead.{fits_command}

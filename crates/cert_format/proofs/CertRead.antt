@@ -26,17 +26,17 @@ use Rattle.cert_format.specs.UnitSpelling.{all_marked, body_text, cert_lines, co
 use Rattle.cert_format.specs.Units as units
 use Rattle.cert_format.specs.declared.cert.Cert.{Cert}
 use Rattle.cert_format.specs.declared.cert.CommandPart.{CommandPart}
-use Rattle.cert_format.specs.declared.cert_lines.CertSoFar.{CertSoFar}
-use Rattle.cert_format.specs.declared.cert_lines.CertStage.{CertStage}
-use Rattle.cert_format.specs.declared.cert_lines.CertStage.TheVariants as stage
-use Rattle.cert_format.specs.declared.cond_lines.CondSoFar.{CondSoFar}
-use Rattle.cert_format.specs.declared.cond_lines.Stage.{Stage}
-use Rattle.cert_format.specs.declared.cond_lines.Stage.TheVariants as part
-use Rattle.cert_format.specs.declared.unit_lines.UnitKind.{UnitKind}
-use Rattle.cert_format.specs.declared.unit_lines.UnitKind.TheVariants as unit
-use Rattle.cert_format.specs.declared.unit_lines.UnitSoFar.{UnitSoFar}
-use Rattle.cert_format.specs.declared.unit_lines.UnitStage.{UnitStage}
-use Rattle.cert_format.specs.declared.unit_lines.UnitStage.TheVariants as ustage
+use Rattle.cert_format.specs.declared.so_far.CertSoFar.{CertSoFar}
+use Rattle.cert_format.specs.declared.so_far.CertStage.{CertStage}
+use Rattle.cert_format.specs.declared.so_far.CertStage.TheVariants as stage
+use Rattle.cert_format.specs.declared.so_far.CondSoFar.{CondSoFar}
+use Rattle.cert_format.specs.declared.so_far.Stage.{Stage}
+use Rattle.cert_format.specs.declared.so_far.Stage.TheVariants as part
+use Rattle.cert_format.specs.declared.so_far.UnitKind.{UnitKind}
+use Rattle.cert_format.specs.declared.so_far.UnitKind.TheVariants as unit
+use Rattle.cert_format.specs.declared.so_far.UnitSoFar.{UnitSoFar}
+use Rattle.cert_format.specs.declared.so_far.UnitStage.{UnitStage}
+use Rattle.cert_format.specs.declared.so_far.UnitStage.TheVariants as ustage
 use Rattle.cert_format.proofs.CertItems.{positive_read}
 use Rattle.cert_format.proofs.CertBodies.{each_more}
 use Rattle.cert_format.proofs.CertKept.{ended_read, last_read}

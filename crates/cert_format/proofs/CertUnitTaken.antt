@@ -22,20 +22,20 @@ use Rattle.cert_format.specs.Pieces as pieces
 use Rattle.cert_format.specs.Spelling.{name_text}
 use Rattle.cert_format.specs.UnitSpelling.{all_marked, head_lines, marked_lines, word_lines, writes_items}
 use Rattle.cert_format.specs.Units as units
-use Rattle.cert_format.specs.declared.cert_lines.CertSoFar.{CertSoFar}
-use Rattle.cert_format.specs.declared.cert_lines.CertStage.TheVariants as at_stage
+use Rattle.cert_format.specs.declared.so_far.CertSoFar.{CertSoFar}
+use Rattle.cert_format.specs.declared.so_far.CertStage.TheVariants as at_stage
 use Rattle.cert_format.specs.declared.items.TheConstants.{MOST_NUMBER}
-use Rattle.cert_format.specs.declared.piece_lines.PieceSoFar.{PieceSoFar}
-use Rattle.cert_format.specs.declared.piece_lines.PieceStage.{PieceStage}
-use Rattle.cert_format.specs.declared.piece_lines.PieceWord.{PieceWord}
+use Rattle.cert_format.specs.declared.so_far.PieceSoFar.{PieceSoFar}
+use Rattle.cert_format.specs.declared.so_far.PieceStage.{PieceStage}
+use Rattle.cert_format.specs.declared.so_far.PieceWord.{PieceWord}
 use Rattle.cert_format.specs.declared.stop.Stop.{Stop}
 use Rattle.cert_format.specs.declared.stop.Stop.TheVariants.{Syntax, TooMany}
-use Rattle.cert_format.specs.declared.unit_lines.Mark.{Mark}
-use Rattle.cert_format.specs.declared.unit_lines.Mark.TheVariants.{Pre, Post, Case, Exit, After, Visit, Keeps}
-use Rattle.cert_format.specs.declared.unit_lines.UnitKind.{UnitKind}
-use Rattle.cert_format.specs.declared.unit_lines.UnitSoFar.{UnitSoFar}
-use Rattle.cert_format.specs.declared.unit_lines.UnitStage.{UnitStage}
-use Rattle.cert_format.specs.declared.unit_lines.UnitStage.TheVariants as stage
+use Rattle.cert_format.specs.declared.so_far.Mark.{Mark}
+use Rattle.cert_format.specs.declared.so_far.Mark.TheVariants.{Pre, Post, Case, Exit, After, Visit, Keeps}
+use Rattle.cert_format.specs.declared.so_far.UnitKind.{UnitKind}
+use Rattle.cert_format.specs.declared.so_far.UnitSoFar.{UnitSoFar}
+use Rattle.cert_format.specs.declared.so_far.UnitStage.{UnitStage}
+use Rattle.cert_format.specs.declared.so_far.UnitStage.TheVariants as stage
 use Rattle.cert_format.proofs.CertHints.{hint_more, hint_spelled, hint_taken, hint_word, not_end}
 use Rattle.cert_format.proofs.CertKept.{due_taken, ended_taken, last_taken, word_text}
 use Rattle.cert_format.proofs.CertNames.{variable_taken}

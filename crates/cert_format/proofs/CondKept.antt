@@ -16,9 +16,9 @@ use Rattle.cert_format.specs.Conditions as conditions
 use Rattle.cert_format.specs.Items.{choice, expected, field_above, field_in, is_above, is_behind, is_type, is_word, last_of, name_in, natural, type_above}
 use Rattle.cert_format.specs.Lines.{Item, Line, line_end, lines_of, next_item}
 use Rattle.cert_format.specs.Texts.{cond_of}
-use Rattle.cert_format.specs.declared.cond_lines.CondSoFar.{CondSoFar}
-use Rattle.cert_format.specs.declared.cond_lines.Stage.{Stage}
-use Rattle.cert_format.specs.declared.cond_lines.Stage.TheVariants.{Entries, Key, Preamble, Length, Names, Nonblank, Types, End, Done}
+use Rattle.cert_format.specs.declared.so_far.CondSoFar.{CondSoFar}
+use Rattle.cert_format.specs.declared.so_far.Stage.{Stage}
+use Rattle.cert_format.specs.declared.so_far.Stage.TheVariants.{Entries, Key, Preamble, Length, Names, Nonblank, Types, End, Done}
 use Rattle.cert_format.specs.declared.items.TheConstants.{MOST_NUMBER}
 use Rattle.cert_format.specs.declared.stop.Stop.{Stop}
 use Rattle.cert_format.proofs.CondSteps.{told_ok}

@@ -18,9 +18,9 @@ use Rattle.cert_format.specs.Spelling.{choice_text, cond_items, cond_lists, cond
 use Rattle.cert_format.specs.Texts.{cond_of, told}
 use Rattle.cert_format.specs.declared.items.TheConstants.{MOST_NUMBER}
 use Rattle.cert_format.specs.declared.stop.Stop.{Stop}
-use Rattle.cert_format.specs.declared.cond_lines.CondSoFar.{CondSoFar}
-use Rattle.cert_format.specs.declared.cond_lines.Stage.{Stage}
-use Rattle.cert_format.specs.declared.cond_lines.Stage.TheVariants.{Entries, Key, Preamble, Length, Names, Nonblank, Types, End, Done}
+use Rattle.cert_format.specs.declared.so_far.CondSoFar.{CondSoFar}
+use Rattle.cert_format.specs.declared.so_far.Stage.{Stage}
+use Rattle.cert_format.specs.declared.so_far.Stage.TheVariants.{Entries, Key, Preamble, Length, Names, Nonblank, Types, End, Done}
 use Rattle.cert_format.proofs.CondRead.{Has, at_end, choice_read, item_before, next_is, none_left, number_read, numbered, word_is}
 use Rattle.cert_format.proofs.Named.{field_read}
 use Rattle.cert_format.proofs.Split.{AllEnded, Ended, split_text, texts}

@@ -12,9 +12,9 @@ use Rattle.cert_format.specs.Conditions as conditions
 use Rattle.cert_format.specs.Items.{expected, field_above, is_above, is_word, natural}
 use Rattle.cert_format.specs.Lines.{Item, Line, ended_by, line_end, next_item}
 use Rattle.cert_format.specs.Spelling.{name_text, names_items}
-use Rattle.cert_format.specs.declared.cond_lines.CondSoFar.{CondSoFar}
-use Rattle.cert_format.specs.declared.cond_lines.Stage.{Stage}
-use Rattle.cert_format.specs.declared.cond_lines.Stage.TheVariants.{Names}
+use Rattle.cert_format.specs.declared.so_far.CondSoFar.{CondSoFar}
+use Rattle.cert_format.specs.declared.so_far.Stage.{Stage}
+use Rattle.cert_format.specs.declared.so_far.Stage.TheVariants.{Names}
 use Rattle.cert_format.specs.declared.items.TheConstants.{MOST_NUMBER}
 use Rattle.cert_format.specs.declared.stop.Stop.{Stop}
 use Rattle.cert_format.proofs.CondRead.{Has}

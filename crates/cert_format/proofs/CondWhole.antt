@@ -14,9 +14,9 @@ use Rattle.cert_format.specs.Conditions as conditions
 use Rattle.cert_format.specs.Items.{choice, expected, field_above, is_above, is_behind, is_type, is_word, last_of, type_above}
 use Rattle.cert_format.specs.Lines.{Item, Line, line_end, next_item}
 use Rattle.cert_format.specs.Spelling.{choice_text, cond_end, name_text, names_items, nonblank_items, type_items}
-use Rattle.cert_format.specs.declared.cond_lines.CondSoFar.{CondSoFar}
-use Rattle.cert_format.specs.declared.cond_lines.Stage.{Stage}
-use Rattle.cert_format.specs.declared.cond_lines.Stage.TheVariants.{Names, Nonblank, Types, End, Done}
+use Rattle.cert_format.specs.declared.so_far.CondSoFar.{CondSoFar}
+use Rattle.cert_format.specs.declared.so_far.Stage.{Stage}
+use Rattle.cert_format.specs.declared.so_far.Stage.TheVariants.{Names, Nonblank, Types, End, Done}
 use Rattle.cert_format.proofs.CondRead.{Has}
 use Rattle.cert_format.proofs.CondTaken.{at_stage, expect_taken, line_taken, names_line_taken, other_word, take_end, take_first, then_go, word_taken}
 use Rattle.cert_format.proofs.NamesTaken.{field_taken}

@@ -19,20 +19,20 @@ use Rattle.cert_format.specs.declared.cert.Cert.{Cert}
 use Rattle.cert_format.specs.declared.cert.CommandPart.{CommandPart}
 use Rattle.cert_format.specs.declared.cert.Loop.{Loop}
 use Rattle.cert_format.specs.declared.cert.Summary.{Summary}
-use Rattle.cert_format.specs.declared.cert_lines.CertSoFar.{CertSoFar}
-use Rattle.cert_format.specs.declared.cert_lines.CertStage.{CertStage}
-use Rattle.cert_format.specs.declared.cert_lines.CertStage.TheVariants as stage
+use Rattle.cert_format.specs.declared.so_far.CertSoFar.{CertSoFar}
+use Rattle.cert_format.specs.declared.so_far.CertStage.{CertStage}
+use Rattle.cert_format.specs.declared.so_far.CertStage.TheVariants as stage
 use Rattle.cert_format.specs.declared.cert_lines.TheConstants.{MOST_LIST, MOST_UNITS}
 use Rattle.cert_format.specs.declared.cond_lines.TheConstants.{MOST}
-use Rattle.cert_format.specs.declared.cond_lines.Stage.{Stage}
-use Rattle.cert_format.specs.declared.cond_lines.Stage.TheVariants.{Done as CondDone}
+use Rattle.cert_format.specs.declared.so_far.Stage.{Stage}
+use Rattle.cert_format.specs.declared.so_far.Stage.TheVariants.{Done as CondDone}
 use Rattle.cert_format.specs.declared.stop.Stop.{Stop}
 use Rattle.cert_format.specs.declared.stop.Stop.TheVariants.{Syntax, OutOfRange, NotCanonical, TooMany}
-use Rattle.cert_format.specs.declared.unit_lines.UnitKind.{UnitKind}
-use Rattle.cert_format.specs.declared.unit_lines.UnitKind.TheVariants as unit
-use Rattle.cert_format.specs.declared.unit_lines.UnitSoFar.{UnitSoFar}
-use Rattle.cert_format.specs.declared.unit_lines.UnitStage.{UnitStage}
-use Rattle.cert_format.specs.declared.unit_lines.UnitStage.TheVariants.{Done as UnitDone}
+use Rattle.cert_format.specs.declared.so_far.UnitKind.{UnitKind}
+use Rattle.cert_format.specs.declared.so_far.UnitKind.TheVariants as unit
+use Rattle.cert_format.specs.declared.so_far.UnitSoFar.{UnitSoFar}
+use Rattle.cert_format.specs.declared.so_far.UnitStage.{UnitStage}
+use Rattle.cert_format.specs.declared.so_far.UnitStage.TheVariants.{Done as UnitDone}
 
 -- before the first line
 abbrev pub no_cert : CertSoFar

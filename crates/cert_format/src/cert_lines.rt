@@ -6,12 +6,12 @@ ghost use Rattle.cert_format.specs.Certs as certs;
 ghost use Rattle.cert_format.specs.declared.stop.Stop.TheVariants.{NoMemory as WantOfMemory};
 
 use crate::cert::{Cert, CommandPart, Loop, Summary};
-use crate::cond_lines::{CondSoFar, MOST, Stage};
+use crate::cond_lines::MOST;
 use crate::items::{has_leading_zero, is_numeral};
 use crate::lines::{Item, Line, Worded};
+use crate::so_far::{CertSoFar, CertStage, CondSoFar, Stage, UnitKind, UnitSoFar, UnitStage};
 use crate::stop::Stop;
 use crate::styled::Styled;
-use crate::unit_lines::{UnitKind, UnitSoFar, UnitStage};
 use bst_meaning::value::Target;
 use bv_base::memory::NoMemory;
 use bv_base::runs::number;
@@ -24,32 +24,6 @@ pub const MOST_LIST: u32 = 1;
 
 /// The most summaries of a certificate, and the most loops.
 pub const MOST_UNITS: usize = 65536;
-
-/// The line of a certificate that comes next.
-#[derive(Clone, Copy, Debug, PartialEq, Eq)]
-pub(crate) enum CertStage {
-    Header,
-    /// A line of the condition.
-    Cond,
-    /// The first line of a unit, or `done`.
-    Units,
-    /// A line of a unit.
-    InUnit,
-    Done,
-}
-
-/// What has been read of a certificate.
-#[derive(Drop)]
-pub(crate) struct CertSoFar {
-    pub(crate) stage: CertStage,
-    pub(crate) list: u32,
-    pub(crate) cond: CondSoFar,
-    /// The unit that is being read.
-    pub(crate) unit: UnitSoFar,
-    pub(crate) summaries: Seq<Summary>,
-    pub(crate) loops: Seq<Loop>,
-    pub(crate) commands: Seq<CommandPart>,
-}
 
 impl CertSoFar {
     /// Before the first line.

@@ -1,12 +1,13 @@
 //! What has been read of a condition, line by line.
 
-ghost use Rattle.std.specs.Prelude.{◌≡◌, IfOk};
-ghost use Rattle.bv_base.specs.Answers.{Gives, GivesAndLeaves, Leaves};
+ghost use Rattle.std.specs.Prelude.{◌≡◌};
+ghost use Rattle.bv_base.specs.Answers.{Gives, Leaves};
 ghost use Rattle.cert_format.specs.Conditions as conditions;
 ghost use Rattle.cert_format.specs.Items.{last_of};
 ghost use Rattle.cert_format.specs.declared.stop.Stop.TheVariants.{NoMemory as WantOfMemory};
 
 use crate::lines::{Line, Worded};
+use crate::so_far::{CondSoFar, Stage};
 use crate::stop::Stop;
 use bst_meaning::condition::{Cond, NamesLine};
 use bv_base::seq::Seq;
@@ -19,31 +20,6 @@ pub const MOST_ENTRIES: u32 = 1_000_000;
 
 /// The greatest other number of a condition, of a unit and of a hint.
 pub const MOST: u32 = 1_073_741_824;
-
-/// The line of a condition that comes next.
-#[derive(Clone, Copy, Debug, PartialEq, Eq)]
-pub(crate) enum Stage {
-    Entries,
-    Key,
-    Preamble,
-    Length,
-    /// A line on names, or one that stands after those.
-    Names,
-    /// A `nonblank` line, or one that stands after those.
-    Nonblank,
-    /// A `type` line, or one that stands after those.
-    Types,
-    End,
-    /// None.
-    Done,
-}
-
-/// What has been read of a condition.
-#[derive(Drop)]
-pub(crate) struct CondSoFar {
-    pub(crate) stage: Stage,
-    pub(crate) cond: Cond,
-}
 
 impl CondSoFar {
     /// Before the first line.

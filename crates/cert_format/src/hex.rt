@@ -1,7 +1,6 @@
 //! Texts in base 16.
 
 ghost use Rattle.std.specs.Prelude.{◌≡◌, ◌<◌, IfOk, IfSome};
-ghost use Rattle.std.specs.Option.{option_map};
 ghost use Rattle.bv_base.specs.Answers.{Gives};
 ghost use Rattle.cert_format.specs.PieceItems as items;
 ghost use Rattle.cert_format.specs.declared.stop.Stop.TheVariants.{NoMemory as WantOfMemory};

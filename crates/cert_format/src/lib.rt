@@ -18,6 +18,7 @@ mod put_hints;
 mod put_pieces;
 mod put_units;
 pub mod read;
+mod so_far;
 mod stop;
 mod styled;
 mod unit_lines;

@@ -1,7 +1,6 @@
 //! What the items of pieces say.
 
 ghost use Rattle.std.specs.Prelude.{◌≡◌, ◌≤◌, suc, false, IfOk, option_copied};
-ghost use Rattle.std.specs.Option.{option_map};
 ghost use Rattle.bv_base.specs.Answers.{Gives};
 ghost use Rattle.name_table.specs.Names.{kind_at};
 ghost use Rattle.cert_format.specs.PieceItems as items;

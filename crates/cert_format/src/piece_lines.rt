@@ -2,13 +2,13 @@
 
 ghost use Rattle.std.specs.Prelude.{◌≡◌, [], OnOk};
 ghost use Rattle.bv_base.specs.Answers.{Gives, GivesAndLeaves, Leaves};
-ghost use Rattle.cert_format.specs.Items.{last_of};
 ghost use Rattle.cert_format.specs.PieceItems as items;
 ghost use Rattle.cert_format.specs.Pieces as pieces;
 ghost use Rattle.cert_format.specs.declared.stop.Stop.TheVariants.{NoMemory as WantOfMemory};
 
 use crate::items::among;
 use crate::lines::{Item, Line, Worded};
+use crate::so_far::{PieceSoFar, PieceStage, PieceWord};
 use crate::stop::Stop;
 use crate::styled::Styled;
 use bv_base::seq::Seq;
@@ -23,46 +23,6 @@ pub const MOST_ITEMS: usize = 64;
 
 /// The most terms of a row.
 pub const MOST_TERMS: usize = 32;
-
-/// The line of a piece that comes next: one of this kind or a later one.
-#[derive(Clone, Copy, Debug, PartialEq, Eq)]
-pub(crate) enum PieceStage {
-    Stack,
-    Vars,
-    Fields,
-    Facts,
-    Rows,
-}
-
-/// The word with which a line of a piece begins.
-#[derive(Clone, Copy, Debug, PartialEq, Eq)]
-pub(crate) enum PieceWord {
-    Stack,
-    Var,
-    Field,
-    Is,
-    Int,
-    Text,
-    Call,
-    Block,
-    Blank,
-    Nonblank,
-    Wellformed,
-    Row,
-}
-
-/// What has been read of a piece.
-#[derive(Drop)]
-pub(crate) struct PieceSoFar {
-    /// Whether variables of entries and fields may stand.
-    pub(crate) at_entry: bool,
-    /// Whether `pos` may stand.
-    pub(crate) has_pos: bool,
-    pub(crate) stage: PieceStage,
-    /// The number of the next new symbol.
-    pub(crate) next: u32,
-    pub(crate) piece: Piece,
-}
 
 impl PieceSoFar {
     /// Before the first line.

@@ -10,10 +10,9 @@ ghost use Rattle.cert_format.specs.declared.fault.CertFault.TheVariants.{NoMemor
 ghost use Rattle.cert_format.specs.declared.stop.Stop.TheVariants.{NoMemory as WantOfMemory};
 
 use crate::cert::Cert;
-use crate::cert_lines::CertSoFar;
-use crate::cond_lines::CondSoFar;
 use crate::fault::CertFault;
 use crate::lines::Lines;
+use crate::so_far::{CertSoFar, CondSoFar};
 use crate::stop::{Stop, fault_of};
 use crate::styled::Styled;
 use bst_meaning::condition::Cond;
