@@ -1,3 +1,4 @@
+pub mod Clauses
 pub mod DataFaults
 pub mod Refusals
 pub mod Unknowns

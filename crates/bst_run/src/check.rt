@@ -1,16 +1,10 @@
 //! The words `check STYLE CERT`: from the two files to the decision.
 
 ghost use Rattle.std.specs.Prelude.{◌≡◌, ◌≤◌, [], length, Ok, IfOk, IfErr, IfSome};
-ghost use Rattle.cert_check.specs.Certified.{IsCertified};
-ghost use Rattle.bst_meaning.specs.Safe.{Safe};
-ghost use Rattle.cert_format.specs.Texts.{cert_of};
-ghost use Rattle.command_flow.specs.Checks.{checked};
-ghost use Rattle.name_table.specs.Sound.{IsSound};
-ghost use Rattle.bst_run.specs.FilesBegun.{Begins, check_begun};
-ghost use Rattle.bst_run.specs.Reads.{Reads};
+ghost use Rattle.bst_run.specs.Clauses.{Begins, Decides, IsCertified, IsDecided, IsInside, IsSound, Reads, Safe, cert_of, checked};
+ghost use Rattle.bst_run.specs.FilesBegun.{check_begun};
 ghost use Rattle.bst_run.specs.Report.{holding};
 ghost use Rattle.bst_run.specs.Sources.{read_cert};
-ghost use Rattle.bst_run.specs.Stops as stops;
 ghost use Rattle.bst_run.specs.Top as top;
 
 use crate::files::style::style_from;
@@ -37,7 +31,7 @@ pub fn check<F: Files>(
 ) -> Result<Outcome, Stop>
     ensures reads { Reads ⟦<F as Files>⟧ files.old files.new (λ told. top.check_outcome told style_name.now cert_name.now) result }
     ensures begun { Begins (F.told files.old) (λ told. check_begun told style_name.now cert_name.now) (F.begun files.old) (F.begun files.new) result }
-    ensures decided { IfOk result (λ outcome. stops.IsDecided outcome.status) }
+    ensures decided { IfOk result (λ outcome. IsDecided outcome.status) }
     ensures safe { IfOk result (λ outcome. IfSome (F.told files.old) (λ told.
         top.IsAcceptance told style_name.now cert_name.now outcome)) }
 {
@@ -52,9 +46,9 @@ fn judge_text(alloc: Global, style: &Style, text: &[u8]) -> Result<Outcome, Stop
     requires short { length text.now ≤ STYLE_BYTES }
     requires sound { IsSound style.now }
     ensures accepted { IfOk result (top.IsTextJudgedWell style.now text.now) }
-    ensures decides { stops.Decides (top.text_judged style.now text.now) result }
-    ensures decided { IfOk result (λ outcome. stops.IsDecided outcome.status) }
-    ensures inside { IfErr result stops.IsInside }
+    ensures decides { Decides (top.text_judged style.now text.now) result }
+    ensures decided { IfOk result (λ outcome. IsDecided outcome.status) }
+    ensures inside { IfErr result IsInside }
 {
     let cert = cert_from(alloc, text, style)?;
     certificates_are_certified();
@@ -66,8 +60,8 @@ pub fn cert_from(alloc: Global, text: &[u8], style: &Style) -> Result<Cert, Stop
     requires short { length text.now ≤ STYLE_BYTES }
     requires sound { IsSound style.now }
     ensures exact { IfOk result (λ cert. cert_of style.now text.now ≡ Ok cert) }
-    ensures decides { stops.Decides (read_cert (cert_of style.now text.now)) result }
-    ensures inside { IfErr result stops.IsInside }
+    ensures decides { Decides (read_cert (cert_of style.now text.now)) result }
+    ensures inside { IfErr result IsInside }
 {
     match read(alloc, text, style) {
         Ok(cert) => Ok(cert),
@@ -81,9 +75,9 @@ fn judge(alloc: Global, style: &Style, cert: &Cert) -> Result<Outcome, Stop>
     requires sound { IsSound style.now }
     requires certified { IsCertified style.now cert.now }
     ensures accepted { IfOk result (top.IsJudgedWell style.now cert.now) }
-    ensures decides { stops.Decides (top.judged style.now cert.now) result }
-    ensures decided { IfOk result (λ outcome. stops.IsDecided outcome.status) }
-    ensures inside { IfErr result stops.IsInside }
+    ensures decides { Decides (top.judged style.now cert.now) result }
+    ensures decided { IfOk result (λ outcome. IsDecided outcome.status) }
+    ensures inside { IfErr result IsInside }
 {
     holds(alloc, style, cert)?;
     Ok(accepted(alloc, style, &cert.cond)?)
@@ -93,10 +87,10 @@ fn judge(alloc: Global, style: &Style, cert: &Cert) -> Result<Outcome, Stop>
 pub fn holds(alloc: Global, style: &Style, cert: &Cert) -> Result<(), Stop>
     requires sound { IsSound style.now }
     requires certified { IsCertified style.now cert.now }
-    ensures decides { stops.Decides (holding (checked style.now cert.now)) result }
+    ensures decides { Decides (holding (checked style.now cert.now)) result }
     ensures held { IfOk result (λ _. checked style.now cert.now ≡ Ok []) }
     ensures safe { IfOk result (λ _. Safe style.now cert.now.cond) }
-    ensures inside { IfErr result stops.IsInside }
+    ensures inside { IfErr result IsInside }
 {
     match command_flow::check(alloc, style, cert) {
         Ok(()) => Ok(()),

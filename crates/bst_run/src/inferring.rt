@@ -1,19 +1,13 @@
 //! The words `infer STYLE` and `infer STYLE COND`: from the files to a certificate that is found.
 
 ghost use Rattle.std.specs.Prelude.{◌≡◌, ◌≤◌, [], length, Ok, IfOk, IfErr, IfSome};
-ghost use Rattle.bst_meaning.specs.Safe.{Safe};
-ghost use Rattle.cert_check.specs.Certified.{IsCertified};
 ghost use Rattle.cert_format.specs.CertText.{IsCert};
 ghost use Rattle.cert_format.specs.CondText.{IsCond};
-ghost use Rattle.cert_format.specs.Texts.{cond_of};
-ghost use Rattle.command_flow.specs.Checks.{checked};
 ghost use Rattle.infer.specs.Infer.{infer_of};
-ghost use Rattle.name_table.specs.Sound.{IsSound};
-ghost use Rattle.bst_run.specs.FilesBegun.{Begins, cond_begun, file_begun, infer_begun};
+ghost use Rattle.bst_run.specs.Clauses.{Begins, Decides, IsCertified, IsDecided, IsInside, IsSound, Reads, Safe, checked, cond_of};
+ghost use Rattle.bst_run.specs.FilesBegun.{cond_begun, file_begun, infer_begun};
 ghost use Rattle.bst_run.specs.Forms.{name_in};
 ghost use Rattle.bst_run.specs.Inferred as rule;
-ghost use Rattle.bst_run.specs.Reads.{Reads};
-ghost use Rattle.bst_run.specs.Stops as stops;
 
 use crate::files::style::style_from;
 use crate::files::whole::style_file;
@@ -48,7 +42,7 @@ pub fn infer<F: Files>(
     ensures reads { Reads ⟦<F as Files>⟧ files.old files.new (λ told. rule.infer_outcome told style_name.now (name_in cond_name.entry)) result }
     ensures begun { Begins (F.told files.old) (λ told. infer_begun told style_name.now (name_in cond_name.entry))
         (F.begun files.old) (F.begun files.new) result }
-    ensures decided { IfOk result (λ outcome. stops.IsDecided outcome.status) }
+    ensures decided { IfOk result (λ outcome. IsDecided outcome.status) }
     ensures safe { IfOk result (λ outcome. IfSome (F.told files.old) (λ told.
         rule.IsWriting told style_name.now (name_in cond_name.entry) outcome)) }
 {
@@ -91,9 +85,9 @@ fn cond_in<F: Files>(alloc: Global, files: &mut F, name: &str, style: &Style) ->
 fn cond_from(alloc: Global, text: &[u8], style: &Style) -> Result<Cond, Stop>
     requires short { length text.now ≤ STYLE_BYTES }
     requires sound { IsSound style.now }
-    ensures decides { stops.Decides (rule.read_cond (cond_of style.now text.now)) result }
+    ensures decides { Decides (rule.read_cond (cond_of style.now text.now)) result }
     ensures kept { IfOk result (IsCond style.now.names) }
-    ensures inside { IfErr result stops.IsInside }
+    ensures inside { IfErr result IsInside }
 {
     read_as_the_condition();
     match read_cond(alloc, text, style) {
@@ -107,10 +101,10 @@ fn cond_from(alloc: Global, text: &[u8], style: &Style) -> Result<Cond, Stop>
 fn certificate_under(alloc: Global, style: &Style, cond: Cond) -> Result<Outcome, Stop>
     requires sound { IsSound style.now }
     requires kept { IsCond style.now.names cond }
-    ensures decides { stops.Decides (rule.inferred style.now cond) result }
+    ensures decides { Decides (rule.inferred style.now cond) result }
     ensures certified { IfOk result (rule.IsWritten style.now cond) }
-    ensures decided { IfOk result (λ outcome. stops.IsDecided outcome.status) }
-    ensures inside { IfErr result stops.IsInside }
+    ensures decided { IfOk result (λ outcome. IsDecided outcome.status) }
+    ensures inside { IfErr result IsInside }
 {
     let cert = found(alloc, style, cond)?;
     printed(alloc, style, &cert)
@@ -120,12 +114,12 @@ fn certificate_under(alloc: Global, style: &Style, cond: Cond) -> Result<Outcome
 pub fn found(alloc: Global, style: &Style, cond: Cond) -> Result<Cert, Stop>
     requires sound { IsSound style.now }
     requires kept { IsCond style.now.names cond }
-    ensures decides { stops.Decides (rule.shown (infer_of style.now cond)) result }
+    ensures decides { Decides (rule.shown (infer_of style.now cond)) result }
     ensures found { IfOk result (λ cert. infer_of style.now cond ≡ Ok cert) }
     ensures under { IfOk result (λ cert. cert.cond ≡ cond) }
     ensures kept { IfOk result (IsCert style.now) }
     ensures certified { IfOk result (IsCertified style.now) }
-    ensures inside { IfErr result stops.IsInside }
+    ensures inside { IfErr result IsInside }
 {
     match infer::infer(alloc, style, cond) {
         Ok(cert) => Ok(cert),
@@ -141,10 +135,10 @@ pub fn found(alloc: Global, style: &Style, cond: Cond) -> Result<Cert, Stop>
 fn printed(alloc: Global, style: &Style, cert: &Cert) -> Result<Outcome, Stop>
     requires sound { IsSound style.now }
     requires kept { IsCert style.now cert.now }
-    ensures decides { stops.Decides (rule.printed style.now cert.now) result }
+    ensures decides { Decides (rule.printed style.now cert.now) result }
     ensures certified { IfOk result (rule.IsWritten style.now cert.now.cond) }
-    ensures decided { IfOk result (λ outcome. stops.IsDecided outcome.status) }
-    ensures inside { IfErr result stops.IsInside }
+    ensures decided { IfOk result (λ outcome. IsDecided outcome.status) }
+    ensures inside { IfErr result IsInside }
 {
     let spelled = print(alloc, cert, style)?;
     let text = short_text(alloc, Text::from_vec(spelled))?;
@@ -156,10 +150,10 @@ fn printed(alloc: Global, style: &Style, cert: &Cert) -> Result<Outcome, Stop>
 
 /// A text that keeps the limit of certificates.
 fn short_text(alloc: Global, text: Text) -> Result<Text, Stop>
-    ensures decides { stops.Decides (rule.short_text text) result }
+    ensures decides { Decides (rule.short_text text) result }
     ensures same { IfOk result (λ short. short ≡ text) }
     ensures short { IfOk result (λ short. length short ≤ STYLE_BYTES) }
-    ensures inside { IfErr result stops.IsInside }
+    ensures inside { IfErr result IsInside }
 {
     if text.as_slice().len() > STYLE_BYTES {
         return Err(Stop::Told(unknown(alloc, Place::START, "CertTooLong")?));
@@ -171,9 +165,9 @@ fn short_text(alloc: Global, text: Text) -> Result<Text, Stop>
 pub fn unrejected(alloc: Global, style: &Style, cert: &Cert) -> Result<(), Stop>
     requires sound { IsSound style.now }
     requires certified { IsCertified style.now cert.now }
-    ensures decides { stops.Decides (rule.unrejected (checked style.now cert.now)) result }
+    ensures decides { Decides (rule.unrejected (checked style.now cert.now)) result }
     ensures held { IfOk result (λ _. (checked style.now cert.now ≡ Ok []) × Safe style.now cert.now.cond) }
-    ensures inside { IfErr result stops.IsInside }
+    ensures inside { IfErr result IsInside }
 {
     match command_flow::check(alloc, style, cert) {
         Ok(()) => Ok(()),

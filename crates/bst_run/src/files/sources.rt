@@ -2,16 +2,12 @@
 
 ghost use Rattle.std.specs.Prelude.{◌≡◌, ◌≤◌, codes, length, IfOk, IfErr};
 ghost use Rattle.aux_read.specs.FileNames.{AreFileNames, IsFileName};
-ghost use Rattle.bib_read.specs.Additions.{AreKeyed};
 ghost use Rattle.bib_read.specs.Reading.{database_of};
-ghost use Rattle.entry_list.specs.Keys.{AreCitations};
-ghost use Rattle.name_table.specs.Sound.{IsSound};
+ghost use Rattle.bst_run.specs.Clauses.{AreCitations, AreKeyed, Begins, Decides, IsInside, IsSound, Reads};
 ghost use Rattle.bst_run.specs.FileNames.{NeedsFiles};
 ghost use Rattle.bst_run.specs.Files as file;
-ghost use Rattle.bst_run.specs.FilesBegun.{Begins, databases_begun, file_begun, sources_begun, sources_begun_for};
+ghost use Rattle.bst_run.specs.FilesBegun.{databases_begun, file_begun, sources_begun, sources_begun_for};
 ghost use Rattle.bst_run.specs.Sources as rule;
-ghost use Rattle.bst_run.specs.Reads.{Reads};
-ghost use Rattle.bst_run.specs.Stops as stops;
 
 use crate::data_fault::DataFault;
 use crate::files::aux_chain::needs_of;
@@ -136,9 +132,9 @@ fn database_from(
 ) -> Result<Database, Stop>
     requires short { length text.now ≤ DATA_BYTES }
     requires keyed { AreKeyed before.now.entries }
-    ensures decides { stops.Decides (rule.read_database name.now (database_of text.now before.now)) result }
+    ensures decides { Decides (rule.read_database name.now (database_of text.now before.now)) result }
     ensures keyed { IfOk result (λ database. AreKeyed database.entries) }
-    ensures inside { IfErr result stops.IsInside }
+    ensures inside { IfErr result IsInside }
 {
     match read(alloc, text, before) {
         Ok(database) => Ok(database),
