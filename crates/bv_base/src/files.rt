@@ -5,24 +5,12 @@ ghost use Rattle.std.specs.FinMap.{get};
 ghost use Rattle.bv_base.specs.Outside.{Listing, Rose, begun_by};
 
 use crate::text::Text;
-use std::error::Error;
-use std::fmt;
+use thiserror::Error;
 
 /// A file couldn't be read further.
-#[derive(Clone, Copy, Debug, PartialEq, Eq)]
+#[derive(Clone, Copy, Debug, PartialEq, Eq, Error)]
+#[error("read failed")]
 pub struct Failed;
-
-impl fmt::Display for Failed {
-    ghost use Rattle.std.specs.Prelude.{codes, Some};
-
-    ghost output = { λ _. Some (codes "read failed") };
-
-    fn fmt<W: fmt::Write>(&self, f: &mut fmt::Formatter<W>) -> fmt::Result {
-        write!(f, "read failed")
-    }
-}
-
-impl Error for Failed {}
 
 /// Why a file wasn't begun.
 #[derive(Clone, Copy, Debug, PartialEq, Eq)]

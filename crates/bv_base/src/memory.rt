@@ -1,24 +1,12 @@
 //! Want of memory, the one answer that no contract ties to a cause.
 
 use std::alloc::{AllocError, AllocFailed};
-use std::error::Error;
-use std::fmt;
+use thiserror::Error;
 
 /// An allocation was refused.
-#[derive(Clone, Copy, Debug, PartialEq, Eq)]
+#[derive(Clone, Copy, Debug, PartialEq, Eq, Error)]
+#[error("no memory")]
 pub struct NoMemory;
-
-impl fmt::Display for NoMemory {
-    ghost use Rattle.std.specs.Prelude.{codes, Some};
-
-    ghost output = { λ _. Some (codes "no memory") };
-
-    fn fmt<W: fmt::Write>(&self, f: &mut fmt::Formatter<W>) -> fmt::Result {
-        write!(f, "no memory")
-    }
-}
-
-impl Error for NoMemory {}
 
 impl From<AllocError> for NoMemory {
     fn from(_refused: AllocError) -> NoMemory {
