@@ -1,0 +1,343 @@
+//! `while$`, where loops are made: one for the states of the token in hand that hold the same functions (docs/ANALYSER.md, "Loops").
+
+ghost use Rattle.std.specs.Prelude.{◌≡◌, ◌≤◌, ◌<◌, ◌+◌, ◌++◌, ◌∷◌, List, [], if◌then◌else◌, true, false, Ok, Some, None, Option, IfOk, IfSome, OnOk, MatchOption, length, slice_get, take};
+ghost use Rattle.std.specs.List.{All};
+ghost use Rattle.std.specs.Option.{option_and_then, option_map_or};
+ghost use Rattle.bst_meaning.specs.declared.condition.Cond.{Cond as CondValue};
+ghost use Rattle.cert_format.specs.CertText.{IsHint};
+ghost use Rattle.refinements.specs.Covered.{IsAmong};
+ghost use Rattle.sym_state.specs.Demands.{without};
+ghost use Rattle.sym_state.specs.WellMade.{HasBounds, WellMade};
+ghost use Rattle.sym_state.specs.declared.hint.Hint.{Hint as HintValue};
+ghost use Rattle.sym_state.specs.declared.hint.Hint.TheVariants.{Case as CaseHint};
+ghost use Rattle.cert_check.specs.Certified.{CanWalk, IsLoopOf};
+ghost use Rattle.cert_check.specs.Courses as courses;
+ghost use Rattle.cert_check.specs.Courses.{Course as CourseValue};
+ghost use Rattle.cert_check.specs.Given.{GoesOn, Takes};
+ghost use Rattle.cert_check.specs.Here.{here};
+ghost use Rattle.cert_check.specs.Room.{HasRoom};
+ghost use Rattle.cert_check.specs.Uses.{Passage as Passed};
+ghost use Rattle.cert_check.specs.Walks as rule;
+ghost use Rattle.cert_check.specs.Walks.{Make};
+
+use crate::at::At;
+use crate::course::{Course, held, placed, refuse};
+use crate::limits::MOST_LOOPS;
+use crate::loops::{repeated, two_functions};
+use crate::making::Loops;
+use crate::refusal::{Reason, Refusal, Walk};
+use crate::scope::{Scope, is_target};
+use crate::summaries::leaves;
+use crate::targets::exact_target;
+use crate::uses::{Came, Passage, comes_by};
+use bst_meaning::style_parts::kind_of;
+use bst_meaning::value::Target;
+use bv_base::memory::NoMemory;
+use bv_base::place::Place;
+use cert_format::cert::Loop;
+use name_table::builtin::Builtin;
+use name_table::names::Kind;
+use name_table::style::{Style, Token};
+use std::alloc::Global;
+use std::marker::Model;
+use std::slice::from_ref;
+use straight_hints::{Finding, piece_hints};
+use sym_state::hint::Hints;
+use sym_state::operands::two;
+use sym_state::piece::Piece;
+use sym_state::state::State;
+use sym_state::symbol::Kinds;
+
+/// The two functions of a `while$`, and the state without them.
+#[derive(Drop)]
+pub(crate) struct While {
+    test: Target,
+    body: Target,
+    rest: State,
+}
+
+impl Model for While {
+    ghost use Rattle.cert_check.specs.Walks as walks;
+
+    ghost Value = { walks.While };
+
+    ghost view = { λ w. record { test = w.test; body = w.body; rest = w.rest } };
+}
+
+/// Whether a token is `while$`.
+pub(crate) fn is_while(style: &Style, token: Token) -> bool
+    ensures { result ≡ rule.is_while_token style.now token }
+{
+    match token {
+        Token::Call(name) => matches!(kind_of(style, name), Some(Kind::Builtin(Builtin::WhileDo))),
+        _ => false,
+    }
+}
+
+/// `while$` in a state: its loop is read or made.
+pub(crate) fn while_in<M: Loops>(at: &At<'_, M>, state: &State, course: &mut Course<'_>) -> Walk
+    requires sound { CanWalk at.now.scope.now (M.style at.now.maker.now) (M.made at.now.maker.now) }
+    requires room { HasRoom at.now.scope.now.style 65 course.old.count state.now }
+    ensures takes { Takes (rule.while_by_make (M.made at.now.maker.now) (here M.made at.now) at.now.place state.now course.old) course.new result }
+{
+    if !at.maker.makes() {
+        return repeated(at, state, course);
+    }
+    let mut made = Vec::new(course.alloc());
+    while_taken(at, from_ref(state), 0, state, &mut made, course)?;
+    course.makes(at.place, made)
+}
+
+/// `while$` in the states of a token, one after the other: each counts.
+pub(crate) fn whiles<M: Loops>(at: &At<'_, M>, states: &[State], course: &mut Course<'_>) -> Walk
+    requires sound { CanWalk at.now.scope.now (M.style at.now.maker.now) (M.made at.now.maker.now) }
+    requires room { All (HasRoom at.now.scope.now.style 0 course.old.count) states.now }
+    ensures takes { IfSome (M.made at.now.maker.now)
+        (λ make. Takes (rule.whiles_from make (here M.made at.now) at.now.place states.now course.old) course.new result) }
+{
+    let mut made = Vec::new(course.alloc());
+    for (k, state) in states.iter().enumerate() {
+        course.counts(1, at.place)?;
+        while_taken(at, states, k, state, &mut made, course)?;
+    }
+    course.makes(at.place, made)
+}
+
+/// `while$` in a state of a list, of which so many were taken.
+fn while_taken<M: Loops>(
+    at: &At<'_, M>,
+    states: &[State],
+    earlier: usize,
+    state: &State,
+    made: &mut Vec<Loop>,
+    course: &mut Course<'_>,
+) -> Walk
+    requires sound { CanWalk at.now.scope.now (M.style at.now.maker.now) (M.made at.now.maker.now) }
+    requires room { HasRoom at.now.scope.now.style 64 course.old.count state.now }
+    requires states { All (WellMade at.now.scope.now.style) states.now }
+    requires among { IsAmong state.now states.now }
+    requires earlier { earlier ≤ length states.now }
+    requires loops { All (IsLoopOf at.now.scope.now.style) made.old.items }
+    ensures takes { IfSome (M.made at.now.maker.now)
+        (λ make. Takes (rule.while_taken make (here M.made at.now) at.now.place states.now (take earlier states.now) state.now
+        (record { made = made.old.items; course = course.old })) (record { made = made.new.items; course = course.new }) result) }
+{
+    let (lower, upper, rest) = two_functions(at.place, state)?;
+    let test = exact_target(at.scope, state, lower);
+    let body = exact_target(at.scope, state, upper);
+    match (test, body) {
+        (Some(test), Some(body)) => {
+            let one = While { test, body, rest };
+            while_made(at, states, earlier, &one, made, course)
+        }
+        _ => refuse(at.place, Reason::UnknownFunction),
+    }
+}
+
+/// `while$` of two functions that are known exactly: by the loop that was made for them, or a new one.
+fn while_made<M: Loops>(
+    at: &At<'_, M>,
+    states: &[State],
+    earlier: usize,
+    one: &While,
+    made: &mut Vec<Loop>,
+    course: &mut Course<'_>,
+) -> Walk
+    requires sound { CanWalk at.now.scope.now (M.style at.now.maker.now) (M.made at.now.maker.now) }
+    requires room { HasRoom at.now.scope.now.style 64 course.old.count one.now.rest }
+    requires states { All (WellMade at.now.scope.now.style) states.now }
+    requires enters { 1 ≤ length (rule.entering_with (here M.made at.now) one.now states.now) }
+    requires earlier { earlier ≤ length states.now }
+    requires loops { All (IsLoopOf at.now.scope.now.style) made.old.items }
+    ensures takes { IfSome (M.made at.now.maker.now)
+        (λ make. Takes (rule.while_made make (here M.made at.now) at.now.place states.now (take earlier states.now) (Some one.now)
+        (record { made = made.old.items; course = course.old })) (record { made = made.new.items; course = course.new }) result) }
+{
+    let first = course.loop_count();
+    let k = loop_for(at, states, one, first, made, course.alloc())?;
+    let case = count_entering(at.scope, one, &states[..earlier]);
+    match made.as_slice().get(k) {
+        Some(found) => made_used(at, found, first + k, case, &one.rest, course),
+        None => refuse(at.place, Reason::NoInvariant),
+    }
+}
+
+/// The place among those that were made for the token of the loop of two functions: one that is there, or a new one.
+fn loop_for<M: Loops>(
+    at: &At<'_, M>,
+    states: &[State],
+    one: &While,
+    first: usize,
+    made: &mut Vec<Loop>,
+    alloc: Global,
+) -> Result<usize, Refusal>
+    requires sound { CanWalk at.now.scope.now (M.style at.now.maker.now) (M.made at.now.maker.now) }
+    requires states { All (WellMade at.now.scope.now.style) states.now }
+    requires enters { 1 ≤ length (rule.entering_with (here M.made at.now) one.now states.now) }
+    requires loops { All (IsLoopOf at.now.scope.now.style) made.old.items }
+    ensures takes { (course : CourseValue) → length course.loops ≡ first → IfSome (M.made at.now.maker.now)
+        (λ make. GoesOn (rule.loop_made at.now.place (rule.numbered one.now first made.old.items)
+        (make one.now.test one.now.body (rule.entering_with (here M.made at.now) one.now states.now)) (record { made = made.old.items; course = course }))
+        (λ k. rule.loop_made at.now.place (rule.numbered_at first k made.new.items) None (record { made = made.new.items; course = course })) result) }
+    ensures loops { IfOk result (λ _. All (IsLoopOf at.now.scope.now.style) made.new.items) }
+    ensures place { IfOk result (λ k. first + k ≤ 65536) }
+{
+    match place_among(one, made.as_slice()) {
+        Some(k) => Ok(k),
+        None => loop_made(at, states, one, first, made, alloc),
+    }
+}
+
+/// The place of the loop of two functions among those that were made for the token.
+fn place_among(one: &While, made: &[Loop]) -> Option<usize>
+    ensures found { (first : ℕ) → MatchOption result (rule.numbered one.now first made.now ≡ None)
+        (λ k. rule.numbered one.now first made.now ≡ rule.numbered_at first k made.now) }
+    ensures there { IfSome result (λ k. k < length made.now) }
+{
+    made.iter().position(|found| is_target(found.test, one.test) && is_target(found.body, one.body))
+}
+
+/// A loop is made for the states of a list that enter it.
+fn loop_made<M: Loops>(
+    at: &At<'_, M>,
+    states: &[State],
+    one: &While,
+    first: usize,
+    made: &mut Vec<Loop>,
+    alloc: Global,
+) -> Result<usize, Refusal>
+    requires sound { CanWalk at.now.scope.now (M.style at.now.maker.now) (M.made at.now.maker.now) }
+    requires states { All (WellMade at.now.scope.now.style) states.now }
+    requires enters { 1 ≤ length (rule.entering_with (here M.made at.now) one.now states.now) }
+    requires loops { All (IsLoopOf at.now.scope.now.style) made.old.items }
+    ensures takes { (course : CourseValue) → length course.loops ≡ first → IfSome (M.made at.now.maker.now)
+        (λ make. GoesOn (rule.loop_made at.now.place None
+        (make one.now.test one.now.body (rule.entering_with (here M.made at.now) one.now states.now)) (record { made = made.old.items; course = course }))
+        (λ k. rule.loop_made at.now.place (rule.numbered_at first k made.new.items) None (record { made = made.new.items; course = course })) result) }
+    ensures loops { IfOk result (λ _. All (IsLoopOf at.now.scope.now.style) made.new.items) }
+    ensures place { IfOk result (λ k. first + k ≤ 65536) }
+{
+    let entering = held(at.place, entering_with(alloc, at.scope, one, states))?;
+    let found = held(
+        at.place,
+        at.maker.make(one.test, one.body, entering.as_slice()),
+    )?;
+    let k = made.len();
+    match found {
+        Some(found) if first + k < MOST_LOOPS => match made.push(found) {
+            Ok(()) => Ok(k),
+            Err(_) => refuse(at.place, Reason::NoMemory),
+        },
+        _ => refuse(at.place, Reason::NoInvariant),
+    }
+}
+
+/// The states of a list that hold the same functions, without them.
+fn entering_with(
+    alloc: Global,
+    scope: &Scope<'_>,
+    one: &While,
+    states: &[State],
+) -> Result<Vec<State>, NoMemory>
+    ensures { (make : Option Make) → IfOk result (λ entering. entering.items ≡ rule.entering_with (rule.scope_of scope.now make) one.now states.now) }
+{
+    let mut entering = Vec::new(alloc);
+    for state in states {
+        if holds(scope, one, state) {
+            entering.push(state.without(2)?)?;
+        }
+    }
+    Ok(entering)
+}
+
+/// How many states of a list hold the same functions.
+fn count_entering(scope: &Scope<'_>, one: &While, states: &[State]) -> usize
+    ensures { (make : Option Make) → result ≡ length (rule.entering_with (rule.scope_of scope.now make) one.now states.now) }
+{
+    states
+        .iter()
+        .filter(|state| holds(scope, one, state))
+        .count()
+}
+
+/// Whether a state holds these two functions on top.
+fn holds(scope: &Scope<'_>, one: &While, state: &State) -> bool
+    ensures { (make : Option Make) → option_and_then (rule.rest_of one.now) (rule.while_in (rule.scope_of scope.now make) state.now)
+        ≡ (if result then Some (without 2 state.now) else None) }
+{
+    match two(state, Kinds::Func, Kinds::Func) {
+        Ok((lower, upper)) => {
+            let test = exact_target(scope, state, lower);
+            let body = exact_target(scope, state, upper);
+            is_some_target(test, one.test) && is_some_target(body, one.body)
+        }
+        Err(_) => false,
+    }
+}
+
+/// A function is this one.
+fn is_some_target(found: Option<Target>, target: Target) -> bool
+    ensures { result ≡ option_map_or (λ other. rule.is_target target other) found false }
+{
+    match found {
+        Some(other) => is_target(target, other),
+        None => false,
+    }
+}
+
+/// A loop that was made is used in a state, by the case of a number.
+fn made_used<M: Loops>(
+    at: &At<'_, M>,
+    one: &Loop,
+    number: usize,
+    k: usize,
+    state: &State,
+    course: &mut Course<'_>,
+) -> Walk
+    requires one { IsLoopOf at.now.scope.now.style one.now }
+    requires number { number ≤ 65536 }
+    requires bounds { HasBounds state.now }
+    requires room { state.now.next ≤ 2212483648 }
+    ensures takes { Takes (rule.made_used (here M.made at.now) at.now.place (record { number = number; one = one.now }) k state.now course.old) course.new result }
+{
+    let unit = Passage::around(one);
+    let case = case_within(at.place, one.cases.as_slice(), k, state)?;
+    let steps = held(
+        at.place,
+        piece_hints(Finding::Straight, state, at.scope.cond(), case),
+    )?;
+    let mut left = Hints::new(steps.as_slice());
+    placed(
+        at.place,
+        comes_by(&unit, at.scope.cond(), case, state, &mut left),
+    )?;
+    course.finds_loop(at.place, number, k, steps)?;
+    let came = Came {
+        style: at.scope.style(),
+        cond: at.scope.cond(),
+        unit: &unit,
+        pre: case,
+        kept: 0,
+        state,
+    };
+    leaves(at, &came, one.exits.as_slice(), course)
+}
+
+/// The case of a number, whose stack is no longer than the state's.
+fn case_within<'p>(
+    place: Place,
+    cases: &'p [Piece],
+    k: usize,
+    state: &State,
+) -> Result<&'p Piece, Refusal>
+    ensures { (unit : Passed) (cond : CondValue) (hints : List HintValue)
+        → GoesOn (courses.placed place (rule.comes_to unit cond cases.now state.now (CaseHint k ∷ hints)))
+        (λ case. courses.placed place (rule.comes_by_case unit cond (Some case.now) state.now hints)) result }
+    ensures there { IfOk result (λ case. slice_get cases.now k ≡ Some case.now) }
+    ensures within { IfOk result (λ case. length case.now.stack ≤ length state.now.stack) }
+{
+    match cases.get(k) {
+        Some(case) if case.stack.as_slice().len() as u64 <= state.stack_len() => Ok(case),
+        _ => refuse(place, Reason::NotEntailed(0)),
+    }
+}
