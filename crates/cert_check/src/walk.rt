@@ -85,7 +85,11 @@ fn taken_from<M: Loops>(
     ensures takes { Takes (rule.taken_from (here M.made at.now) (inside M.made at.now) token.now states.items course.old) course.new result }
 {
     if at.maker.makes() && is_while(at.scope.style(), token.token) {
-        return whiles(at, token.place, states.as_slice(), course);
+        let here = At {
+            place: token.place,
+            ..*at
+        };
+        return whiles(&here, states.as_slice(), course);
     }
     for state in states {
         taken(at, token, state, course)?;

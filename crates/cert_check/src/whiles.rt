@@ -1,6 +1,6 @@
 //! `while$`, where loops are made: one for the states of the token in hand that hold the same functions (docs/ANALYSER.md, "Loops").
 
-ghost use Rattle.std.specs.Prelude.{◌≡◌, ◌≤◌, ◌<◌, ◌+◌, ◌++◌, ◌∷◌, List, [], if◌then◌else◌, true, false, Ok, Some, None, Option, IfOk, IfSome, OnOk, MatchOption, length, slice_get, take};
+ghost use Rattle.std.specs.Prelude.{ℕ, ◌≡◌, ◌≤◌, ◌<◌, ◌+◌, ◌++◌, ◌∷◌, List, [], if◌then◌else◌, true, false, Ok, Some, None, Option, IfOk, IfSome, OnOk, MatchOption, length, slice_get, take};
 ghost use Rattle.std.specs.List.{All};
 ghost use Rattle.std.specs.Option.{option_and_then, option_map_or};
 ghost use Rattle.bst_meaning.specs.declared.condition.Cond.{Cond as CondValue};
@@ -194,7 +194,12 @@ fn place_among(one: &While, made: &[Loop]) -> Option<usize>
         (λ k. rule.numbered one.now first made.now ≡ rule.numbered_at first k made.now) }
     ensures there { IfSome result (λ k. k < length made.now) }
 {
-    made.iter().position(|found| is_target(found.test, one.test) && is_target(found.body, one.body))
+    for (k, found) in made.iter().enumerate() {
+        if is_target(found.test, one.test) && is_target(found.body, one.body) {
+            return Some(k);
+        }
+    }
+    None
 }
 
 /// A loop is made for the states of a list that enter it.
@@ -330,7 +335,7 @@ fn case_within<'p>(
     k: usize,
     state: &State,
 ) -> Result<&'p Piece, Refusal>
-    ensures { (unit : Passed) (cond : CondValue) (hints : List HintValue)
+    ensures comes { (unit : Passed) (cond : CondValue) (hints : List HintValue)
         → GoesOn (courses.placed place (rule.comes_to unit cond cases.now state.now (CaseHint k ∷ hints)))
         (λ case. courses.placed place (rule.comes_by_case unit cond (Some case.now) state.now hints)) result }
     ensures there { IfOk result (λ case. slice_get cases.now k ≡ Some case.now) }
