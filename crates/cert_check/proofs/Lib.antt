@@ -56,3 +56,4 @@ pub mod TurnSteps
 pub mod FoundHints
 pub mod FoundWalks
 pub mod TourSteps
+pub mod WhileSteps

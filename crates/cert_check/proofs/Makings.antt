@@ -114,7 +114,8 @@ enters_itself scope one state is =
     ∙ ap (λ (b : Bool). cond (b && is_target one.body one.body) (Some one.rest) None) (target_self one.test)
     ∙ ap (λ (b : Bool). cond b (Some one.rest) None) (target_self one.body)
 
-some_enter : (scope : Scope) (one : While) (state : State) (states : List State) → while_in scope state ≡ Some one → IsAmong state states
+-- so one enters at least
+pub some_enter : (scope : Scope) (one : While) (state : State) (states : List State) → while_in scope state ≡ Some one → IsAmong state states
     → 1 ≤ length (entering_with scope one states)
 some_enter scope one state [] is among = absurd among
 some_enter scope one state (first ∷ states) is (inl same) =

@@ -475,7 +475,7 @@ whiles_moved make scope place states earlier (state ∷ later) making after told
     (All-tail (WellMade scope.style) state later well) one.made taken.2)
 
 -- how loops are made for a token is how they are made
-making_is : (scope : Scope) (t : Token) (make : Make) → making_for scope t ≡ Some make → scope.make ≡ Some make
+pub making_is : (scope : Scope) (t : Token) (make : Make) → making_for scope t ≡ Some make → scope.make ≡ Some make
 making_is scope t make e =
     elim (is_while_token scope.style t) as (λ (b : Bool). cond b scope.make None ≡ Some make → scope.make ≡ Some make) [
       | true ↦ λ is. is

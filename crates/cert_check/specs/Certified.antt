@@ -24,6 +24,7 @@ use Rattle.sym_state.specs.declared.piece.Piece.{Piece}
 use Rattle.cert_check.specs.Left.{AreUpwards, HasPlaces, IsPlaced, IsPost}
 use Rattle.cert_check.specs.Uses.{Passage, passage}
 use Rattle.cert_check.specs.Walks.{Make, Making, Over}
+use Rattle.cert_check.specs.declared.limits.TheConstants.{MOST_LOOPS}
 
 -- a piece is within the bounds of calls: few symbols, of which few on its stack, and few lines
 pub record IsShort (piece : Piece) : Type 0 where
@@ -122,3 +123,8 @@ pub record CanWalk (over : Over) (style : Style) (make : Option Make) : Type 0 w
 -- the loops that were made for a token are loops of the style
 abbrev pub HasMade : Style → Making → Type 0
 HasMade style making = All (IsLoopOf style) making.made
+
+-- with those that were made before they are no more than a certificate may have
+pub record AreMade (style : Style) (making : Making) : Type 0 where
+  pub made : HasMade style making
+  pub few : length making.course.loops + length making.made ≤ MOST_LOOPS

@@ -27,7 +27,7 @@ ghost use Rattle.cert_check.specs.declared.refusal.Reason.TheVariants.{NoMemory 
 
 use crate::at::At;
 use crate::choice::{Three, test_of};
-use crate::limits::{MOST_CASES, MOST_COUNT};
+use crate::limits::{MOST_CASES, MOST_COUNT, MOST_LOOPS};
 use crate::making::Loops;
 use crate::refusal::{Reason, Refusal, Walk};
 use crate::scope::Scope;
@@ -66,19 +66,19 @@ pub(crate) struct Course<'a> {
 }
 
 impl<'a> Model for Course<'a> {
-    ghost use Rattle.std.specs.Prelude.{◌≤◌};
+    ghost use Rattle.std.specs.Prelude.{◌≤◌, length};
     ghost use Rattle.std.specs.List.{All};
     ghost use Rattle.name_table.specs.Sound.{Each};
     ghost use Rattle.cert_format.specs.CertText.{IsHint};
     ghost use Rattle.sym_state.specs.Demands.{HasFewUses};
     ghost use Rattle.cert_check.specs.Courses as courses;
-    ghost use Rattle.cert_check.specs.declared.limits.TheConstants.{MOST_COUNT};
+    ghost use Rattle.cert_check.specs.declared.limits.TheConstants.{MOST_COUNT, MOST_LOOPS};
 
     ghost Value = { courses.Course };
 
     ghost view = { λ c. record { given = c.given.items; hints = c.hints; count = c.count; finding = c.finding; found = c.found.items; loops = c.loops.items } };
 
-    ghost invariant = { λ c. (c.count ≤ MOST_COUNT) × All HasFewUses c.hints × Each IsHint c.found.items };
+    ghost invariant = { λ c. (c.count ≤ MOST_COUNT) × All HasFewUses c.hints × Each IsHint c.found.items × (length c.loops.items ≤ MOST_LOOPS) };
 }
 
 impl<'a> Course<'a> {
@@ -206,13 +206,16 @@ impl<'a> Course<'a> {
 
     /// How many loops were made.
     pub(crate) fn loop_count(&self) -> usize
-        ensures { result ≡ length self.now.loops }
+        ensures made { result ≡ length self.now.loops }
+        ensures few { length self.now.loops ≤ MOST_LOOPS }
+        ensures counted { self.now.count ≤ MOST_COUNT }
     {
         self.loops.len()
     }
 
     /// The loops that were made for a token come behind those that were made before.
     pub(crate) fn makes(&mut self, place: Place, mut made: Vec<Loop>) -> Walk
+        requires few { length self.old.loops + length made.items ≤ MOST_LOOPS }
         ensures { MatchResult result (λ _. self.new ≡ rule.all_made (record { made = made.items; course = self.old }))
             (λ refusal. refusal.reason ≡ WantOfMemory) }
     {

@@ -1,11 +1,11 @@
 //! How loops are made where a walk finds its hints (docs/ANALYSER.md, "Loops").
 
-ghost use Rattle.std.specs.Prelude.{◌≡◌, ◌≤◌, true, false, Option, None, IfOk, IfSome, MatchOption, length};
+ghost use Rattle.std.specs.Prelude.{◌≡◌, ◌≤◌, Option, None, IfOk, IfSome, is_some, length};
 ghost use Rattle.std.specs.List.{All};
 ghost use Rattle.name_table.specs.declared.style.Style.{Style as StyleValue};
 ghost use Rattle.sym_state.specs.WellMade.{WellMade};
 ghost use Rattle.cert_check.specs.Certified.{MakesLoops};
-ghost use Rattle.cert_check.specs.Walks.{Make};
+ghost use Rattle.cert_check.specs.Walks.{Make, loop_by};
 
 use bst_meaning::value::Target;
 use bv_base::memory::NoMemory;
@@ -22,14 +22,14 @@ pub trait Loops {
 
     /// Whether loops are made.
     fn makes(&self) -> bool
-        ensures makes { MatchOption (made self.now) (result ≡ false) (λ make. result ≡ true) }
+        ensures makes { result ≡ is_some (made self.now) }
         ensures sound { IfSome (made self.now) (MakesLoops (style self.now)) };
 
     /// The loop of two functions that these states enter, where there is one.
     fn make(&self, test: Target, body: Target, entering: &[State]) -> Result<Option<Loop>, NoMemory>
         requires some { 1 ≤ length entering.now }
         requires made { All (WellMade (style self.now)) entering.now }
-        ensures { IfOk result (λ found. IfSome (made self.now) (λ make. found ≡ make test body entering.now)) };
+        ensures { IfOk result (λ found. found ≡ loop_by (made self.now) test body entering.now) };
 }
 
 /// No loop is made: each is read.

@@ -23,7 +23,7 @@ use crate::refusal::{Reason, Walk};
 use crate::summaries::comes_in;
 use crate::targets::{exact_target, is_function};
 use crate::types::types_entered;
-use crate::whiles::{is_while, while_in, whiles};
+use crate::whiles::{makes_for, while_in, whiles};
 use bst_meaning::style_parts::{kind_of, tokens_of};
 use bst_meaning::value::Target;
 use name_table::builtin::Builtin;
@@ -71,7 +71,7 @@ fn walked<M: Loops>(at: &At<'_, M>, tokens: &[TokenAt], course: &mut Course<'_>)
     Ok(())
 }
 
-/// A token is taken from states, one after the other.
+/// A token is taken from states: where it makes loops, from all at once.
 #[cycle(walk)]
 fn taken_from<M: Loops>(
     at: &At<'_, M>,
@@ -84,13 +84,30 @@ fn taken_from<M: Loops>(
     requires room { All (HasRoom at.now.scope.now.style 0 course.old.count) states.items }
     ensures takes { Takes (rule.taken_from (here M.made at.now) (inside M.made at.now) token.now states.items course.old) course.new result }
 {
-    if at.maker.makes() && is_while(at.scope.style(), token.token) {
+    if makes_for(at, token.token) {
         let here = At {
             place: token.place,
             ..*at
         };
-        return whiles(&here, states.as_slice(), course);
+        whiles(&here, states.as_slice(), course)
+    } else {
+        each_taken(at, token, states, course)
     }
+}
+
+/// It is taken from each of them alone.
+#[cycle(walk)]
+fn each_taken<M: Loops>(
+    at: &At<'_, M>,
+    token: &TokenAt,
+    states: Vec<State>,
+    course: &mut Course<'_>,
+) -> Walk
+    requires sound { CanWalk at.now.scope.now (M.style at.now.maker.now) (M.made at.now.maker.now) }
+    requires token { IsTokenSound at.now.scope.now.style.names at.now.scope.now.style.bodies at.now.scope.now.style.texts token.now.token }
+    requires room { All (HasRoom at.now.scope.now.style 0 course.old.count) states.items }
+    ensures takes { Takes (rule.each_taken (here M.made at.now) (inside M.made at.now) token.now states.items course.old) course.new result }
+{
     for state in states {
         taken(at, token, state, course)?;
     }

@@ -1,24 +1,26 @@
 //! `while$`, where loops are made: one for the states of the token in hand that hold the same functions (docs/ANALYSER.md, "Loops").
 
-ghost use Rattle.std.specs.Prelude.{ℕ, ◌≡◌, ◌≤◌, ◌<◌, ◌+◌, ◌++◌, ◌∷◌, List, [], if◌then◌else◌, true, false, Ok, Some, None, Option, IfOk, IfSome, OnOk, MatchOption, length, slice_get, take};
+ghost use Rattle.std.specs.Prelude.{◌≡◌, ◌≤◌, ◌<◌, ◌+◌, ◌&&◌, ◌∷◌, List, [], if◌then◌else◌, Some, None, Option, IfOk, IfSome, OnOk, is_some, MatchOption, ℕ, length, slice_get, take};
 ghost use Rattle.std.specs.List.{All};
-ghost use Rattle.std.specs.Option.{option_and_then, option_map_or};
+ghost use Rattle.std.specs.Option.{option_and_then};
 ghost use Rattle.bst_meaning.specs.declared.condition.Cond.{Cond as CondValue};
-ghost use Rattle.cert_format.specs.CertText.{IsHint};
+ghost use Rattle.name_table.specs.declared.style.Style.{Style as StyleValue};
 ghost use Rattle.refinements.specs.Covered.{IsAmong};
 ghost use Rattle.sym_state.specs.Demands.{without};
+ghost use Rattle.sym_state.specs.State.{State as StateValue};
 ghost use Rattle.sym_state.specs.WellMade.{HasBounds, WellMade};
 ghost use Rattle.sym_state.specs.declared.hint.Hint.{Hint as HintValue};
 ghost use Rattle.sym_state.specs.declared.hint.Hint.TheVariants.{Case as CaseHint};
-ghost use Rattle.cert_check.specs.Certified.{CanWalk, IsLoopOf};
+ghost use Rattle.cert_check.specs.Certified.{AreMade, CanWalk, IsLoopOf};
 ghost use Rattle.cert_check.specs.Courses as courses;
 ghost use Rattle.cert_check.specs.Courses.{Course as CourseValue};
-ghost use Rattle.cert_check.specs.Given.{GoesOn, Takes};
+ghost use Rattle.cert_check.specs.Given.{CanEnd, GoesOn, Takes};
 ghost use Rattle.cert_check.specs.Here.{here};
 ghost use Rattle.cert_check.specs.Room.{HasRoom};
 ghost use Rattle.cert_check.specs.Uses.{Passage as Passed};
 ghost use Rattle.cert_check.specs.Walks as rule;
-ghost use Rattle.cert_check.specs.Walks.{Make};
+ghost use Rattle.cert_check.specs.Walks.{Make, loop_by};
+ghost use Rattle.cert_check.specs.declared.refusal.Reason.TheVariants.{NoMemory as WantOfMemory};
 
 use crate::at::At;
 use crate::course::{Course, held, placed, refuse};
@@ -37,7 +39,7 @@ use bv_base::place::Place;
 use cert_format::cert::Loop;
 use name_table::builtin::Builtin;
 use name_table::names::Kind;
-use name_table::style::{Style, Token};
+use name_table::style::{MOST_BODIES, Style, Token};
 use std::alloc::Global;
 use std::marker::Model;
 use std::slice::from_ref;
@@ -64,8 +66,15 @@ impl Model for While {
     ghost view = { λ w. record { test = w.test; body = w.body; rest = w.rest } };
 }
 
+/// Whether loops are made for a token: it may be `while$`.
+pub(crate) fn makes_for<M: Loops>(at: &At<'_, M>, token: Token) -> bool
+    ensures { result ≡ is_some (rule.making_for (here M.made at.now) token) }
+{
+    is_while(at.scope.style(), token) && at.maker.makes()
+}
+
 /// Whether a token is `while$`.
-pub(crate) fn is_while(style: &Style, token: Token) -> bool
+fn is_while(style: &Style, token: Token) -> bool
     ensures { result ≡ rule.is_while_token style.now token }
 {
     match token {
@@ -80,10 +89,20 @@ pub(crate) fn while_in<M: Loops>(at: &At<'_, M>, state: &State, course: &mut Cou
     requires room { HasRoom at.now.scope.now.style 65 course.old.count state.now }
     ensures takes { Takes (rule.while_by_make (M.made at.now.maker.now) (here M.made at.now) at.now.place state.now course.old) course.new result }
 {
-    if !at.maker.makes() {
-        return repeated(at, state, course);
+    if at.maker.makes() {
+        while_alone(at, state, course)
+    } else {
+        repeated(at, state, course)
     }
-    let mut made = Vec::new(course.alloc());
+}
+
+/// `while$` in one state whose loop is made.
+fn while_alone<M: Loops>(at: &At<'_, M>, state: &State, course: &mut Course<'_>) -> Walk
+    requires sound { CanWalk at.now.scope.now (M.style at.now.maker.now) (M.made at.now.maker.now) }
+    requires room { HasRoom at.now.scope.now.style 65 course.old.count state.now }
+    ensures takes { Takes (rule.while_alone (loop_by (M.made at.now.maker.now)) (here M.made at.now) at.now.place state.now course.old) course.new result }
+{
+    let mut made = none_made(course);
     while_taken(at, from_ref(state), 0, state, &mut made, course)?;
     course.makes(at.place, made)
 }
@@ -92,15 +111,41 @@ pub(crate) fn while_in<M: Loops>(at: &At<'_, M>, state: &State, course: &mut Cou
 pub(crate) fn whiles<M: Loops>(at: &At<'_, M>, states: &[State], course: &mut Course<'_>) -> Walk
     requires sound { CanWalk at.now.scope.now (M.style at.now.maker.now) (M.made at.now.maker.now) }
     requires room { All (HasRoom at.now.scope.now.style 0 course.old.count) states.now }
-    ensures takes { IfSome (M.made at.now.maker.now)
-        (λ make. Takes (rule.whiles_from make (here M.made at.now) at.now.place states.now course.old) course.new result) }
+    ensures takes { Takes (rule.whiles_from (loop_by (M.made at.now.maker.now)) (here M.made at.now) at.now.place states.now course.old) course.new result }
 {
-    let mut made = Vec::new(course.alloc());
+    let mut made = none_made(course);
+    whiles_taken(at, states, &mut made, course)?;
+    course.makes(at.place, made)
+}
+
+/// No loop was made yet for the token in hand.
+fn none_made(course: &Course<'_>) -> Vec<Loop>
+    ensures none { result.items ≡ [] }
+    ensures made { (style : StyleValue) → AreMade style (record { made = result.items; course = course.now }) }
+{
+    let _ = course.loop_count();
+    Vec::new(course.alloc())
+}
+
+/// The states are taken, one after the other.
+fn whiles_taken<M: Loops>(
+    at: &At<'_, M>,
+    states: &[State],
+    made: &mut Vec<Loop>,
+    course: &mut Course<'_>,
+) -> Walk
+    requires sound { CanWalk at.now.scope.now (M.style at.now.maker.now) (M.made at.now.maker.now) }
+    requires room { All (HasRoom at.now.scope.now.style 0 course.old.count) states.now }
+    requires made { AreMade at.now.scope.now.style (record { made = made.old.items; course = course.old }) }
+    ensures takes { Takes (rule.whiles_taken (loop_by (M.made at.now.maker.now)) (here M.made at.now) at.now.place states.now [] states.now
+        (record { made = made.old.items; course = course.old })) (record { made = made.new.items; course = course.new }) result }
+    ensures made { OnOk result (AreMade at.now.scope.now.style (record { made = made.new.items; course = course.new })) }
+{
     for (k, state) in states.iter().enumerate() {
         course.counts(1, at.place)?;
-        while_taken(at, states, k, state, &mut made, course)?;
+        while_taken(at, states, k, state, made, course)?;
     }
-    course.makes(at.place, made)
+    Ok(())
 }
 
 /// `while$` in a state of a list, of which so many were taken.
@@ -117,10 +162,11 @@ fn while_taken<M: Loops>(
     requires states { All (WellMade at.now.scope.now.style) states.now }
     requires among { IsAmong state.now states.now }
     requires earlier { earlier ≤ length states.now }
-    requires loops { All (IsLoopOf at.now.scope.now.style) made.old.items }
-    ensures takes { IfSome (M.made at.now.maker.now)
-        (λ make. Takes (rule.while_taken make (here M.made at.now) at.now.place states.now (take earlier states.now) state.now
-        (record { made = made.old.items; course = course.old })) (record { made = made.new.items; course = course.new }) result) }
+    requires made { AreMade at.now.scope.now.style (record { made = made.old.items; course = course.old }) }
+    ensures takes { Takes (rule.while_taken (loop_by (M.made at.now.maker.now)) (here M.made at.now) at.now.place states.now (take earlier states.now) state.now
+        (record { made = made.old.items; course = course.old })) (record { made = made.new.items; course = course.new }) result }
+    ensures made { OnOk result (AreMade at.now.scope.now.style (record { made = made.new.items; course = course.new })) }
+    ensures rises { OnOk result (course.old.count ≤ course.new.count) }
 {
     let (lower, upper, rest) = two_functions(at.place, state)?;
     let test = exact_target(at.scope, state, lower);
@@ -144,22 +190,19 @@ fn while_made<M: Loops>(
     course: &mut Course<'_>,
 ) -> Walk
     requires sound { CanWalk at.now.scope.now (M.style at.now.maker.now) (M.made at.now.maker.now) }
-    requires room { HasRoom at.now.scope.now.style 64 course.old.count one.now.rest }
+    requires bounds { HasBounds one.now.rest }
+    requires room { one.now.rest.next + 64 ≤ 2147483648 + 65 * course.old.count }
     requires states { All (WellMade at.now.scope.now.style) states.now }
     requires enters { 1 ≤ length (rule.entering_with (here M.made at.now) one.now states.now) }
     requires earlier { earlier ≤ length states.now }
-    requires loops { All (IsLoopOf at.now.scope.now.style) made.old.items }
-    ensures takes { IfSome (M.made at.now.maker.now)
-        (λ make. Takes (rule.while_made make (here M.made at.now) at.now.place states.now (take earlier states.now) (Some one.now)
-        (record { made = made.old.items; course = course.old })) (record { made = made.new.items; course = course.new }) result) }
+    requires made { AreMade at.now.scope.now.style (record { made = made.old.items; course = course.old }) }
+    ensures takes { Takes (rule.while_made (loop_by (M.made at.now.maker.now)) (here M.made at.now) at.now.place states.now (take earlier states.now) (Some one.now)
+        (record { made = made.old.items; course = course.old })) (record { made = made.new.items; course = course.new }) result }
 {
-    let first = course.loop_count();
-    let k = loop_for(at, states, one, first, made, course.alloc())?;
+    let k = loop_for(at, states, one, made, course)?;
     let case = count_entering(at.scope, one, &states[..earlier]);
-    match made.as_slice().get(k) {
-        Some(found) => made_used(at, found, first + k, case, &one.rest, course),
-        None => refuse(at.place, Reason::NoInvariant),
-    }
+    let number = course.loop_count() + k;
+    made_used(at, &made[k], number, case, &one.rest, course)
 }
 
 /// The place among those that were made for the token of the loop of two functions: one that is there, or a new one.
@@ -167,24 +210,26 @@ fn loop_for<M: Loops>(
     at: &At<'_, M>,
     states: &[State],
     one: &While,
-    first: usize,
     made: &mut Vec<Loop>,
-    alloc: Global,
+    course: &Course<'_>,
 ) -> Result<usize, Refusal>
     requires sound { CanWalk at.now.scope.now (M.style at.now.maker.now) (M.made at.now.maker.now) }
     requires states { All (WellMade at.now.scope.now.style) states.now }
     requires enters { 1 ≤ length (rule.entering_with (here M.made at.now) one.now states.now) }
-    requires loops { All (IsLoopOf at.now.scope.now.style) made.old.items }
-    ensures takes { (course : CourseValue) → length course.loops ≡ first → IfSome (M.made at.now.maker.now)
-        (λ make. GoesOn (rule.loop_made at.now.place (rule.numbered one.now first made.old.items)
-        (make one.now.test one.now.body (rule.entering_with (here M.made at.now) one.now states.now)) (record { made = made.old.items; course = course }))
-        (λ k. rule.loop_made at.now.place (rule.numbered_at first k made.new.items) None (record { made = made.new.items; course = course })) result) }
-    ensures loops { IfOk result (λ _. All (IsLoopOf at.now.scope.now.style) made.new.items) }
-    ensures place { IfOk result (λ k. first + k ≤ 65536) }
+    requires made { AreMade at.now.scope.now.style (record { made = made.old.items; course = course.now }) }
+    ensures takes { GoesOn (rule.loop_made at.now.place (rule.numbered one.now (length course.now.loops) made.old.items)
+        (loop_by (M.made at.now.maker.now) one.now.test one.now.body (rule.entering_with (here M.made at.now) one.now states.now))
+        (record { made = made.old.items; course = course.now }))
+        (λ k. rule.loop_made at.now.place (rule.numbered_at (length course.now.loops) k made.new.items) None (record { made = made.new.items; course = course.now })) result }
+    ensures made { IfOk result (λ _. AreMade at.now.scope.now.style (record { made = made.new.items; course = course.now })) }
+    ensures there { IfOk result (λ k. k < length made.new.items) }
 {
     match place_among(one, made.as_slice()) {
         Some(k) => Ok(k),
-        None => loop_made(at, states, one, first, made, alloc),
+        None => {
+            let found = loop_found(at, states, one, course.alloc())?;
+            loop_made(at.place, found, made, course)
+        }
     }
 }
 
@@ -195,45 +240,81 @@ fn place_among(one: &While, made: &[Loop]) -> Option<usize>
     ensures there { IfSome result (λ k. k < length made.now) }
 {
     for (k, found) in made.iter().enumerate() {
-        if is_target(found.test, one.test) && is_target(found.body, one.body) {
+        if is_loop_of(one, found) {
             return Some(k);
         }
     }
     None
 }
 
-/// A loop is made for the states of a list that enter it.
-fn loop_made<M: Loops>(
+/// Whether a loop is that of two functions.
+fn is_loop_of(one: &While, found: &Loop) -> bool
+    ensures { result ≡ (rule.is_target found.now.test one.now.test && rule.is_target found.now.body one.now.body) }
+{
+    is_target(found.test, one.test) && is_target(found.body, one.body)
+}
+
+/// The loop that is made of two functions for the states of a list that enter it, where there is one.
+fn loop_found<M: Loops>(
     at: &At<'_, M>,
     states: &[State],
     one: &While,
-    first: usize,
-    made: &mut Vec<Loop>,
     alloc: Global,
-) -> Result<usize, Refusal>
+) -> Result<Option<Loop>, Refusal>
     requires sound { CanWalk at.now.scope.now (M.style at.now.maker.now) (M.made at.now.maker.now) }
     requires states { All (WellMade at.now.scope.now.style) states.now }
     requires enters { 1 ≤ length (rule.entering_with (here M.made at.now) one.now states.now) }
-    requires loops { All (IsLoopOf at.now.scope.now.style) made.old.items }
-    ensures takes { (course : CourseValue) → length course.loops ≡ first → IfSome (M.made at.now.maker.now)
-        (λ make. GoesOn (rule.loop_made at.now.place None
-        (make one.now.test one.now.body (rule.entering_with (here M.made at.now) one.now states.now)) (record { made = made.old.items; course = course }))
-        (λ k. rule.loop_made at.now.place (rule.numbered_at first k made.new.items) None (record { made = made.new.items; course = course })) result) }
-    ensures loops { IfOk result (λ _. All (IsLoopOf at.now.scope.now.style) made.new.items) }
-    ensures place { IfOk result (λ k. first + k ≤ 65536) }
+    ensures found { MatchResult result
+        (λ found. found ≡ loop_by (M.made at.now.maker.now) one.now.test one.now.body (rule.entering_with (here M.made at.now) one.now states.now))
+        (λ refusal. refusal.reason ≡ WantOfMemory) }
+    ensures sound { IfOk result (λ found. IfSome found (IsLoopOf at.now.scope.now.style)) }
 {
     let entering = held(at.place, entering_with(alloc, at.scope, one, states))?;
-    let found = held(
+    held(
         at.place,
         at.maker.make(one.test, one.body, entering.as_slice()),
-    )?;
-    let k = made.len();
+    )
+}
+
+/// What is made of two functions for which there is none, among those that were made for the token.
+fn loop_made(
+    place: Place,
+    found: Option<Loop>,
+    made: &mut Vec<Loop>,
+    course: &Course<'_>,
+) -> Result<usize, Refusal>
+    ensures takes { GoesOn (rule.loop_made place None found (record { made = made.old.items; course = course.now }))
+        (λ k. rule.loop_made place (rule.numbered_at (length course.now.loops) k made.new.items) None (record { made = made.new.items; course = course.now })) result }
+    ensures made { (style : StyleValue) → AreMade style (record { made = made.old.items; course = course.now }) → IfSome found (IsLoopOf style)
+        → IfOk result (λ _. AreMade style (record { made = made.new.items; course = course.now })) }
+    ensures there { IfOk result (λ k. k < length made.new.items) }
+{
     match found {
-        Some(found) if first + k < MOST_LOOPS => match made.push(found) {
-            Ok(()) => Ok(k),
-            Err(_) => refuse(at.place, Reason::NoMemory),
-        },
-        _ => refuse(at.place, Reason::NoInvariant),
+        Some(found) => put_loop(place, found, made, course),
+        None => refuse(place, Reason::NoInvariant),
+    }
+}
+
+/// A loop comes behind those that were made for the token, where a certificate may have so many.
+fn put_loop(
+    place: Place,
+    found: Loop,
+    made: &mut Vec<Loop>,
+    course: &Course<'_>,
+) -> Result<usize, Refusal>
+    ensures takes { GoesOn (rule.loop_made place None (Some found) (record { made = made.old.items; course = course.now }))
+        (λ k. rule.loop_made place (rule.numbered_at (length course.now.loops) k made.new.items) None (record { made = made.new.items; course = course.now })) result }
+    ensures made { (style : StyleValue) → AreMade style (record { made = made.old.items; course = course.now }) → IsLoopOf style found
+        → IfOk result (λ _. AreMade style (record { made = made.new.items; course = course.now })) }
+    ensures there { IfOk result (λ k. k < length made.new.items) }
+{
+    let k = made.len();
+    if k >= MOST_LOOPS - course.loop_count() {
+        return refuse(place, Reason::NoInvariant);
+    }
+    match made.push(found) {
+        Ok(()) => Ok(k),
+        Err(_) => refuse(place, Reason::NoMemory),
     }
 }
 
@@ -244,6 +325,7 @@ fn entering_with(
     one: &While,
     states: &[State],
 ) -> Result<Vec<State>, NoMemory>
+    requires { length scope.now.style.bodies ≤ MOST_BODIES }
     ensures { (make : Option Make) → IfOk result (λ entering. entering.items ≡ rule.entering_with (rule.scope_of scope.now make) one.now states.now) }
 {
     let mut entering = Vec::new(alloc);
@@ -257,16 +339,21 @@ fn entering_with(
 
 /// How many states of a list hold the same functions.
 fn count_entering(scope: &Scope<'_>, one: &While, states: &[State]) -> usize
+    requires { length scope.now.style.bodies ≤ MOST_BODIES }
     ensures { (make : Option Make) → result ≡ length (rule.entering_with (rule.scope_of scope.now make) one.now states.now) }
 {
-    states
-        .iter()
-        .filter(|state| holds(scope, one, state))
-        .count()
+    let mut count = 0;
+    for state in states {
+        if holds(scope, one, state) {
+            count += 1;
+        }
+    }
+    count
 }
 
 /// Whether a state holds these two functions on top.
 fn holds(scope: &Scope<'_>, one: &While, state: &State) -> bool
+    requires { length scope.now.style.bodies ≤ MOST_BODIES }
     ensures { (make : Option Make) → option_and_then (rule.rest_of one.now) (rule.while_in (rule.scope_of scope.now make) state.now)
         ≡ (if result then Some (without 2 state.now) else None) }
 {
@@ -274,19 +361,19 @@ fn holds(scope: &Scope<'_>, one: &While, state: &State) -> bool
         Ok((lower, upper)) => {
             let test = exact_target(scope, state, lower);
             let body = exact_target(scope, state, upper);
-            is_some_target(test, one.test) && is_some_target(body, one.body)
+            are_same(one, test, body)
         }
         Err(_) => false,
     }
 }
 
-/// A function is this one.
-fn is_some_target(found: Option<Target>, target: Target) -> bool
-    ensures { result ≡ option_map_or (λ other. rule.is_target target other) found false }
+/// Whether two functions are known, and are these.
+fn are_same(one: &While, test: Option<Target>, body: Option<Target>) -> bool
+    ensures { (rest : StateValue) → option_and_then (rule.rest_of one.now) (rule.while_by test body rest) ≡ (if result then Some rest else None) }
 {
-    match found {
-        Some(other) => is_target(target, other),
-        None => false,
+    match (test, body) {
+        (Some(test), Some(body)) => is_target(one.test, test) && is_target(one.body, body),
+        _ => false,
     }
 }
 
@@ -342,7 +429,13 @@ fn case_within<'p>(
     ensures within { IfOk result (λ case. length case.now.stack ≤ length state.now.stack) }
 {
     match cases.get(k) {
-        Some(case) if case.stack.as_slice().len() as u64 <= state.stack_len() => Ok(case),
-        _ => refuse(place, Reason::NotEntailed(0)),
+        Some(case) => {
+            if case.stack.as_slice().len() as u64 <= state.stack_len() {
+                Ok(case)
+            } else {
+                refuse(place, Reason::NotEntailed(0))
+            }
+        }
+        None => refuse(place, Reason::NotEntailed(0)),
     }
 }

@@ -4,6 +4,7 @@ ghost use Rattle.std.specs.Prelude.{◌≡◌, ◌≤◌, IfOk, length};
 ghost use Rattle.std.specs.List.{All};
 ghost use Rattle.name_table.specs.Sound.{Each};
 ghost use Rattle.cert_format.specs.CertText.{IsHint};
+ghost use Rattle.sym_state.specs.Demands.{HasFewUses};
 ghost use Rattle.sym_state.specs.WellMade.{HasBounds, IsBounded};
 ghost use Rattle.straight_hints.specs.Found as rule;
 
@@ -29,6 +30,7 @@ pub fn piece_hints(
     requires rows { All IsBounded piece.now.rows }
     requires few { state.now.next ≤ 4294967296 }
     ensures hints { IfOk result (λ hints. hints.items ≡ rule.piece_hints finding cond.now state.now piece.now) }
+    ensures short { IfOk result (λ hints. All HasFewUses hints.items) }
     ensures written { IfOk result (λ hints. Each IsHint hints.items) }
 {
     let at = At {

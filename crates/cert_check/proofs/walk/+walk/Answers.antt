@@ -104,8 +104,8 @@ chosen_in-returns g t c =
     }
 
 -- the next state
-pub taken_from-taken-requires : goal.taken_from-taken-requires
-taken_from-taken-requires g t c = (
+pub each_taken-taken-requires : goal.each_taken-taken-requires
+each_taken-taken-requires g t c = (
   search rules,
   (
     c.requires.sound,
@@ -114,8 +114,8 @@ taken_from-taken-requires g t c = (
   ),
 )
 
-pub taken_from-loop-state-preserved : goal.taken_from-loop-state-preserved
-taken_from-loop-state-preserved g t c = record {
+pub each_taken-loop-state-preserved : goal.each_taken-loop-state-preserved
+each_taken-loop-state-preserved g t c = record {
   taken = next_taken (here g.M.Loops.made c.args.at.now) (body_walked (here g.M.Loops.made c.args.at.now) c.args.at.now.more) c.args.token.now (into_iter_items c.loop-state.state-iterator)
       (into_iter_items c.next.new.self) c.in-Some.state c.loop-state.course c.taken.new.course _ c.in-Some.ensures.steps.0 c.loop-state.invariant.taken
       c.in_ok-taken.ensures.takes;

@@ -11,10 +11,13 @@ abbrev pub decreases-body_walked : goal.decreases-body_walked
 decreases-body_walked g l = 2 ^ 70 * l.at.now.more
 
 abbrev pub decreases-walked : goal.decreases-walked
-decreases-walked g l = 2 ^ 70 * l.at.now.more + 2 ^ 69 + 2
+decreases-walked g l = 2 ^ 70 * l.at.now.more + 2 ^ 69 + 3
 
 abbrev pub decreases-taken_from : goal.decreases-taken_from
-decreases-taken_from g l = 2 ^ 70 * l.at.now.more + 2 ^ 69 + 1
+decreases-taken_from g l = 2 ^ 70 * l.at.now.more + 2 ^ 69 + 2
+
+abbrev pub decreases-each_taken : goal.decreases-each_taken
+decreases-each_taken g l = 2 ^ 70 * l.at.now.more + 2 ^ 69 + 1
 
 abbrev pub decreases-taken : goal.decreases-taken
 decreases-taken g l = 2 ^ 70 * l.at.now.more + 2 ^ 69
@@ -52,10 +55,10 @@ invariant-walked-loop-token g l = record {
 }
 
 -- the states that are left give what all of them do
-abbrev pub invariant-taken_from-loop-state : goal.invariant-taken_from-loop-state
-invariant-taken_from-loop-state g l = record {
-  taken : rule.taken_from (here g.M.Loops.made l.at) (inside g.M.Loops.made l.at) l.token (into_iter_items l.state-iterator) l.course
-      ≡ rule.taken_from (here g.M.Loops.made l.at) (inside g.M.Loops.made l.at) l.token l.fn.states.items l.initial.course;
+abbrev pub invariant-each_taken-loop-state : goal.invariant-each_taken-loop-state
+invariant-each_taken-loop-state g l = record {
+  taken : rule.each_taken (here g.M.Loops.made l.at) (inside g.M.Loops.made l.at) l.token (into_iter_items l.state-iterator) l.course
+      ≡ rule.each_taken (here g.M.Loops.made l.at) (inside g.M.Loops.made l.at) l.token l.fn.states.items l.initial.course;
   room : All (HasRoom l.at.scope.now.style 0 l.course.count) (into_iter_items l.state-iterator);
 }
 
