@@ -91,7 +91,8 @@ kept_all : (P : State → Type 0) (o : Option State) (states : List State) → I
 kept_all P (Some state) states is later = All-cons P state states is later
 kept_all P None states is later = later
 
-entering_all : (scope : Scope) (one : While) (states : List State) → All (WellMade scope.style) states → All (WellMade scope.style) (entering_with scope one states)
+-- so are all that enter
+pub entering_all : (scope : Scope) (one : While) (states : List State) → All (WellMade scope.style) states → All (WellMade scope.style) (entering_with scope one states)
 entering_all scope one [] made = All-nil (WellMade scope.style)
 entering_all scope one (state ∷ states) made =
     kept_all (WellMade scope.style) (option_and_then (rest_of one) (while_in scope state)) (entering_with scope one states)

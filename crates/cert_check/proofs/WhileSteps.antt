@@ -1,5 +1,5 @@
 -- What the steps of `while$` come to where loops are made.
-use Rattle.std.proofs.Common.{◌≡◌, ℕ, zero, suc, ◌+◌, ◌≤◌, ◌<◌, Bool, true, false, ◌&&◌, cond, List, [], ◌∷◌, ◌++◌, drop, take, length, map, slice_get, Option, None, Some, IfSome, Result, Ok, Err, OnOk, is_some, nat_lt, refl, sym, ap, ◌∙◌, subst, add-one, arith, inl, inr}
+use Rattle.std.proofs.Common.{◌≡◌, ℕ, zero, suc, ◌+◌, ◌≤◌, ◌<◌, Bool, true, false, ◌&&◌, cond, List, [], ◌∷◌, ◌++◌, append_assoc, drop, take, get_or, length, map, slice_get, Option, None, Some, IfOk, IfSome, MatchResult, Result, Ok, Err, OnOk, is_some, nat_lt, refl, sym, ap, ◌∙◌, subst, add-one, arith, inl, inr}
 use Rattle.std.specs.List.{All, cons_option, list_all}
 use Rattle.std.specs.Option.{option_and_then, option_map, option_map_or}
 use Rattle.std.specs.Result.{result_ok}
@@ -7,6 +7,7 @@ use Rattle.std.proofs.lemmas.Bool.Decides.{nat_tests}
 use Rattle.std.proofs.lemmas.List.{length-append}
 use Rattle.std.proofs.lemmas.List.Elements.{All-append, All-cons, All-drop, All-head, All-nil, All-weaker}
 use Rattle.bv_base.specs.Answers.{then_do}
+use Rattle.bv_base.specs.declared.memory.NoMemory.{NoMemory as Wanting}
 use Rattle.bv_base.specs.declared.place.Place.{Place}
 use Rattle.bv_base.proofs.ThenLemmas.{ok_is, then_ok, where_ok}
 use Rattle.name_table.specs.declared.style.Style.{Style}
@@ -36,13 +37,14 @@ use Rattle.cert_check.specs.Room.{HasRoom}
 use Rattle.cert_check.specs.Uses.{Passage, around, comes_by, fits, left_state}
 use Rattle.cert_check.specs.Walks.{Come, Enter, Make, Making, Numbered, Over, Scope, While, each_taken, entering_with, exact_target, is_target, leaves, loop_by, loop_made, made_used, making_for, may_write, numbered, numbered_at, repeated, rest_of, scope_of, taken_by, taken_from, while_alone, while_by, while_by_make, while_in, while_made, while_of, while_taken, whiles_from, whiles_taken, comes_to, comes_by_case, coming_hints}
 use Rattle.cert_check.specs.declared.limits.TheConstants.{MOST_LOOPS}
-use Rattle.cert_check.specs.declared.refusal.Reason.TheVariants.{NoInvariant, NotEntailed}
+use Rattle.cert_check.specs.declared.refusal.Reason.TheVariants.{NoInvariant, NoMemory as WantOfMemory, NotEntailed, UnknownFunction}
 use Rattle.cert_check.specs.declared.refusal.Refusal.{Refusal}
 use Rattle.cert_check.proofs.Inverted.{counts_ok, gives_all_ok, placed_ok}
-use Rattle.cert_check.proofs.Keeping.{Told, told_by}
-use Rattle.cert_check.proofs.Makings.{Whiled, some_enter, while_moved}
+use Rattle.cert_check.proofs.Keeping.{Told, element, told_by}
+use Rattle.cert_check.proofs.Makings.{Whiled, entering_all, some_enter, while_moved}
 use Rattle.cert_check.proofs.Walked.{making_is}
 use Rattle.cert_check.proofs.RoomLeft.{all_room}
+use Rattle.cert_check.proofs.WalkSteps.{item_at}
 
 -- a rule that comes to what another one does
 pub goes_same : {A T : Type 0} (wanted other : Result A Refusal) (next : T → Result A Refusal) (result : Result T Refusal) → wanted ≡ other
@@ -122,15 +124,51 @@ held_none scope one state fault e =
     ap (λ (r : Result Two EffectFault). option_and_then (rest_of one) (option_and_then (while_of scope state) (result_ok r))) e
 
 -- so it enters with them, or doesn't
-pub one_enters : (scope : Scope) (one : While) (states rest : List State) (state left : State) → states ≡ state ∷ rest
-    → option_and_then (rest_of one) (while_in scope state) ≡ Some left → entering_with scope one states ≡ left ∷ entering_with scope one rest
-one_enters scope one states rest state left is e =
-    ap (entering_with scope one) is ∙ ap (λ (o : Option State). cons_option o (entering_with scope one rest)) e
+one_enters : (scope : Scope) (one : While) (states rest : List State) (state left : State) (held : Bool) → states ≡ state ∷ rest → held ≡ true
+    → option_and_then (rest_of one) (while_in scope state) ≡ cond held (Some left) None → entering_with scope one states ≡ left ∷ entering_with scope one rest
+one_enters scope one states rest state left held is yes e =
+    ap (entering_with scope one) is
+    ∙ ap (λ (o : Option State). cons_option o (entering_with scope one rest)) (e ∙ ap (λ (b : Bool). cond b (Some left) None) yes)
 
-pub none_enters : (scope : Scope) (one : While) (states rest : List State) (state : State) → states ≡ state ∷ rest
-    → option_and_then (rest_of one) (while_in scope state) ≡ None → entering_with scope one states ≡ entering_with scope one rest
-none_enters scope one states rest state is e =
-    ap (entering_with scope one) is ∙ ap (λ (o : Option State). cons_option o (entering_with scope one rest)) e
+none_enters : (scope : Scope) (one : While) (states rest : List State) (state left : State) (held : Bool) → states ≡ state ∷ rest → held ≡ false
+    → option_and_then (rest_of one) (while_in scope state) ≡ cond held (Some left) None → entering_with scope one states ≡ entering_with scope one rest
+none_enters scope one states rest state left held is no e =
+    ap (entering_with scope one) is
+    ∙ ap (λ (o : Option State). cons_option o (entering_with scope one rest)) (e ∙ ap (λ (b : Bool). cond b (Some left) None) no)
+
+-- the states that are left, where the first is counted or passed over
+pub counts_one : (scope : Scope) (one : While) (states rest : List State) (state left : State) (held : Bool) (count all : ℕ) → states ≡ state ∷ rest → held ≡ true
+    → option_and_then (rest_of one) (while_in scope state) ≡ cond held (Some left) None → count + length (entering_with scope one states) ≡ all
+    → (count + 1) + length (entering_with scope one rest) ≡ all
+counts_one scope one states rest state left held count all is yes e before =
+    let longer : length (entering_with scope one states) ≡ length (entering_with scope one rest) + 1 =
+    ap length (one_enters scope one states rest state left held is yes e) ∙ sym (add-one (length (entering_with scope one rest))) in
+    omega (arith, longer, before)
+
+pub counts_none : (scope : Scope) (one : While) (states rest : List State) (state left : State) (held : Bool) (count all : ℕ) → states ≡ state ∷ rest
+    → held ≡ false → option_and_then (rest_of one) (while_in scope state) ≡ cond held (Some left) None → count + length (entering_with scope one states) ≡ all
+    → count + length (entering_with scope one rest) ≡ all
+counts_none scope one states rest state left held count all is no e before =
+    sym (ap (λ (l : List State). count + length l) (none_enters scope one states rest state left held is no e)) ∙ before
+
+pub enters_one : (scope : Scope) (one : While) (states rest before now all : List State) (state left : State) (held : Bool) → states ≡ state ∷ rest → held ≡ true
+    → option_and_then (rest_of one) (while_in scope state) ≡ cond held (Some left) None → now ≡ before ++ left ∷ []
+    → before ++ entering_with scope one states ≡ all → now ++ entering_with scope one rest ≡ all
+enters_one scope one states rest before now all state left held is yes e more left_over =
+    ap (λ (l : List State). l ++ entering_with scope one rest) more
+    ∙ append_assoc before (left ∷ []) (entering_with scope one rest)
+    ∙ ap (λ (l : List State). before ++ l) (sym (one_enters scope one states rest state left held is yes e))
+    ∙ left_over
+
+pub enters_none : (scope : Scope) (one : While) (states rest before all : List State) (state left : State) (held : Bool) → states ≡ state ∷ rest → held ≡ false
+    → option_and_then (rest_of one) (while_in scope state) ≡ cond held (Some left) None → before ++ entering_with scope one states ≡ all
+    → before ++ entering_with scope one rest ≡ all
+enters_none scope one states rest before all state left held is no e left_over =
+    sym (ap (λ (l : List State). before ++ l) (none_enters scope one states rest state left held is no e)) ∙ left_over
+
+-- the element at an index stands before those behind it
+pub next_at : {X : Type 0} (xs : List X) (k : ℕ) (x : X) → k < length xs → x ≡ get_or xs k x → drop k xs ≡ x ∷ drop (k + 1) xs
+next_at {X} xs k x inside is = item_at xs k x inside ∙ ap (λ (y : X). y ∷ drop (k + 1) xs) (sym is)
 
 -- a loop with its number, where it stands at a place among those that are numbered from a number
 abbrev numbered_so : ℕ → Loop → Option Numbered
@@ -253,18 +291,38 @@ this_enters scope place states state rest lower upper test body e test_is body_i
 
 -- its two functions are looked up
 pub known_while : {T : Type 0} (make : Make) (scope : Scope) (place : Place) (states earlier : List State) (state rest : State) (lower upper : Sym)
-    (test body : Option Target) (making after : Making) (result : Result T Refusal)
+    (test body : Target) (making after : Making) (result : Result T Refusal)
     → placed place (two_of Func Func state) ≡ Ok (record { lower = lower; upper = upper; rest = rest })
-    → test ≡ exact_target scope.style state lower → body ≡ exact_target scope.style state upper
-    → Takes (while_made make scope place states earlier (while_by test body rest) making) after result
+    → Some test ≡ exact_target scope.style state lower → Some body ≡ exact_target scope.style state upper
+    → Takes (while_made make scope place states earlier (Some (record { test = test; body = body; rest = rest })) making) after result
     → Takes (while_taken make scope place states earlier state making) after result
 known_while {T} make scope place states earlier state rest lower upper test body making after result e test_is body_is takes =
     let two : Two = record { lower = lower; upper = upper; rest = rest } in
     let next : Two → Result Making Refusal = λ two. while_made make scope place states earlier (while_of scope state two) making in
-    takes_same _ (while_made make scope place states earlier (while_by test body rest) making) after result
+    let one : While = record { test = test; body = body; rest = rest } in
+    takes_same _ (while_made make scope place states earlier (Some one) making) after result
     (first_goes (placed place (two_of Func Func state)) next two e
     ∙ ap (λ (o : Option Target). while_made make scope place states earlier (while_by o (exact_target scope.style state upper) rest) making) (sym test_is)
-    ∙ ap (λ (o : Option Target). while_made make scope place states earlier (while_by test o rest) making) (sym body_is)) takes
+    ∙ ap (λ (o : Option Target). while_made make scope place states earlier (while_by (Some test) o rest) making) (sym body_is)) takes
+
+-- one of them isn't known
+pub unknown_while : (make : Make) (scope : Scope) (place : Place) (states earlier : List State) (state rest : State) (lower upper : Sym) (test body : Option Target)
+    (making : Making) → placed place (two_of Func Func state) ≡ Ok (record { lower = lower; upper = upper; rest = rest })
+    → test ≡ exact_target scope.style state lower → body ≡ exact_target scope.style state upper → (is_some test && is_some body) ≡ false
+    → while_taken make scope place states earlier state making ≡ refuses place UnknownFunction
+unknown_while make scope place states earlier state rest lower upper test body making e test_is body_is none =
+    let two : Two = record { lower = lower; upper = upper; rest = rest } in
+    let next : Two → Result Making Refusal = λ two. while_made make scope place states earlier (while_of scope state two) making in
+    first_goes (placed place (two_of Func Func state)) next two e
+    ∙ ap (λ (o : Option Target). while_made make scope place states earlier (while_by o (exact_target scope.style state upper) rest) making) (sym test_is)
+    ∙ ap (λ (o : Option Target). while_made make scope place states earlier (while_by test o rest) making) (sym body_is)
+    ∙ by_known test body none
+  where
+    by_known : (test body : Option Target) → (is_some test && is_some body) ≡ false
+        → while_made make scope place states earlier (while_by test body rest) making ≡ refuses place UnknownFunction
+    by_known (Some test) (Some body) none = absurd (cc)
+    by_known (Some test) None none = refl
+    by_known None body none = refl
 
 -- what a use of a loop leaves of the loops that were made
 leaves_loops : (scope : Scope) (place : Place) (unit : Passage) (pre : Piece) (posts : List Piece) (kept : ℕ) (state : State) (course after : Course)
@@ -511,3 +569,122 @@ pub room_at : (style : Style) (count : ℕ) (states rest : List State) (state : 
     → All (HasRoom style 0 count) states → HasRoom style 0 count state
 room_at style count states rest state k e all =
     All-head (HasRoom style 0 count) state rest (subst (All (HasRoom style 0 count)) e (All-drop (HasRoom style 0 count) k states all))
+
+pub counted_room : (style : Style) (state : State) (place : Place) (course counted : Course) → counts 1 place course ≡ Ok counted
+    → HasRoom style 0 course.count state → HasRoom style 64 counted.count state
+counted_room style state place course counted e room =
+    let few = room.few in
+    let more : counted.count ≡ course.count + 1 = ap (λ (c : Course). c.count) (counts_ok 1 place course counted e) in
+    record { made = room.made; few = omega (arith, few, more) }
+
+pub counted_made : (style : Style) (place : Place) (made : List Loop) (course counted : Course) → counts 1 place course ≡ Ok counted
+    → AreMade style (record { made = made; course = course }) → AreMade style (record { made = made; course = counted })
+counted_made style place made course counted e all =
+    let same : counted.loops ≡ course.loops = ap (λ (c : Course). c.loops) (counts_ok 1 place course counted e) in
+    record { made = all.made; few = subst (λ (l : List Loop). length l + length made ≤ MOST_LOOPS) (sym same) all.few }
+
+pub counted_later : (place : Place) (course counted after : Course) → counts 1 place course ≡ Ok counted → counted.count ≤ after.count → course.count ≤ after.count
+counted_later place course counted after e rises =
+    let more : counted.count ≡ course.count + 1 = ap (λ (c : Course). c.count) (counts_ok 1 place course counted e) in
+    omega (arith, more, rises)
+
+-- none was made yet
+pub none_are : (style : Style) (made : List Loop) (course : Course) → made ≡ [] → length course.loops ≤ MOST_LOOPS
+    → AreMade style (record { made = made; course = course })
+none_are style made course none few =
+    subst (λ (l : List Loop). AreMade style (record { made = l; course = course })) (sym none)
+    (record { made = All-nil (IsLoopOf style); few = omega (arith, few) })
+
+-- those that were made come behind the ones before
+pub all_take : {T : Type 0} (first : Result Making Refusal) (making : Making) (after : Course) (result : Result T Refusal) → first ≡ Ok making
+    → MatchResult result (λ _. after ≡ all_made making) (λ refusal. refusal.reason ≡ WantOfMemory)
+    → Takes (then_do first (λ making. Ok (all_made making))) after result
+all_take {T} first making after (Ok x) e is = first_goes first (λ making. Ok (all_made making)) making e ∙ ap (λ (c : Course). let ok : Walk = Ok c in ok) (sym is)
+all_take {T} first making after (Err refusal) e is = λ differs. absurd (differs is)
+
+only_one : (make : Make) (scope : Scope) (place : Place) (states earlier : List State) (state : State) (made : List Loop) (course : Course) → states ≡ state ∷ []
+    → earlier ≡ [] → made ≡ []
+    → while_taken make scope place states earlier state (record { made = made; course = course })
+    ≡ while_taken make scope place (state ∷ []) [] state (record { made = []; course = course })
+only_one make scope place states earlier state made course one none empty =
+    ap (λ (l : List State). while_taken make scope place l earlier state (record { made = made; course = course })) one
+    ∙ ap (λ (l : List State). while_taken make scope place (state ∷ []) l state (record { made = made; course = course })) none
+    ∙ ap (λ (l : List Loop). while_taken make scope place (state ∷ []) [] state (record { made = l; course = course })) empty
+
+pub alone_take : {T : Type 0} (make : Make) (scope : Scope) (place : Place) (states earlier : List State) (state : State) (made : List Loop) (making : Making)
+    (course after : Course) (result : Result T Refusal) → states ≡ state ∷ [] → earlier ≡ [] → made ≡ []
+    → while_taken make scope place states earlier state (record { made = made; course = course }) ≡ Ok making
+    → MatchResult result (λ _. after ≡ all_made making) (λ refusal. refusal.reason ≡ WantOfMemory)
+    → Takes (while_alone make scope place state course) after result
+alone_take {T} make scope place states earlier state made making course after result one none empty e is =
+    all_take (while_taken make scope place (state ∷ []) [] state (record { made = []; course = course })) making after result
+    (sym (only_one make scope place states earlier state made course one none empty) ∙ e) is
+
+pub alone_refused : (make : Make) (scope : Scope) (place : Place) (states earlier : List State) (state : State) (made : List Loop) (course : Course)
+    (refusal : Refusal) → states ≡ state ∷ [] → earlier ≡ [] → made ≡ []
+    → Refused (while_taken make scope place states earlier state (record { made = made; course = course })) refusal
+    → Refused (while_alone make scope place state course) refusal
+alone_refused make scope place states earlier state made course refusal one none empty refused =
+    first_refused (while_taken make scope place (state ∷ []) [] state (record { made = []; course = course })) (λ making. Ok (all_made making)) refusal
+    (λ differs. sym (only_one make scope place states earlier state made course one none empty) ∙ refused differs)
+
+pub whiles_end : {T : Type 0} (make : Make) (scope : Scope) (place : Place) (states : List State) (made : List Loop) (making : Making) (course after : Course)
+    (result : Result T Refusal) → made ≡ [] → whiles_taken make scope place states [] states (record { made = made; course = course }) ≡ Ok making
+    → MatchResult result (λ _. after ≡ all_made making) (λ refusal. refusal.reason ≡ WantOfMemory)
+    → Takes (whiles_from make scope place states course) after result
+whiles_end {T} make scope place states made making course after result empty e is =
+    all_take (whiles_taken make scope place states [] states (record { made = []; course = course })) making after result
+    (sym (ap (λ (l : List Loop). whiles_taken make scope place states [] states (record { made = l; course = course })) empty) ∙ e) is
+
+pub whiles_refused : (make : Make) (scope : Scope) (place : Place) (states : List State) (made : List Loop) (course : Course) (refusal : Refusal) → made ≡ []
+    → Refused (whiles_taken make scope place states [] states (record { made = made; course = course })) refusal
+    → Refused (whiles_from make scope place states course) refusal
+whiles_refused make scope place states made course refusal empty refused =
+    first_refused (whiles_taken make scope place states [] states (record { made = []; course = course })) (λ making. Ok (all_made making)) refusal
+    (λ differs. sym (ap (λ (l : List Loop). whiles_taken make scope place states [] states (record { made = l; course = course })) empty) ∙ refused differs)
+
+-- what holds of a value that is held
+pub ok_has : {A E : Type 0} (P : A → Type 0) (r : Result A E) (x : A) → r ≡ Ok x → IfOk r P → P x
+ok_has {A} {E} P r x e has = subst (λ (r : Result A E). IfOk r P) e has
+
+-- the loop that is made of those that enter
+pub found_is : (answer : Result (Option Loop) Wanting) (wanted : Option Loop) (result : Result (Option Loop) Refusal)
+    → MatchResult result (λ value. answer ≡ Ok value) (λ refusal. refusal.reason ≡ WantOfMemory) → IfOk answer (λ found. found ≡ wanted)
+    → MatchResult result (λ found. found ≡ wanted) (λ refusal. refusal.reason ≡ WantOfMemory)
+found_is answer wanted (Ok found) held is = ok_has (λ (found : Option Loop). found ≡ wanted) answer found held is
+found_is answer wanted (Err refusal) held is = held
+
+pub found_sound : (style : Style) (answer : Result (Option Loop) Wanting) (wanted : Option Loop) (result : Result (Option Loop) Refusal)
+    → MatchResult result (λ value. answer ≡ Ok value) (λ refusal. refusal.reason ≡ WantOfMemory) → IfOk answer (λ found. found ≡ wanted)
+    → IfSome wanted (IsLoopOf style) → IfOk result (λ found. IfSome found (IsLoopOf style))
+found_sound style answer wanted (Ok found) held is sound =
+    subst (λ (o : Option Loop). IfSome o (IsLoopOf style)) (sym (ok_has (λ (found : Option Loop). found ≡ wanted) answer found held is)) sound
+found_sound style answer wanted (Err refusal) held is sound = tt
+
+pub found_entering : (make : Make) (test body : Target) (entering wanted : List State) (answer : Result (Option Loop) Wanting) → entering ≡ wanted
+    → IfOk answer (λ found. found ≡ make test body entering) → IfOk answer (λ found. found ≡ make test body wanted)
+found_entering make test body entering wanted answer is found =
+    subst (λ (l : List State). IfOk answer (λ found. found ≡ make test body l)) is found
+
+pub loop_sound : (over : Over) (style : Style) (make : Option Make) (one : While) (states : List State) → CanWalk over style make → All (WellMade over.style) states
+    → 1 ≤ length (entering_with (scope_of over make) one states)
+    → IfSome (loop_by make one.test one.body (entering_with (scope_of over make) one states)) (IsLoopOf over.style)
+loop_sound over style make one states can all some =
+    made_loops over.style make can.makes one.test one.body (entering_with (scope_of over make) one states) some (entering_all (scope_of over make) one states all)
+
+pub entering_made : (over : Over) (style : Style) (make : Option Make) (one : While) (states entering : List State) → CanWalk over style make
+    → All (WellMade over.style) states → entering ≡ entering_with (scope_of over make) one states → All (WellMade style) entering
+entering_made over style make one states entering can all is =
+    subst (λ (s : Style). All (WellMade s) entering) (sym can.same)
+    (subst (All (WellMade over.style)) (sym is) (entering_all (scope_of over make) one states all))
+
+-- the loop at a place is one of the style
+pub loop_there : (style : Style) (making : Making) (k : ℕ) (found : Loop) → AreMade style making → slice_get making.made k ≡ Some found → IsLoopOf style found
+loop_there style making k found all there = element (IsLoopOf style) making.made k found all.made there
+
+-- what holds of one holds of all, where it is the only one
+pub all_only : (P : State → Type 0) (state : State) (states : List State) → states ≡ state ∷ [] → P state → All P states
+all_only P state states is holds = subst (All P) (sym is) (All-cons P state [] holds (All-nil P))
+
+pub among_only : (state : State) (states : List State) → states ≡ state ∷ [] → IsAmong state states
+among_only state states is = subst (IsAmong state) (sym is) (inl refl)

@@ -201,8 +201,16 @@ fn while_made<M: Loops>(
 {
     let k = loop_for(at, states, one, made, course)?;
     let case = count_entering(at.scope, one, &states[..earlier]);
-    let number = course.loop_count() + k;
-    made_used(at, &made[k], number, case, &one.rest, course)
+    let found = loop_at(made.as_slice(), k);
+    made_used(at, found, course.loop_count() + k, case, &one.rest, course)
+}
+
+/// The loop at a place.
+fn loop_at(made: &[Loop], k: usize) -> &Loop
+    requires { k < length made.now }
+    ensures { slice_get made.now k ≡ Some result.now }
+{
+    &made[k]
 }
 
 /// The place among those that were made for the token of the loop of two functions: one that is there, or a new one.
@@ -331,7 +339,8 @@ fn entering_with(
     let mut entering = Vec::new(alloc);
     for state in states {
         if holds(scope, one, state) {
-            entering.push(state.without(2)?)?;
+            let rest = state.without(2)?;
+            entering.push(rest)?;
         }
     }
     Ok(entering)

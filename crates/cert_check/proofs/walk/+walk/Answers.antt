@@ -11,6 +11,7 @@ use Rattle.cert_check.specs.Walks.{body_walked, chosen_in}
 use Rattle.cert_check.proofs.LoopSteps.{branch_is, called_refused, called_room, next_called}
 use Rattle.cert_check.proofs.OwnStacks.{by_own_stack}
 use Rattle.cert_check.proofs.WalkSteps.{begun_room, built_in_takes, each_at, first_room, item_at, body_refused, body_takes, case_within, chosen_refused, chosen_takes, next_entered, next_taken, next_walked, rest_room, rest_within, token_kept, tokens_sound}
+use Rattle.cert_check.proofs.WhileSteps.{each_takes, whiles_take}
 use Rattle.cert_check.proofs.walk.+walk.Goals as goal
 
 -- a body
@@ -102,6 +103,19 @@ chosen_in-returns g t c =
           c.cases_entered.new.course c.cases_entered.result
           (c.in_ok-three.ensures.takes enter (by_own_stack (here g.M.Loops.made c.args.at.now) enter c.args.at.now.place)) c.cases_entered.ensures.takes;
     }
+
+-- all states of a token, or each of them
+pub taken_from-returns-then-makes_for : goal.taken_from-returns-then-makes_for
+taken_from-returns-then-makes_for g t c = record {
+  takes = whiles_take (here g.M.Loops.made c.args.at.now) (body_walked (here g.M.Loops.made c.args.at.now) c.args.at.now.more) c.args.token.now c.args.states.items
+      c.args.course.now c.whiles.new.course c.whiles.result (search rules) (search rules);
+}
+
+pub taken_from-returns-else-makes_for : goal.taken_from-returns-else-makes_for
+taken_from-returns-else-makes_for g t c = record {
+  takes = each_takes (here g.M.Loops.made c.args.at.now) (body_walked (here g.M.Loops.made c.args.at.now) c.args.at.now.more) c.args.token.now c.args.states.items
+      c.args.course.now c.each_taken.new.course c.each_taken.result (search rules) c.each_taken.ensures.takes;
+}
 
 -- the next state
 pub each_taken-taken-requires : goal.each_taken-taken-requires
