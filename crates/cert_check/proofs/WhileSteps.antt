@@ -5,6 +5,7 @@ use Rattle.std.specs.Option.{option_and_then, option_map, option_map_or}
 use Rattle.std.specs.Result.{result_ok}
 use Rattle.std.proofs.lemmas.Bool.Decides.{nat_tests}
 use Rattle.std.proofs.lemmas.List.{length-append}
+use Rattle.std.proofs.lemmas.Option.{slice_get-get_or}
 use Rattle.std.proofs.lemmas.List.Elements.{All-append, All-cons, All-drop, All-head, All-nil, All-weaker}
 use Rattle.bv_base.specs.Answers.{then_do}
 use Rattle.bv_base.specs.declared.memory.NoMemory.{NoMemory as Wanting}
@@ -35,7 +36,7 @@ use Rattle.cert_check.specs.Courses.{Course, Walk, counts, gives_all, placed, re
 use Rattle.cert_check.specs.Given.{GoesOn, Refused, Takes}
 use Rattle.cert_check.specs.Room.{HasRoom}
 use Rattle.cert_check.specs.Uses.{Passage, around, comes_by, fits, left_state}
-use Rattle.cert_check.specs.Walks.{Come, Enter, Make, Making, Numbered, Over, Scope, While, each_taken, entering_with, exact_target, is_target, leaves, loop_by, loop_made, made_used, making_for, may_write, numbered, numbered_at, repeated, rest_of, scope_of, taken_by, taken_from, while_alone, while_by, while_by_make, while_in, while_made, while_of, while_taken, whiles_from, whiles_taken, comes_to, comes_by_case, coming_hints}
+use Rattle.cert_check.specs.Walks.{Come, Enter, Make, Making, Numbered, Over, Scope, While, each_taken, entering_with, exact_target, is_target, leaves, made_by, loop_made, made_used, making_for, may_write, numbered, numbered_at, repeated, rest_of, scope_of, taken_by, taken_from, while_alone, while_by, while_by_make, while_in, while_made, while_of, while_taken, whiles_from, whiles_taken, comes_to, comes_by_case, coming_hints}
 use Rattle.cert_check.specs.declared.limits.TheConstants.{MOST_LOOPS}
 use Rattle.cert_check.specs.declared.refusal.Reason.TheVariants.{NoInvariant, NoMemory as WantOfMemory, NotEntailed, UnknownFunction}
 use Rattle.cert_check.specs.declared.refusal.Refusal.{Refusal}
@@ -55,6 +56,11 @@ pub takes_same : {A T : Type 0} (wanted other : Result A Refusal) (after : A) (r
     → Takes wanted after result
 takes_same {A} {T} wanted other after result same takes = subst (λ (w : Result A Refusal). Takes w after result) (sym same) takes
 
+-- a call that refuses what the rule does
+pub refuses_so : {A T : Type 0} (wanted : Result A Refusal) (next : T → Result A Refusal) (refusal : Refusal) (result : Result T Refusal) → result ≡ Err refusal
+    → wanted ≡ Err refusal → GoesOn wanted next result
+refuses_so {A} {T} wanted next refusal result is same = subst (GoesOn wanted next) (sym is) (λ differs. same)
+
 -- a first step that is refused is the whole's refusal
 pub first_refused : {A B : Type 0} (first : Result A Refusal) (next : A → Result B Refusal) (refusal : Refusal) → Refused first refusal
     → Refused (then_do first next) refusal
@@ -70,7 +76,7 @@ mapped_takes {A} {B} {T} first made after (Ok x) takes = first_goes first (λ a.
 mapped_takes {A} {B} {T} first made after (Err refusal) refused = first_refused first (λ a. Ok (made a)) refusal refused
 
 -- the loops that are made are loops of the style
-pub made_loops : (style : Style) (make : Option Make) → IfSome make (MakesLoops style) → MakesLoops style (loop_by make)
+pub made_loops : (style : Style) (make : Option Make) → IfSome make (MakesLoops style) → MakesLoops style (made_by make)
 made_loops style None makes = λ test body states some made. tt
 made_loops style (Some make) makes = makes
 
@@ -85,14 +91,14 @@ each_takes {T} scope enter t states course after result none takes = by_make (ma
     by_make (Some make) none = absurd (cc)
 
 pub whiles_take : {T : Type 0} (scope : Scope) (enter : Enter) (t : TokenAt) (states : List State) (course after : Course) (result : Result T Refusal)
-    → is_some (making_for scope t.token) ≡ true → Takes (whiles_from (loop_by scope.make) scope t.place states course) after result
+    → is_some (making_for scope t.token) ≡ true → Takes (whiles_from (made_by scope.make) scope t.place states course) after result
     → Takes (taken_from scope enter t states course) after result
 whiles_take {T} scope enter t states course after result some takes = by_make (making_for scope t.token) refl some
   where
     by_make : (found : Option Make) → making_for scope t.token ≡ found → is_some found ≡ true → Takes (taken_by found scope enter t states course) after result
     by_make None is some = absurd (cc)
     by_make (Some make) is some =
-        subst (λ (o : Option Make). Takes (whiles_from (loop_by o) scope t.place states course) after result) (making_is scope t.token make is) takes
+        subst (λ (o : Option Make). Takes (whiles_from (made_by o) scope t.place states course) after result) (making_is scope t.token make is) takes
 
 -- `while$` in a state
 pub read_takes : {T : Type 0} (make : Option Make) (scope : Scope) (place : Place) (state : State) (course after : Course) (result : Result T Refusal)
@@ -101,7 +107,7 @@ read_takes {T} None scope place state course after result none takes = takes
 read_takes {T} (Some make) scope place state course after result none takes = absurd (cc)
 
 pub alone_takes : {T : Type 0} (make : Option Make) (scope : Scope) (place : Place) (state : State) (course after : Course) (result : Result T Refusal)
-    → is_some make ≡ true → Takes (while_alone (loop_by make) scope place state course) after result
+    → is_some make ≡ true → Takes (while_alone (made_by make) scope place state course) after result
     → Takes (while_by_make make scope place state course) after result
 alone_takes {T} None scope place state course after result some takes = absurd (cc)
 alone_takes {T} (Some make) scope place state course after result some takes = takes
@@ -126,49 +132,54 @@ held_none scope one state fault e =
 -- so it enters with them, or doesn't
 one_enters : (scope : Scope) (one : While) (states rest : List State) (state left : State) (held : Bool) → states ≡ state ∷ rest → held ≡ true
     → option_and_then (rest_of one) (while_in scope state) ≡ cond held (Some left) None → entering_with scope one states ≡ left ∷ entering_with scope one rest
-one_enters scope one states rest state left held is yes e =
+one_enters scope one states rest state left held is holds e =
     ap (entering_with scope one) is
-    ∙ ap (λ (o : Option State). cons_option o (entering_with scope one rest)) (e ∙ ap (λ (b : Bool). cond b (Some left) None) yes)
+    ∙ ap (λ (o : Option State). cons_option o (entering_with scope one rest)) (e ∙ ap (λ (b : Bool). cond b (Some left) None) holds)
 
 none_enters : (scope : Scope) (one : While) (states rest : List State) (state left : State) (held : Bool) → states ≡ state ∷ rest → held ≡ false
     → option_and_then (rest_of one) (while_in scope state) ≡ cond held (Some left) None → entering_with scope one states ≡ entering_with scope one rest
-none_enters scope one states rest state left held is no e =
+none_enters scope one states rest state left held is lacks e =
     ap (entering_with scope one) is
-    ∙ ap (λ (o : Option State). cons_option o (entering_with scope one rest)) (e ∙ ap (λ (b : Bool). cond b (Some left) None) no)
+    ∙ ap (λ (o : Option State). cons_option o (entering_with scope one rest)) (e ∙ ap (λ (b : Bool). cond b (Some left) None) lacks)
 
 -- the states that are left, where the first is counted or passed over
-pub counts_one : (scope : Scope) (one : While) (states rest : List State) (state left : State) (held : Bool) (count all : ℕ) → states ≡ state ∷ rest → held ≡ true
-    → option_and_then (rest_of one) (while_in scope state) ≡ cond held (Some left) None → count + length (entering_with scope one states) ≡ all
-    → (count + 1) + length (entering_with scope one rest) ≡ all
-counts_one scope one states rest state left held count all is yes e before =
+pub counts_one : (scope : Scope) (one : While) (states rest : List State) (state left : State) (held : Bool) (count now all : ℕ) → states ≡ state ∷ rest
+    → held ≡ true → option_and_then (rest_of one) (while_in scope state) ≡ cond held (Some left) None → now ≡ count + 1
+    → count + length (entering_with scope one states) ≡ all → now + length (entering_with scope one rest) ≡ all
+counts_one scope one states rest state left held count now all is holds e more before =
     let longer : length (entering_with scope one states) ≡ length (entering_with scope one rest) + 1 =
-    ap length (one_enters scope one states rest state left held is yes e) ∙ sym (add-one (length (entering_with scope one rest))) in
-    omega (arith, longer, before)
+    ap length (one_enters scope one states rest state left held is holds e) ∙ sym (add-one (length (entering_with scope one rest))) in
+    omega (arith, longer, more, before)
 
-pub counts_none : (scope : Scope) (one : While) (states rest : List State) (state left : State) (held : Bool) (count all : ℕ) → states ≡ state ∷ rest
-    → held ≡ false → option_and_then (rest_of one) (while_in scope state) ≡ cond held (Some left) None → count + length (entering_with scope one states) ≡ all
-    → count + length (entering_with scope one rest) ≡ all
-counts_none scope one states rest state left held count all is no e before =
-    sym (ap (λ (l : List State). count + length l) (none_enters scope one states rest state left held is no e)) ∙ before
+pub counts_none : (scope : Scope) (one : While) (states rest : List State) (state left : State) (held : Bool) (count now all : ℕ) → states ≡ state ∷ rest
+    → held ≡ false → option_and_then (rest_of one) (while_in scope state) ≡ cond held (Some left) None → now ≡ count
+    → count + length (entering_with scope one states) ≡ all → now + length (entering_with scope one rest) ≡ all
+counts_none scope one states rest state left held count now all is lacks e same before =
+    ap (λ (n : ℕ). n + length (entering_with scope one rest)) same
+    ∙ sym (ap (λ (l : List State). count + length l) (none_enters scope one states rest state left held is lacks e)) ∙ before
 
 pub enters_one : (scope : Scope) (one : While) (states rest before now all : List State) (state left : State) (held : Bool) → states ≡ state ∷ rest → held ≡ true
     → option_and_then (rest_of one) (while_in scope state) ≡ cond held (Some left) None → now ≡ before ++ left ∷ []
     → before ++ entering_with scope one states ≡ all → now ++ entering_with scope one rest ≡ all
-enters_one scope one states rest before now all state left held is yes e more left_over =
+enters_one scope one states rest before now all state left held is holds e more left_over =
     ap (λ (l : List State). l ++ entering_with scope one rest) more
     ∙ append_assoc before (left ∷ []) (entering_with scope one rest)
-    ∙ ap (λ (l : List State). before ++ l) (sym (one_enters scope one states rest state left held is yes e))
+    ∙ ap (λ (l : List State). before ++ l) (sym (one_enters scope one states rest state left held is holds e))
     ∙ left_over
 
-pub enters_none : (scope : Scope) (one : While) (states rest before all : List State) (state left : State) (held : Bool) → states ≡ state ∷ rest → held ≡ false
-    → option_and_then (rest_of one) (while_in scope state) ≡ cond held (Some left) None → before ++ entering_with scope one states ≡ all
-    → before ++ entering_with scope one rest ≡ all
-enters_none scope one states rest before all state left held is no e left_over =
-    sym (ap (λ (l : List State). before ++ l) (none_enters scope one states rest state left held is no e)) ∙ left_over
+pub enters_none : (scope : Scope) (one : While) (states rest before now all : List State) (state left : State) (held : Bool) → states ≡ state ∷ rest → held ≡ false
+    → option_and_then (rest_of one) (while_in scope state) ≡ cond held (Some left) None → now ≡ before
+    → before ++ entering_with scope one states ≡ all → now ++ entering_with scope one rest ≡ all
+enters_none scope one states rest before now all state left held is lacks e same left_over =
+    ap (λ (l : List State). l ++ entering_with scope one rest) same
+    ∙ sym (ap (λ (l : List State). before ++ l) (none_enters scope one states rest state left held is lacks e)) ∙ left_over
 
 -- the element at an index stands before those behind it
 pub next_at : {X : Type 0} (xs : List X) (k : ℕ) (x : X) → k < length xs → x ≡ get_or xs k x → drop k xs ≡ x ∷ drop (k + 1) xs
 next_at {X} xs k x inside is = item_at xs k x inside ∙ ap (λ (y : X). y ∷ drop (k + 1) xs) (sym is)
+
+pub got_at : {X : Type 0} (xs : List X) (k : ℕ) (x : X) → k < length xs → x ≡ get_or xs k x → slice_get xs k ≡ Some x
+got_at {X} xs k x inside is = slice_get-get_or xs k x inside ∙ ap (λ (y : X). let found : Option X = Some y in found) (sym is)
 
 -- a loop with its number, where it stands at a place among those that are numbered from a number
 abbrev numbered_so : ℕ → Loop → Option Numbered
@@ -405,18 +416,18 @@ on_ok {T} P Q (Err refusal) weaker holds = tt
 
 call_kept : {T : Type 0} (over : Over) (style : Style) (make : Option Make) (place : Place) (states earlier : List State) (state : State) (making after : Making)
     (result : Result T Refusal) → CanWalk over style make → All (WellMade over.style) states → IsAmong state states → WellMade over.style state
-    → AreMade over.style making → Takes (while_taken (loop_by make) (scope_of over make) place states earlier state making) after result
+    → AreMade over.style making → Takes (while_taken (made_by make) (scope_of over make) place states earlier state making) after result
     → OnOk result (Kept over.style making after)
 call_kept {T} over style make place states earlier state making after result can all among well made takes =
     let scope = scope_of over make in
-    kept_by over.style making after (while_taken (loop_by make) scope place states earlier state making) result
-    (while_kept (loop_by make) scope place states earlier state making after (told_by scope can.sound can.certified can.makes)
+    kept_by over.style making after (while_taken (made_by make) scope place states earlier state making) result
+    (while_kept (made_by make) scope place states earlier state making after (told_by scope can.sound can.certified can.makes)
     (made_loops over.style make can.makes) all among well made) takes
 
 pub call_made : {T : Type 0} (over : Over) (style : Style) (make : Option Make) (place : Place) (states earlier : List State) (state : State)
     (making after : Making) (result : Result T Refusal) → CanWalk over style make → All (WellMade over.style) states → IsAmong state states
     → WellMade over.style state → AreMade over.style making
-    → Takes (while_taken (loop_by make) (scope_of over make) place states earlier state making) after result → OnOk result (AreMade over.style after)
+    → Takes (while_taken (made_by make) (scope_of over make) place states earlier state making) after result → OnOk result (AreMade over.style after)
 call_made {T} over style make place states earlier state making after result can all among well made takes =
     on_ok (Kept over.style making after) (AreMade over.style after) result (λ kept. kept.made)
     (call_kept over style make place states earlier state making after result can all among well made takes)
@@ -424,7 +435,7 @@ call_made {T} over style make place states earlier state making after result can
 pub call_rises : {T : Type 0} (over : Over) (style : Style) (make : Option Make) (place : Place) (states earlier : List State) (state : State)
     (making after : Making) (result : Result T Refusal) → CanWalk over style make → All (WellMade over.style) states → IsAmong state states
     → WellMade over.style state → AreMade over.style making
-    → Takes (while_taken (loop_by make) (scope_of over make) place states earlier state making) after result
+    → Takes (while_taken (made_by make) (scope_of over make) place states earlier state making) after result
     → OnOk result (making.course.count ≤ after.course.count)
 call_rises {T} over style make place states earlier state making after result can all among well made takes =
     on_ok (Kept over.style making after) (making.course.count ≤ after.course.count) result (λ kept. kept.rises)
@@ -668,7 +679,7 @@ found_entering make test body entering wanted answer is found =
 
 pub loop_sound : (over : Over) (style : Style) (make : Option Make) (one : While) (states : List State) → CanWalk over style make → All (WellMade over.style) states
     → 1 ≤ length (entering_with (scope_of over make) one states)
-    → IfSome (loop_by make one.test one.body (entering_with (scope_of over make) one states)) (IsLoopOf over.style)
+    → IfSome (made_by make one.test one.body (entering_with (scope_of over make) one states)) (IsLoopOf over.style)
 loop_sound over style make one states can all some =
     made_loops over.style make can.makes one.test one.body (entering_with (scope_of over make) one states) some (entering_all (scope_of over make) one states all)
 

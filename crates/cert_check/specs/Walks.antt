@@ -61,9 +61,9 @@ abbrev pub Make : Type 0
 Make = Target → Target → List State → Option Loop
 
 -- how they are made, where they are: else there is none
-abbrev pub loop_by : Option Make → Make
-loop_by None = λ test body states. None
-loop_by (Some make) = make
+abbrev pub made_by : Option Make → Make
+made_by None = λ test body states. None
+made_by (Some make) = make
 
 -- what a walk is over: the style and the certificate, and the variables that the unit which is checked may write: all where none is
 -- listed

@@ -5,7 +5,7 @@ ghost use Rattle.std.specs.List.{All};
 ghost use Rattle.name_table.specs.declared.style.Style.{Style as StyleValue};
 ghost use Rattle.sym_state.specs.WellMade.{WellMade};
 ghost use Rattle.cert_check.specs.Certified.{MakesLoops};
-ghost use Rattle.cert_check.specs.Walks.{Make, loop_by};
+ghost use Rattle.cert_check.specs.Walks.{Make, made_by};
 
 use bst_meaning::value::Target;
 use bv_base::memory::NoMemory;
@@ -29,7 +29,7 @@ pub trait Loops {
     fn make(&self, test: Target, body: Target, entering: &[State]) -> Result<Option<Loop>, NoMemory>
         requires some { 1 ≤ length entering.now }
         requires made { All (WellMade (style self.now)) entering.now }
-        ensures { IfOk result (λ found. found ≡ loop_by (made self.now) test body entering.now) };
+        ensures { IfOk result (λ found. found ≡ made_by (made self.now) test body entering.now) };
 }
 
 /// No loop is made: each is read.

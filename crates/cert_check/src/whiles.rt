@@ -1,6 +1,6 @@
 //! `while$`, where loops are made: one for the states of the token in hand that hold the same functions (docs/ANALYSER.md, "Loops").
 
-ghost use Rattle.std.specs.Prelude.{◌≡◌, ◌≤◌, ◌<◌, ◌+◌, ◌&&◌, ◌∷◌, List, [], if◌then◌else◌, Some, None, Option, IfOk, IfSome, OnOk, is_some, MatchOption, ℕ, length, slice_get, take};
+ghost use Rattle.std.specs.Prelude.{◌≡◌, ◌≤◌, ◌<◌, ◌+◌, ◌++◌, ◌&&◌, ◌∷◌, List, [], if◌then◌else◌, Some, None, Option, IfOk, IfSome, OnOk, is_some, MatchOption, ℕ, length, slice_get, take};
 ghost use Rattle.std.specs.List.{All};
 ghost use Rattle.std.specs.Option.{option_and_then};
 ghost use Rattle.bst_meaning.specs.declared.condition.Cond.{Cond as CondValue};
@@ -19,7 +19,7 @@ ghost use Rattle.cert_check.specs.Here.{here};
 ghost use Rattle.cert_check.specs.Room.{HasRoom};
 ghost use Rattle.cert_check.specs.Uses.{Passage as Passed};
 ghost use Rattle.cert_check.specs.Walks as rule;
-ghost use Rattle.cert_check.specs.Walks.{Make, loop_by};
+ghost use Rattle.cert_check.specs.Walks.{Make, made_by};
 ghost use Rattle.cert_check.specs.declared.refusal.Reason.TheVariants.{NoMemory as WantOfMemory};
 
 use crate::at::At;
@@ -100,7 +100,7 @@ pub(crate) fn while_in<M: Loops>(at: &At<'_, M>, state: &State, course: &mut Cou
 fn while_alone<M: Loops>(at: &At<'_, M>, state: &State, course: &mut Course<'_>) -> Walk
     requires sound { CanWalk at.now.scope.now (M.style at.now.maker.now) (M.made at.now.maker.now) }
     requires room { HasRoom at.now.scope.now.style 65 course.old.count state.now }
-    ensures takes { Takes (rule.while_alone (loop_by (M.made at.now.maker.now)) (here M.made at.now) at.now.place state.now course.old) course.new result }
+    ensures takes { Takes (rule.while_alone (made_by (M.made at.now.maker.now)) (here M.made at.now) at.now.place state.now course.old) course.new result }
 {
     let mut made = none_made(course);
     while_taken(at, from_ref(state), 0, state, &mut made, course)?;
@@ -111,7 +111,7 @@ fn while_alone<M: Loops>(at: &At<'_, M>, state: &State, course: &mut Course<'_>)
 pub(crate) fn whiles<M: Loops>(at: &At<'_, M>, states: &[State], course: &mut Course<'_>) -> Walk
     requires sound { CanWalk at.now.scope.now (M.style at.now.maker.now) (M.made at.now.maker.now) }
     requires room { All (HasRoom at.now.scope.now.style 0 course.old.count) states.now }
-    ensures takes { Takes (rule.whiles_from (loop_by (M.made at.now.maker.now)) (here M.made at.now) at.now.place states.now course.old) course.new result }
+    ensures takes { Takes (rule.whiles_from (made_by (M.made at.now.maker.now)) (here M.made at.now) at.now.place states.now course.old) course.new result }
 {
     let mut made = none_made(course);
     whiles_taken(at, states, &mut made, course)?;
@@ -137,7 +137,7 @@ fn whiles_taken<M: Loops>(
     requires sound { CanWalk at.now.scope.now (M.style at.now.maker.now) (M.made at.now.maker.now) }
     requires room { All (HasRoom at.now.scope.now.style 0 course.old.count) states.now }
     requires made { AreMade at.now.scope.now.style (record { made = made.old.items; course = course.old }) }
-    ensures takes { Takes (rule.whiles_taken (loop_by (M.made at.now.maker.now)) (here M.made at.now) at.now.place states.now [] states.now
+    ensures takes { Takes (rule.whiles_taken (made_by (M.made at.now.maker.now)) (here M.made at.now) at.now.place states.now [] states.now
         (record { made = made.old.items; course = course.old })) (record { made = made.new.items; course = course.new }) result }
     ensures made { OnOk result (AreMade at.now.scope.now.style (record { made = made.new.items; course = course.new })) }
 {
@@ -163,7 +163,7 @@ fn while_taken<M: Loops>(
     requires among { IsAmong state.now states.now }
     requires earlier { earlier ≤ length states.now }
     requires made { AreMade at.now.scope.now.style (record { made = made.old.items; course = course.old }) }
-    ensures takes { Takes (rule.while_taken (loop_by (M.made at.now.maker.now)) (here M.made at.now) at.now.place states.now (take earlier states.now) state.now
+    ensures takes { Takes (rule.while_taken (made_by (M.made at.now.maker.now)) (here M.made at.now) at.now.place states.now (take earlier states.now) state.now
         (record { made = made.old.items; course = course.old })) (record { made = made.new.items; course = course.new }) result }
     ensures made { OnOk result (AreMade at.now.scope.now.style (record { made = made.new.items; course = course.new })) }
     ensures rises { OnOk result (course.old.count ≤ course.new.count) }
@@ -196,7 +196,7 @@ fn while_made<M: Loops>(
     requires enters { 1 ≤ length (rule.entering_with (here M.made at.now) one.now states.now) }
     requires earlier { earlier ≤ length states.now }
     requires made { AreMade at.now.scope.now.style (record { made = made.old.items; course = course.old }) }
-    ensures takes { Takes (rule.while_made (loop_by (M.made at.now.maker.now)) (here M.made at.now) at.now.place states.now (take earlier states.now) (Some one.now)
+    ensures takes { Takes (rule.while_made (made_by (M.made at.now.maker.now)) (here M.made at.now) at.now.place states.now (take earlier states.now) (Some one.now)
         (record { made = made.old.items; course = course.old })) (record { made = made.new.items; course = course.new }) result }
 {
     let k = loop_for(at, states, one, made, course)?;
@@ -226,7 +226,7 @@ fn loop_for<M: Loops>(
     requires enters { 1 ≤ length (rule.entering_with (here M.made at.now) one.now states.now) }
     requires made { AreMade at.now.scope.now.style (record { made = made.old.items; course = course.now }) }
     ensures takes { GoesOn (rule.loop_made at.now.place (rule.numbered one.now (length course.now.loops) made.old.items)
-        (loop_by (M.made at.now.maker.now) one.now.test one.now.body (rule.entering_with (here M.made at.now) one.now states.now))
+        (made_by (M.made at.now.maker.now) one.now.test one.now.body (rule.entering_with (here M.made at.now) one.now states.now))
         (record { made = made.old.items; course = course.now }))
         (λ k. rule.loop_made at.now.place (rule.numbered_at (length course.now.loops) k made.new.items) None (record { made = made.new.items; course = course.now })) result }
     ensures made { IfOk result (λ _. AreMade at.now.scope.now.style (record { made = made.new.items; course = course.now })) }
@@ -273,7 +273,7 @@ fn loop_found<M: Loops>(
     requires states { All (WellMade at.now.scope.now.style) states.now }
     requires enters { 1 ≤ length (rule.entering_with (here M.made at.now) one.now states.now) }
     ensures found { MatchResult result
-        (λ found. found ≡ loop_by (M.made at.now.maker.now) one.now.test one.now.body (rule.entering_with (here M.made at.now) one.now states.now))
+        (λ found. found ≡ made_by (M.made at.now.maker.now) one.now.test one.now.body (rule.entering_with (here M.made at.now) one.now states.now))
         (λ refusal. refusal.reason ≡ WantOfMemory) }
     ensures sound { IfOk result (λ found. IfSome found (IsLoopOf at.now.scope.now.style)) }
 {
@@ -339,11 +339,18 @@ fn entering_with(
     let mut entering = Vec::new(alloc);
     for state in states {
         if holds(scope, one, state) {
-            let rest = state.without(2)?;
-            entering.push(rest)?;
+            push_rest(&mut entering, state)?;
         }
     }
     Ok(entering)
+}
+
+/// Puts a state without its two functions behind others.
+fn push_rest(entering: &mut Vec<State>, state: &State) -> Result<(), NoMemory>
+    ensures { OnOk result (entering.new.items ≡ entering.old.items ++ without 2 state.now ∷ []) }
+{
+    entering.push(state.without(2)?)?;
+    Ok(())
 }
 
 /// How many states of a list hold the same functions.

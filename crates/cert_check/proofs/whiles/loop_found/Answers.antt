@@ -2,7 +2,7 @@
 use Rattle.std.proofs.Common.{◌≡◌, ◌≤◌, ◌∙◌, List, length, subst, sym}
 use Rattle.sym_state.specs.State.{State}
 use Rattle.cert_check.specs.Here.{here}
-use Rattle.cert_check.specs.Walks.{entering_with, loop_by}
+use Rattle.cert_check.specs.Walks.{entering_with, made_by}
 use Rattle.cert_check.proofs.WhileSteps.{entering_made, found_entering, found_is, found_sound, loop_sound, ok_has}
 use Rattle.cert_check.proofs.whiles.loop_found.Goals as goal
 
@@ -24,13 +24,13 @@ returns-in_ok-entering-clause-found g c =
     let are = c.as_slice.ensures.value ∙ ok_has (λ v. v.items ≡ entering_with (here g.M.Loops.made c.args.at.now) c.args.one.now c.args.states.now)
     c.entering_with.result c.in_ok-entering.entering c.in_ok-entering.ensures (c.entering_with.ensures (g.M.Loops.made c.args.at.now.maker.now)) in
     found_is c.make.result _ c.held.result c.held.ensures
-    (found_entering (loop_by (g.M.Loops.made c.args.at.now.maker.now)) c.args.one.now.test c.args.one.now.body c.as_slice.result.now _ c.make.result are c.make.ensures)
+    (found_entering (made_by (g.M.Loops.made c.args.at.now.maker.now)) c.args.one.now.test c.args.one.now.body c.as_slice.result.now _ c.make.result are c.make.ensures)
 
 pub returns-in_ok-entering-clause-sound : goal.returns-in_ok-entering-clause-sound
 returns-in_ok-entering-clause-sound g c =
     let are = c.as_slice.ensures.value ∙ ok_has (λ v. v.items ≡ entering_with (here g.M.Loops.made c.args.at.now) c.args.one.now c.args.states.now)
     c.entering_with.result c.in_ok-entering.entering c.in_ok-entering.ensures (c.entering_with.ensures (g.M.Loops.made c.args.at.now.maker.now)) in
     found_sound c.args.at.now.scope.now.style c.make.result _ c.held.result c.held.ensures
-    (found_entering (loop_by (g.M.Loops.made c.args.at.now.maker.now)) c.args.one.now.test c.args.one.now.body c.as_slice.result.now _ c.make.result are c.make.ensures)
+    (found_entering (made_by (g.M.Loops.made c.args.at.now.maker.now)) c.args.one.now.test c.args.one.now.body c.as_slice.result.now _ c.make.result are c.make.ensures)
     (loop_sound c.args.at.now.scope.now (g.M.Loops.style c.args.at.now.maker.now) (g.M.Loops.made c.args.at.now.maker.now) c.args.one.now c.args.states.now
     c.requires.sound c.requires.states c.requires.enters)

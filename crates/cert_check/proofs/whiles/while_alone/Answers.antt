@@ -4,7 +4,7 @@ use Rattle.std.proofs.lemmas.List.Elements.{All-cons, All-nil}
 use Rattle.std.proofs.lemmas.Result.{err_from_is_err_and}
 use Rattle.sym_state.specs.WellMade.{WellMade}
 use Rattle.cert_check.specs.Here.{here}
-use Rattle.cert_check.specs.Walks.{loop_by}
+use Rattle.cert_check.specs.Walks.{made_by}
 use Rattle.cert_check.proofs.WhileSteps.{all_only, alone_refused, alone_take, among_only}
 use Rattle.cert_check.proofs.whiles.while_alone.Goals as goal
 
@@ -19,14 +19,14 @@ returns-in_err-while_taken g c =
     let p = err_from_is_err_and c.from_residual.result c.from_residual.ensures.1 in
     rw (p.1, p.2)
     (record {
-      takes = alone_refused (loop_by (g.M.Loops.made c.args.at.now.maker.now)) (here g.M.Loops.made c.args.at.now) c.args.at.now.place c.from_ref.result.now []
+      takes = alone_refused (made_by (g.M.Loops.made c.args.at.now.maker.now)) (here g.M.Loops.made c.args.at.now) c.args.at.now.place c.from_ref.result.now []
           c.args.state.now c.none_made-made.result.items c.args.course.now c.in_err-while_taken.field-0.0 c.from_ref.ensures.value refl c.none_made-made.ensures.none
           c.in_err-while_taken.ensures.takes;
     })
 
 pub returns-in_ok-while_taken : goal.returns-in_ok-while_taken
 returns-in_ok-while_taken g c = record {
-  takes = alone_take (loop_by (g.M.Loops.made c.args.at.now.maker.now)) (here g.M.Loops.made c.args.at.now) c.args.at.now.place c.from_ref.result.now []
+  takes = alone_take (made_by (g.M.Loops.made c.args.at.now.maker.now)) (here g.M.Loops.made c.args.at.now) c.args.at.now.place c.from_ref.result.now []
       c.args.state.now c.none_made-made.result.items _ c.args.course.now c.makes.new.self c.makes.result c.from_ref.ensures.value refl c.none_made-made.ensures.none
       c.in_ok-while_taken.ensures.takes c.makes.ensures;
 }

@@ -1,7 +1,7 @@
 -- The loop that is known is used.
 use Rattle.std.proofs.Common.{◌+◌, length, take, ap, rules}
 use Rattle.cert_check.specs.Here.{here}
-use Rattle.cert_check.specs.Walks.{loop_by}
+use Rattle.cert_check.specs.Walks.{made_by}
 use Rattle.cert_check.proofs.WhileSteps.{known_takes, loop_there}
 use Rattle.cert_check.proofs.whiles.while_made.Goals as goal
 
@@ -12,7 +12,7 @@ made_used-requires-clause-one g c =
 
 pub returns-in_ok-k : goal.returns-in_ok-k
 returns-in_ok-k g c = record {
-  takes = known_takes (loop_by (g.M.Loops.made c.args.at.now.maker.now)) (here g.M.Loops.made c.args.at.now) c.args.at.now.place c.args.states.now
+  takes = known_takes (made_by (g.M.Loops.made c.args.at.now.maker.now)) (here g.M.Loops.made c.args.at.now) c.args.at.now.place c.args.states.now
       (take c.args.earlier c.args.states.now) c.args.one.now c.args.made.now.items c.loop_for.new.made.items c.loop_at-found.result.now c.in_ok-k.k
       (c.loop_count.result + c.in_ok-k.k) c.count_entering-case.result c.args.course.now c.made_used.new.course c.made_used.result c.in_ok-k.ensures.takes
       (search rules) (search rules) (search rules) c.made_used.ensures.takes;

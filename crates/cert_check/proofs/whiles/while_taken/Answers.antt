@@ -1,7 +1,7 @@
 -- The two functions are known, or one isn't.
 use Rattle.std.proofs.Common.{rules, take}
 use Rattle.cert_check.specs.Here.{here}
-use Rattle.cert_check.specs.Walks.{loop_by}
+use Rattle.cert_check.specs.Walks.{made_by}
 use Rattle.cert_check.proofs.WhileSteps.{call_made, call_rises, known_while, this_enters}
 use Rattle.cert_check.proofs.whiles.while_taken.Goals as goal
 
@@ -15,7 +15,7 @@ returns-in-Some-Some g c =
     let over = c.args.at.now.scope.now in
     let made = g.M.Loops.made c.args.at.now.maker.now in
     let style = g.M.Loops.style c.args.at.now.maker.now in
-    let takes = known_while (loop_by made) (here g.M.Loops.made c.args.at.now) c.args.at.now.place c.args.states.now (take c.args.earlier c.args.states.now)
+    let takes = known_while (made_by made) (here g.M.Loops.made c.args.at.now) c.args.at.now.place c.args.states.now (take c.args.earlier c.args.states.now)
     c.args.state.now c.in_ok-lower.rest c.in_ok-lower.lower c.in_ok-lower.upper c.in-Some-Some.test c.in-Some-Some.body
     (record { made = c.args.made.now.items; course = c.args.course.now })
     (record { made = c.while_made.new.made.items; course = c.while_made.new.course }) c.while_made.result c.in_ok-lower.ensures.two (search rules) (search rules)
