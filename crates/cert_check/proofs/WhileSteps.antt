@@ -36,7 +36,7 @@ use Rattle.cert_check.specs.Courses.{Course, Walk, counts, gives_all, placed, re
 use Rattle.cert_check.specs.Given.{GoesOn, Refused, Takes}
 use Rattle.cert_check.specs.Room.{HasRoom}
 use Rattle.cert_check.specs.Uses.{Passage, around, comes_by, fits, left_state}
-use Rattle.cert_check.specs.Walks.{Come, Enter, Make, Making, Numbered, Over, Scope, While, each_taken, entering_with, exact_target, is_target, leaves, made_by, loop_made, made_used, making_for, may_write, numbered, numbered_at, repeated, rest_of, scope_of, taken_by, taken_from, while_alone, while_by, while_by_make, while_in, while_made, while_of, while_taken, whiles_from, whiles_taken, comes_to, comes_by_case, coming_hints}
+use Rattle.cert_check.specs.Walks.{Come, Enter, Make, Making, Numbered, Over, Scope, While, all_made, each_taken, entering_with, exact_target, is_target, leaves, made_by, loop_made, made_used, making_for, may_write, numbered, numbered_at, repeated, rest_of, scope_of, taken_by, taken_from, while_alone, while_by, while_by_make, while_in, while_made, while_of, while_taken, whiles_from, whiles_taken, comes_to, comes_by_case, coming_hints}
 use Rattle.cert_check.specs.declared.limits.TheConstants.{MOST_LOOPS}
 use Rattle.cert_check.specs.declared.refusal.Reason.TheVariants.{NoInvariant, NoMemory as WantOfMemory, NotEntailed, UnknownFunction}
 use Rattle.cert_check.specs.declared.refusal.Refusal.{Refusal}

@@ -10,6 +10,7 @@ ghost use Rattle.cert_check.specs.Courses as courses;
 ghost use Rattle.cert_check.specs.Given.{AnswersAt, CanEnd, GoesOn, Takes};
 ghost use Rattle.cert_check.specs.Here.{here};
 ghost use Rattle.cert_check.specs.Room.{HasRoom};
+ghost use Rattle.cert_check.specs.Uses.{around};
 ghost use Rattle.cert_check.specs.Walks as rule;
 
 use crate::at::At;
@@ -126,6 +127,23 @@ fn loop_used<M: Loops>(at: &At<'_, M>, one: &Loop, state: &State, course: &mut C
 {
     let unit = Passage::around(one);
     let case = comes_to(at, &unit, one.cases.as_slice(), state, course)?;
+    leaves_loop(at, one, case, state, course)
+}
+
+/// A loop is left that a state came to by a case.
+pub(crate) fn leaves_loop<M: Loops>(
+    at: &At<'_, M>,
+    one: &Loop,
+    case: &Piece,
+    state: &State,
+    course: &mut Course<'_>,
+) -> Walk
+    requires one { IsLoopOf at.now.scope.now.style one.now }
+    requires stack { length case.now.stack ≤ length state.now.stack }
+    requires room { state.now.next ≤ 2212483648 }
+    ensures takes { Takes (rule.leaves (here M.made at.now) at.now.place (around one.now) case.now one.now.exits 0 state.now course.old) course.new result }
+{
+    let unit = Passage::around(one);
     let came = Came {
         style: at.scope.style(),
         cond: at.scope.cond(),

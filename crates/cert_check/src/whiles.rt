@@ -1,6 +1,6 @@
 //! `while$`, where loops are made: one for the states of the token in hand that hold the same functions (docs/ANALYSER.md, "Loops").
 
-ghost use Rattle.std.specs.Prelude.{◌≡◌, ◌≤◌, ◌<◌, ◌+◌, ◌++◌, ◌&&◌, ◌∷◌, List, [], if◌then◌else◌, Some, None, Option, IfOk, IfSome, OnOk, is_some, MatchOption, ℕ, length, slice_get, take};
+ghost use Rattle.std.specs.Prelude.{◌≡◌, ◌≤◌, ◌<◌, ◌+◌, ◌++◌, ◌&&◌, ◌∷◌, List, [], if◌then◌else◌, Some, None, Option, IfOk, IfSome, OnOk, is_some, MatchOption, MatchResult, ℕ, length, slice_get, take};
 ghost use Rattle.std.specs.List.{All};
 ghost use Rattle.std.specs.Option.{option_and_then};
 ghost use Rattle.bst_meaning.specs.declared.condition.Cond.{Cond as CondValue};
@@ -25,13 +25,12 @@ ghost use Rattle.cert_check.specs.declared.refusal.Reason.TheVariants.{NoMemory 
 use crate::at::At;
 use crate::course::{Course, held, placed, refuse};
 use crate::limits::MOST_LOOPS;
-use crate::loops::{repeated, two_functions};
+use crate::loops::{leaves_loop, repeated, two_functions};
 use crate::making::Loops;
 use crate::refusal::{Reason, Refusal, Walk};
 use crate::scope::{Scope, is_target};
-use crate::summaries::leaves;
 use crate::targets::exact_target;
-use crate::uses::{Came, Passage, comes_by};
+use crate::uses::{Passage, comes_by};
 use bst_meaning::style_parts::kind_of;
 use bst_meaning::value::Target;
 use bv_base::memory::NoMemory;
@@ -420,15 +419,7 @@ fn made_used<M: Loops>(
         comes_by(&unit, at.scope.cond(), case, state, &mut left),
     )?;
     course.finds_loop(at.place, number, k, steps)?;
-    let came = Came {
-        style: at.scope.style(),
-        cond: at.scope.cond(),
-        unit: &unit,
-        pre: case,
-        kept: 0,
-        state,
-    };
-    leaves(at, &came, one.exits.as_slice(), course)
+    leaves_loop(at, one, case, state, course)
 }
 
 /// The case of a number, whose stack is no longer than the state's.

@@ -12,8 +12,8 @@ returns-in-Some-clause-takes g c =
     known_at c.args.at.now.place (numbered c.args.one.now first c.args.made.now.items) first c.in-Some.k _ c.args.made.now.items c.args.course.now
     (c.in-Some.ensures.found first) c.in-Some.ensures.there
 
-pub returns-in_ok-found-clause-takes : goal.returns-in_ok-found-clause-takes
-returns-in_ok-found-clause-takes g c =
+pub returns-in_ok-found-in-None-clause-takes : goal.returns-in_ok-found-in-None-clause-takes
+returns-in_ok-found-in-None-clause-takes g c =
     let making : Making = record { made = c.args.made.now.items; course = c.args.course.now } in
     let place = c.args.at.now.place in
     let new = made_by (g.M.Loops.made c.args.at.now.maker.now) c.args.one.now.test c.args.one.now.body

@@ -22,9 +22,9 @@ returns-in_err-case g c =
           c.in_err-case.field-0.0 (λ hints. c.in_err-case.ensures.comes (around c.args.one.now) c.args.at.now.scope.now.cert.cond hints);
     })
 
-pub returns-in_ok-finds_loop : goal.returns-in_ok-finds_loop
-returns-in_ok-finds_loop g c = record {
+pub returns : goal.returns
+returns g c = record {
   takes = used_takes (here g.M.Loops.made c.args.at.now) c.args.at.now.place c.args.one.now c.args.number c.args.k c.in_ok-case.case.now c.args.state.now c.args.course.now
-      c.finds_loop.new.self c.leaves.new.course c.in_ok-steps.steps.items c.comes_by.new.hints c.leaves.result (search rules) (search rules) (search rules) (search rules)
-      c.leaves.ensures.takes;
+      c.finds_loop.new.self c.leaves_loop.new.course c.in_ok-steps.steps.items c.comes_by.new.hints c.leaves_loop.result (search rules) (search rules) (search rules) (search rules)
+      c.leaves_loop.ensures.takes;
 }

@@ -1,5 +1,5 @@
 -- The loop is one of the style.
-use Rattle.std.proofs.Common.{◌∙◌, Result, IfOk, ℕ, arith, subst, sym, tt}
+use Rattle.std.proofs.Common.{◌∙◌, Result, IfOk, ℕ, arith, subst, sym}
 use Rattle.cert_check.specs.Certified.{AreMade}
 use Rattle.cert_check.specs.declared.refusal.Refusal.{Refusal}
 use Rattle.cert_check.proofs.WhileSteps.{put_made}

@@ -1,6 +1,5 @@
 -- The state is the only one.
-use Rattle.std.proofs.Common.{[], refl, rules, subst, sym, tt, inl}
-use Rattle.std.proofs.lemmas.List.Elements.{All-cons, All-nil}
+use Rattle.std.proofs.Common.{[], refl}
 use Rattle.std.proofs.lemmas.Result.{err_from_is_err_and}
 use Rattle.sym_state.specs.WellMade.{WellMade}
 use Rattle.cert_check.specs.Here.{here}
@@ -24,8 +23,8 @@ returns-in_err-while_taken g c =
           c.in_err-while_taken.ensures.takes;
     })
 
-pub returns-in_ok-while_taken : goal.returns-in_ok-while_taken
-returns-in_ok-while_taken g c = record {
+pub returns : goal.returns
+returns g c = record {
   takes = alone_take (made_by (g.M.Loops.made c.args.at.now.maker.now)) (here g.M.Loops.made c.args.at.now) c.args.at.now.place c.from_ref.result.now []
       c.args.state.now c.none_made-made.result.items _ c.args.course.now c.makes.new.self c.makes.result c.from_ref.ensures.value refl c.none_made-made.ensures.none
       c.in_ok-while_taken.ensures.takes c.makes.ensures;

@@ -10,8 +10,8 @@ made_used-requires-clause-one g c =
     loop_there c.args.at.now.scope.now.style (record { made = c.loop_for.new.made.items; course = c.args.course.now }) c.in_ok-k.k c.loop_at-found.result.now
     c.in_ok-k.ensures.made (search rules)
 
-pub returns-in_ok-k : goal.returns-in_ok-k
-returns-in_ok-k g c = record {
+pub returns : goal.returns
+returns g c = record {
   takes = known_takes (made_by (g.M.Loops.made c.args.at.now.maker.now)) (here g.M.Loops.made c.args.at.now) c.args.at.now.place c.args.states.now
       (take c.args.earlier c.args.states.now) c.args.one.now c.args.made.now.items c.loop_for.new.made.items c.loop_at-found.result.now c.in_ok-k.k
       (c.loop_count.result + c.in_ok-k.k) c.count_entering-case.result c.args.course.now c.made_used.new.course c.made_used.result c.in_ok-k.ensures.takes

@@ -14,8 +14,8 @@ returns-in_err-whiles_taken g c =
           c.none_made-made.result.items c.args.course.now c.in_err-whiles_taken.field-0.0 c.none_made-made.ensures.none c.in_err-whiles_taken.ensures.takes;
     })
 
-pub returns-in_ok-whiles_taken : goal.returns-in_ok-whiles_taken
-returns-in_ok-whiles_taken g c = record {
+pub returns : goal.returns
+returns g c = record {
   takes = whiles_end (made_by (g.M.Loops.made c.args.at.now.maker.now)) (here g.M.Loops.made c.args.at.now) c.args.at.now.place c.args.states.now
       c.none_made-made.result.items _ c.args.course.now c.makes.new.self c.makes.result c.none_made-made.ensures.none c.in_ok-whiles_taken.ensures.takes c.makes.ensures;
 }
