@@ -7,7 +7,8 @@ use Rattle.std.proofs.lemmas.Bool.Decides.{nat_tests}
 use Rattle.std.proofs.lemmas.List.{length-append}
 use Rattle.std.proofs.lemmas.Option.{slice_get-get_or}
 use Rattle.std.proofs.lemmas.List.Elements.{All-append, All-cons, All-drop, All-head, All-nil, All-weaker}
-use Rattle.bv_base.specs.Answers.{then_do}
+use Rattle.std.proofs.lemmas.Result.{MatchResult-at_err, MatchResult-at_ok}
+use Rattle.bv_base.specs.Answers.{Leaves, then_do}
 use Rattle.bv_base.specs.declared.memory.NoMemory.{NoMemory as Wanting}
 use Rattle.bv_base.specs.declared.place.Place.{Place}
 use Rattle.bv_base.proofs.ThenLemmas.{ok_is, then_ok, where_ok}
@@ -44,6 +45,7 @@ use Rattle.cert_check.proofs.Inverted.{counts_ok, gives_all_ok, placed_ok}
 use Rattle.cert_check.proofs.Keeping.{Told, element, told_by}
 use Rattle.cert_check.proofs.Makings.{Whiled, entering_all, some_enter, while_moved}
 use Rattle.cert_check.proofs.Walked.{making_is}
+use Rattle.cert_check.proofs.Placing.{placed_leaves}
 use Rattle.cert_check.proofs.RoomLeft.{all_room}
 use Rattle.cert_check.proofs.WalkSteps.{item_at}
 
@@ -692,6 +694,29 @@ entering_made over style make one states entering can all is =
 -- the loop at a place is one of the style
 pub loop_there : (style : Style) (making : Making) (k : ℕ) (found : Loop) → AreMade style making → slice_get making.made k ≡ Some found → IsLoopOf style found
 loop_there style making k found all there = element (IsLoopOf style) making.made k found all.made there
+
+-- a piece is shown by steps at a place, or it isn't
+shown_same : (unit other : Passage) (c admits : Cond) (hints steps : List Hint) (case : Piece) (state : State) → unit ≡ other → c ≡ admits → hints ≡ steps
+    → comes_by unit c case state hints ≡ comes_by other admits case state steps
+shown_same unit other c admits hints steps case state unit_is cond_is hints_are =
+    ap (λ (u : Passage). comes_by u c case state hints) unit_is
+    ∙ ap (λ (a : Cond). comes_by other a case state hints) cond_is
+    ∙ ap (comes_by other admits case state) hints_are
+
+pub came_ok : {T : Type 0} (place : Place) (unit other : Passage) (c admits : Cond) (hints steps : List Hint) (case : Piece) (state : State) (left : List Hint)
+    (given : Result T EffectFault) (answer : Result T Refusal) (x : T) → unit ≡ other → c ≡ admits → hints ≡ steps → answer ≡ placed place given → answer ≡ Ok x
+    → Leaves fault.NoMemory (comes_by unit c case state hints) left given → placed place (comes_by other admits case state steps) ≡ Ok left
+came_ok {T} place unit other c admits hints steps case state left given answer x unit_is cond_is hints_are is ok leaves =
+    ap (placed place) (sym (shown_same unit other c admits hints steps case state unit_is cond_is hints_are)
+    ∙ MatchResult-at_ok {r = answer} _ _ x ok (placed_leaves place (comes_by unit c case state hints) left given answer is leaves))
+
+pub came_refused : {T : Type 0} (place : Place) (unit other : Passage) (c admits : Cond) (hints steps : List Hint) (case : Piece) (state : State) (left : List Hint)
+    (given : Result T EffectFault) (answer : Result T Refusal) (refusal : Refusal) → unit ≡ other → c ≡ admits → hints ≡ steps → answer ≡ placed place given
+    → answer ≡ Err refusal → Leaves fault.NoMemory (comes_by unit c case state hints) left given
+    → Refused (placed place (comes_by other admits case state steps)) refusal
+came_refused {T} place unit other c admits hints steps case state left given answer refusal unit_is cond_is hints_are is fails leaves differs =
+    ap (placed place) (sym (shown_same unit other c admits hints steps case state unit_is cond_is hints_are))
+    ∙ MatchResult-at_err {r = answer} _ _ refusal fails (placed_leaves place (comes_by unit c case state hints) left given answer is leaves) differs
 
 -- what holds of one holds of all, where it is the only one
 pub all_only : (P : State → Type 0) (state : State) (states : List State) → states ≡ state ∷ [] → P state → All P states

@@ -1,6 +1,6 @@
 //! `while$`, where loops are made: one for the states of the token in hand that hold the same functions (docs/ANALYSER.md, "Loops").
 
-ghost use Rattle.std.specs.Prelude.{◌≡◌, ◌≤◌, ◌<◌, ◌+◌, ◌++◌, ◌&&◌, ◌∷◌, List, [], if◌then◌else◌, Some, None, Option, IfOk, IfSome, OnOk, is_some, MatchOption, MatchResult, ℕ, length, slice_get, take};
+ghost use Rattle.std.specs.Prelude.{◌≡◌, ◌≤◌, ◌<◌, ◌+◌, ◌*◌, ◌++◌, ◌&&◌, ◌∷◌, List, [], if◌then◌else◌, Some, None, Option, IfOk, IfSome, OnOk, is_some, option_map, MatchOption, MatchResult, ℕ, length, slice_get, take};
 ghost use Rattle.std.specs.List.{All};
 ghost use Rattle.std.specs.Option.{option_and_then};
 ghost use Rattle.bst_meaning.specs.declared.condition.Cond.{Cond as CondValue};
@@ -435,7 +435,7 @@ fn case_within<'p>(
     ensures there { IfOk result (λ case. slice_get cases.now k ≡ Some case.now) }
     ensures within { IfOk result (λ case. length case.now.stack ≤ length state.now.stack) }
 {
-    match cases.get(k) {
+    match case_at(cases, k) {
         Some(case) => {
             if case.stack.as_slice().len() as u64 <= state.stack_len() {
                 Ok(case)
@@ -445,4 +445,11 @@ fn case_within<'p>(
         }
         None => refuse(place, Reason::NotEntailed(0)),
     }
+}
+
+/// The case of a number.
+fn case_at(cases: &[Piece], k: usize) -> Option<&Piece>
+    ensures { option_map (λ case. case.now) result ≡ slice_get cases.now k }
+{
+    cases.get(k)
 }

@@ -23,14 +23,14 @@ pub returns-clause-found : goal.returns-clause-found
 returns-clause-found g c =
     let are = c.as_slice.ensures.value ∙ ok_has (λ v. v.items ≡ entering_with (here g.M.Loops.made c.args.at.now) c.args.one.now c.args.states.now)
     c.entering_with.result c.in_ok-entering.entering c.in_ok-entering.ensures (c.entering_with.ensures (g.M.Loops.made c.args.at.now.maker.now)) in
-    found_is c.make.result _ c.held.result c.held.ensures
+    found_is c.make.result _ c.held-2.result c.held-2.ensures
     (found_entering (made_by (g.M.Loops.made c.args.at.now.maker.now)) c.args.one.now.test c.args.one.now.body c.as_slice.result.now _ c.make.result are c.make.ensures)
 
 pub returns-clause-sound : goal.returns-clause-sound
 returns-clause-sound g c =
     let are = c.as_slice.ensures.value ∙ ok_has (λ v. v.items ≡ entering_with (here g.M.Loops.made c.args.at.now) c.args.one.now c.args.states.now)
     c.entering_with.result c.in_ok-entering.entering c.in_ok-entering.ensures (c.entering_with.ensures (g.M.Loops.made c.args.at.now.maker.now)) in
-    found_sound c.args.at.now.scope.now.style c.make.result _ c.held.result c.held.ensures
+    found_sound c.args.at.now.scope.now.style c.make.result _ c.held-2.result c.held-2.ensures
     (found_entering (made_by (g.M.Loops.made c.args.at.now.maker.now)) c.args.one.now.test c.args.one.now.body c.as_slice.result.now _ c.make.result are c.make.ensures)
     (loop_sound c.args.at.now.scope.now (g.M.Loops.style c.args.at.now.maker.now) (g.M.Loops.made c.args.at.now.maker.now) c.args.one.now c.args.states.now
     c.requires.sound c.requires.states c.requires.enters)
