@@ -7,7 +7,8 @@ use Rattle.name_table.specs.declared.style.TokenAt.{TokenAt}
 use Rattle.bst_meaning.specs.StyleParts.{kind_of, tokens_of}
 use Rattle.sym_state.specs.State.{State}
 use Rattle.cert_check.specs.Here.{here}
-use Rattle.cert_check.specs.Walks.{body_walked, chosen_in}
+use Rattle.cert_check.specs.Given.{Takes}
+use Rattle.cert_check.specs.Walks.{body_walked, chosen_in, made_by, whiles_from}
 use Rattle.cert_check.proofs.LoopSteps.{branch_is, called_refused, called_room, next_called}
 use Rattle.cert_check.proofs.OwnStacks.{by_own_stack}
 use Rattle.cert_check.proofs.WalkSteps.{begun_room, built_in_takes, each_at, first_room, item_at, body_refused, body_takes, case_within, chosen_refused, chosen_takes, next_entered, next_taken, next_walked, rest_room, rest_within, token_kept, tokens_sound}
@@ -106,16 +107,20 @@ chosen_in-returns g t c =
 
 -- all states of a token, or each of them
 pub taken_from-returns-then-makes_for : goal.taken_from-returns-then-makes_for
-taken_from-returns-then-makes_for g t c = record {
-  takes = whiles_take (here g.M.Loops.made c.args.at.now) (body_walked (here g.M.Loops.made c.args.at.now) c.args.at.now.more) c.args.token.now c.args.states.items
-      c.args.course.now c.whiles.new.course c.whiles.result (search rules) (search rules);
-}
+taken_from-returns-then-makes_for g t c =
+    let scope = here g.M.Loops.made c.args.at.now in record {
+      takes = whiles_take scope (body_walked scope c.args.at.now.more) c.args.token.now c.args.states.items c.args.course.now c.whiles.new.course c.whiles.result
+          (sym c.makes_for.ensures ∙ c.if-makes_for.true)
+          (subst (λ (l : List State). Takes (whiles_from (made_by scope.make) scope c.args.token.now.place l c.args.course.now) c.whiles.new.course c.whiles.result)
+          c.as_slice.ensures.value c.whiles.ensures.takes);
+    }
 
 pub taken_from-returns-else-makes_for : goal.taken_from-returns-else-makes_for
-taken_from-returns-else-makes_for g t c = record {
-  takes = each_takes (here g.M.Loops.made c.args.at.now) (body_walked (here g.M.Loops.made c.args.at.now) c.args.at.now.more) c.args.token.now c.args.states.items
-      c.args.course.now c.each_taken.new.course c.each_taken.result (search rules) c.each_taken.ensures.takes;
-}
+taken_from-returns-else-makes_for g t c =
+    let scope = here g.M.Loops.made c.args.at.now in record {
+      takes = each_takes scope (body_walked scope c.args.at.now.more) c.args.token.now c.args.states.items c.args.course.now c.each_taken.new.course
+          c.each_taken.result (sym c.makes_for.ensures ∙ c.if-makes_for.false) c.each_taken.ensures.takes;
+    }
 
 -- the next state
 pub each_taken-taken-requires : goal.each_taken-taken-requires

@@ -1,8 +1,8 @@
 -- The states that enter are well made, and there is one.
-use Rattle.std.proofs.Common.{◌≡◌, ◌≤◌, ◌∙◌, List, length, subst, sym}
+use Rattle.std.proofs.Common.{◌≡◌, ◌≤◌, ◌∙◌, IfOk, List, length, subst, sym}
 use Rattle.sym_state.specs.State.{State}
 use Rattle.cert_check.specs.Here.{here}
-use Rattle.cert_check.specs.Walks.{entering_with, made_by}
+use Rattle.cert_check.specs.Walks.{While, entering_with, made_by}
 use Rattle.cert_check.proofs.WhileSteps.{entering_made, found_entering, found_is, found_sound, loop_sound, ok_has}
 use Rattle.cert_check.proofs.whiles.loop_found.Goals as goal
 
@@ -24,13 +24,17 @@ returns-clause-found g c =
     let are = c.as_slice.ensures.value ∙ ok_has (λ v. v.items ≡ entering_with (here g.M.Loops.made c.args.at.now) c.args.one.now c.args.states.now)
     c.entering_with.result c.in_ok-entering.entering c.in_ok-entering.ensures (c.entering_with.ensures (g.M.Loops.made c.args.at.now.maker.now)) in
     found_is c.make.result _ c.held-2.result c.held-2.ensures
-    (found_entering (made_by (g.M.Loops.made c.args.at.now.maker.now)) c.args.one.now.test c.args.one.now.body c.as_slice.result.now _ c.make.result are c.make.ensures)
+    (found_entering (made_by (g.M.Loops.made c.args.at.now.maker.now)) c.args.one.now.test c.args.one.now.body c.as_slice.result.now _ c.make.result are
+    (subst (λ (w : While). IfOk c.make.result (λ found. found ≡ made_by (g.M.Loops.made c.args.at.now.maker.now) w.test w.body c.as_slice.result.now)) c.one.view_is
+    c.make.ensures))
 
 pub returns-clause-sound : goal.returns-clause-sound
 returns-clause-sound g c =
     let are = c.as_slice.ensures.value ∙ ok_has (λ v. v.items ≡ entering_with (here g.M.Loops.made c.args.at.now) c.args.one.now c.args.states.now)
     c.entering_with.result c.in_ok-entering.entering c.in_ok-entering.ensures (c.entering_with.ensures (g.M.Loops.made c.args.at.now.maker.now)) in
     found_sound c.args.at.now.scope.now.style c.make.result _ c.held-2.result c.held-2.ensures
-    (found_entering (made_by (g.M.Loops.made c.args.at.now.maker.now)) c.args.one.now.test c.args.one.now.body c.as_slice.result.now _ c.make.result are c.make.ensures)
+    (found_entering (made_by (g.M.Loops.made c.args.at.now.maker.now)) c.args.one.now.test c.args.one.now.body c.as_slice.result.now _ c.make.result are
+    (subst (λ (w : While). IfOk c.make.result (λ found. found ≡ made_by (g.M.Loops.made c.args.at.now.maker.now) w.test w.body c.as_slice.result.now)) c.one.view_is
+    c.make.ensures))
     (loop_sound c.args.at.now.scope.now (g.M.Loops.style c.args.at.now.maker.now) (g.M.Loops.made c.args.at.now.maker.now) c.args.one.now c.args.states.now
     c.requires.sound c.requires.states c.requires.enters)

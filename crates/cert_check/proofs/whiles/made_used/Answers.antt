@@ -45,9 +45,9 @@ returns-in_err-placed g c =
     (record {
       takes = steps_refused (here g.M.Loops.made c.args.at.now) c.args.at.now.place c.args.one.now c.args.number c.args.k c.in_ok-case.case.now c.args.state.now
           c.args.course.now c.in_ok-steps.steps.items c.in_err-placed.field-0.0 (search rules) (search rules)
-          (came_refused c.args.at.now.place _ (around c.args.one.now) _ c.args.at.now.scope.now.cert.cond _ c.in_ok-steps.steps.items c.in_ok-case.case.now
-          c.args.state.now c.comes_by.new.hints c.comes_by.result c.placed.result c.in_err-placed.field-0.0 (search rules) (search rules) (search rules)
-          c.placed.ensures (search rules) c.comes_by.ensures.shown);
+          (came_refused c.args.at.now.place c.around-unit.result (around c.args.one.now) c.cond-2.result.now c.args.at.now.scope.now.cert.cond c.new-left.result
+          c.in_ok-steps.steps.items c.in_ok-case.case.now c.args.state.now c.comes_by.new.hints c.comes_by.result c.placed.result c.in_err-placed.field-0.0
+          (search rules) (search rules) (search rules) c.placed.ensures c.in_err-placed.was c.comes_by.ensures.shown);
     })
 
 pub returns : goal.returns
