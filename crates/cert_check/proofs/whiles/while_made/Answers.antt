@@ -1,5 +1,5 @@
 -- The loop that is known is used.
-use Rattle.std.proofs.Common.{◌+◌, length, take, ap, rules}
+use Rattle.std.proofs.Common.{◌+◌, rules, subst, take}
 use Rattle.cert_check.specs.Given.{Takes}
 use Rattle.cert_check.specs.Here.{here}
 use Rattle.cert_check.specs.Walks.{While, made_by, made_used}
