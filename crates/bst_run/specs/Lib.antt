@@ -17,5 +17,4 @@ pub mod Under
 pub mod FilesBegun
 pub mod Delivery
 pub mod Inferred
-pub mod Generated
 pub mod Top

@@ -6,7 +6,6 @@ mod built_in;
 mod commands;
 mod effects;
 mod entries;
-mod fields;
 mod flow;
 mod frames;
 pub mod laws;

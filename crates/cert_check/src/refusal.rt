@@ -46,6 +46,3 @@ pub struct Refusal {
     pub place: Place,
     pub reason: Reason,
 }
-
-/// A walk comes to its end, or a rule fails on it.
-pub type Walk = Result<(), Refusal>;

@@ -1,22 +1,21 @@
 //! The checker's decision (docs/CHECKER.md, "Certificates").
 
-ghost use Rattle.std.specs.Prelude.{◌≡◌, ◌+◌, ◌≤◌, ℕ, [], Ok, ◌∷◌, MatchOption, OnOk, option_map};
+ghost use Rattle.std.specs.Prelude.{◌≡◌, ◌+◌, ◌≤◌, ℕ, [], Ok, ◌∷◌, MatchOption, MatchResult, OnOk, option_map};
 ghost use Rattle.name_table.specs.Sound.{IsSound};
 ghost use Rattle.bst_meaning.specs.Safe.{Safe};
 ghost use Rattle.cert_check.specs.Certified.{IsCertified};
-ghost use Rattle.cert_check.specs.Given.{Takes};
+ghost use Rattle.cert_check.specs.Given.{Refused};
 ghost use Rattle.command_flow.specs.Between as between;
 ghost use Rattle.command_flow.specs.Checks as flow;
 ghost use Rattle.command_flow.specs.Ready.{AreReady};
 ghost use Rattle.command_flow.specs.Records.{AreFrom, record_at};
 
-use crate::at::At;
 use crate::between::opened;
 use crate::flow::command_taken;
 use crate::laws::accepted_styles_are_safe;
 use bst_meaning::laws::runs_are_well_formed;
 use bv_base::place::Place;
-use cert_check::refusal::Walk;
+use cert_check::refusal::Refusal;
 use cert_check::{Checker, held};
 use cert_format::cert::{Cert, CommandPart};
 use name_table::style::Style;
@@ -24,10 +23,10 @@ use std::alloc::Global;
 
 /// Decides a certificate of a style: it is accepted exactly where every rule holds, and then the style is safe under the
 /// certificate's condition; else the first rule that fails is given, with its place.
-pub fn check(alloc: Global, style: &Style, cert: &Cert) -> Walk
+pub fn check(alloc: Global, style: &Style, cert: &Cert) -> Result<(), Refusal>
     requires sound { IsSound style.now }
     requires certified { IsCertified style.now cert.now }
-    ensures decides { Takes (flow.checked style.now cert.now) [] result }
+    ensures decides { MatchResult result (λ _. flow.checked style.now cert.now ≡ Ok []) (Refused (flow.checked style.now cert.now)) }
     ensures safe { OnOk result (Safe style.now cert.now.cond) }
 {
     accepted_styles_are_safe();
@@ -39,9 +38,10 @@ pub fn check(alloc: Global, style: &Style, cert: &Cert) -> Walk
 }
 
 /// Checks the summaries in order.
-fn check_summaries(checker: &Checker<'_>, cert: &Cert) -> Walk
+fn check_summaries(checker: &Checker<'_>, cert: &Cert) -> Result<(), Refusal>
     requires cert { cert.now ≡ checker.now.cert }
-    ensures { Takes (flow.summaries_checked checker.now.style checker.now.cert checker.now.cert.summaries) [] result }
+    ensures { MatchResult result (λ _. flow.summaries_checked checker.now.style checker.now.cert checker.now.cert.summaries ≡ Ok [])
+        (Refused (flow.summaries_checked checker.now.style checker.now.cert checker.now.cert.summaries)) }
 {
     for index in 0..cert.summaries.as_slice().len() {
         checker.check_summary(index)?;
@@ -50,9 +50,10 @@ fn check_summaries(checker: &Checker<'_>, cert: &Cert) -> Walk
 }
 
 /// Checks the loops in order.
-fn check_loops(checker: &Checker<'_>, cert: &Cert) -> Walk
+fn check_loops(checker: &Checker<'_>, cert: &Cert) -> Result<(), Refusal>
     requires cert { cert.now ≡ checker.now.cert }
-    ensures { Takes (flow.loops_checked checker.now.style checker.now.cert checker.now.cert.loops) [] result }
+    ensures { MatchResult result (λ _. flow.loops_checked checker.now.style checker.now.cert checker.now.cert.loops ≡ Ok [])
+        (Refused (flow.loops_checked checker.now.style checker.now.cert checker.now.cert.loops)) }
 {
     for index in 0..cert.loops.as_slice().len() {
         checker.check_loop(index)?;
@@ -61,32 +62,26 @@ fn check_loops(checker: &Checker<'_>, cert: &Cert) -> Walk
 }
 
 /// Checks the commands in the style's order.
-fn check_commands<'a>(
-    checker: &'a Checker<'a>,
+fn check_commands(
+    checker: &Checker<'_>,
     alloc: Global,
-    style: &'a Style,
-    cert: &'a Cert,
-) -> Walk
+    style: &Style,
+    cert: &Cert,
+) -> Result<(), Refusal>
     requires sound { IsSound style.now }
     requires certified { IsCertified style.now cert.now }
     requires style { style.now ≡ checker.now.style }
     requires cert { cert.now ≡ checker.now.cert }
     requires opened { AreReady style.now (between.opened style.now) }
-    ensures { Takes (flow.commands_checked style.now cert.now 0 (between.opened style.now) style.now.commands) [] result }
+    ensures { MatchResult result (λ _. flow.commands_checked style.now cert.now 0 (between.opened style.now) style.now.commands ≡ Ok [])
+        (Refused (flow.commands_checked style.now cert.now 0 (between.opened style.now) style.now.commands)) }
 {
     let mut between = held(Place::START, opened(alloc, style))?;
     let mut records = cert.commands.as_slice();
-    for (index, command) in style.commands.as_slice().iter().enumerate() {
+    for (index, at) in style.commands.as_slice().iter().enumerate() {
         let (record, later) = first_record(index, records);
         records = later;
-        let at = At {
-            checker,
-            alloc,
-            style,
-            cond: &cert.cond,
-            command: *command,
-        };
-        between = command_taken(&at, record, between)?;
+        between = command_taken(checker, alloc, style, &cert.cond, *at, record, between)?;
     }
     Ok(())
 }

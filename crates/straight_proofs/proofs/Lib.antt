@@ -1,5 +1,4 @@
 pub mod AddingUp
-pub mod Floored
 pub mod Lists
 pub mod Looked
 pub mod Numbered

@@ -1,4 +1,3 @@
-pub mod Floors
 pub mod Lookup
 pub mod Remainders
 pub mod Straight

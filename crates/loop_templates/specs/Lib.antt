@@ -1,6 +1,0 @@
-pub mod Reaching
-pub mod Sums
-pub mod Rows
-pub mod Skeletons
-pub mod Cases
-pub mod Candidates
