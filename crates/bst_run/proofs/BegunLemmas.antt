@@ -175,6 +175,12 @@ begun_first : (decided : Bool) (wanted before after : List Begun) → BeginsBy d
 begun_first true wanted before after is = record { begun = wanted; is = is; first = first_all wanted }
 begun_first false wanted before after h = h
 
+-- what begins nothing, whatever it gives
+pub nothing_begun : {F : Type 0} (see : Ghosts F) (files : F) (told : Option Listing) (given : Status)
+    → IfSome told (λ t. HasBegun {F = F} see files files [] given)
+nothing_begun see files None given = tt
+nothing_begun see files (Some t) given = All (sym (append-nil (see.begun files)))
+
 module _ {F : Type 0} (see : Ghosts F) (old new : F) (wanted : Listing → List Begun) where
   -- what a command's result has begun, its outcome has
   pub told_begun : (told : Option Listing) (result : Result Outcome Stop) (found : Result Outcome NoMemory)

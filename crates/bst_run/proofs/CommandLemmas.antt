@@ -12,11 +12,12 @@ use Rattle.bst_run.specs.declared.outcome.Outcome.{Outcome}
 use Rattle.bst_run.specs.declared.stop.Stop.{Stop}
 use Rattle.bst_run.specs.declared.stop.Stop.TheVariants.{Told, Absent, Failed, TooLong, NoMemory as Wanting}
 use Rattle.bst_run.specs.Delivery.{Sunk, IsFront, IsDelivered, Whole, OutFailed, ErrFailed, OutWanting, ErrWanting, Delivers}
-use Rattle.bst_run.specs.Forms.{Form, Check, Infer, Run, RunUnder}
+use Rattle.bst_run.specs.Forms.{Form, Check, Infer, Run, RunUnder, Gen}
+use Rattle.bst_run.specs.Generated.{IsGenerating, gen_outcome}
 use Rattle.bst_run.specs.Reads.{Reads}
 use Rattle.bst_run.specs.Report.{usage, absent, unread, too_long}
-use Rattle.bst_run.specs.Stops.{Gives, HasCause, IsDecided, IsRefusing, told_of}
-use Rattle.bst_run.specs.Top.{CausedBy, IsWanted, IsAnswer, IsAnswered, Promises, IsPromised, IsDoneWell, IsInside, IsUnder, SaysDone, ended, outcome_in}
+use Rattle.bst_run.specs.Stops.{Gives, Decides, HasCause, IsDecided, IsInside as IsFromInside, IsRefusing, told_of}
+use Rattle.bst_run.specs.Top.{CausedBy, IsWanted, IsAnswer, IsAnswered, Promises, IsPromised, IsDoneWell, IsInside, IsMade, IsMadeOf, IsMaking, Makes, IsUnder, SaysDone, ended, outcome_in}
 use Rattle.bst_run.specs.Under.{FaultsOutside}
 use Rattle.std.proofs.lemmas.List.{append_cancel_left}
 use Rattle.bst_run.proofs.DeliveryLemmas.{appended_nothing, delivered_front, silent, wanting}
@@ -143,19 +144,20 @@ told_outside (Err Wanting) outcome begun f f' is cause outside = absurd (cc)
 pub told_answer : {F : Type 0} (see : Ghosts F) (old new : F) (form : Form) (wanted : Listing → Result Outcome Outcome) (result : Result Outcome Stop) (found : Result Outcome NoMemory)
     → Reads {F = F} {A = Outcome} see old new wanted result → IfOk result (λ o. IsDecided o.status)
     → IfOk result (λ o. IfSome (see.told old) (λ told. Promises told form o))
-    → (IsUnder form → IfOk result FaultsOutside) → ((t : Listing) → ended (wanted t) ≡ outcome_in t form)
+    → (IsUnder form → IfOk result FaultsOutside) → ((t : Listing) → ended (wanted t) ≡ outcome_in t form) → ((o : Outcome) → IsMade form o)
     → IfOk found (λ o. told_of result ≡ Some o) → IfOk found (λ o. IsAnswer {F = F} see old new form o)
-told_answer see old new form wanted result (Ok o) reads decided safe outside same is = record {
+told_answer see old new form wanted result (Ok o) reads decided safe outside same made is = record {
   wanted = as_wanted (see.told old) (told_wanted (see.told old) wanted result o is reads.gives);
   cause = told_cause result o (last_begun (see.begun new)) (see.faults old) (see.faults new) is decided reads.cause;
   safe = told_safe (see.told old) form result o (last_begun (see.begun new)) (see.faults old) (see.faults new) is reads.cause safe;
   outside = λ under. told_outside result o (last_begun (see.begun new)) (see.faults old) (see.faults new) is reads.cause (outside under);
+  made = made o;
 }
   where
     as_wanted : (t : Option Listing) → IfSome t (λ told. IsWanted (ended (wanted told)) o) → IfSome t (λ told. IsWanted (outcome_in told form) o)
     as_wanted None w = tt
     as_wanted (Some t) w = subst (λ (x : Outcome). IsWanted x o) (same t) w
-told_answer see old new form wanted result (Err refused) reads decided safe outside same is = tt
+told_answer see old new form wanted result (Err refused) reads decided safe outside same made is = tt
 
 -- the words have no form
 pub usage_delivered : (found : Result Outcome NoMemory) (given : Status) (out err : Sunk) → IfOk found (λ o. o ≡ usage) → Delivers found given out err → IsDelivered usage given out err
@@ -246,6 +248,10 @@ promised told (Infer style cond) o out front writing = record {
 }
 promised told (Run aux steps) o out front acceptance = tt
 promised told (RunUnder aux steps cert) o out front acceptance = tt
+promised told (Gen seed count) o out front generating = record {
+  made = generating.made;
+  printed = subst (λ (x : Outcome). IsFront x.out out) generating.printed front;
+}
 
 -- a text on standard output promises what the outcome does
 pub form_safe : {F : Type 0} (see : Ghosts F) (old new : F) (form : Form) (found : Result Outcome NoMemory) (given : Status) (out err : Sunk)
@@ -268,6 +274,7 @@ done_well told (Check style cert) o acceptance = acceptance.found
 done_well told (Infer style cond) o writing = writing.found
 done_well told (Run aux steps) o acceptance = tt
 done_well told (RunUnder aux steps cert) o acceptance = tt
+done_well told (Gen seed count) o generating = generating.made
 
 -- the answer Done promises what the outcome does
 pub form_done : {F : Type 0} (see : Ghosts F) (old new : F) (form : Form) (found : Result Outcome NoMemory) (given : Status) (out err : Sunk)
@@ -326,6 +333,89 @@ pub under_promises : (t : Option Listing) (aux : List ℕ) (steps : ℕ) (cert :
 under_promises None aux steps cert (Ok o) = tt
 under_promises (Some t) aux steps cert (Ok o) = tt
 under_promises t aux steps cert (Err stop) = tt
+
+-- what the words `gen SEED COUNT` come to
+pub gen_told : (seed count : ℕ) (result : Result Outcome Stop) (found : Result Outcome NoMemory)
+    → Decides {A = Outcome} (gen_outcome seed count) result → IfOk result (λ o. IsDecided o.status) → IfOk result (IsGenerating seed count)
+    → IfErr result IsFromInside → IfOk found (λ o. told_of result ≡ Some o) → IfOk found (IsMadeOf seed count)
+gen_told seed count result (Err refused) decides decided safe inside is = tt
+gen_told seed count (Ok o) (Ok outcome) decides decided safe inside is =
+    let same : o ≡ outcome = cc in
+    record {
+      wanted = sym same ∙ sym (ap ended decides);
+      decided = subst (λ (x : Outcome). IsDecided x.status) same decided;
+      safe = λ says. subst (IsGenerating seed count) same safe;
+    }
+gen_told seed count (Err (Told o)) (Ok outcome) decides decided safe inside is =
+    let same : o ≡ outcome = cc in
+    record {
+      wanted = sym same ∙ sym (ap ended decides);
+      decided = subst (λ (x : Outcome). IsDecided x.status) same (refusing_decided o.status inside.1);
+      safe = λ says. absurd (says_nothing o outcome same inside.0 (not_done o.status inside.1) says);
+    }
+gen_told seed count (Err (Absent name)) (Ok outcome) decides decided safe inside is = absurd inside
+gen_told seed count (Err (Failed name)) (Ok outcome) decides decided safe inside is = absurd inside
+gen_told seed count (Err (TooLong name)) (Ok outcome) decides decided safe inside is = absurd inside
+gen_told seed count (Err Wanting) (Ok outcome) decides decided safe inside is = absurd (cc)
+
+-- it is what they come to over all files, which are left alone
+pub gen_answer : {F : Type 0} (see : Ghosts F) (files : F) (seed count : ℕ) (form : Form) (found : Result Outcome NoMemory)
+    → form ≡ Gen seed count → IfOk found (IsMadeOf seed count) → IfOk found (λ o. IsAnswer {F = F} see files files form o)
+gen_answer see files seed count form (Err refused) same made = tt
+gen_answer {F = F} see files seed count form (Ok o) same made = subst (λ (f : Form). IsAnswer {F = F} see files files f o) (sym same) (record {
+  wanted = as_wanted (see.told files);
+  cause = decided_cause o.status o (last_begun (see.begun files)) (see.faults files) (see.faults files) made.decided;
+  safe = as_safe (see.told files);
+  outside = λ under. absurd under;
+  made = made;
+})
+  where
+    as_wanted : (t : Option Listing) → IfSome t (λ told. IsWanted (outcome_in told (Gen seed count)) o)
+    as_wanted None = tt
+    as_wanted (Some t) = inl made.wanted
+
+    as_safe : (t : Option Listing) → IfSome t (λ told. SaysDone o → Promises told (Gen seed count) o)
+    as_safe None = tt
+    as_safe (Some t) = made.safe
+
+-- a status that is delivered as Done is that of the outcome
+given_done : (o : Outcome) (given : Status) (out err : Sunk) → IsDelivered o given out err → given ≡ status.Done → o.status ≡ status.Done
+given_done o given out err (Whole e put last) is = sym e ∙ is
+given_done o given out err (OutFailed e cut last) is = absurd (cc)
+given_done o given out err (ErrFailed e put cut) is = absurd (cc)
+given_done o given out err (OutWanting e front last) is = absurd (cc)
+given_done o given out err (ErrWanting e put front) is = absurd (cc)
+
+-- what they come to is delivered, and says of the style that is made what it promises
+making : (seed count : ℕ) (found : Result Outcome NoMemory) (given : Status) (out err : Sunk)
+    → IfOk found (IsMadeOf seed count) → Delivers found given out err → IsMaking seed count given out err
+making seed count (Err refused) given out err made delivered = record {
+  delivered = wanting (ended (gen_outcome seed count)) given out err delivered.0 delivered.1 delivered.2;
+  done = λ is.
+      let e = delivered.0 in
+      absurd (cc);
+  safe = λ more. absurd (more (delivered.1.taken ∙ sym (appended_nothing out.before)));
+}
+making seed count (Ok o) given out err made delivered = record {
+  delivered = subst (λ (x : Outcome). IsDelivered x given out err) made.wanted delivered;
+  done = λ is. (made.safe (inl (given_done o given out err delivered is))).made;
+  safe = λ more.
+      let generating = made.safe (inr (λ none. more (silent o given out err none delivered))) in
+      record {
+        made = generating.made;
+        printed = subst (λ (x : Outcome). IsFront x.out out) generating.printed (delivered_front o given out err delivered);
+      };
+}
+
+-- the same where the words have that form
+pub form_made : {F : Type 0} (see : Ghosts F) (old new : F) (form : Form) (found : Result Outcome NoMemory) (given : Status) (out err : Sunk)
+    → IfOk found (λ o. IsAnswer {F = F} see old new form o) → Delivers found given out err → Makes form given out err
+form_made see old new (Check style cert) found given out err answer delivered = tt
+form_made see old new (Infer style cond) found given out err answer delivered = tt
+form_made see old new (Run aux steps) found given out err answer delivered = tt
+form_made see old new (RunUnder aux steps cert) found given out err answer delivered = tt
+form_made see old new (Gen seed count) (Ok o) given out err answer delivered = making seed count (Ok o) given out err answer.made delivered
+form_made see old new (Gen seed count) (Err refused) given out err answer delivered = making seed count (Err refused) given out err tt delivered
 
 -- words of no form are answered by Usage, or the sinks decide
 pub usage_given : (given : Status) (out err : Sunk) → IsDelivered usage given out err

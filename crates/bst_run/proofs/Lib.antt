@@ -3,6 +3,7 @@ pub mod FileFaultLemmas
 pub mod ChainLemmas
 pub mod CheckLemmas
 pub mod InferLemmas
+pub mod GenerateLemmas
 pub mod DeliveryLemmas
 pub mod CommandLemmas
 pub mod ReadsLemmas

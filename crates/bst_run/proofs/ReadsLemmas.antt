@@ -30,7 +30,7 @@ then_given (Some t) first value next (Ok b) e h = rw e h
 then_given (Some t) first value next (Err stop) e h = rw e h
 
 -- a stop that stands for an outcome ends what comes after it
-stopped : {A B : Type 0} (o : Option Outcome) (r : Result A Outcome) (next : A → Result B Outcome)
+pub stopped : {A B : Type 0} (o : Option Outcome) (r : Result A Outcome) (next : A → Result B Outcome)
     → IfSome o (λ outcome. r ≡ Err outcome) → IfSome o (λ outcome. then_do r next ≡ Err outcome)
 stopped None r next h = tt
 stopped (Some outcome) r next h = rw h refl

@@ -22,7 +22,7 @@ use Rattle.bst_run.specs.declared.outcome.Outcome.{Outcome}
 use Rattle.bst_run.specs.declared.stop.Stop.{Stop}
 use Rattle.bst_run.specs.AuxChain.{aux_in, aux_file, needs_of, take_input, with_item, with_names}
 use Rattle.bst_run.specs.Files.{file_in, with_ending}
-use Rattle.bst_run.specs.Forms.{Form, Check, Infer, Run, RunUnder}
+use Rattle.bst_run.specs.Forms.{Form, Check, Infer, Run, RunUnder, Gen}
 use Rattle.bst_run.specs.Requests.{fault_after, nothing}
 use Rattle.bst_run.specs.Sources.{database_named, read_style, sources_of, style_named}
 use Rattle.bst_run.specs.Stops.{outcome_of}
@@ -121,6 +121,7 @@ files_begun told (Check style cert) = check_begun told style cert
 files_begun told (Infer style cond) = infer_begun told style cond
 files_begun told (Run aux steps) = sources_begun told aux
 files_begun told (RunUnder aux steps cert) = under_begun told aux cert
+files_begun told (Gen seed count) = []
 
 -- these have the first names of those
 abbrev pub AreFirst : List Begun → List Begun → Type 0

@@ -17,4 +17,5 @@ pub mod Under
 pub mod FilesBegun
 pub mod Delivery
 pub mod Inferred
+pub mod Generated
 pub mod Top

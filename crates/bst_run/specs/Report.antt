@@ -95,6 +95,14 @@ accepted style cond = record {
 abbrev pub written : List ℕ → Outcome
 written text = record { status = status.Done; out = text; err = [] }
 
+-- a style of so many functions and bytes is made, and the rules hold of a certificate that is found for it
+abbrev pub generated : ℕ → ℕ → Outcome
+generated count bytes = record {
+  status = status.Done;
+  out = codes "functions " ++ (decimal count ++ (codes "\nbytes " ++ (decimal bytes ++ codes "\naccepted\n")));
+  err = [];
+}
+
 -- the rules hold, or the first that fails is told
 abbrev pub holding : {A : Type 0} → Result A Refusal → Result (Unit {0}) Outcome
 holding (Ok left) = Ok tt

@@ -17,11 +17,13 @@ use Rattle.command_flow.specs.Checks.{checked}
 use Rattle.bst_run.specs.declared.outcome.Outcome.{Outcome}
 use Rattle.bst_run.specs.Delivery.{Sunk, IsFront, IsDelivered}
 use Rattle.bst_run.specs.Files.{file_in}
-use Rattle.bst_run.specs.Forms.{Form, Check, Infer, Run, RunUnder}
+use Rattle.bst_run.specs.Forms.{Form, Check, Infer, Run, RunUnder, Gen}
+use Rattle.bst_run.specs.Generated.{IsGenerated, IsGenerating, IsSafelyGenerated, gen_outcome}
 use Rattle.bst_run.specs.Inferred.{IsInferred, IsSafelyInferred, IsWriting, infer_outcome}
 use Rattle.bst_run.specs.Ran.{run_outcome}
 use Rattle.bst_run.specs.Report.{absent, accepted, holding, unread}
 use Rattle.bst_run.specs.Sources.{read_cert, read_style}
+use Rattle.bst_run.specs.Stops.{IsDecided}
 use Rattle.bst_run.specs.Under.{FaultsOutside, IsBegunBy, under_outcome}
 
 -- the rules decide a style and a certificate
@@ -52,6 +54,7 @@ outcome_in told (Check style cert) = ended (check_outcome told style cert)
 outcome_in told (Infer style cond) = ended (infer_outcome told style cond)
 outcome_in told (Run aux steps) = ended (run_outcome told aux steps)
 outcome_in told (RunUnder aux steps cert) = ended (under_outcome told aux steps cert)
+outcome_in told (Gen seed count) = ended (gen_outcome seed count)
 
 -- the rules hold of a style and a certificate: the style is safe under its condition, which the outcome prints
 pub record IsJudgedWell (style : Style) (cert : Cert) (outcome : Outcome) : Type 0 where
@@ -91,7 +94,19 @@ SaysDone outcome = (outcome.status ≡ status.Done) ⊎ (outcome.out ≢ [])
 abbrev pub Promises : Listing → Form → Outcome → Type 0
 Promises told (Check style cert) outcome = IsAcceptance told style cert outcome
 Promises told (Infer style cond) outcome = IsWriting told style cond outcome
+Promises told (Gen seed count) outcome = IsGenerating seed count outcome
 Promises told _ outcome = Unit {0}
+
+-- an outcome is what the words `gen SEED COUNT` come to, which no file decides
+pub record IsMadeOf (seed count : ℕ) (outcome : Outcome) : Type 0 where
+  pub wanted : outcome ≡ ended (gen_outcome seed count)
+  pub decided : IsDecided outcome.status
+  pub safe : SaysDone outcome → IsGenerating seed count outcome
+
+-- the same where the words have that form
+abbrev pub IsMade : Form → Outcome → Type 0
+IsMade (Gen seed count) outcome = IsMadeOf seed count outcome
+IsMade _ outcome = Unit {0}
 
 -- the words `run AUX N CERT`
 abbrev pub IsUnder : Form → Type 0
@@ -118,6 +133,7 @@ pub record IsAnswer {F : Type 0} (see : Ghosts F) (old new : F) (form : Form) (o
   pub cause : CausedBy outcome.status outcome (last_begun (see.begun new)) (see.faults old) (see.faults new)
   pub safe : IfSome (see.told old) (λ told. SaysDone outcome → Promises told form outcome)
   pub outside : IsUnder form → FaultsOutside outcome
+  pub made : IsMade form outcome
 
 -- what a call answers and leaves on its sinks where the words and the files decide this outcome: it is delivered, or the
 -- outcome of a file that couldn't be read
@@ -132,17 +148,21 @@ pub record IsSafelyAccepted (told : Listing) (style_name cert_name : List ℕ) (
 
 -- what the status Done promises: for the words `check STYLE CERT` that the style that the first file holds is safe under the
 -- condition of the certificate that the second holds, and for `infer STYLE` and `infer STYLE COND` that a certificate is found
--- of which the rules hold, and so that the style is safe under the condition that was asked for
+-- of which the rules hold, and so that the style is safe under the condition that was asked for; for `gen SEED COUNT` the same of
+-- the style that is made, under its default condition
 abbrev pub IsDoneWell : Listing → Form → Type 0
 IsDoneWell told (Check style cert) = IsAccepted told style cert
 IsDoneWell told (Infer style cond) = IsInferred told style cond
+IsDoneWell told (Gen seed count) = IsGenerated seed count
 IsDoneWell told _ = Unit {0}
 
 -- what a text on standard output promises: for the words `check STYLE CERT` that the style is safe, and for `infer STYLE` and
--- `infer STYLE COND` that it is one of a certificate of which the rules hold
+-- `infer STYLE COND` that it is one of a certificate of which the rules hold, and for `gen SEED COUNT` that the style that is made
+-- is safe
 abbrev pub IsPromised : Listing → Form → Sunk → Type 0
 IsPromised told (Check style cert) out = IsSafelyAccepted told style cert out
 IsPromised told (Infer style cond) out = IsSafelyInferred told style cond out
+IsPromised told (Gen seed count) out = IsSafelyGenerated seed count out
 IsPromised told _ out = Unit {0}
 
 -- by the words `run AUX N CERT` a log was put that begins with `inside`
@@ -152,3 +172,15 @@ pub record IsInside (form : Form) (err : Sunk) : Type 0 where
   pub was : err.before ≡ Some before
   pub rest : List ℕ
   pub is : err.after ≡ Some (before ++ (codes "inside\n" ++ rest))
+
+-- what a call answers and leaves on its sinks by the words `gen SEED COUNT`, whether or not the files tell: the outcome that they
+-- come to is delivered, and Done or a text on standard output says that the style that is made is safe
+pub record IsMaking (seed count : ℕ) (given : Status) (out err : Sunk) : Type 0 where
+  pub delivered : IsDelivered (ended (gen_outcome seed count)) given out err
+  pub done : given ≡ status.Done → IsGenerated seed count
+  pub safe : out.after ≢ out.before → IsSafelyGenerated seed count out
+
+-- the same where the words have that form
+abbrev pub Makes : Form → Status → Sunk → Sunk → Type 0
+Makes (Gen seed count) given out err = IsMaking seed count given out err
+Makes _ given out err = Unit {0}

@@ -1,6 +1,6 @@
 //! The whole command line.
 
-ghost use Rattle.std.specs.Prelude.{◌≡◌, ◌≢◌, ◌⊎◌, None, Some, true, false, IfOk, IfSome, IsSomeAnd};
+ghost use Rattle.std.specs.Prelude.{◌≡◌, ◌≢◌, ◌≤◌, ◌⊎◌, None, Some, true, false, IfOk, IfSome, IsSomeAnd};
 ghost use Rattle.bv_base.specs.Outside.{Rose, appended, last_begun};
 ghost use Rattle.bst_run.specs.Delivery.{sunk, IsDelivered, TellsOfSinks};
 ghost use Rattle.bst_run.specs.FilesBegun.{HasBegun, files_begun, given_of};
@@ -11,22 +11,23 @@ ghost use Rattle.bst_run.specs.Top as top;
 
 use crate::check::check;
 use crate::deliver::deliver;
+use crate::generating::make_and_show;
 use crate::inferring::infer;
 use crate::outcome::Outcome;
 use crate::report::{absent, too_long, unread, usage};
 use crate::run::run;
 use crate::stop::Stop;
 use crate::under::run_under;
-use crate::words::{Form, form_of};
+use crate::words::{Form, MOST_FUNCTIONS, form_of};
 use bv_base::files::Files;
 use bv_base::memory::NoMemory;
 use bv_base::sink::Sink;
 use bv_base::status::Status;
 use std::alloc::Global;
 
-/// Decides the certificate of the words `check STYLE CERT`, finds one for the words `infer STYLE` or `infer STYLE COND`, or takes the
-/// first steps of the words `run AUX N` or `run AUX N CERT`, and answers by the status, a text on `out`, and a text on `err` that ends
-/// with the last line.
+/// Decides the certificate of the words `check STYLE CERT`, finds one for the words `infer STYLE` or `infer STYLE COND`, takes the
+/// first steps of the words `run AUX N` or `run AUX N CERT`, or makes a style and shows it for the words `gen SEED COUNT`, and answers
+/// by the status, a text on `out`, and a text on `err` that ends with the last line.
 pub fn command<F: Files, O: Sink, E: Sink>(
     alloc: Global,
     words: &[String],
@@ -37,12 +38,18 @@ pub fn command<F: Files, O: Sink, E: Sink>(
     // Whatever `check` put on `out`, the style is safe: over every entry list that fits it and meets the condition that is printed,
     // no number of steps comes to an execution error, and each call that ends leaves the literal stack empty. Whatever `infer` put on
     // `out` is a front of the text of a certificate of the style in the first file, whose condition is the given or the default one,
-    // unchanged, and of which every rule holds: so the style is safe under that condition.
+    // unchanged, and of which every rule holds: so the style is safe under that condition. Whatever `gen` put on `out`, the style
+    // that it made is safe under its default condition.
     ensures safe { O.written out.new ≢ O.written out.old → IfSome (forms.form_of words.now) (λ form. IfSome (F.told files.old) (λ told.
         top.IsPromised told form (sunk ⟦<O as Sink>⟧ out.old out.new))) }
     // Where `check` is done it is safe under the condition of the certificate, whatever `out` tells, and where `infer` is done there is
-    // a certificate that shows it safe under the given or the default condition.
+    // a certificate that shows it safe under the given or the default condition, and where `gen` is done the same of the style that
+    // it made.
     ensures done { result ≡ Status.Done → IfSome (forms.form_of words.now) (λ form. IfSome (F.told files.old) (λ told. top.IsDoneWell told form)) }
+    // What `gen` answers needs no files, nor that they tell: the outcome of the words is delivered, nothing is begun, and the two
+    // clauses before hold.
+    ensures made { IfSome (forms.form_of words.now) (λ form. top.Makes form result (sunk ⟦<O as Sink>⟧ out.old out.new) (sunk ⟦<E as Sink>⟧ err.old err.new)) }
+    ensures made_unread { IfSome (forms.form_of words.now) (λ form. forms.IsGen form → F.begun files.new ≡ F.begun files.old) }
     // Where a run under a certificate told that the entries meet its condition, the run came to no execution error.
     ensures inside { IfSome (forms.form_of words.now) (λ form. top.IsInside form (sunk ⟦<E as Sink>⟧ err.old err.new) → result ≢ Status.Fault) }
     // The words have none of the forms exactly where the answer is Usage.
@@ -93,6 +100,7 @@ fn carry_out<F: Files, O: Sink, E: Sink>(
     out: &mut O,
     err: &mut E,
 ) -> Status
+    requires within { forms.IsWithin (forms.form_in form) }
     ensures not_usage { result ≢ Status.Usage }
     ensures answered { IfSome (F.told files.old) (λ told. top.IsAnswered (top.outcome_in told (forms.form_in form.entry)) result
         (sunk ⟦<O as Sink>⟧ out.old out.new) (sunk ⟦<E as Sink>⟧ err.old err.new)) }
@@ -106,6 +114,8 @@ fn carry_out<F: Files, O: Sink, E: Sink>(
     ensures inside { top.IsInside (forms.form_in form.entry) (sunk ⟦<E as Sink>⟧ err.old err.new) → result ≢ Status.Fault }
     ensures safe { O.written out.new ≢ O.written out.old → IfSome (F.told files.old) (λ told.
         top.IsPromised told (forms.form_in form.entry) (sunk ⟦<O as Sink>⟧ out.old out.new)) }
+    ensures made { top.Makes (forms.form_in form.entry) result (sunk ⟦<O as Sink>⟧ out.old out.new) (sunk ⟦<E as Sink>⟧ err.old err.new) }
+    ensures made_unread { forms.IsGen (forms.form_in form.entry) → F.begun files.new ≡ F.begun files.old }
 {
     let outcome = answer(alloc, form, files);
     deliver(outcome, out, err)
@@ -113,14 +123,17 @@ fn carry_out<F: Files, O: Sink, E: Sink>(
 
 /// What the words of a form come to.
 fn answer<F: Files>(alloc: Global, form: Form<'_>, files: &mut F) -> Result<Outcome, NoMemory>
+    requires within { forms.IsWithin (forms.form_in form) }
     ensures answer { IfOk result (λ outcome. top.IsAnswer ⟦<F as Files>⟧ files.old files.new (forms.form_in form.entry) outcome) }
     ensures begun { IfSome (F.told files.old) (λ told. HasBegun ⟦<F as Files>⟧ files.old files.new (files_begun told (forms.form_in form.entry)) (given_of result)) }
+    ensures made_unread { forms.IsGen (forms.form_in form.entry) → F.begun files.new ≡ F.begun files.old }
 {
     match form {
         Form::Check(style, cert) => answer_check(alloc, style, cert, files),
         Form::Infer(style, cond) => answer_infer(alloc, style, cond, files),
         Form::Run(aux, steps) => answer_run(alloc, aux, steps, files),
         Form::RunUnder(aux, steps, cert) => answer_run_under(alloc, aux, steps, cert, files),
+        Form::Gen(seed, count) => answer_gen(alloc, seed, count),
     }
 }
 
@@ -180,6 +193,16 @@ fn answer_run_under<F: Files>(
         HasBegun ⟦<F as Files>⟧ files.old files.new (files_begun told (forms.RunUnder aux.now steps cert.now)) (given_of result)) }
 {
     let found = run_under(alloc, files, aux, steps, cert);
+    told(alloc, found)
+}
+
+/// What the words `gen SEED COUNT` come to.
+fn answer_gen(alloc: Global, seed: u32, count: u32) -> Result<Outcome, NoMemory>
+    requires some { 1 ≤ count }
+    requires few { count ≤ MOST_FUNCTIONS }
+    ensures answer { IfOk result (top.IsMadeOf seed count) }
+{
+    let found = make_and_show(alloc, seed, count);
     told(alloc, found)
 }
 

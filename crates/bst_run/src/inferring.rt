@@ -117,12 +117,14 @@ fn certificate_under(alloc: Global, style: &Style, cond: Cond) -> Result<Outcome
 }
 
 /// The certificate that is found for a style under a condition.
-fn found(alloc: Global, style: &Style, cond: Cond) -> Result<Cert, Stop>
+pub fn found(alloc: Global, style: &Style, cond: Cond) -> Result<Cert, Stop>
     requires sound { IsSound style.now }
     requires kept { IsCond style.now.names cond }
     ensures decides { stops.Decides (rule.shown (infer_of style.now cond)) result }
+    ensures found { IfOk result (λ cert. infer_of style.now cond ≡ Ok cert) }
     ensures under { IfOk result (λ cert. cert.cond ≡ cond) }
     ensures kept { IfOk result (IsCert style.now) }
+    ensures certified { IfOk result (IsCertified style.now) }
     ensures inside { IfErr result stops.IsInside }
 {
     match infer::infer(alloc, style, cond) {
@@ -166,7 +168,7 @@ fn short_text(alloc: Global, text: Text) -> Result<Text, Stop>
 }
 
 /// Whether the rules hold of a certificate that was found.
-fn unrejected(alloc: Global, style: &Style, cert: &Cert) -> Result<(), Stop>
+pub fn unrejected(alloc: Global, style: &Style, cert: &Cert) -> Result<(), Stop>
     requires sound { IsSound style.now }
     requires certified { IsCertified style.now cert.now }
     ensures decides { stops.Decides (rule.unrejected (checked style.now cert.now)) result }

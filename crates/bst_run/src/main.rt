@@ -6,6 +6,7 @@ mod command;
 mod data_fault;
 mod deliver;
 mod files;
+mod generating;
 mod inferring;
 pub mod laws;
 mod outcome;

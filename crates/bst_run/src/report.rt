@@ -146,6 +146,14 @@ pub fn written(alloc: Global, text: Text) -> Outcome
     }
 }
 
+/// A style of so many functions and bytes is made, and the rules hold of a certificate that is found for it.
+pub fn generated(alloc: Global, count: u32, bytes: usize) -> Result<Outcome, NoMemory>
+    ensures { IfOk result (λ outcome. outcome ≡ report.generated count bytes) }
+{
+    let text = format!(in alloc; "functions {count}\nbytes {bytes}\naccepted\n")?;
+    Ok(written(alloc, Text::from_vec(text.into_bytes())))
+}
+
 /// The outcome with this status whose last line stands alone.
 fn last_line(alloc: Global, status: Status, line: String) -> Outcome
     ensures { result ≡ report.last_line status (string_bytes line) }

@@ -1,37 +1,23 @@
 //! What no clause says: that the answers are the worked ones, with ample memory, over files and sinks in memory. An
 //! example has words, files, what fails, and what is answered. Each table stands in a file of its own kind.
 
-/// What is answered for a style and a certificate.
-macro_rules! checked {
-    ($style:expr, $cert:expr => $status:ident, $out:expr, $err:expr) => {
-        Example {
-            words: &["check", "a.bst", "b.cert"],
-            shared: &[],
-            own: &[
-                File {
-                    name: "a.bst",
-                    bytes: $style,
-                },
-                File {
-                    name: "b.cert",
-                    bytes: $cert,
-                },
-            ],
-            failing: Failing::Nothing,
-            status: Status::$status,
-            out: $out,
-            err: $err,
+/// A file of this name, with these bytes.
+macro_rules! file_of {
+    ($name:expr, $bytes:expr) => {
+        File {
+            name: $name,
+            bytes: $bytes,
         }
     };
 }
 
-/// What is answered to these words over these files, where this fails.
-macro_rules! answered {
-    ($words:expr, $files:expr, $failing:expr => $status:ident, $out:expr, $err:expr) => {
+/// What is answered to these words over these files, of which several examples have the first, where this fails.
+macro_rules! example {
+    ($words:expr, $shared:expr, $own:expr, $failing:expr => $status:ident, $out:expr, $err:expr) => {
         Example {
             words: &$words,
-            shared: $files,
-            own: &[],
+            shared: $shared,
+            own: &$own,
             failing: $failing,
             status: Status::$status,
             out: $out,
@@ -40,53 +26,42 @@ macro_rules! answered {
     };
 }
 
+/// What is answered to these words over these files of its own.
+macro_rules! told {
+    ($words:expr, $own:expr => $status:ident, $out:expr, $err:expr) => {
+        example!($words, &[], $own, Failing::Nothing => $status, $out, $err)
+    };
+}
+
+/// What is answered for a style and a certificate.
+macro_rules! checked {
+    ($style:expr, $cert:expr => $status:ident, $out:expr, $err:expr) => {
+        told!(["check", "a.bst", "b.cert"], [file_of!("a.bst", $style), file_of!("b.cert", $cert)] => $status, $out, $err)
+    };
+}
+
+/// What is answered to these words over these files, where this fails.
+macro_rules! answered {
+    ($words:expr, $files:expr, $failing:expr => $status:ident, $out:expr, $err:expr) => {
+        example!($words, $files, [], $failing => $status, $out, $err)
+    };
+}
+
 /// What is answered to a run of so many steps over the files `p.aux`, `i.aux`, `s.bst` and `d.bib`.
 macro_rules! ran {
     ($aux:expr, $input:expr, $style:expr, $data:expr, $steps:literal => $status:ident, $out:expr, $err:expr) => {
-        Example {
-            words: &["run", "p.aux", $steps],
-            shared: &[],
-            own: &[
-                File {
-                    name: "p.aux",
-                    bytes: $aux,
-                },
-                File {
-                    name: "i.aux",
-                    bytes: $input,
-                },
-                File {
-                    name: "s.bst",
-                    bytes: $style,
-                },
-                File {
-                    name: "d.bib",
-                    bytes: $data,
-                },
-            ],
-            failing: Failing::Nothing,
-            status: Status::$status,
-            out: $out,
-            err: $err,
-        }
+        told!(
+            ["run", "p.aux", $steps],
+            [file_of!("p.aux", $aux), file_of!("i.aux", $input), file_of!("s.bst", $style), file_of!("d.bib", $data)]
+            => $status, $out, $err
+        )
     };
 }
 
 /// What is answered where the last of nested files is this one.
 macro_rules! nested {
     ($last:expr => $status:ident, $out:expr, $err:expr) => {
-        Example {
-            words: &["run", "p.aux", "999"],
-            shared: NEST,
-            own: &[File {
-                name: "q16.aux",
-                bytes: $last,
-            }],
-            failing: Failing::Nothing,
-            status: Status::$status,
-            out: $out,
-            err: $err,
-        }
+        example!(["run", "p.aux", "999"], NEST, [file_of!("q16.aux", $last)], Failing::Nothing => $status, $out, $err)
     };
 }
 
@@ -113,6 +88,7 @@ mod begun;
 mod check;
 mod commands;
 mod data;
+mod generating;
 mod inferring;
 mod loops;
 mod refusals;

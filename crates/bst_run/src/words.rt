@@ -1,6 +1,6 @@
 //! The forms of words.
 
-ghost use Rattle.std.specs.Prelude.{◌≡◌, ◌<◌, IfSome};
+ghost use Rattle.std.specs.Prelude.{◌≡◌, IfSome};
 ghost use Rattle.std.specs.Option.{option_map};
 ghost use Rattle.std.specs.List.{list_all};
 ghost use Rattle.bv_base.specs.Runs.{is_digit as digit};
@@ -9,8 +9,11 @@ ghost use Rattle.bst_run.specs.Forms as forms;
 
 use bv_base::runs::{is_digit, number};
 
-/// The most steps of a run: the greatest number of nine digits.
-pub const MOST_STEPS: u64 = 999_999_999;
+/// The greatest number of nine digits: the greatest of words.
+pub const NINE_DIGITS: u64 = 999_999_999;
+
+/// The most functions that a style is made of, beside the one before the first.
+pub const MOST_FUNCTIONS: u32 = 2000;
 
 /// What some words ask for. The names of files are used as they stand.
 #[derive(Clone, Copy)]
@@ -23,11 +26,14 @@ pub enum Form<'a> {
     Run(&'a str, u32),
     /// The same under the certificate in the last file.
     RunUnder(&'a str, u32, &'a str),
+    /// Make a style of so many functions from this seed, and show it.
+    Gen(u32, u32),
 }
 
 /// The form that words have, and `None` where they have none.
 pub fn form_of(words: &[String]) -> Option<Form<'_>>
-    ensures { option_map forms.form_in result ≡ forms.form_of words.now }
+    ensures form { option_map forms.form_in result ≡ forms.form_of words.now }
+    ensures within { IfSome result (λ form. forms.IsWithin (forms.form_in form)) }
 {
     match words {
         [word, style] if word.as_str() == "infer" => Some(Form::Infer(style.as_str(), None)),
@@ -35,6 +41,7 @@ pub fn form_of(words: &[String]) -> Option<Form<'_>>
             "check" => Some(Form::Check(first.as_str(), second.as_str())),
             "infer" => Some(Form::Infer(first.as_str(), Some(second.as_str()))),
             "run" => run_form(first.as_str(), second.as_bytes()),
+            "gen" => gen_form(first.as_bytes(), second.as_bytes()),
             _ => None,
         },
         [word, aux, steps, cert] if word.as_str() == "run" => {
@@ -46,30 +53,51 @@ pub fn form_of(words: &[String]) -> Option<Form<'_>>
 
 /// The form `run AUX N`.
 fn run_form<'a>(aux: &'a str, steps: &[u8]) -> Option<Form<'a>>
-    ensures { option_map forms.form_in result ≡ forms.run_form aux.now steps.now }
+    ensures form { option_map forms.form_in result ≡ forms.run_form aux.now steps.now }
+    ensures within { IfSome result (λ form. forms.IsWithin (forms.form_in form)) }
 {
-    Some(Form::Run(aux, steps_of(steps)?))
+    Some(Form::Run(aux, number_in(steps)?))
 }
 
 /// The form `run AUX N CERT`.
 fn under_form<'a>(aux: &'a str, steps: &[u8], cert: &'a str) -> Option<Form<'a>>
-    ensures { option_map forms.form_in result ≡ forms.under_form aux.now steps.now cert.now }
+    ensures form { option_map forms.form_in result ≡ forms.under_form aux.now steps.now cert.now }
+    ensures within { IfSome result (λ form. forms.IsWithin (forms.form_in form)) }
 {
-    Some(Form::RunUnder(aux, steps_of(steps)?, cert))
+    Some(Form::RunUnder(aux, number_in(steps)?, cert))
+}
+
+/// The form `gen SEED COUNT`.
+fn gen_form<'a>(seed: &[u8], count: &[u8]) -> Option<Form<'a>>
+    ensures form { option_map forms.form_in result ≡ forms.gen_form seed.now count.now }
+    ensures within { IfSome result (λ form. forms.IsWithin (forms.form_in form)) }
+{
+    let count = number_in(count)?;
+    if !are_functions(count) {
+        return None;
+    }
+    Some(Form::Gen(number_in(seed)?, count))
+}
+
+/// Whether a style is made of so many functions.
+fn are_functions(count: u32) -> bool
+    ensures { result ≡ forms.are_functions count }
+{
+    (1..=MOST_FUNCTIONS).contains(&count)
 }
 
 /// A number of one to nine digits without a leading zero, or 0.
-fn steps_of(word: &[u8]) -> Option<u32>
-    ensures { result ≡ forms.steps_of word.now }
+fn number_in(word: &[u8]) -> Option<u32>
+    ensures { result ≡ forms.number_in word.now }
 {
     if !is_numeral(word) || has_leading_zero(word) {
         return None;
     }
-    let steps = number(word);
-    if steps > MOST_STEPS {
+    let value = number(word);
+    if value > NINE_DIGITS {
         return None;
     }
-    Some(steps as u32)
+    Some(value as u32)
 }
 
 /// One digit or more.

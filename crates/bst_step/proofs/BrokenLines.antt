@@ -4,7 +4,7 @@ use Rattle.std.proofs.lemmas.Bool.{ltb-false, ltb-true}
 use Rattle.bv_base.specs.Bytes.{is_white}
 use Rattle.bst_meaning.specs.Lines.{Cut, after_white, break_among, broken, cut_at, cut_of, cut_with, page_of, trimmed_end, white_places}
 
-fewer : (bytes : List ℕ) → length (after_white bytes) ≤ length bytes
+pub fewer : (bytes : List ℕ) → length (after_white bytes) ≤ length bytes
 fewer [] = omega arith
 fewer (b ∷ bytes) = by (is_white b) (fewer bytes)
   where

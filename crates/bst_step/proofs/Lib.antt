@@ -1,10 +1,15 @@
 pub mod StackSteps
 pub mod VariableSteps
+pub mod PlaceLookups
+pub mod PlacesMade
+pub mod FieldSteps
 pub mod EntrySteps
 pub mod StableOrder
 pub mod SortSteps
 pub mod OpeningSteps
 pub mod RestSteps
 pub mod BrokenLines
+pub mod LateBreaks
+pub mod CutSteps
 pub mod KeySteps
 pub mod PlaceSteps

@@ -1,7 +1,8 @@
 -- The items of a stack below its topmost ones.
-use Rattle.std.proofs.Common.{◌≡◌, ℕ, ◌-◌, ◌≤◌, ◌∙◌, sym, ap, subst, refl, List, [], ◌∷◌, ◌++◌, length, take, drop, reverse, slice_get, None, arith, inl, inr}
+use Rattle.std.proofs.Common.{◌≡◌, ℕ, ◌+◌, ◌-◌, ◌<◌, ◌≤◌, ◌∙◌, le_refl, sym, ap, subst, refl, List, [], ◌∷◌, ◌++◌, length, take, drop, reverse, slice_get, None, arith, inl, inr}
 use Rattle.std.proofs.lemmas.Bool.{cases_lt}
-use Rattle.std.proofs.lemmas.List.{reverse-append, take-append-drop, length-reverse, length-drop, drop_at, drop_all}
+use Rattle.std.proofs.Math.ListN.{set}
+use Rattle.std.proofs.lemmas.List.{reverse-append, reverse-reverse, set-append_right, take-append-drop, length-reverse, length-drop, drop_at, drop_all}
 
 without_end : {A : Type 0} (a b : List A) (n : ℕ) → length b ≡ n → reverse a ≡ drop n (reverse (a ++ b))
 without_end a b n e = rw (reverse-append a b) (sym (drop_at (reverse b) (reverse a) n (length-reverse b ∙ e)))
@@ -24,3 +25,20 @@ reverse-take xs n = elim (cases_lt n (length xs)) [ inl h ↦ within xs n (omega
 pub no_first : {A : Type 0} (xs : List A) → slice_get xs 0 ≡ None → xs ≡ []
 no_first [] e = refl
 no_first (x ∷ xs) e = absurd (cc)
+
+last_replaced : {A : Type 0} (zs : List A) (i : ℕ) (y : A) → i + 1 ≡ length zs → reverse (set (reverse zs) i y) ≡ y ∷ drop 1 zs
+last_replaced [] i y at = absurd (omega (arith, at))
+last_replaced {A} (z ∷ zs) i y at =
+    let long : length (reverse zs) ≡ i = omega (arith, at, length-reverse zs) in
+    let here : i - i ≡ 0 = omega arith in
+    ap (λ (l : List A). reverse (set l i y)) (reverse-append (z ∷ []) zs)
+    ∙ ap (λ (l : List A). reverse l) (set-append_right (reverse zs) (z ∷ []) i i y long (le_refl i))
+    ∙ ap (λ (k : ℕ). reverse (reverse zs ++ set (z ∷ []) k y)) here
+    ∙ reverse-append (reverse zs) (y ∷ [])
+    ∙ ap (λ (l : List A). y ∷ l) (reverse-reverse zs)
+
+-- the last item of a list is replaced, which is the first one from the other end
+pub reverse-set : {A : Type 0} (xs : List A) (y : A) → 0 < length xs → reverse (set xs (length xs - 1) y) ≡ y ∷ drop 1 (reverse xs)
+reverse-set {A} xs y some =
+    let at : (length xs - 1) + 1 ≡ length (reverse xs) = omega (arith, some, length-reverse xs) in
+    ap (λ (l : List A). reverse (set l (length xs - 1) y)) (sym (reverse-reverse xs)) ∙ last_replaced (reverse xs) (length xs - 1) y at

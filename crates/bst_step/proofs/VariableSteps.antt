@@ -1,18 +1,115 @@
--- A variable that is found gets its new value in its place.
-use Rattle.std.proofs.Common.{◌≡◌, ℕ, zero, suc, ◌<◌, ap, List, [], ◌∷◌, ◌++◌, length, map, take, drop, get_or, arith}
+-- Variables are found and written at their places.
+use Rattle.std.proofs.Common.{◌≡◌, ℕ, zero, suc, ◌<◌, Bool, true, false, cond, nat_eq, refl, sym, ap, subst, ◌∙◌, List, [], ◌∷◌, length, map, slice_get, get_or, Option, None, Some}
+use Rattle.std.specs.Option.{option_map}
 use Rattle.std.proofs.Math.ListN.{set}
-use Rattle.std.proofs.lemmas.Bool.Decides.{nat_tests}
+use Rattle.std.proofs.lemmas.List.{map-set}
+use Rattle.std.proofs.lemmas.Option.{slice_get-map, slice_get-get_or}
+use Rattle.name_table.specs.declared.names.NameId.{NameId}
+use Rattle.bst_meaning.specs.declared.value.Value.{Value}
 use Rattle.bst_meaning.specs.Config as config
-use Rattle.bst_meaning.specs.Machine.{with_variable}
+use Rattle.bst_meaning.specs.Invariant.{names_of}
+use Rattle.bst_meaning.specs.Machine.{value_at, with_variable}
+use Rattle.bst_meaning.specs.Sorting.{string_at, string_of}
 use Rattle.bst_step.specs.declared.variables.Variable.{Variable}
+use Rattle.bst_step.specs.Places.{StandAt, place_of}
 use Rattle.bst_step.specs.Variables.{variable_of}
+use Rattle.bst_step.proofs.PlaceLookups.{another_there, at_place, no_place, same_names, set_nowhere, set_there, value_nowhere, value_there}
 
-found_first : (new v : config.Variable) (vs : List config.Variable) → v.name.0 ≡ new.name.0 → new ∷ vs ≡ with_variable new (v ∷ vs)
-found_first new v vs e = grind (arith, nat_tests)
+-- the names of variables
+abbrev pub names_in : List Variable → List NameId
+names_in variables = names_of (map variable_of variables)
 
-pub set_found : (vs : List Variable) (i : ℕ) (new d : Variable) → i < length vs → (get_or vs i d).name.0 ≡ new.name.0
-    → map variable_of (set vs i new) ≡ map variable_of (take i vs) ++ with_variable (variable_of new) (map variable_of (drop i vs))
-set_found [] i new d h e = absurd (omega arith)
-set_found (v ∷ vs) zero new d h e = found_first (variable_of new) (variable_of v) (map variable_of vs) e
-set_found (v ∷ vs) (suc i) new d h e =
-    ap (λ (rest : List config.Variable). variable_of v ∷ rest) (set_found vs i new d (omega arith) e)
+name_there : (variables : List Variable) (at : ℕ) → slice_get (names_in variables) at ≡ option_map (λ (v : Variable). v.name) (slice_get variables at)
+name_there [] at = refl
+name_there (v ∷ variables) zero = refl
+name_there (v ∷ variables) (suc at) = name_there variables at
+
+-- a table has no place for a name
+pub placeless : (places : List ℕ) (variables : List Variable) (name : NameId) → StandAt places (names_in variables)
+    → slice_get places name.0 ≡ None → None ≡ place_of name.0 (names_in variables)
+placeless places variables name stand none = sym (no_place places (names_in variables) name.0 stand none)
+
+-- the variable at the place that a table has is the one of the name
+pub stands_there : (places : List ℕ) (variables : List Variable) (name : NameId) (at : ℕ) (v : Variable) → StandAt places (names_in variables)
+    → slice_get variables at ≡ Some v → v.name.0 ≡ name.0 → Some at ≡ place_of name.0 (names_in variables)
+stands_there places variables name at v stand here named =
+    let is : slice_get (names_in variables) at ≡ Some v.name =
+    name_there variables at ∙ ap (λ (o : Option Variable). option_map (λ (v : Variable). v.name) o) here in
+    sym (at_place places (names_in variables) at v.name stand is) ∙ ap (λ (id : ℕ). place_of id (names_in variables)) named
+
+-- at the place that a table has no variable of the name stands
+nowhere : (places : List ℕ) (variables : List Variable) (name : NameId) (at : ℕ) → StandAt places (names_in variables)
+    → slice_get places name.0 ≡ Some at → (o : Option Variable) → slice_get variables at ≡ o → ((v : Variable) → o ≡ Some v → v.name.0 ≡ name.0 → ⊥)
+    → None ≡ place_of name.0 (names_in variables)
+nowhere places variables name at stand has o is other =
+    sym (another_there places (names_in variables) name.0 at stand has (λ it here. by it o other (sym (ap (λ (o : Option Variable). option_map (λ (v : Variable). v.name) o) is) ∙ sym (name_there variables at) ∙ here)))
+  where
+    by : (it : NameId) (o : Option Variable) → ((v : Variable) → o ≡ Some v → v.name.0 ≡ name.0 → ⊥) → option_map (λ (v : Variable). v.name) o ≡ Some it
+        → it.0 ≡ name.0 → ⊥
+    by it None other e named = absurd (cc)
+    by it (Some v) other e named =
+        let same : v.name ≡ it = cc in other v refl (ap (λ (n : NameId). n.0) same ∙ named)
+
+-- another variable stands there
+pub another_stands : (places : List ℕ) (variables : List Variable) (name : NameId) (at : ℕ) (v : Variable) → StandAt places (names_in variables)
+    → slice_get places name.0 ≡ Some at → slice_get variables at ≡ Some v → (v.name.0 ≡ name.0 → ⊥) → None ≡ place_of name.0 (names_in variables)
+another_stands places variables name at v stand has here other =
+    nowhere places variables name at stand has (Some v) here
+    (λ w same named. let is : v ≡ w = cc in other (ap (λ (x : Variable). x.name.0) is ∙ named))
+
+-- none stands there
+pub none_stands : (places : List ℕ) (variables : List Variable) (name : NameId) (at : ℕ) → StandAt places (names_in variables)
+    → slice_get places name.0 ≡ Some at → slice_get variables at ≡ None → None ≡ place_of name.0 (names_in variables)
+none_stands places variables name at stand has none = nowhere places variables name at stand has None none (λ w same named. absurd (cc))
+
+-- the value of the variable at its place
+pub value_found : (variables : List Variable) (id at : ℕ) (d : Variable) → at < length variables
+    → Some at ≡ place_of id (names_in variables) → Some (get_or variables at d).value ≡ value_at id (map variable_of variables)
+value_found variables id at d within is =
+    let here : slice_get (map variable_of variables) at ≡ Some (variable_of (get_or variables at d)) =
+    slice_get-map variable_of variables at ∙ ap (λ (o : Option Variable). option_map variable_of o) (slice_get-get_or variables at d within) in
+    sym (value_there id (map variable_of variables) at (sym is)
+    ∙ ap (λ (o : Option config.Variable). option_map (λ (v : config.Variable). v.value) o) here)
+
+-- no variable has the name
+pub value_missing : (variables : List Variable) (id : ℕ) → None ≡ place_of id (names_in variables) → None ≡ value_at id (map variable_of variables)
+value_missing variables id is = sym (value_nowhere id (map variable_of variables) (sym is))
+
+-- the variable at its place has its new value
+pub set_found : (variables : List Variable) (new : Variable) (at : ℕ) → Some at ≡ place_of new.name.0 (names_in variables)
+    → map variable_of (set variables at new) ≡ with_variable (variable_of new) (map variable_of variables)
+set_found variables new at is = map-set variable_of variables at new ∙ set_there (variable_of new) (map variable_of variables) at (sym is)
+
+-- no variable has the name, so none changes
+pub set_missing : (variables : List Variable) (new : Variable) → None ≡ place_of new.name.0 (names_in variables)
+    → map variable_of variables ≡ with_variable (variable_of new) (map variable_of variables)
+set_missing variables new is = set_nowhere (variable_of new) (map variable_of variables) (sym is)
+
+-- each variable still stands at its place
+pub still_stand : (places : List ℕ) (variables : List Variable) (new : Variable) (at : ℕ) → StandAt places (names_in variables)
+    → Some at ≡ place_of new.name.0 (names_in variables) → StandAt places (names_in (set variables at new))
+still_stand places variables new at stand is =
+    let same : names_in (set variables at new) ≡ names_in variables =
+    ap (λ (vs : List config.Variable). names_of vs) (set_found variables new at is)
+    ∙ same_names (variable_of new) (map variable_of variables) in
+    subst (StandAt places) (sym same) stand
+
+-- the sort key is the string of a variable
+pub string_found : (id : ℕ) (variables : List config.Variable) (value : Value) → Some value ≡ value_at id variables
+    → string_of value ≡ string_at id variables
+string_found id [] value e = absurd (cc)
+string_found id (v ∷ variables) value e = by (nat_eq v.name.0 id) (string_found id variables value) e
+  where
+    by : (t : Bool) → (Some value ≡ value_at id variables → string_of value ≡ string_at id variables)
+        → Some value ≡ cond t (Some v.value) (value_at id variables) → string_of value ≡ cond t (string_of v.value) (string_at id variables)
+    by true later e = let same : value ≡ v.value = cc in ap (λ (a : Value). string_of a) same
+    by false later e = later e
+
+pub string_missing : (id : ℕ) (variables : List config.Variable) → None ≡ value_at id variables → [] ≡ string_at id variables
+string_missing id [] e = refl
+string_missing id (v ∷ variables) e = by (nat_eq v.name.0 id) (string_missing id variables) e
+  where
+    by : (t : Bool) → (None ≡ value_at id variables → [] ≡ string_at id variables)
+        → None ≡ cond t (Some v.value) (value_at id variables) → [] ≡ cond t (string_of v.value) (string_at id variables)
+    by true later e = absurd (cc)
+    by false later e = later e

@@ -2,7 +2,9 @@ pub mod Outcome
 pub mod Operands
 pub mod Surroundings
 pub mod Variables
+pub mod Places
 pub mod State
 pub mod Moves
+pub mod Frames
 pub mod Lines
 pub mod Machine

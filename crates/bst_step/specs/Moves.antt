@@ -6,7 +6,7 @@ use Rattle.name_table.specs.declared.names.NameId.{NameId}
 use Rattle.name_table.specs.declared.style.Style.{Style}
 use Rattle.bst_meaning.specs.declared.value.Value.{Value}
 use Rattle.bst_meaning.specs.declared.value.Value.TheVariants.{Str}
-use Rattle.bst_meaning.specs.Config.{Config, Event, Wrote, Variable, EntryState, Frame}
+use Rattle.bst_meaning.specs.Config.{Config, Event, Wrote, Variable, EntryState}
 use Rattle.bst_meaning.specs.Machine.{with_assigned, with_variable, with_entry_variable, with_found, visited_index, visited_entry, value_at, field_in}
 
 -- the literal stack is this one
@@ -54,7 +54,3 @@ with_entry_value name place c = with_found (option_and_then (λ e. value_at name
 -- a variable of the whole style is pushed
 abbrev pub with_global : NameId → Place → Config → Config
 with_global name place c = with_found (value_at name.0 c.globals) place c
-
--- a frame that was taken off is the innermost one again
-abbrev pub with_frame_back : Frame → Config → Config
-with_frame_back frame c = record c { frames = frame ∷ c.frames }

@@ -27,7 +27,7 @@ frame_of f = record { tokens = tokens_left f.rest; place = f.place; part = part_
 
 -- an entry with its variables
 abbrev pub state_of : EntryState → config.EntryState
-state_of e = record { entry = e.entry; variables = map variable_of e.variables.items; position = e.position }
+state_of e = record { entry = e.entry; variables = map variable_of e.variables; position = e.position }
 
 -- a visit of the entries
 abbrev pub visit_in : Visit → config.Visit
@@ -54,7 +54,7 @@ config_of s = record {
   running = s.running;
   frames = map frame_of s.frames;
   stack = s.stack;
-  globals = map variable_of s.globals.items;
+  globals = map variable_of s.globals;
   entries = map state_of s.entries.items;
   visit = option_map visit_in s.visit;
   events = map event_of s.events.items;

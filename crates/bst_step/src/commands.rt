@@ -52,14 +52,11 @@ impl<'a> State<'a> {
         if self.stopped.is_some() {
             return Ok(());
         }
-        match self.frames.pop() {
-            Some(frame) => self.frame_step(style, frame),
-            None => self.outer_step(),
-        }
+        self.going_step(style)
     }
 
     /// A step where no frame is left.
-    fn outer_step(&mut self) -> Result<(), NoMemory>
+    pub fn outer_step(&mut self) -> Result<(), NoMemory>
         ensures moved { OnOk result (config_of self.new ≡ rule.outer_step self.old.running self.old.commands (config_of self.old)) }
         ensures entries { OnErr result (self.new.entries.items ≡ self.old.entries.items) }
     {

@@ -11,7 +11,7 @@ ghost use Rattle.bst_step.specs.Variables.{variable_of};
 use crate::outcome::Outcome;
 use crate::stack::Stack;
 use crate::state::{EntryState, Event, Rest, State};
-use crate::variables::{Variable, set_variable};
+use crate::variables::Variable;
 use bst_meaning::style_parts::{kind_of, tokens_of};
 use bst_meaning::value::{Target, Value};
 use bv_base::memory::NoMemory;
@@ -147,7 +147,7 @@ impl<'a> State<'a> {
         let new = Variable { name, value };
         match kind_of(style, name) {
             Some(Kind::IntEntry | Kind::StrEntry) => self.assign_in_entry(new),
-            _ => set_variable(self.globals.as_mut_slice(), new),
+            _ => self.globals.set(new),
         }
     }
 
@@ -176,5 +176,5 @@ fn set_in_entry(entries: &mut [EntryState], at: Option<usize>, new: Variable)
 fn set_in(entry: &mut EntryState, new: Variable)
     ensures { state_of entry.new ≡ with_new (variable_of new) (state_of entry.old) }
 {
-    set_variable(entry.variables.as_mut_slice(), new);
+    entry.variables.set(new);
 }

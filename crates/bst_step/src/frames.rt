@@ -1,10 +1,11 @@
 //! The steps of frames.
 
-ghost use Rattle.std.specs.Prelude.{◌≡◌, ◌∷◌, map, OnErr, OnOk};
+ghost use Rattle.std.specs.Prelude.{◌≡◌, map, OnErr, OnOk};
+ghost use Rattle.name_table.specs.declared.style.Style.{Style};
 ghost use Rattle.bst_meaning.specs.Machine as rule;
 ghost use Rattle.bst_step.specs.Outcome.{part_of};
-ghost use Rattle.bst_step.specs.State.{config_of, frame_of, tokens_left};
-ghost use Rattle.bst_step.specs.Moves.{with_frame_back};
+ghost use Rattle.bst_step.specs.State.{config_of, frame_of};
+ghost use Rattle.bst_step.specs.Frames.{with_next};
 
 use crate::effects::entered_at;
 use crate::outcome::Part;
@@ -15,24 +16,53 @@ use bv_base::memory::NoMemory;
 use bv_base::place::Place;
 use name_table::style::{Style, Token};
 
+/// What is left to do of a step, once the innermost frame has moved on.
+pub enum Next {
+    /// Executes a token, which its frame no longer has.
+    Token(Token, Place),
+    /// Returns from a frame, which is gone.
+    Return(Part, Place),
+    /// Goes on with the first command, since no frame is left.
+    Outer,
+}
+
 impl<'a> State<'a> {
-    /// Executes the first token of a frame, which was taken off, or returns from it where it has none.
-    pub fn frame_step(&mut self, style: &'a Style, frame: Frame<'a>) -> Result<(), NoMemory>
-        ensures moved { OnOk result (config_of self.new ≡
-            rule.frame_step style.now (frame_of frame.entry) (map frame_of self.old.frames) (tokens_left frame.entry.rest)
-            (with_frame_back (frame_of frame.entry) (config_of self.old))) }
+    /// A step of the innermost frame, or of the first command where no frame is left.
+    pub fn going_step(&mut self, style: &'a Style) -> Result<(), NoMemory>
+        ensures moved { OnOk result (config_of self.new ≡ rule.going_step style.now (map frame_of self.old.frames) (config_of self.old)) }
         ensures entries { OnErr result (self.new.entries.items ≡ self.old.entries.items) }
     {
-        match frame.rest {
-            Rest::Call(name, place) => {
-                self.enter(Rest::Tokens(&[]), frame.place, frame.part)?;
-                self.token_step(style, Token::Call(name), place)
-            }
+        match self.next() {
+            Next::Token(token, place) => self.token_step(style, token, place),
+            Next::Return(part, place) => self.return_step(style, part, place),
+            Next::Outer => self.outer_step(),
+        }
+    }
+
+    /// Moves the innermost frame on in its place, past its first token, or takes it away where it has none left.
+    fn next(&mut self) -> Next
+        ensures moved { (style : Style) → with_next style result (config_of self.new) ≡ rule.going_step style (map frame_of self.old.frames) (config_of self.old) }
+        ensures entries { self.new.entries.items ≡ self.old.entries.items }
+    {
+        let Some(frame) = self.frames.top() else {
+            return Next::Outer;
+        };
+        let Frame { rest, place, part } = *frame;
+        match rest {
             Rest::Tokens([first, tokens @ ..]) => {
-                self.enter(Rest::Tokens(tokens), frame.place, frame.part)?;
-                self.token_step(style, first.token, first.place)
+                let rest = Rest::Tokens(tokens);
+                self.frames.replace_top(Frame { rest, place, part });
+                Next::Token(first.token, first.place)
             }
-            Rest::Tokens([]) => self.return_step(style, frame.part, frame.place),
+            Rest::Tokens([]) => {
+                self.frames.drop_top(1);
+                Next::Return(part, place)
+            }
+            Rest::Call(name, at) => {
+                let rest = Rest::Tokens(&[]);
+                self.frames.replace_top(Frame { rest, place, part });
+                Next::Token(Token::Call(name), at)
+            }
         }
     }
 

@@ -6,6 +6,7 @@ mod built_in;
 mod commands;
 mod effects;
 mod entries;
+mod fields;
 mod flow;
 mod frames;
 pub mod laws;

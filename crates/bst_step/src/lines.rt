@@ -1,10 +1,10 @@
 //! The lines that a run has written (docs/MACHINE.md, "Lines").
 
-ghost use Rattle.std.specs.Prelude.{◌≡◌, ◌++◌, ◌∷◌, ◌≤◌, [], length, map, option_map, None, IfOk, OnOk, IfSome};
+ghost use Rattle.std.specs.Prelude.{◌≡◌, ◌+◌, ◌++◌, ◌∷◌, ◌≤◌, [], drop, length, map, option_map, None, IfOk, OnOk, IfSome};
 ghost use Rattle.std.specs.List.{flat_map};
 ghost use Rattle.bst_meaning.specs.Lines as rule;
 ghost use Rattle.bst_step.specs.State.{event_of};
-ghost use Rattle.bst_step.specs.Lines.{cut_in, page_in};
+ghost use Rattle.bst_step.specs.Lines.{cut_in, page_from, page_in};
 
 use crate::state::Event;
 use bv_base::bytes::is_white;
@@ -13,18 +13,18 @@ use bv_base::text::Text;
 use std::alloc::Global;
 use text_ops::is_blank::is_blank;
 
-/// The finished lines, and the buffer that is left.
+/// The finished lines, and what was written since the last of them was ended. It is broken only where its line ends.
 #[derive(Drop)]
 pub struct Page {
     pub lines: Vec<Text>,
     pub buffer: Vec<u8>,
 }
 
-/// A line that is finished, and the buffer after it.
-#[derive(Drop)]
-pub struct Cut {
-    pub line: Text,
-    pub rest: Vec<u8>,
+/// A line that is finished, and where the buffer goes on: its first two bytes there are to be spaces.
+#[derive(Clone, Copy)]
+pub struct Cut<'a> {
+    pub line: &'a [u8],
+    pub next: usize,
 }
 
 /// The finished lines of what was written, each with its line end.
@@ -39,6 +39,7 @@ pub fn lines_of(alloc: Global, events: &[Event]) -> Result<Vec<u8>, NoMemory>
     for event in events {
         page.add(alloc, event)?;
     }
+    page.break_buffer(alloc)?;
     with_ends(alloc, page.lines.as_slice())
 }
 
@@ -55,45 +56,52 @@ pub fn with_ends(alloc: Global, lines: &[Text]) -> Result<Vec<u8>, NoMemory>
 }
 
 impl Page {
-    /// Adds a text, and breaks the buffer as often as it can be, or ends a line.
+    /// Adds a text to the buffer, or ends a line.
+    #[tactic(auto, using(crate::proofs::LateBreaks::written))]
     fn add(&mut self, alloc: Global, event: &Event) -> Result<(), NoMemory>
         ensures { OnOk result (page_in self.new ≡ rule.after_event (page_in self.old) (event_of event.now)) }
     {
         match event {
             Event::Wrote(bytes) => {
                 self.buffer.extend_from_slice(bytes.as_slice())?;
-                self.break_buffer(alloc)
+                Ok(())
             }
             Event::EndedLine => self.end_line(alloc),
         }
     }
 
-    /// Breaks the buffer as often as it can be. Each break makes it shorter.
-    fn break_buffer(&mut self, alloc: Global) -> Result<(), NoMemory>
-        ensures { OnOk result (page_in self.new ≡ rule.broken (length self.old.buffer.items) self.old.lines.items self.old.buffer.items) }
+    /// Breaks the buffer as often as it can be, and gives where what is left of it begins.
+    fn break_buffer(&mut self, alloc: Global) -> Result<usize, NoMemory>
+        ensures broken { IfOk result (λ start. page_from start self.new ≡ page_in self.old) }
+        ensures within { IfOk result (λ start. start ≤ length self.new.buffer.items) }
     {
+        let mut start = 0;
         let mut most = self.buffer.as_slice().len();
         while most > 0 {
-            let Some(cut) = cut_of(alloc, self.buffer.as_slice())? else {
-                return Ok(());
+            let (_, left) = self.buffer.as_slice().split_at(start);
+            let Some(cut) = cut_of(left) else {
+                return Ok(start);
             };
-            let Cut { line, rest } = cut;
-            self.lines.push(line)?;
-            self.buffer = rest;
+            let Cut { line, next } = cut;
+            self.lines.push(Text::from_slice(alloc, line)?)?;
+            start += next;
+            indent(&mut self.buffer, start);
             most -= 1;
         }
-        Ok(())
+        Ok(start)
     }
 
-    /// Finishes the buffer as a line, and empties it.
+    /// Breaks the buffer, finishes what is left of it as a line, and empties it.
     fn end_line(&mut self, alloc: Global) -> Result<(), NoMemory>
         ensures { OnOk result (page_in self.new ≡ rule.after_event (page_in self.old) (event_of Event.EndedLine)) }
     {
-        if !is_only_white(self.buffer.as_slice()) {
-            let line = Text::from_slice(alloc, trimmed_end(self.buffer.as_slice()))?;
+        let start = self.break_buffer(alloc)?;
+        let (_, left) = self.buffer.as_slice().split_at(start);
+        if !is_only_white(left) {
+            let line = Text::from_slice(alloc, trimmed_end(left))?;
             self.lines.push(line)?;
         }
-        self.buffer = Vec::new(alloc);
+        self.buffer.clear();
         Ok(())
     }
 }
@@ -109,38 +117,39 @@ fn is_only_white(buffer: &[u8]) -> bool
 }
 
 /// The cut of a buffer with more than 79 bytes, where it has one.
-fn cut_of(alloc: Global, buffer: &[u8]) -> Result<Option<Cut>, NoMemory>
-    ensures { IfOk result (λ found. option_map cut_in found ≡ rule.cut_of buffer.now) }
+#[tactic(auto, using(crate::proofs::CutSteps::cut_found))]
+fn cut_of(buffer: &[u8]) -> Option<Cut<'_>>
+    ensures cut { option_map (cut_in buffer.now) result ≡ rule.cut_of buffer.now }
+    ensures within { IfSome result (λ cut. cut.next + 2 ≤ length buffer.now) }
 {
     if buffer.len() <= 79 {
-        return Ok(None);
+        return None;
     }
-    let Some(at) = break_at(buffer) else {
-        return Ok(None);
-    };
+    let at = break_at(buffer)?;
     let (before, after) = buffer.split_at(at);
-    cut_with(alloc, before, after_white(after))
+    match after_white(after) {
+        [] => None,
+        rest => Some(Cut {
+            line: trimmed_end(before),
+            next: buffer.len() - rest.len() - 2,
+        }),
+    }
 }
 
-/// The cut between two parts of a buffer, where the second has bytes.
-fn cut_with(alloc: Global, before: &[u8], after: &[u8]) -> Result<Option<Cut>, NoMemory>
-    ensures { IfOk result (λ found. option_map cut_in found ≡ rule.cut_with before.now after.now) }
+/// Writes two spaces at a place.
+fn indent(buffer: &mut Vec<u8>, at: usize)
+    requires { at + 2 ≤ length buffer.now.items }
+    ensures spaces { drop at buffer.new.items ≡ 32 ∷ 32 ∷ drop (at + 2) buffer.old.items }
+    ensures length { length buffer.new.items ≡ length buffer.old.items }
 {
-    match after {
-        [] => Ok(None),
-        _ => {
-            let line = Text::from_slice(alloc, trimmed_end(before))?;
-            let mut rest = b"  ".to_vec(alloc)?;
-            rest.extend_from_slice(after)?;
-            Ok(Some(Cut { line, rest }))
-        }
-    }
+    buffer[at + 1] = b' ';
+    buffer[at] = b' ';
 }
 
 /// The greatest place of white space from 3 to 79, and else the least from 80 on.
 fn break_at(buffer: &[u8]) -> Option<usize>
     ensures place { result ≡ rule.break_among None (rule.white_places 0 buffer.now) }
-    ensures within { IfSome result (λ at. at ≤ length buffer.now) }
+    ensures within { IfSome result (λ at. (3 ≤ at) × (at ≤ length buffer.now)) }
 {
     let mut best = None;
     for (at, b) in buffer.iter().enumerate() {
@@ -158,7 +167,8 @@ fn break_at(buffer: &[u8]) -> Option<usize>
 
 /// Without white space at the front.
 fn after_white(bytes: &[u8]) -> &[u8]
-    ensures { result.now ≡ rule.after_white bytes.now }
+    ensures rest { result.now ≡ rule.after_white bytes.now }
+    ensures within { length result.now ≤ length bytes.now }
 {
     let mut rest = bytes;
     while let [first, later @ ..] = rest {

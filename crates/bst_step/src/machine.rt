@@ -134,7 +134,7 @@ fn key_in(entries: &[EntryState], position: u64) -> &[u8]
 {
     for state in entries {
         if state.position == position {
-            return state.entry.key.as_slice();
+            return state.entry.entry().key.as_slice();
         }
     }
     &[]

@@ -1,15 +1,17 @@
 //! The state in which a run opens.
 
-ghost use Rattle.std.specs.Prelude.{◌≡◌, List, ◌++◌, map, OnOk, IfOk};
+ghost use Rattle.std.specs.Prelude.{◌≡◌, ◌≤◌, ℕ, List, [], ◌++◌, length, map, OnOk, IfOk};
 ghost use Rattle.std.specs.List.{filter};
 ghost use Rattle.bst_meaning.specs.Config as config;
+ghost use Rattle.bst_meaning.specs.Entries.{field_ids_at, field_ids_from};
+ghost use Rattle.bst_step.specs.Places.{StandAt};
 ghost use Rattle.bst_step.specs.State.{config_of, state_of};
 ghost use Rattle.bst_step.specs.Variables.{variable_of};
 
-use crate::operands::copied;
+use crate::fields::PlacedEntry;
 use crate::stack::Stack;
 use crate::state::{EntryState, State};
-use crate::variables::Variable;
+use crate::variables::{Variable, Variables};
 use bst_meaning::entry::{Entry, EntryList};
 use bst_meaning::value::{ENTRY_SIZE, GLOBAL_SIZE, Value};
 use bv_base::memory::NoMemory;
@@ -18,6 +20,7 @@ use name_table::names::{Kind, NameId, Names};
 use name_table::opening::{ENTRY_MAX, GLOBAL_MAX};
 use name_table::style::{Command, CommandAt, Style};
 use std::alloc::Global;
+use std::rc::Rc;
 
 /// The state in which a run of the style over the list opens.
 pub fn opening<'a>(alloc: Global, style: &'a Style, list: EntryList) -> Result<State<'a>, NoMemory>
@@ -25,6 +28,7 @@ pub fn opening<'a>(alloc: Global, style: &'a Style, list: EntryList) -> Result<S
 {
     let EntryList { entries, preamble } = list;
     let variables = entry_variables(alloc, &style.names)?;
+    let places = field_places(alloc, &style.names)?;
     Ok(State {
         alloc,
         preamble,
@@ -33,7 +37,7 @@ pub fn opening<'a>(alloc: Global, style: &'a Style, list: EntryList) -> Result<S
         frames: Stack::new(alloc),
         stack: Stack::new(alloc),
         globals: globals(alloc, &style.names)?,
-        entries: entry_states(alloc, variables.as_slice(), entries.into_vec())?,
+        entries: entry_states(alloc, &places, &variables, entries.into_vec())?,
         visit: None,
         events: Vec::new(alloc),
         log: Vec::new(alloc),
@@ -85,14 +89,16 @@ fn opening_integer(id: u32) -> i32
 }
 
 /// The variables of the whole style, as a run opens.
-fn globals(alloc: Global, names: &Names) -> Result<Vec<Variable>, NoMemory>
-    ensures { IfOk result (λ variables. map variable_of variables.items ≡ config.opening_variables config.opening_global 0 names.now) }
+fn globals(alloc: Global, names: &Names) -> Result<Variables, NoMemory>
+    ensures { IfOk result (λ variables. map variable_of variables ≡ config.opening_variables config.opening_global 0 names.now) }
 {
+    let mut places = Vec::new(alloc);
     let mut variables = Vec::new(alloc);
     for id in 0..names.len() {
+        places.push(variables.as_slice().len())?;
         push_global(alloc, &mut variables, NameId(id), names.kind(NameId(id)))?;
     }
-    Ok(variables)
+    Variables::new(alloc, places, variables)
 }
 
 /// Appends the variable of the whole style that a name of a kind is, if it is one.
@@ -115,14 +121,16 @@ fn push_global(
 }
 
 /// The variables of an entry, as a run opens.
-fn entry_variables(alloc: Global, names: &Names) -> Result<Vec<Variable>, NoMemory>
-    ensures { IfOk result (λ variables. map variable_of variables.items ≡ config.opening_variables config.opening_entry_variable 0 names.now) }
+fn entry_variables(alloc: Global, names: &Names) -> Result<Variables, NoMemory>
+    ensures { IfOk result (λ variables. map variable_of variables ≡ config.opening_variables config.opening_entry_variable 0 names.now) }
 {
+    let mut places = Vec::new(alloc);
     let mut variables = Vec::new(alloc);
     for id in 0..names.len() {
+        places.push(variables.as_slice().len())?;
         push_entry_variable(alloc, &mut variables, NameId(id), names.kind(NameId(id)))?;
     }
-    Ok(variables)
+    Variables::new(alloc, places, variables)
 }
 
 /// Appends the variable of an entry that a name of a kind is, if it is one.
@@ -144,32 +152,35 @@ fn push_entry_variable(
     Ok(())
 }
 
-/// A copy of variables with their values.
-fn copies(alloc: Global, variables: &[Variable]) -> Result<Vec<Variable>, NoMemory>
-    ensures { IfOk result (λ copies. copies.items ≡ variables.now) }
+/// By the ids of the style's names, the place of each field among its fields.
+fn field_places(alloc: Global, names: &Names) -> Result<Rc<Vec<usize>>, NoMemory>
+    ensures { IfOk result (λ places. StandAt places.value.items (field_ids_from 0 names.now)) }
 {
-    let mut copies = Vec::new(alloc);
-    for variable in variables {
-        copies.push(copy_of(alloc, variable)?)?;
+    let mut places = Vec::new(alloc);
+    let mut fields = 0;
+    for id in 0..names.len() {
+        places.push(fields)?;
+        fields += count_of_fields(names.kind(NameId(id)));
     }
-    Ok(copies)
+    Ok(Rc::new(alloc, places)?)
 }
 
-/// A copy of a variable with its value.
-fn copy_of(alloc: Global, variable: &Variable) -> Result<Variable, NoMemory>
-    ensures { IfOk result (λ copy. copy ≡ variable.now) }
+/// How many fields a name of a kind is.
+fn count_of_fields(kind: Kind) -> usize
+    ensures fields { (id : ℕ) → result ≡ length (field_ids_at id kind []) }
+    ensures at_most_one { result ≤ 1 }
 {
-    let value = copied(alloc, &variable.value)?;
-    Ok(Variable {
-        name: variable.name,
-        value,
-    })
+    match kind {
+        Kind::Field => 1,
+        _ => 0,
+    }
 }
 
 /// The entries, each with its variables and its position.
 fn entry_states(
     alloc: Global,
-    variables: &[Variable],
+    places: &Rc<Vec<usize>>,
+    variables: &Variables,
     entries: Vec<Entry>,
 ) -> Result<Vec<EntryState>, NoMemory>
     ensures { IfOk result (λ states. map state_of states.items ≡ config.opening_entries (map variable_of variables.now) 0 entries.items) }
@@ -178,9 +189,9 @@ fn entry_states(
     let mut rest = entries.into_iter();
     while let Some(entry) = rest.next() {
         let position = states.as_slice().len() as u64;
-        let variables = copies(alloc, variables)?;
+        let variables = variables.copied(alloc)?;
         states.push(EntryState {
-            entry,
+            entry: PlacedEntry::new(places, entry)?,
             variables,
             position,
         })?;

@@ -22,12 +22,10 @@ pub fn sort_entries(entries: &mut Vec<EntryState>) -> Result<(), NoMemory>
 fn sort_key(entry: &EntryState) -> &[u8]
     ensures { result.now ≡ rule.sort_key (state_of entry.now) }
 {
-    for variable in &entry.variables {
-        if variable.name.0 == SORT_KEY.0 {
-            return string_of(&variable.value);
-        }
+    match entry.variables.value(SORT_KEY) {
+        Some(value) => string_of(value),
+        None => &[],
     }
-    &[]
 }
 
 /// The bytes of a string, and none of another value.

@@ -47,6 +47,17 @@ impl<T> Stack<T> {
         self.items.pop()
     }
 
+    /// Puts an item in the top's place.
+    pub fn replace_top(&mut self, item: T)
+    where
+        T: Drop,
+        requires { 0 < length self.old }
+        ensures { self.new ≡ item ∷ drop 1 self.old }
+    {
+        let last = self.items.as_slice().len() - 1;
+        self.items[last] = item;
+    }
+
     /// Takes the topmost items away.
     pub fn drop_top(&mut self, count: usize)
     where

@@ -6,11 +6,11 @@ ghost use Rattle.bst_step.specs.State.{config_of, state_of, tokens_left, visit_i
 ghost use Rattle.bst_step.specs.Outcome.{part_of};
 ghost use Rattle.bst_step.specs.Surroundings.{context_in};
 
+use crate::fields::PlacedEntry;
 use crate::outcome::Part;
 use crate::stack::Stack;
 use crate::surroundings::Surroundings;
-use crate::variables::Variable;
-use bst_meaning::entry::Entry;
+use crate::variables::Variables;
 use bst_meaning::fault::Fault;
 use bst_meaning::value::Value;
 use bv_base::memory::NoMemory;
@@ -38,8 +38,8 @@ pub struct Frame<'a> {
 /// An entry with its entry variables, and its position in the list with which the run opened, counted from 0.
 #[derive(Drop)]
 pub struct EntryState {
-    pub entry: Entry,
-    pub variables: Vec<Variable>,
+    pub entry: PlacedEntry,
+    pub variables: Variables,
     pub position: u64,
 }
 
@@ -83,7 +83,7 @@ pub struct State<'a> {
     pub running: bool,
     pub frames: Stack<Frame<'a>>,
     pub stack: Stack<Value>,
-    pub globals: Vec<Variable>,
+    pub globals: Variables,
     pub entries: Vec<EntryState>,
     pub visit: Option<Visit>,
     pub events: Vec<Event>,
@@ -123,7 +123,7 @@ impl<'a> State<'a> {
             alloc: self.alloc,
             style,
             preamble: self.preamble.as_slice(),
-            entry: self.visited_entry().map(|e| &e.entry),
+            entry: self.visited_entry().map(|e| e.entry.entry()),
         }
     }
 

@@ -14,7 +14,6 @@ use crate::operands::copied;
 use crate::outcome::{Outcome, Part};
 use crate::state::{Rest, State};
 use crate::stop::Stop;
-use crate::variables::{field_in, value_at};
 use bst_meaning::fault::Fault;
 use bst_meaning::style_parts::{kind_of, text_of, tokens_of};
 use bst_meaning::value::{Target, Value};
@@ -97,7 +96,7 @@ impl<'a> State<'a> {
         let alloc = self.alloc;
         match self.visited_entry() {
             Some(e) => {
-                let value = field_in(alloc, name, e.entry.fields.as_slice())?;
+                let value = e.entry.field(alloc, name)?;
                 self.push(value)
             }
             None => {
@@ -130,7 +129,7 @@ impl<'a> State<'a> {
         ensures { option_map (λ value. value.now) result ≡ option_and_then (λ e. rule.value_at name.0 e.variables) (rule.visited_entry (config_of self.now)) }
     {
         match self.visited_entry() {
-            Some(e) => value_at(name, e.variables.as_slice()),
+            Some(e) => e.variables.value(name),
             None => None,
         }
     }
@@ -140,7 +139,7 @@ impl<'a> State<'a> {
         ensures moved { OnOk result (config_of self.new ≡ with_global name place (config_of self.old)) }
         ensures entries { OnErr result (self.new.entries.items ≡ self.old.entries.items) }
     {
-        match value_at(name, self.globals.as_slice()) {
+        match self.globals.value(name) {
             Some(value) => {
                 let value = copied(self.alloc, value)?;
                 self.push(value)

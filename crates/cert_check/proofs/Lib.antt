@@ -38,7 +38,7 @@ pub mod Safety
 pub mod ShortHints
 pub mod Symbols
 pub mod Tokens
-pub mod Turning
+pub mod LoopTurns
 pub mod TypeKinds
 pub mod Typing
 pub mod Using
@@ -54,3 +54,4 @@ pub mod LoopSteps
 pub mod TurnSteps
 pub mod FoundHints
 pub mod FoundWalks
+pub mod TourSteps

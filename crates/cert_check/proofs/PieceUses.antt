@@ -6,7 +6,6 @@ use Rattle.std.proofs.lemmas.List.Sums.{sum_by-cons}
 use Rattle.name_table.specs.Sound.{IsSound}
 use Rattle.name_table.specs.declared.style.Style.{Style}
 use Rattle.bst_meaning.specs.declared.condition.Cond.{Cond}
-use Rattle.cert_format.specs.declared.cert.Loop.{Loop}
 use Rattle.sym_state.specs.State.{State}
 use Rattle.sym_state.specs.Demands.{HasFewUses}
 use Rattle.sym_state.specs.Showing.{CanShow}
@@ -16,7 +15,6 @@ use Rattle.sym_state.specs.declared.hint.Hint.{Hint}
 use Rattle.sym_state.specs.declared.piece.Piece.{Piece}
 use Rattle.cert_check.specs.Certified.{IsPieceOf}
 use Rattle.cert_check.specs.Room.{HasRoom}
-use Rattle.cert_check.specs.Units.{turn_state}
 use Rattle.cert_check.specs.Walks.{Scope}
 use Rattle.cert_check.proofs.RoomLeft.{room_on, started_room, started_wide}
 
@@ -45,10 +43,10 @@ pieces_start style admits entry pieces whole at_entry sound small are few =
     (omega (arith, symbols, few))
 
 -- a case starts a turn of a loop, whatever was counted before
-pub turn_room : (scope : Scope) (one : Loop) (case : Piece) (count : ℕ) → IsSound scope.style → HasSmallFields scope.cert.cond
-    → IsPieceOf scope.style one.entry case → HasRoom scope.style 129 count (turn_state scope one case)
-turn_room scope one case count sound small is =
+pub turn_room : (scope : Scope) (case : Piece) (whole entry : Bool) (count : ℕ) → IsSound scope.style → HasSmallFields scope.cert.cond
+    → IsPieceOf scope.style entry case → HasRoom scope.style 129 count (started scope.style scope.cert.cond (case ∷ []) whole entry)
+turn_room scope case whole entry count sound small is =
     let symbols = is.short.symbols in
-    room_on scope.style 129 129 0 count (turn_state scope one case) (omega arith) (omega arith)
-    (started_wide scope.style scope.cert.cond (case ∷ []) one.whole one.entry sound small (All-cons IsNumbered case [] is.numbered (All-nil IsNumbered))
+    room_on scope.style 129 129 0 count (started scope.style scope.cert.cond (case ∷ []) whole entry) (omega arith) (omega arith)
+    (started_wide scope.style scope.cert.cond (case ∷ []) whole entry sound small (All-cons IsNumbered case [] is.numbered (All-nil IsNumbered))
     (All-cons (IsFit scope.style) case [] is.fit (All-nil (IsFit scope.style))) (omega (arith, symbols)))

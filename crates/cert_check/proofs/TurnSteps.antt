@@ -16,6 +16,7 @@ use Rattle.cert_format.specs.declared.cert.Loop.{Loop}
 use Rattle.sym_state.specs.State.{State}
 use Rattle.sym_state.specs.Cases.{Labelled, above_of}
 use Rattle.sym_state.specs.Demands.{One, one_of}
+use Rattle.sym_state.specs.Starting.{started}
 use Rattle.sym_state.specs.WellMade.{HasBounds}
 use Rattle.sym_state.specs.declared.hint.Hint.{Hint}
 use Rattle.sym_state.specs.declared.piece.Piece.{Piece}
@@ -35,16 +36,16 @@ use Rattle.cert_check.specs.Walks.{Scope}
 use Rattle.cert_check.proofs.Inverted.{placed_ok}
 use Rattle.cert_check.proofs.PieceUses.{turn_room as case_room}
 use Rattle.cert_check.proofs.RoomLeft.{cases_room, room_on, target_leaves, target_room}
-use Rattle.cert_check.proofs.Turning.{one_ok}
+use Rattle.cert_check.proofs.LoopTurns.{one_ok}
 use Rattle.cert_check.proofs.UnitSteps.{Checks}
 use Rattle.cert_check.proofs.Walked.{found_one}
 use Rattle.cert_check.proofs.WalkSteps.{then_goes, wanted_same}
 
 -- the state with which a turn starts
-pub turn_room : (scope : Scope) (one : Loop) (case : Piece) (state : State) → IsSound scope.style → IsCertified scope.style scope.cert
-    → IsPieceOf scope.style one.entry case → state ≡ turn_state scope one case → HasRoom scope.style 129 0 state
-turn_room scope one case state sound cert is same =
-    subst (HasRoom scope.style 129 0) (sym same) (case_room scope one case 0 sound cert.fields is)
+pub turn_room : (scope : Scope) (case : Piece) (whole entry : Bool) (state : State) → IsSound scope.style → IsCertified scope.style scope.cert
+    → IsPieceOf scope.style entry case → state ≡ started scope.style scope.cert.cond (case ∷ []) whole entry → HasRoom scope.style 129 0 state
+turn_room scope case whole entry state sound cert is same =
+    subst (HasRoom scope.style 129 0) (sym same) (case_room scope case whole entry 0 sound cert.fields is)
 
 pub held_same : {E : Type 0} (wanted : State) (r : Result State E) (given : Result State Refusal) → MatchResult given (λ s. r ≡ Ok s) (λ refusal. refusal.reason ≡ NoMemory)
     → ((state : State) → r ≡ Ok state → state ≡ wanted) → MatchResult given (λ s. s ≡ wanted) (λ refusal. refusal.reason ≡ NoMemory)

@@ -36,7 +36,7 @@ use Rattle.cert_check.proofs.OwnEnd.{EndOf, ended_inside}
 use Rattle.cert_check.proofs.OwnStart.{Begun, Used, first_begun, own_scope, own_start, own_state}
 use Rattle.cert_check.proofs.Passing.{summary_passed}
 use Rattle.cert_check.proofs.Safety.{SafeAfter, SafeFor, Start}
-use Rattle.cert_check.proofs.Turning.{IsLoopChecked, loop_safe}
+use Rattle.cert_check.proofs.LoopTurns.{IsLoopChecked, loop_safe}
 use Rattle.cert_check.proofs.Walking.{bodies_safe, own_safe}
 
 -- the own check of a summary

@@ -4,6 +4,7 @@ use Rattle.std.specs.List.{All}
 use Rattle.std.specs.Option.{option_map_or}
 use Rattle.lin_facts.specs.declared.row.Row.{Row}
 use Rattle.lin_facts.specs.declared.row.Term.TheVariants.{Pos}
+use Rattle.name_table.specs.Sound.{IsSound}
 use Rattle.name_table.specs.declared.names.NameId.{NameId}
 use Rattle.name_table.specs.declared.style.Style.{Style}
 use Rattle.bst_meaning.specs.StyleParts.{kind_of}
@@ -97,3 +98,8 @@ pub record IsCertified (style : Style) (cert : Cert) : Type 0 where
   pub loops : All (IsLoopOf style) cert.loops
   pub commands : All (IsCommandOf style) cert.commands
   pub rise : is_chain (λ a b. nat_lt a.index b.index) cert.commands ≡ true
+
+-- a style is sound, and a certificate is one of it
+pub record AreSound (style : Style) (cert : Cert) : Type 0 where
+  pub sound : IsSound style
+  pub certified : IsCertified style cert

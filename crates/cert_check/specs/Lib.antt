@@ -4,8 +4,10 @@ pub mod Left
 pub mod Certified
 pub mod Given
 pub mod Walks
+pub mod Here
 pub mod Tables
 pub mod Units
 pub mod Places
 pub mod Room
 pub mod Safely
+pub mod Tours

@@ -1,21 +1,24 @@
 //! The units of a certificate, and the calls of commands (docs/CHECKER.md, "Units").
 
-ghost use Rattle.std.specs.Prelude.{◌≡◌, [], Ok, IfOk, OnErr, MatchResult, option_map, slice_get};
+ghost use Rattle.std.specs.Prelude.{◌≡◌, [], Ok, IfOk, OnErr, OnOk, MatchResult, option_map, slice_get};
 ghost use Rattle.std.specs.List.{All};
 ghost use Rattle.name_table.specs.Sound.{Each, IsSound};
 ghost use Rattle.cert_format.specs.CertText.{IsHint};
 ghost use Rattle.sym_state.specs.Demands.{HasFewUses};
-ghost use Rattle.cert_check.specs.Certified.{IsCertified};
-ghost use Rattle.cert_check.specs.Given.{Finds, Leads, Refused};
+ghost use Rattle.cert_check.specs.Certified.{AreSound, IsCertified, IsPieceOf};
+ghost use Rattle.cert_check.specs.Given.{Finds, Leads, Refused, Takes};
 ghost use Rattle.cert_check.specs.Room.{HasRoom, IsEnd};
+ghost use Rattle.cert_check.specs.Tours as tours;
 ghost use Rattle.cert_check.specs.Units as rule;
 
 use crate::course::Course;
-use crate::refusal::Refusal;
+use crate::refusal::{Refusal, Walk};
 use crate::scope::Scope;
 use crate::tables::Tables;
+use crate::tours::{Tour, Turning, turn_of};
 use crate::turns::loop_checked;
 use crate::units::{summary_checked, target_from};
+use bst_meaning::condition::Cond;
 use bst_meaning::value::Target;
 use bv_base::memory::NoMemory;
 use bv_base::place::Place;
@@ -26,6 +29,7 @@ use std::alloc::Global;
 use std::marker::Model;
 use straight_hints::Finding;
 use sym_state::hint::{Hint, Hints};
+use sym_state::piece::Piece;
 use sym_state::state::State;
 
 /// A style and a certificate that is checked for it.
@@ -38,8 +42,7 @@ pub struct Checker<'a> {
 }
 
 impl<'a> Model for Checker<'a> {
-    ghost use Rattle.name_table.specs.Sound.{IsSound};
-    ghost use Rattle.cert_check.specs.Certified.{IsCertified};
+    ghost use Rattle.cert_check.specs.Certified.{AreSound};
     ghost use Rattle.cert_check.specs.Tables.{AreTables};
     ghost use Rattle.cert_check.specs.Units as rule;
 
@@ -47,7 +50,7 @@ impl<'a> Model for Checker<'a> {
 
     ghost view = { λ c. record { style = c.style.now; cert = c.cert.now } };
 
-    ghost invariant = { λ c. IsSound c.style.now × IsCertified c.style.now c.cert.now × AreTables c.style.now c.cert.now c.tables };
+    ghost invariant = { λ c. AreSound c.style.now c.cert.now × AreTables c.style.now c.cert.now c.tables };
 }
 
 impl<'a> Checker<'a> {
@@ -67,9 +70,8 @@ impl<'a> Checker<'a> {
 
     /// Checks the summary of a number: its body is walked from its pre, and each state at its end entails one of its posts.
     /// There is nothing to check where the certificate has none of that number.
-    pub fn check_summary(&self, index: usize) -> Result<(), Refusal>
-        ensures { MatchResult result (λ _. rule.checked_at self.now.style self.now.cert index ≡ Ok [])
-            (Refused (rule.checked_at self.now.style self.now.cert index)) }
+    pub fn check_summary(&self, index: usize) -> Walk
+        ensures { Takes (rule.checked_at self.now.style self.now.cert index) [] result }
     {
         match self.summary(index) {
             Some(summary) => {
@@ -82,9 +84,8 @@ impl<'a> Checker<'a> {
 
     /// Checks the loop of a number: each of its turns is walked from one of its cases, and ends with a case or leaves with an
     /// exit. There is nothing to check where the certificate has none of that number.
-    pub fn check_loop(&self, index: usize) -> Result<(), Refusal>
-        ensures { MatchResult result (λ _. rule.loop_checked_at self.now.style self.now.cert index ≡ Ok [])
-            (Refused (rule.loop_checked_at self.now.style self.now.cert index)) }
+    pub fn check_loop(&self, index: usize) -> Walk
+        ensures { Takes (rule.loop_checked_at self.now.style self.now.cert index) [] result }
     {
         match self.repetition(index) {
             Some(one) => {
@@ -143,11 +144,38 @@ impl<'a> Checker<'a> {
         Ok((course.take_given(), found))
     }
 
+    /// A turn from a case of a loop, by a certificate that has no such loop: the states that come to its ends, with the hints that are
+    /// found. No hint is found for a `while$` and for a function that has a summary: they are short there.
+    pub fn find_turn(&self, one: Turning, case: &Piece, tour: &mut Tour<'_>) -> Walk
+        requires case { IsPieceOf self.now.style one.entry case.now }
+        requires none { tours.GivesNone tour.old }
+        ensures takes { Takes (tours.turn_of (rule.everywhere self.now.style self.now.cert) one case.now tour.old) tour.new result }
+        ensures keeps { OnOk result (tours.KeepsTour self.now.style tour.old tour.new) }
+    {
+        let scope = self.scope(None);
+        turn_of(&scope, self.alloc, one, case, tour)
+    }
+
+    /// The style.
+    pub fn style(&self) -> &'a Style
+        ensures style { result.now ≡ self.now.style }
+        ensures sound { IsSound self.now.style }
+    {
+        self.style
+    }
+
+    /// The condition of the certificate.
+    pub fn cond(&self) -> &'a Cond
+        ensures cond { result.now ≡ self.now.cert.cond }
+        ensures certified { IsCertified self.now.style self.now.cert }
+    {
+        &self.cert.cond
+    }
+
     /// A walk that may write these variables, or all where none is listed.
     fn scope<'s>(&'s self, writes: Option<&'s [NameId]>) -> Scope<'s>
         ensures scope { result ≡ record { style = self.now.style; cert = self.now.cert; writes = option_map (λ names. names.now) writes.entry } }
-        ensures sound { IsSound self.now.style }
-        ensures certified { IsCertified self.now.style self.now.cert }
+        ensures sound { AreSound self.now.style self.now.cert }
     {
         Scope::new(self.style, self.cert, writes, &self.tables)
     }

@@ -1,10 +1,10 @@
 //! What a built-in function may enter (docs/CHECKER.md, "The walk").
 
-ghost use Rattle.std.specs.Prelude.{◌≡◌, if◌then◌else◌, Ok, IfOk, MatchResult};
+ghost use Rattle.std.specs.Prelude.{◌≡◌, if◌then◌else◌, Ok, IfOk};
 ghost use Rattle.sym_state.specs.Demands.{three_of};
 ghost use Rattle.sym_state.specs.declared.symbol.Kinds.TheVariants.{Func as FuncKind, Int as IntKind};
 ghost use Rattle.cert_check.specs.Courses as courses;
-ghost use Rattle.cert_check.specs.Given.{Refused};
+ghost use Rattle.cert_check.specs.Given.{GoesOn};
 ghost use Rattle.cert_check.specs.Walks as rule;
 
 use crate::course::{held, placed};
@@ -37,8 +37,7 @@ impl Model for Three {
 impl Three {
     /// The operands of `if$` in a state.
     pub(crate) fn of(place: Place, state: &State) -> Result<Three, Refusal>
-        ensures { MatchResult result (λ three. courses.placed place (three_of IntKind FuncKind FuncKind state.now) ≡ Ok three)
-            (Refused (courses.placed place (three_of IntKind FuncKind FuncKind state.now))) }
+        ensures { GoesOn (courses.placed place (three_of IntKind FuncKind FuncKind state.now)) (λ three. Ok three) result }
     {
         let (lowest, middle, top) = placed(
             place,

@@ -15,16 +15,18 @@ ghost use Rattle.sym_state.specs.declared.symbol.Kinds.TheVariants.{Int as IntKi
 ghost use Rattle.cert_format.specs.CertText.{IsHint};
 ghost use Rattle.cert_format.specs.declared.cert.Loop.{Loop};
 ghost use Rattle.cert_check.specs.Courses as courses;
-ghost use Rattle.cert_check.specs.Given.{AreCases, CanEnd, Refused, Takes};
+ghost use Rattle.cert_check.specs.Given.{AnswersAt, AreCases, CanEnd, GoesOn, Takes};
 ghost use Rattle.cert_check.specs.Room.{AreWithin, HasRoom};
+ghost use Rattle.cert_check.specs.Tours as tours;
 ghost use Rattle.cert_check.specs.Units as units;
 ghost use Rattle.cert_check.specs.Uses as uses;
 ghost use Rattle.cert_check.specs.Walks as rule;
 ghost use Rattle.cert_check.specs.declared.refusal.Reason.TheVariants.{NoMemory as WantOfMemory};
 
+use crate::at::At;
 use crate::choice::{Three, test_of};
 use crate::limits::{MOST_CASES, MOST_COUNT};
-use crate::refusal::{Reason, Refusal};
+use crate::refusal::{Reason, Refusal, Walk};
 use crate::scope::Scope;
 use crate::units::all_end;
 use crate::uses::{Passage, comes_by};
@@ -105,7 +107,7 @@ impl<'a> Course<'a> {
     }
 
     /// Counts.
-    pub(crate) fn counts(&mut self, n: u32, place: Place) -> Result<(), Refusal>
+    pub(crate) fn counts(&mut self, n: u32, place: Place) -> Walk
         ensures takes { Takes (courses.counts n place self.old) self.new result }
         ensures given { OnOk result (self.new.given ≡ self.old.given) }
     {
@@ -117,7 +119,7 @@ impl<'a> Course<'a> {
     }
 
     /// The token in hand gives one state more.
-    pub(crate) fn gives(&mut self, place: Place, state: State) -> Result<(), Refusal>
+    pub(crate) fn gives(&mut self, place: Place, state: State) -> Walk
         ensures takes { Takes (courses.gives place state self.old) self.new result }
     {
         if self.given.len() >= MOST_CASES {
@@ -127,7 +129,7 @@ impl<'a> Course<'a> {
     }
 
     /// It gives these states, one after the other.
-    pub(crate) fn gives_all(&mut self, place: Place, states: Vec<State>) -> Result<(), Refusal>
+    pub(crate) fn gives_all(&mut self, place: Place, states: Vec<State>) -> Walk
         ensures takes { Takes (courses.gives_all place states.items self.old) self.new result }
     {
         for state in states {
@@ -140,6 +142,8 @@ impl<'a> Course<'a> {
     pub(crate) fn take_given(&mut self) -> Vec<State>
         ensures given { result.items ≡ self.old.given }
         ensures left { self.new ≡ record self.old { given = [] } }
+        ensures counted { self.old.count ≤ MOST_COUNT }
+        ensures written { Each IsHint self.old.found }
     {
         mem::replace(&mut self.given, Vec::new(self.alloc))
     }
@@ -157,7 +161,7 @@ impl<'a> Course<'a> {
     }
 
     /// The body has ended: the token in hand gives the states at its end, beside those that it gave before.
-    pub(crate) fn end(&mut self, place: Place, given: Vec<State>) -> Result<(), Refusal>
+    pub(crate) fn end(&mut self, place: Place, given: Vec<State>) -> Walk
         ensures takes { Takes (courses.gives_all place self.old.given (record self.old { given = given.items })) self.new result }
     {
         let inner = mem::replace(&mut self.given, given);
@@ -202,7 +206,7 @@ impl<'a> Course<'a> {
     }
 
     /// Hints were found for a rule, behind those that were found before.
-    fn finds(&mut self, place: Place, mut hints: Vec<Hint>) -> Result<(), Refusal>
+    fn finds(&mut self, place: Place, mut hints: Vec<Hint>) -> Walk
         requires written { Each IsHint hints.items }
         ensures { MatchResult result (λ _. self.new ≡ record self.old { found = self.old.found ++ hints.items })
             (λ refusal. refusal.reason ≡ WantOfMemory) }
@@ -216,298 +220,237 @@ impl<'a> Course<'a> {
     /// A state comes to a unit by its pre, which the next hints show.
     pub(crate) fn comes(
         &mut self,
-        scope: &Scope<'_>,
-        place: Place,
+        at: &At<'_>,
         unit: &Passage<'_>,
         pre: &Piece,
         state: &State,
-    ) -> Result<(), Refusal>
+    ) -> Walk
         requires bounds { HasBounds state.now }
         requires rows { All IsBounded pre.now.rows }
         requires lines { line_count pre.now ≤ 2147483648 }
-        ensures comes { MatchResult result
-            (λ _. uses.comes_by unit.now scope.now.cert.cond pre.now state.now self.old.hints ≡ Ok self.new.hints)
-            (Refused (courses.placed place (uses.comes_by unit.now scope.now.cert.cond pre.now state.now self.old.hints))) }
+        ensures comes { AnswersAt at.now.place (uses.comes_by unit.now at.now.scope.now.cert.cond pre.now state.now self.old.hints) (λ _. self.new.hints) result }
         ensures rest { OnOk result (self.new ≡ record self.old { hints = self.new.hints }) }
         ensures few { OnOk result (length pre.now.stack ≤ length state.now.stack) }
     {
         placed(
-            place,
-            comes_by(unit, scope.cond(), pre, state, &mut self.hints),
+            at.place,
+            comes_by(unit, at.scope.cond(), pre, state, &mut self.hints),
         )
     }
 
     /// A built-in function that is neither a test nor enters a function gives one state.
-    pub(crate) fn plain(
-        &mut self,
-        scope: &Scope<'_>,
-        op: Builtin,
-        place: Place,
-        state: &State,
-    ) -> Result<(), Refusal>
+    pub(crate) fn plain(&mut self, at: &At<'_>, op: Builtin, state: &State) -> Walk
         requires plain { effects.is_plain op ≡ true }
-        requires room { HasRoom scope.now.style 65 self.old.count state.now }
-        ensures takes { Takes (rule.plain scope.now op place state.now self.old) self.new result }
+        requires room { HasRoom at.now.scope.now.style 65 self.old.count state.now }
+        ensures takes { Takes (rule.plain at.now.scope.now op at.now.place state.now self.old) self.new result }
     {
         match self.finding() {
-            None => self.plain_read(scope, op, place, state),
-            Some(finding) => self.plain_found(finding, scope, op, place, state),
+            None => self.plain_read(at, op, state),
+            Some(finding) => self.plain_found(finding, at, op, state),
         }
     }
 
     /// The same by hints that are left.
-    fn plain_read(
-        &mut self,
-        scope: &Scope<'_>,
-        op: Builtin,
-        place: Place,
-        state: &State,
-    ) -> Result<(), Refusal>
+    fn plain_read(&mut self, at: &At<'_>, op: Builtin, state: &State) -> Walk
         requires reads { self.old.finding ≡ None }
         requires plain { effects.is_plain op ≡ true }
-        requires room { HasRoom scope.now.style 65 self.old.count state.now }
-        ensures takes { Takes (rule.plain scope.now op place state.now self.old) self.new result }
+        requires room { HasRoom at.now.scope.now.style 65 self.old.count state.now }
+        ensures takes { Takes (rule.plain at.now.scope.now op at.now.place state.now self.old) self.new result }
     {
-        let after = confined(scope, op, place, state, &mut self.hints)?;
-        self.gives(place, after)
+        let after = confined(at, op, state, &mut self.hints)?;
+        self.gives(at.place, after)
     }
 
     /// By hints that are found.
-    fn plain_found(
-        &mut self,
-        finding: Finding,
-        scope: &Scope<'_>,
-        op: Builtin,
-        place: Place,
-        state: &State,
-    ) -> Result<(), Refusal>
+    fn plain_found(&mut self, finding: Finding, at: &At<'_>, op: Builtin, state: &State) -> Walk
         requires finds { self.old.finding ≡ Some finding }
         requires plain { effects.is_plain op ≡ true }
         requires bounds { HasBounds state.now }
         requires room { state.now.next < 4294967295 }
-        ensures takes { Takes (rule.plain scope.now op place state.now self.old) self.new result }
+        ensures takes { Takes (rule.plain at.now.scope.now op at.now.place state.now self.old) self.new result }
     {
         let hints = held(
-            place,
-            plain_hints(finding, scope.style(), state, scope.cond(), op),
+            at.place,
+            plain_hints(finding, at.scope.style(), state, at.scope.cond(), op),
         )?;
         let mut left = Hints::new(hints.as_slice());
-        let after = confined(scope, op, place, state, &mut left)?;
-        self.finds(place, hints)?;
-        self.gives(place, after)
+        let after = confined(at, op, state, &mut left)?;
+        self.finds(at.place, hints)?;
+        self.gives(at.place, after)
     }
 
     /// A test gives the states of its cases.
-    pub(crate) fn split(
-        &mut self,
-        scope: &Scope<'_>,
-        test: Test,
-        place: Place,
-        state: &State,
-    ) -> Result<(), Refusal>
-        requires room { HasRoom scope.now.style 65 self.old.count state.now }
-        ensures takes { Takes (rule.split scope.now test place state.now self.old) self.new result }
+    pub(crate) fn split(&mut self, at: &At<'_>, test: Test, state: &State) -> Walk
+        requires room { HasRoom at.now.scope.now.style 65 self.old.count state.now }
+        ensures takes { Takes (rule.split at.now.scope.now test at.now.place state.now self.old) self.new result }
     {
         match self.finding() {
-            None => self.split_read(scope, test, place, state),
-            Some(finding) => self.split_found(finding, scope, test, place, state),
+            None => self.split_read(at, test, state),
+            Some(finding) => self.split_found(finding, at, test, state),
         }
     }
 
     /// The same by hints that are left.
-    fn split_read(
-        &mut self,
-        scope: &Scope<'_>,
-        test: Test,
-        place: Place,
-        state: &State,
-    ) -> Result<(), Refusal>
+    fn split_read(&mut self, at: &At<'_>, test: Test, state: &State) -> Walk
         requires reads { self.old.finding ≡ None }
-        requires room { HasRoom scope.now.style 65 self.old.count state.now }
-        ensures takes { Takes (rule.split scope.now test place state.now self.old) self.new result }
+        requires room { HasRoom at.now.scope.now.style 65 self.old.count state.now }
+        ensures takes { Takes (rule.split at.now.scope.now test at.now.place state.now self.old) self.new result }
     {
-        let answer = split(state, scope.cond(), test, &mut self.hints);
-        let states = placed(place, answer)?;
-        self.gives_all(place, states)
+        let answer = split(state, at.scope.cond(), test, &mut self.hints);
+        let states = placed(at.place, answer)?;
+        self.gives_all(at.place, states)
     }
 
     /// By hints that are found.
-    fn split_found(
-        &mut self,
-        finding: Finding,
-        scope: &Scope<'_>,
-        test: Test,
-        place: Place,
-        state: &State,
-    ) -> Result<(), Refusal>
+    fn split_found(&mut self, finding: Finding, at: &At<'_>, test: Test, state: &State) -> Walk
         requires finds { self.old.finding ≡ Some finding }
         requires bounds { HasBounds state.now }
         requires room { state.now.next < 4294967295 }
-        ensures takes { Takes (rule.split scope.now test place state.now self.old) self.new result }
+        ensures takes { Takes (rule.split at.now.scope.now test at.now.place state.now self.old) self.new result }
     {
-        let hints = held(place, test_hints(finding, state, scope.cond(), test))?;
+        let hints = held(at.place, test_hints(finding, state, at.scope.cond(), test))?;
         let mut left = Hints::new(hints.as_slice());
-        let answer = split(state, scope.cond(), test, &mut left);
-        let states = placed(place, answer)?;
-        self.finds(place, hints)?;
-        self.gives_all(place, states)
+        let answer = split(state, at.scope.cond(), test, &mut left);
+        let states = placed(at.place, answer)?;
+        self.finds(at.place, hints)?;
+        self.gives_all(at.place, states)
     }
 
     /// A built-in function that enters nothing.
-    pub(crate) fn entering_nothing(
-        &mut self,
-        scope: &Scope<'_>,
-        op: Builtin,
-        place: Place,
-        state: &State,
-    ) -> Result<(), Refusal>
+    pub(crate) fn entering_nothing(&mut self, at: &At<'_>, op: Builtin, state: &State) -> Walk
         requires nothing { rule.enters op ≡ false }
-        requires room { HasRoom scope.now.style 65 self.old.count state.now }
-        ensures takes { Takes (rule.entering_nothing scope.now op (rule.test_of op) place state.now self.old) self.new result }
+        requires room { HasRoom at.now.scope.now.style 65 self.old.count state.now }
+        ensures takes { Takes (rule.entering_nothing at.now.scope.now op (rule.test_of op) at.now.place state.now self.old) self.new result }
     {
         match test_of(op) {
-            Some(test) => self.split(scope, test, place, state),
-            None => self.plain(scope, op, place, state),
+            Some(test) => self.split(at, test, state),
+            None => self.plain(at, op, state),
         }
     }
 
     /// The operands of `if$`, and the cases that are kept, each with whether the integer is above 0 there.
     pub(crate) fn chooses(
         &mut self,
-        scope: &Scope<'_>,
-        place: Place,
+        at: &At<'_>,
         state: &State,
     ) -> Result<(Three, Vec<(bool, State)>), Refusal>
-        requires room { HasRoom scope.now.style 65 self.old.count state.now }
-        ensures takes { (enter : rule.Enter) (call : rule.Call) → MatchResult result
-            (λ chosen. rule.chosen scope.now enter call place (reverse state.now.stack) state.now self.old
-            ≡ rule.cases_entered scope.now enter call place chosen.0 chosen.1.items self.new)
-            (Refused (rule.chosen scope.now enter call place (reverse state.now.stack) state.now self.old)) }
+        requires room { HasRoom at.now.scope.now.style 65 self.old.count state.now }
+        ensures takes { (enter : rule.Enter) (call : rule.Call)
+            → GoesOn (rule.chosen at.now.scope.now enter call at.now.place (reverse state.now.stack) state.now self.old)
+            (λ chosen. rule.cases_entered at.now.scope.now enter call at.now.place chosen.0 chosen.1.items self.new) result }
         ensures cases { (known : ℕ) → length state.now.stack ≤ known
-            → IfOk result (λ chosen. AreWithin scope.now.style known self.new.count chosen.1.items) }
+            → IfOk result (λ chosen. AreWithin at.now.scope.now.style known self.new.count chosen.1.items) }
     {
-        let three = Three::of(place, state)?;
-        let cases = self.above(scope, place, &three)?;
+        let three = Three::of(at.place, state)?;
+        let cases = self.above(at, &three)?;
         Ok((three, cases))
     }
 
     /// The cases of whether the integer of an `if$` is above 0.
-    fn above(
-        &mut self,
-        scope: &Scope<'_>,
-        place: Place,
-        three: &Three,
-    ) -> Result<Vec<(bool, State)>, Refusal>
+    fn above(&mut self, at: &At<'_>, three: &Three) -> Result<Vec<(bool, State)>, Refusal>
         requires bounds { HasBounds three.now.rest }
         requires room { three.now.rest.next + 65 ≤ 2147483648 + 65 * self.old.count }
-        ensures takes { (enter : rule.Enter) (call : rule.Call) → MatchResult result
-            (λ cases. rule.choice scope.now enter call place three.now self.old
-            ≡ rule.cases_entered scope.now enter call place three.now cases.items self.new)
-            (Refused (rule.choice scope.now enter call place three.now self.old)) }
-        ensures cases { IfOk result (λ cases. AreCases scope.now.cert.cond three.now.rest three.now.lowest cases.items) }
+        ensures takes { (enter : rule.Enter) (call : rule.Call) → GoesOn (rule.choice at.now.scope.now enter call at.now.place three.now self.old)
+            (λ cases. rule.cases_entered at.now.scope.now enter call at.now.place three.now cases.items self.new) result }
+        ensures cases { IfOk result (λ cases. AreCases at.now.scope.now.cert.cond three.now.rest three.now.lowest cases.items) }
+        ensures counted { OnOk result (self.new.count ≡ self.old.count) }
+    {
+        self.sign(at, &three.rest, three.lowest)
+    }
+
+    /// The cases of whether an integer in a state is above 0.
+    pub(crate) fn sign(
+        &mut self,
+        at: &At<'_>,
+        rest: &State,
+        sym: Sym,
+    ) -> Result<Vec<(bool, State)>, Refusal>
+        requires bounds { HasBounds rest.now }
+        requires room { rest.now.next + 65 ≤ 2147483648 + 65 * self.old.count }
+        ensures takes { GoesOn (tours.signed at.now.scope.now at.now.place rest.now sym self.old)
+            (λ cases. Ok (record { cases = cases.items; course = self.new })) result }
+        ensures cases { IfOk result (λ cases. AreCases at.now.scope.now.cert.cond rest.now sym cases.items) }
         ensures counted { OnOk result (self.new.count ≡ self.old.count) }
     {
         match self.finding() {
-            None => self.above_in(scope, place, &three.rest, three.lowest),
-            Some(finding) => self.above_found(finding, scope, place, three),
+            None => self.above_in(at, rest, sym),
+            Some(finding) => self.sign_found(finding, at, rest, sym),
         }
     }
 
     /// The same by hints that are found.
-    fn above_found(
+    fn sign_found(
         &mut self,
         finding: Finding,
-        scope: &Scope<'_>,
-        place: Place,
-        three: &Three,
+        at: &At<'_>,
+        rest: &State,
+        sym: Sym,
     ) -> Result<Vec<(bool, State)>, Refusal>
         requires finds { self.old.finding ≡ Some finding }
-        requires bounds { HasBounds three.now.rest }
-        requires room { three.now.rest.next < 4294967295 }
-        ensures takes { (enter : rule.Enter) (call : rule.Call) → MatchResult result
-            (λ cases. rule.choice scope.now enter call place three.now self.old
-            ≡ rule.cases_entered scope.now enter call place three.now cases.items self.new)
-            (Refused (rule.choice scope.now enter call place three.now self.old)) }
-        ensures cases { IfOk result (λ cases. AreCases scope.now.cert.cond three.now.rest three.now.lowest cases.items) }
+        requires bounds { HasBounds rest.now }
+        requires room { rest.now.next < 4294967295 }
+        ensures takes { GoesOn (tours.signed at.now.scope.now at.now.place rest.now sym self.old)
+            (λ cases. Ok (record { cases = cases.items; course = self.new })) result }
+        ensures cases { IfOk result (λ cases. AreCases at.now.scope.now.cert.cond rest.now sym cases.items) }
         ensures counted { OnOk result (self.new.count ≡ self.old.count) }
     {
-        let hints = held(
-            place,
-            above_hints(finding, &three.rest, scope.cond(), three.lowest),
-        )?;
+        let hints = held(at.place, above_hints(finding, rest, at.scope.cond(), sym))?;
         let mut left = Hints::new(hints.as_slice());
-        let cases = sign_cases(scope, place, &three.rest, three.lowest, &mut left)?;
-        self.finds(place, hints)?;
+        let cases = sign_cases(at, rest, sym, &mut left)?;
+        self.finds(at.place, hints)?;
         Ok(cases)
     }
 
     /// The cases of whether an integer in a state is above 0, by hints that are left.
     fn above_in(
         &mut self,
-        scope: &Scope<'_>,
-        place: Place,
+        at: &At<'_>,
         state: &State,
         sym: Sym,
     ) -> Result<Vec<(bool, State)>, Refusal>
         requires bounds { HasBounds state.now }
         requires room { state.now.next + 65 ≤ 2147483648 + 65 * self.old.count }
-        ensures takes { MatchResult result
-            (λ cases. courses.placed place (above_of scope.now.cert.cond state.now sym self.old.hints) ≡ Ok (record { cases = cases.items; hints = self.new.hints }))
-            (Refused (courses.placed place (above_of scope.now.cert.cond state.now sym self.old.hints))) }
+        ensures takes { GoesOn (courses.placed at.now.place (above_of at.now.scope.now.cert.cond state.now sym self.old.hints))
+            (λ cases. Ok (record { cases = cases.items; hints = self.new.hints })) result }
         ensures rest { self.new ≡ record self.old { hints = self.new.hints } }
     {
-        sign_cases(scope, place, state, sym, &mut self.hints)
+        sign_cases(at, state, sym, &mut self.hints)
     }
 
     /// The integer on top is given up: the cases of whether it is above 0.
     pub(crate) fn signs(
         &mut self,
-        scope: &Scope<'_>,
-        place: Place,
+        at: &At<'_>,
         state: &State,
     ) -> Result<Vec<(bool, State)>, Refusal>
-        requires room { HasRoom scope.now.style 65 self.old.count state.now }
-        ensures takes { (turns : Loop) → MatchResult result
-            (λ cases. units.tested scope.now place turns state.now self.old ≡ units.all_turned scope.now place turns cases.items self.new)
-            (Refused (units.tested scope.now place turns state.now self.old)) }
+        requires room { HasRoom at.now.scope.now.style 65 self.old.count state.now }
+        ensures takes { (turns : Loop) → GoesOn (units.tested at.now.scope.now at.now.place turns state.now self.old)
+            (λ cases. units.all_turned at.now.scope.now at.now.place turns cases.items self.new) result }
         ensures rest { OnOk result (self.new ≡ record self.old { hints = self.new.hints }) }
-        ensures cases { IfOk result (λ cases. All (λ case. HasRoom scope.now.style 64 self.old.count case.1) cases.items) }
+        ensures cases { IfOk result (λ cases. All (λ case. HasRoom at.now.scope.now.style 64 self.old.count case.1) cases.items) }
     {
-        let (operand, rest) = integer(place, state)?;
-        self.above_in(scope, place, &rest, operand)
+        let (operand, rest) = integer(at.place, state)?;
+        self.above_in(at, &rest, operand)
     }
 
     /// Each of these states entails one of the pieces.
-    pub(crate) fn all_entail(
-        &mut self,
-        scope: &Scope<'_>,
-        place: Place,
-        pieces: &[Piece],
-        states: &[State],
-    ) -> Result<(), Refusal>
+    pub(crate) fn all_entail(&mut self, at: &At<'_>, pieces: &[Piece], states: &[State]) -> Walk
         requires states { All HasBounds states.now }
         requires pieces { All CanEnd pieces.now }
-        ensures takes { Takes (units.all_entail place scope.now.cert.cond pieces.now states.now self.old) self.new result }
+        ensures takes { Takes (units.all_entail at.now.place at.now.scope.now.cert.cond pieces.now states.now self.old) self.new result }
         ensures rest { OnOk result (self.new ≡ record self.old { hints = self.new.hints }) }
     {
         placed(
-            place,
-            all_end(scope.cond(), 0, pieces, states, &mut self.hints),
+            at.place,
+            all_end(at.scope.cond(), 0, pieces, states, &mut self.hints),
         )
     }
 
     /// The unit ends: each state that it gave entails one of these pieces, and no hint is left.
-    pub(crate) fn ends(
-        &mut self,
-        cond: &Cond,
-        place: Place,
-        kept: u32,
-        pieces: &[Piece],
-    ) -> Result<(), Refusal>
+    pub(crate) fn ends(&mut self, cond: &Cond, place: Place, kept: u32, pieces: &[Piece]) -> Walk
         requires states { All HasBounds self.old.given }
         requires pieces { All CanEnd pieces.now }
-        ensures { MatchResult result (λ _. then_do (courses.placed place (units.all_end cond.now kept pieces.now self.old.given self.old.hints)) (units.none_left place) ≡ Ok [])
-            (Refused (then_do (courses.placed place (units.all_end cond.now kept pieces.now self.old.given self.old.hints)) (units.none_left place))) }
+        ensures { Takes (then_do (courses.placed place (units.all_end cond.now kept pieces.now self.old.given self.old.hints)) (units.none_left place)) [] result }
     {
         let answer = all_end(cond, kept, pieces, self.given.as_slice(), &mut self.hints);
         placed(place, answer)?;
@@ -515,8 +458,8 @@ impl<'a> Course<'a> {
     }
 
     /// No hint is left at a unit's end.
-    pub(crate) fn none_left(&self, place: Place) -> Result<(), Refusal>
-        ensures { MatchResult result (λ _. units.none_left place self.now.hints ≡ Ok []) (Refused (units.none_left place self.now.hints)) }
+    pub(crate) fn none_left(&self, place: Place) -> Walk
+        ensures { Takes (units.none_left place self.now.hints) [] result }
     {
         if self.rest().is_empty() {
             Ok(())
@@ -526,12 +469,7 @@ impl<'a> Course<'a> {
     }
 
     /// A variable or a field puts its symbol on top.
-    pub(crate) fn variable(
-        &mut self,
-        name: NameId,
-        place: Place,
-        state: State,
-    ) -> Result<(), Refusal>
+    pub(crate) fn variable(&mut self, name: NameId, place: Place, state: State) -> Walk
         ensures takes { Takes (rule.variable name place state self.old) self.new result }
     {
         match state.bound(name) {
@@ -551,9 +489,8 @@ impl<'a> Course<'a> {
 }
 
 /// The integer on top, and the state without it.
-fn integer(place: Place, state: &State) -> Result<(Sym, State), Refusal>
-    ensures one { MatchResult result (λ p. courses.placed place (one_of IntKind state.now) ≡ Ok (record { operand = p.0; rest = p.1 }))
-        (Refused (courses.placed place (one_of IntKind state.now))) }
+pub(crate) fn integer(place: Place, state: &State) -> Result<(Sym, State), Refusal>
+    ensures one { GoesOn (courses.placed place (one_of IntKind state.now)) (λ p. Ok (record { operand = p.0; rest = p.1 })) result }
     ensures rest { IfOk result (λ p. p.1 ≡ without 1 state.now) }
 {
     let operand = placed(place, one(state, Kinds::Int))?;
@@ -563,8 +500,7 @@ fn integer(place: Place, state: &State) -> Result<(Sym, State), Refusal>
 
 /// The cases of whether an integer in a state is above 0.
 fn sign_cases(
-    scope: &Scope<'_>,
-    place: Place,
+    at: &At<'_>,
     state: &State,
     sym: Sym,
     hints: &mut Hints<'_>,
@@ -572,17 +508,16 @@ fn sign_cases(
     requires bounds { HasBounds state.now }
     requires room { state.now.next < 4294967295 }
     requires hints { All HasFewUses hints.old }
-    ensures gives { MatchResult result
-        (λ cases. courses.placed place (above_of scope.now.cert.cond state.now sym hints.old) ≡ Ok (record { cases = cases.items; hints = hints.new }))
-        (Refused (courses.placed place (above_of scope.now.cert.cond state.now sym hints.old))) }
+    ensures gives { GoesOn (courses.placed at.now.place (above_of at.now.scope.now.cert.cond state.now sym hints.old))
+        (λ cases. Ok (record { cases = cases.items; hints = hints.new })) result }
     ensures few { All HasFewUses hints.new }
 {
-    let answer = above(state, scope.cond(), sym, hints);
-    placed(place, answer)
+    let answer = above(state, at.scope.cond(), sym, hints);
+    placed(at.place, answer)
 }
 
 /// Puts a state behind those that were given.
-fn put(place: Place, given: &mut Vec<State>, state: State) -> Result<(), Refusal>
+fn put(place: Place, given: &mut Vec<State>, state: State) -> Walk
     ensures { MatchResult result (λ _. given.new.items ≡ given.old.items ++ state ∷ []) (λ refusal. refusal.reason ≡ WantOfMemory) }
 {
     match given.push(state) {
@@ -641,9 +576,8 @@ fn with_top(mut state: State, sym: Sym) -> Result<State, NoMemory>
 
 /// What a built-in function gives of a state, where the unit may write what it writes.
 fn confined(
-    scope: &Scope<'_>,
+    at: &At<'_>,
     op: Builtin,
-    place: Place,
     state: &State,
     hints: &mut Hints<'_>,
 ) -> Result<State, Refusal>
@@ -651,23 +585,21 @@ fn confined(
     requires next { state.now.next < 4294967295 }
     requires plain { effects.is_plain op ≡ true }
     requires hints { All HasFewUses hints.old }
-    ensures gives { MatchResult result
-        (λ after. courses.placed place (rule.confined (rule.is_within scope.now (rule.written_by op state.now))
-        (effects.effect_of scope.now.style scope.now.cert.cond state.now op hints.old)) ≡ Ok (record { state = after; hints = hints.new }))
-        (Refused (courses.placed place (rule.confined (rule.is_within scope.now (rule.written_by op state.now))
-        (effects.effect_of scope.now.style scope.now.cert.cond state.now op hints.old)))) }
+    ensures gives { GoesOn (courses.placed at.now.place (rule.confined (rule.is_within at.now.scope.now (rule.written_by op state.now))
+        (effects.effect_of at.now.scope.now.style at.now.scope.now.cert.cond state.now op hints.old)))
+        (λ after. Ok (record { state = after; hints = hints.new })) result }
     ensures few { All HasFewUses hints.new }
 {
-    let may = is_within(scope, written_by(op, state));
-    match effect(scope.style(), state, scope.cond(), op, hints) {
+    let may = is_within(at.scope, written_by(op, state));
+    match effect(at.scope.style(), state, at.scope.cond(), op, hints) {
         Ok(after) => {
             if may {
                 Ok(after)
             } else {
-                refuse(place, Reason::NotEntailed(0))
+                refuse(at.place, Reason::NotEntailed(0))
             }
         }
-        Err(fault) => refuse(place, reason_of(behind_demands(may, fault))),
+        Err(fault) => refuse(at.place, reason_of(behind_demands(may, fault))),
     }
 }
 

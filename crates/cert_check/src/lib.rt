@@ -1,6 +1,7 @@
 //! The rules of the checker on units: summaries and calls.
 #![tactic(auto)]
 
+mod at;
 mod checker;
 mod choice;
 mod course;
@@ -13,6 +14,7 @@ mod scope;
 mod summaries;
 mod tables;
 mod targets;
+mod tours;
 mod turns;
 mod types;
 mod units;
@@ -21,3 +23,5 @@ mod walk;
 
 pub use crate::checker::Checker;
 pub use crate::course::{held, placed, refuse};
+pub use crate::tours::{Ended, Tour, Turning};
+pub use crate::types::type_functions;

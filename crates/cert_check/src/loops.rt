@@ -1,20 +1,20 @@
 //! `while$`: a loop is used (docs/CHECKER.md, "The walk").
 
-ghost use Rattle.std.specs.Prelude.{◌≡◌, ◌≤◌, ◌+◌, ◌*◌, Ok, IfOk, IfSome, MatchResult, OnOk, length, option_map, slice_get};
+ghost use Rattle.std.specs.Prelude.{◌≡◌, ◌≤◌, ◌+◌, ◌*◌, Ok, IfOk, IfSome, OnOk, length, option_map, slice_get};
 ghost use Rattle.std.specs.List.{All};
-ghost use Rattle.name_table.specs.Sound.{IsSound};
 ghost use Rattle.sym_state.specs.Demands.{two_of, without};
 ghost use Rattle.sym_state.specs.WellMade.{HasBounds};
 ghost use Rattle.sym_state.specs.declared.symbol.Kinds.TheVariants.{Func as FuncKind};
-ghost use Rattle.cert_check.specs.Certified.{IsCertified, IsLoopOf};
+ghost use Rattle.cert_check.specs.Certified.{AreSound, IsLoopOf};
 ghost use Rattle.cert_check.specs.Courses as courses;
-ghost use Rattle.cert_check.specs.Given.{CanEnd, Refused, Takes};
+ghost use Rattle.cert_check.specs.Given.{AnswersAt, CanEnd, GoesOn, Takes};
 ghost use Rattle.cert_check.specs.Room.{HasRoom};
 ghost use Rattle.cert_check.specs.Walks as rule;
 
+use crate::at::At;
 use crate::course::{Course, held, placed, refuse};
-use crate::refusal::{Reason, Refusal};
-use crate::scope::{Scope, is_target};
+use crate::refusal::{Reason, Refusal, Walk};
+use crate::scope::is_target;
 use crate::summaries::leaves;
 use crate::targets::exact_target;
 use crate::uses::{Came, Passage};
@@ -28,28 +28,20 @@ use sym_state::state::State;
 use sym_state::symbol::{Kinds, Sym};
 
 /// `while$`: the test and, on top of it, the body. Both have to be known exactly, before the hint is looked at.
-pub(crate) fn repeated(
-    scope: &Scope<'_>,
-    place: Place,
-    state: &State,
-    course: &mut Course<'_>,
-) -> Result<(), Refusal>
-    requires sound { IsSound scope.now.style }
-    requires cert { IsCertified scope.now.style scope.now.cert }
-    requires room { HasRoom scope.now.style 65 course.old.count state.now }
-    ensures takes { Takes (rule.repeated scope.now place state.now course.old) course.new result }
+pub(crate) fn repeated(at: &At<'_>, state: &State, course: &mut Course<'_>) -> Walk
+    requires sound { AreSound at.now.scope.now.style at.now.scope.now.cert }
+    requires room { HasRoom at.now.scope.now.style 65 course.old.count state.now }
+    ensures takes { Takes (rule.repeated at.now.scope.now at.now.place state.now course.old) course.new result }
 {
-    let (lower, upper, rest) = two_functions(place, state)?;
-    let test = exact_target(scope, state, lower);
-    let body = exact_target(scope, state, upper);
-    loop_around(scope, place, test, body, &rest, course)
+    let (lower, upper, rest) = two_functions(at.place, state)?;
+    let test = exact_target(at.scope, state, lower);
+    let body = exact_target(at.scope, state, upper);
+    loop_around(at, test, body, &rest, course)
 }
 
 /// The two functions, the lower one first, and the state without them.
 fn two_functions(place: Place, state: &State) -> Result<(Sym, Sym, State), Refusal>
-    ensures two { MatchResult result
-        (λ p. courses.placed place (two_of FuncKind FuncKind state.now) ≡ Ok (record { lower = p.0; upper = p.1; rest = p.2 }))
-        (Refused (courses.placed place (two_of FuncKind FuncKind state.now))) }
+    ensures two { GoesOn (courses.placed place (two_of FuncKind FuncKind state.now)) (λ p. Ok (record { lower = p.0; upper = p.1; rest = p.2 })) result }
     ensures rest { IfOk result (λ p. p.2 ≡ without 2 state.now) }
 {
     let (lower, upper) = placed(place, two(state, Kinds::Func, Kinds::Func))?;
@@ -59,107 +51,91 @@ fn two_functions(place: Place, state: &State) -> Result<(Sym, Sym, State), Refus
 
 /// Both functions have to be known exactly, before the hint is looked at.
 fn loop_around(
-    scope: &Scope<'_>,
-    place: Place,
+    at: &At<'_>,
     test: Option<Target>,
     body: Option<Target>,
     state: &State,
     course: &mut Course<'_>,
-) -> Result<(), Refusal>
-    requires cert { IsCertified scope.now.style scope.now.cert }
+) -> Walk
+    requires sound { AreSound at.now.scope.now.style at.now.scope.now.cert }
     requires bounds { HasBounds state.now }
     requires room { state.now.next + 65 ≤ 2147483648 + 65 * course.old.count }
-    ensures takes { Takes (rule.loop_around scope.now place test body state.now course.old) course.new result }
+    ensures takes { Takes (rule.loop_around at.now.scope.now at.now.place test body state.now course.old) course.new result }
 {
     match (test, body) {
-        (Some(test), Some(body)) => loop_by(scope, place, test, body, state, course),
-        _ => refuse(place, Reason::UnknownFunction),
+        (Some(test), Some(body)) => loop_by(at, test, body, state, course),
+        _ => refuse(at.place, Reason::UnknownFunction),
     }
 }
 
 /// The next hint names a loop.
-fn loop_by(
-    scope: &Scope<'_>,
-    place: Place,
-    test: Target,
-    body: Target,
-    state: &State,
-    course: &mut Course<'_>,
-) -> Result<(), Refusal>
-    requires cert { IsCertified scope.now.style scope.now.cert }
+fn loop_by(at: &At<'_>, test: Target, body: Target, state: &State, course: &mut Course<'_>) -> Walk
+    requires sound { AreSound at.now.scope.now.style at.now.scope.now.cert }
     requires bounds { HasBounds state.now }
     requires room { state.now.next + 65 ≤ 2147483648 + 65 * course.old.count }
-    ensures takes { Takes (rule.loop_by scope.now place test body state.now course.old course.old.hints) course.new result }
+    ensures takes { Takes (rule.loop_by at.now.scope.now at.now.place test body state.now course.old course.old.hints) course.new result }
 {
     match course.next_hint() {
-        Some(Hint::Loop(k)) => loop_of(scope, place, test, body, *k, state, course),
-        Some(_) => refuse(place, Reason::WrongHint),
-        None => refuse(place, Reason::HintsShort),
+        Some(Hint::Loop(k)) => loop_of(at, test, body, *k, state, course),
+        Some(_) => refuse(at.place, Reason::WrongHint),
+        None => refuse(at.place, Reason::HintsShort),
     }
 }
 
 /// The loop of a number is used, where it is one of the two functions.
 fn loop_of(
-    scope: &Scope<'_>,
-    place: Place,
+    at: &At<'_>,
     test: Target,
     body: Target,
     k: u32,
     state: &State,
     course: &mut Course<'_>,
-) -> Result<(), Refusal>
-    requires cert { IsCertified scope.now.style scope.now.cert }
+) -> Walk
+    requires sound { AreSound at.now.scope.now.style at.now.scope.now.cert }
     requires bounds { HasBounds state.now }
     requires room { state.now.next ≤ 2212483648 }
-    ensures takes { Takes (rule.loop_of scope.now place test body (slice_get scope.now.cert.loops k) state.now course.old) course.new result }
+    ensures takes { Takes (rule.loop_of at.now.scope.now at.now.place test body (slice_get at.now.scope.now.cert.loops k) state.now course.old) course.new result }
 {
-    match scope.repetition(k) {
+    match at.scope.repetition(k) {
         Some(one) => {
             if is_target(one.test, test) && is_target(one.body, body) {
-                loop_used(scope, place, one, state, course)
+                loop_used(at, one, state, course)
             } else {
-                refuse(place, Reason::NoInvariant)
+                refuse(at.place, Reason::NoInvariant)
             }
         }
-        None => refuse(place, Reason::NoInvariant),
+        None => refuse(at.place, Reason::NoInvariant),
     }
 }
 
 /// A loop is used in a state without its two functions: a case is entailed, and the exits act as posts that share no symbol
 /// with it.
-fn loop_used(
-    scope: &Scope<'_>,
-    place: Place,
-    one: &Loop,
-    state: &State,
-    course: &mut Course<'_>,
-) -> Result<(), Refusal>
-    requires one { IsLoopOf scope.now.style one.now }
+fn loop_used(at: &At<'_>, one: &Loop, state: &State, course: &mut Course<'_>) -> Walk
+    requires one { IsLoopOf at.now.scope.now.style one.now }
     requires bounds { HasBounds state.now }
     requires room { state.now.next ≤ 2212483648 }
-    ensures takes { Takes (rule.loop_used scope.now place one.now state.now course.old) course.new result }
+    ensures takes { Takes (rule.loop_used at.now.scope.now at.now.place one.now state.now course.old) course.new result }
 {
     let unit = Passage {
         entry: one.entry,
         whole: one.whole,
         writes: one.writes.as_slice(),
     };
-    let case = comes_to(scope, place, &unit, one.cases.as_slice(), state, course)?;
+    let case = comes_to(at, &unit, one.cases.as_slice(), state, course)?;
     let came = Came {
-        style: scope.style(),
-        cond: scope.cond(),
+        style: at.scope.style(),
+        cond: at.scope.cond(),
         unit: &unit,
         pre: case,
         kept: 0,
         state,
     };
-    leaves(scope, place, &came, one.exits.as_slice(), course)
+    leaves(at, &came, one.exits.as_slice(), course)
 }
 
 /// A state comes to a loop by a case, whose number among those of the loop is the next hint.
 fn comes_to<'p>(
-    scope: &Scope<'_>,
-    place: Place,
+    at: &At<'_>,
     unit: &Passage<'_>,
     cases: &'p [Piece],
     state: &State,
@@ -167,26 +143,21 @@ fn comes_to<'p>(
 ) -> Result<&'p Piece, Refusal>
     requires cases { All CanEnd cases.now }
     requires bounds { HasBounds state.now }
-    ensures comes { MatchResult result
-        (λ case. rule.comes_to unit.now scope.now.cert.cond cases.now state.now course.old.hints ≡ Ok (record { case = case.now; hints = course.new.hints }))
-        (Refused (courses.placed place (rule.comes_to unit.now scope.now.cert.cond cases.now state.now course.old.hints))) }
+    ensures comes { AnswersAt at.now.place (rule.comes_to unit.now at.now.scope.now.cert.cond cases.now state.now course.old.hints)
+        (λ case. record { case = case.now; hints = course.new.hints }) result }
     ensures rest { OnOk result (course.new ≡ record course.old { hints = course.new.hints }) }
     ensures few { IfOk result (λ case. length case.now.stack ≤ length state.now.stack) }
 {
     match course.next_hint() {
-        Some(Hint::Case(k)) => {
-            let case = cases.get(*k as usize);
-            comes_by_case(scope, place, unit, case, state, course)
-        }
-        Some(_) => refuse(place, Reason::WrongHint),
-        None => refuse(place, Reason::HintsShort),
+        Some(Hint::Case(k)) => comes_by_case(at, unit, cases.get(*k as usize), state, course),
+        Some(_) => refuse(at.place, Reason::WrongHint),
+        None => refuse(at.place, Reason::HintsShort),
     }
 }
 
 /// A state comes to a loop by a case.
 fn comes_by_case<'p>(
-    scope: &Scope<'_>,
-    place: Place,
+    at: &At<'_>,
     unit: &Passage<'_>,
     case: Option<&'p Piece>,
     state: &State,
@@ -194,19 +165,16 @@ fn comes_by_case<'p>(
 ) -> Result<&'p Piece, Refusal>
     requires case { IfSome case (λ found. CanEnd found.now) }
     requires bounds { HasBounds state.now }
-    ensures comes { MatchResult result
-        (λ come. rule.comes_by_case unit.now scope.now.cert.cond (option_map (λ found. found.now) case.entry) state.now course.old.hints
-        ≡ Ok (record { case = come.now; hints = course.new.hints }))
-        (Refused (courses.placed place
-        (rule.comes_by_case unit.now scope.now.cert.cond (option_map (λ found. found.now) case.entry) state.now course.old.hints))) }
+    ensures comes { AnswersAt at.now.place (rule.comes_by_case unit.now at.now.scope.now.cert.cond (option_map (λ found. found.now) case.entry) state.now course.old.hints)
+        (λ come. record { case = come.now; hints = course.new.hints }) result }
     ensures rest { OnOk result (course.new ≡ record course.old { hints = course.new.hints }) }
     ensures few { IfOk result (λ come. length come.now.stack ≤ length state.now.stack) }
 {
     match case {
         Some(case) => {
-            course.comes(scope, place, unit, case, state)?;
+            course.comes(at, unit, case, state)?;
             Ok(case)
         }
-        None => refuse(place, Reason::NotEntailed(0)),
+        None => refuse(at.place, Reason::NotEntailed(0)),
     }
 }

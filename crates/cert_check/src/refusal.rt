@@ -46,3 +46,6 @@ pub struct Refusal {
     pub place: Place,
     pub reason: Reason,
 }
+
+/// A walk comes to its end, or a rule fails on it.
+pub type Walk = Result<(), Refusal>;

@@ -1,20 +1,20 @@
 //! How a target is entered: by a summary, or by a walk (docs/CHECKER.md, "The walk" and "Use of a summary").
 
-ghost use Rattle.std.specs.Prelude.{◌≡◌, ◌<◌, ◌≤◌, ◌+◌, if◌then◌else◌, Ok, IfOk, IsTrue, MatchResult, length, slice_get};
+ghost use Rattle.std.specs.Prelude.{◌≡◌, ◌<◌, ◌≤◌, ◌+◌, if◌then◌else◌, Ok, IfOk, IsTrue, length, slice_get};
 ghost use Rattle.std.specs.List.{All, list_all};
 ghost use Rattle.sym_state.specs.Starting.{symbols_of as count_of};
 ghost use Rattle.sym_state.specs.WellMade.{HasBounds};
-ghost use Rattle.cert_check.specs.Certified.{IsCertified, IsSummaryOf};
-ghost use Rattle.cert_check.specs.Given.{Refused, Takes};
+ghost use Rattle.cert_check.specs.Certified.{AreSound, IsSummaryOf};
+ghost use Rattle.cert_check.specs.Given.{GoesOn, Takes};
 ghost use Rattle.cert_check.specs.Room.{HasRoom};
 ghost use Rattle.cert_check.specs.Walks as rule;
 
+use crate::at::At;
 use crate::course::{Course, held, refuse};
-use crate::refusal::{Reason, Refusal};
+use crate::refusal::{Reason, Refusal, Walk};
 use crate::scope::{Scope, is_target};
 use crate::uses::{Came, Passage, left_states};
 use bst_meaning::value::Target;
-use bv_base::place::Place;
 use cert_format::cert::Summary;
 use name_table::names::NameId;
 use sym_state::hint::Hint;
@@ -25,113 +25,93 @@ use sym_state::symbols_of;
 /// Whether a target that is entered is walked. Where it has a summary the next hint tells, and one that is used gives the
 /// states of its posts.
 pub(crate) fn comes_in(
-    scope: &Scope<'_>,
-    place: Place,
+    at: &At<'_>,
     target: Target,
     state: &State,
     course: &mut Course<'_>,
 ) -> Result<bool, Refusal>
-    requires cert { IsCertified scope.now.style scope.now.cert }
-    requires room { HasRoom scope.now.style 64 course.old.count state.now }
+    requires sound { AreSound at.now.scope.now.style at.now.scope.now.cert }
+    requires room { HasRoom at.now.scope.now.style 64 course.old.count state.now }
     ensures count { IfOk result (λ walks. IsTrue walks → course.new.count ≡ course.old.count) }
-    ensures takes { (walk : rule.Onward) → MatchResult result
-        (λ walks. rule.entered scope.now place target walk state.now course.old ≡ (if walks then walk state.now course.new else Ok course.new))
-        (Refused (rule.entered scope.now place target walk state.now course.old)) }
+    ensures takes { (walk : rule.Onward) → GoesOn (rule.entered at.now.scope.now at.now.place target walk state.now course.old)
+        (λ walks. if walks then walk state.now course.new else Ok course.new) result }
 {
-    if !scope.has_summary(target) {
+    if !at.scope.has_summary(target) {
         return Ok(true);
     }
     match course.next_hint() {
         Some(Hint::Apply(k)) => {
-            use_of(scope, place, target, *k, state, course)?;
+            use_of(at, target, *k, state, course)?;
             Ok(false)
         }
         Some(Hint::Walk) => Ok(true),
-        Some(_) => refuse(place, Reason::WrongHint),
-        None => refuse(place, Reason::HintsShort),
+        Some(_) => refuse(at.place, Reason::WrongHint),
+        None => refuse(at.place, Reason::HintsShort),
     }
 }
 
 /// The summary of a number is used, where it is one of the target.
-fn use_of(
-    scope: &Scope<'_>,
-    place: Place,
-    target: Target,
-    k: u32,
-    state: &State,
-    course: &mut Course<'_>,
-) -> Result<(), Refusal>
-    requires cert { IsCertified scope.now.style scope.now.cert }
+fn use_of(at: &At<'_>, target: Target, k: u32, state: &State, course: &mut Course<'_>) -> Walk
+    requires sound { AreSound at.now.scope.now.style at.now.scope.now.cert }
     requires bounds { HasBounds state.now }
     requires room { state.now.next ≤ 2212483648 }
-    ensures takes { Takes (rule.use_of scope.now place target (slice_get scope.now.cert.summaries k) state.now course.old) course.new result }
+    ensures takes { Takes (rule.use_of at.now.scope.now at.now.place target (slice_get at.now.scope.now.cert.summaries k) state.now course.old) course.new result }
 {
-    match scope.summary(k) {
+    match at.scope.summary(k) {
         Some(summary) => {
             if is_target(summary.body, target) {
-                summary_used(scope, place, summary, state, course)
+                summary_used(at, summary, state, course)
             } else {
-                refuse(place, Reason::NoSummary)
+                refuse(at.place, Reason::NoSummary)
             }
         }
-        None => refuse(place, Reason::NoSummary),
+        None => refuse(at.place, Reason::NoSummary),
     }
 }
 
 /// A summary is used: its pre is entailed first.
-fn summary_used(
-    scope: &Scope<'_>,
-    place: Place,
-    summary: &Summary,
-    state: &State,
-    course: &mut Course<'_>,
-) -> Result<(), Refusal>
-    requires summary { IsSummaryOf scope.now.style summary.now }
+fn summary_used(at: &At<'_>, summary: &Summary, state: &State, course: &mut Course<'_>) -> Walk
+    requires summary { IsSummaryOf at.now.scope.now.style summary.now }
     requires bounds { HasBounds state.now }
     requires room { state.now.next ≤ 2212483648 }
-    ensures takes { Takes (rule.summary_used scope.now place summary.now state.now course.old) course.new result }
+    ensures takes { Takes (rule.summary_used at.now.scope.now at.now.place summary.now state.now course.old) course.new result }
 {
     let unit = Passage {
         entry: summary.entry,
         whole: summary.whole,
         writes: summary.writes.as_slice(),
     };
-    course.comes(scope, place, &unit, &summary.pre, state)?;
+    course.comes(at, &unit, &summary.pre, state)?;
     let came = Came {
-        style: scope.style(),
-        cond: scope.cond(),
+        style: at.scope.style(),
+        cond: at.scope.cond(),
         unit: &unit,
         pre: &summary.pre,
         kept: symbols_of(&summary.pre) as u32,
         state,
     };
-    leaves(scope, place, &came, summary.posts.as_slice(), course)
+    leaves(at, &came, summary.posts.as_slice(), course)
 }
 
 /// A unit is used that a state came to: the unit which is checked may write what this one writes, each of these variables
 /// counts, and each of its posts gives one state.
-pub(crate) fn leaves(
-    scope: &Scope<'_>,
-    place: Place,
-    came: &Came<'_>,
-    posts: &[Piece],
-    course: &mut Course<'_>,
-) -> Result<(), Refusal>
-    requires style { came.now.style.now ≡ scope.now.style }
-    requires cond { came.now.cond.now ≡ scope.now.cert.cond }
+pub(crate) fn leaves(at: &At<'_>, came: &Came<'_>, posts: &[Piece], course: &mut Course<'_>) -> Walk
+    requires style { came.now.style.now ≡ at.now.scope.now.style }
+    requires cond { came.now.cond.now ≡ at.now.scope.now.cert.cond }
     requires few { length came.now.unit.now.writes ≤ 65536 }
     requires stack { length came.now.pre.now.stack ≤ length came.now.state.now.stack }
     requires room { All (λ post. came.now.state.now.next + (count_of post + length came.now.unit.now.writes) < 4294967296) posts.now }
     requires names { All (λ name. name.0 < length came.now.style.now.names) came.now.unit.now.writes }
-    ensures takes { Takes (rule.leaves scope.now place came.now.unit.now came.now.pre.now posts.now came.now.kept came.now.state.now course.old) course.new result }
+    ensures takes { Takes (rule.leaves at.now.scope.now at.now.place came.now.unit.now came.now.pre.now posts.now came.now.kept came.now.state.now course.old)
+        course.new result }
 {
     let unit = came.unit;
-    if !may_write_all(scope, unit.writes) {
-        return refuse(place, Reason::NotEntailed(0));
+    if !may_write_all(at.scope, unit.writes) {
+        return refuse(at.place, Reason::NotEntailed(0));
     }
-    course.counts(unit.writes.len() as u32, place)?;
-    let states = held(place, left_states(came, posts))?;
-    course.gives_all(place, states)
+    course.counts(unit.writes.len() as u32, at.place)?;
+    let states = held(at.place, left_states(came, posts))?;
+    course.gives_all(at.place, states)
 }
 
 /// Whether the unit may write all of these variables.

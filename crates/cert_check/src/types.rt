@@ -1,18 +1,17 @@
 //! The functions that `call.type$` may enter (docs/CHECKER.md, "The walk").
 
-ghost use Rattle.std.specs.Prelude.{◌≡◌, true, codes, is_none, IfOk, MatchResult};
+ghost use Rattle.std.specs.Prelude.{◌≡◌, true, codes, is_none, IfOk};
 ghost use Rattle.std.specs.List.{list_any};
 ghost use Rattle.name_table.specs.TypeTarget as target;
 ghost use Rattle.cert_check.specs.Courses as courses;
-ghost use Rattle.cert_check.specs.Given.{Refused};
+ghost use Rattle.cert_check.specs.Given.{GoesOn};
 ghost use Rattle.cert_check.specs.Walks as rule;
 
+use crate::at::At;
 use crate::course::{held, refuse};
 use crate::refusal::{Reason, Refusal};
-use crate::scope::Scope;
 use bst_meaning::condition::Cond;
 use bv_base::memory::NoMemory;
-use bv_base::place::Place;
 use bv_base::text::Text;
 use name_table::names::NameId;
 use name_table::opening::SKIP;
@@ -22,32 +21,23 @@ use sym_state::demand::{Demand, DemandKind};
 use sym_state::state::State;
 
 /// The functions that `call.type$` enters from a state, which has to be at an entry.
-pub(crate) fn types_entered(
-    scope: &Scope<'_>,
-    place: Place,
-    state: &State,
-) -> Result<Vec<NameId>, Refusal>
-    ensures { (enter : rule.Enter) (course : courses.Course) → MatchResult result
-        (λ names. rule.typed scope.now enter place state.now course ≡ rule.types_called scope.now enter place names.items state.now course)
-        (Refused (rule.typed scope.now enter place state.now course)) }
+pub(crate) fn types_entered(at: &At<'_>, state: &State) -> Result<Vec<NameId>, Refusal>
+    ensures { (enter : rule.Enter) (course : courses.Course) → GoesOn (rule.typed at.now.scope.now enter at.now.place state.now course)
+        (λ names. rule.types_called at.now.scope.now enter at.now.place names.items state.now course) result }
 {
     if !state.is_at_entry() {
-        return refuse(
-            place,
-            Reason::Demand(Demand {
-                kind: DemandKind::NoEntry,
-                operand: 0,
-            }),
-        );
+        let missing = Demand {
+            kind: DemandKind::NoEntry,
+            operand: 0,
+        };
+        return refuse(at.place, Reason::Demand(missing));
     }
-    held(
-        place,
-        type_functions(state.alloc(), scope.style(), scope.cond()),
-    )
+    let names = type_functions(state.alloc(), at.scope.style(), at.scope.cond());
+    held(at.place, names)
 }
 
 /// The functions of the listed types, and the default function where a type may be another.
-fn type_functions(alloc: Global, style: &Style, cond: &Cond) -> Result<Vec<NameId>, NoMemory>
+pub fn type_functions(alloc: Global, style: &Style, cond: &Cond) -> Result<Vec<NameId>, NoMemory>
     ensures { IfOk result (λ names. names.items ≡ rule.type_functions style.now cond.now) }
 {
     let mut names = listed_functions(alloc, style, cond.types.as_slice())?;

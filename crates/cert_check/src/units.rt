@@ -1,20 +1,20 @@
 //! The units that are checked (docs/CHECKER.md, "Units").
 
-ghost use Rattle.std.specs.Prelude.{◌≡◌, [], Ok, Some, IfSome, MatchResult, OnOk, option_map};
+ghost use Rattle.std.specs.Prelude.{◌≡◌, [], Ok, Some, IfSome, OnOk, option_map};
 ghost use Rattle.std.specs.List.{All};
 ghost use Rattle.bv_base.specs.Answers.{Leaves};
-ghost use Rattle.name_table.specs.Sound.{IsSound};
 ghost use Rattle.sym_state.specs.Demands.{HasFewUses};
 ghost use Rattle.sym_state.specs.WellMade.{HasBounds};
 ghost use Rattle.sym_state.specs.declared.demand.EffectFault.TheVariants.{NoMemory as WantOfMemoryThere};
-ghost use Rattle.cert_check.specs.Certified.{IsCertified, IsSummaryOf};
-ghost use Rattle.cert_check.specs.Given.{CanEnd, Refused, Takes};
+ghost use Rattle.cert_check.specs.Certified.{AreSound, IsSummaryOf};
+ghost use Rattle.cert_check.specs.Given.{CanEnd, Takes};
 ghost use Rattle.cert_check.specs.Room.{GivesRoom, HasRoom};
 ghost use Rattle.cert_check.specs.Units as rule;
 
+use crate::at::At;
 use crate::course::{Course, held};
 use crate::limits::MOST_DEPTH;
-use crate::refusal::Refusal;
+use crate::refusal::Walk;
 use crate::scope::Scope;
 use crate::walk::{body_entered, body_walked, name_entered, named};
 use bst_meaning::condition::Cond;
@@ -34,17 +34,11 @@ use sym_state::state::State;
 use sym_state::{shown_by, symbols_of};
 
 /// The body of a summary is walked from its pre: each state at its end entails one of its posts, and no hint is left.
-pub(crate) fn summary_checked(
-    scope: &Scope<'_>,
-    alloc: Global,
-    summary: &Summary,
-) -> Result<(), Refusal>
-    requires sound { IsSound scope.now.style }
-    requires cert { IsCertified scope.now.style scope.now.cert }
+pub(crate) fn summary_checked(scope: &Scope<'_>, alloc: Global, summary: &Summary) -> Walk
+    requires sound { AreSound scope.now.style scope.now.cert }
     requires summary { IsSummaryOf scope.now.style summary.now }
     requires writes { scope.now.writes ≡ Some summary.now.writes }
-    ensures { MatchResult result (λ _. rule.summary_checked scope.now.style scope.now.cert summary.now ≡ Ok [])
-        (Refused (rule.summary_checked scope.now.style scope.now.cert summary.now)) }
+    ensures { Takes (rule.summary_checked scope.now.style scope.now.cert summary.now) [] result }
 {
     let body = body_of(scope.style(), summary.body);
     let place = place_of(scope.style(), body);
@@ -74,18 +68,20 @@ fn own_walked(
     body: Option<BodyId>,
     state: State,
     course: &mut Course<'_>,
-) -> Result<(), Refusal>
-    requires sound { IsSound scope.now.style }
-    requires cert { IsCertified scope.now.style scope.now.cert }
+) -> Walk
+    requires sound { AreSound scope.now.style scope.now.cert }
     requires room { HasRoom scope.now.style 65 course.old.count state }
     ensures takes { Takes (rule.own_walked scope.now place target body state course.old) course.new result }
 {
+    let at = At {
+        scope,
+        place,
+        more: MOST_DEPTH,
+        known: state.stack_len(),
+    };
     match (body, target) {
-        (Some(body), _) => body_walked(scope, MOST_DEPTH, place, body, state, course),
-        (None, Target::Named(name)) => {
-            let known = state.stack_len();
-            named(scope, MOST_DEPTH, known, name, place, state, course)
-        }
+        (Some(body), _) => body_walked(&at, body, state, course),
+        (None, Target::Named(name)) => named(&at, name, state, course),
         (None, Target::Block(_)) => Ok(()),
     }
 }
@@ -97,20 +93,20 @@ pub(crate) fn target_entered(
     target: Target,
     state: State,
     course: &mut Course<'_>,
-) -> Result<(), Refusal>
-    requires sound { IsSound scope.now.style }
-    requires cert { IsCertified scope.now.style scope.now.cert }
+) -> Walk
+    requires sound { AreSound scope.now.style scope.now.cert }
     requires room { HasRoom scope.now.style 64 course.old.count state }
     ensures takes { Takes (rule.target_entered scope.now place target state course.old) course.new result }
 {
+    let at = At {
+        scope,
+        place,
+        more: MOST_DEPTH,
+        known: state.stack_len(),
+    };
     match target {
-        Target::Named(name) => {
-            let known = state.stack_len();
-            name_entered(scope, MOST_DEPTH, known, place, name, state, course)
-        }
-        Target::Block(body) => {
-            body_entered(scope, MOST_DEPTH, place, target, body, state, course)
-        }
+        Target::Named(name) => name_entered(&at, name, state, course),
+        Target::Block(body) => body_entered(&at, target, body, state, course),
     }
 }
 
@@ -121,9 +117,8 @@ pub(crate) fn target_from(
     target: Target,
     states: Vec<State>,
     course: &mut Course<'_>,
-) -> Result<(), Refusal>
-    requires sound { IsSound scope.now.style }
-    requires cert { IsCertified scope.now.style scope.now.cert }
+) -> Walk
+    requires sound { AreSound scope.now.style scope.now.cert }
     requires room { All (HasRoom scope.now.style 64 course.old.count) states.items }
     ensures takes { Takes (rule.target_from scope.now place target states.items course.old) course.new result }
     ensures room { GivesRoom scope.now.style course.old → OnOk result (GivesRoom scope.now.style course.new) }

@@ -69,22 +69,33 @@ static LINES: [&str; 47] = [
     "done",
 ];
 
-/// A line that is changed.
+/// A line that is changed: its text, and what stands behind that, so many times.
 #[derive(Clone, Copy)]
 struct Row {
     line: usize,
     text: &'static str,
+    more: &'static str,
+    times: usize,
     told: &'static str,
+}
+
+/// A line with this number becomes this text with so many times another behind it, and this comes of it.
+macro_rules! many {
+    ($line:expr, $text:expr, $more:expr, $times:expr, $told:expr) => {
+        Row {
+            line: $line,
+            text: $text,
+            more: $more,
+            times: $times,
+            told: $told,
+        }
+    };
 }
 
 /// A line with this number becomes this text, and this comes of it.
 macro_rules! on {
     ($line:expr, $text:expr, $told:expr) => {
-        Row {
-            line: $line,
-            text: $text,
-            told: $told,
-        }
+        many!($line, $text, "", 0, $told)
     };
 }
 
@@ -154,16 +165,8 @@ static PIECES: [Row; 84] = [
     on!(18, "stack 1", "18:7 NotCanonical"),
     on!(18, "stack 00", "18:7 NotCanonical"),
     on!(18, "stack -0", "18:7 Syntax"),
-    on!(
-        18,
-        "stack 0 0 0 0 0 0 0 0 0 0 0 0 0 0 0 0 0 0 0 0 0 0 0 0 0 0 0 0 0 0 0 0 0 0 0 0 0 0 0 0 0 0 0 0 0 0 0 0 0 0 0 0 0 0 0 0 0 0 0 0 0 0 0 0",
-        "read"
-    ),
-    on!(
-        18,
-        "stack 0 0 0 0 0 0 0 0 0 0 0 0 0 0 0 0 0 0 0 0 0 0 0 0 0 0 0 0 0 0 0 0 0 0 0 0 0 0 0 0 0 0 0 0 0 0 0 0 0 0 0 0 0 0 0 0 0 0 0 0 0 0 0 0 0",
-        "18:135 TooMany"
-    ),
+    many!(18, "stack", " 0", 64, "read"),
+    many!(18, "stack", " 0", 65, "18:135 TooMany"),
     on!(19, "var n 3", "19:7 NotCanonical"),
     on!(19, "var title 1", "19:5 UnknownName"),
     on!(20, "field n 2", "20:7 UnknownName"),
@@ -217,16 +220,8 @@ static PIECES: [Row; 84] = [
     on!(25, "wellformed 3", "25:12 OutOfRange"),
     on!(25, "wellformed x", "25:12 Syntax"),
     // Four facts stand before these, so that there are 64 and 65.
-    on!(
-        25,
-        "blank 0\nblank 0\nblank 0\nblank 0\nblank 0\nblank 0\nblank 0\nblank 0\nblank 0\nblank 0\nblank 0\nblank 0\nblank 0\nblank 0\nblank 0\nblank 0\nblank 0\nblank 0\nblank 0\nblank 0\nblank 0\nblank 0\nblank 0\nblank 0\nblank 0\nblank 0\nblank 0\nblank 0\nblank 0\nblank 0\nblank 0\nblank 0\nblank 0\nblank 0\nblank 0\nblank 0\nblank 0\nblank 0\nblank 0\nblank 0\nblank 0\nblank 0\nblank 0\nblank 0\nblank 0\nblank 0\nblank 0\nblank 0\nblank 0\nblank 0\nblank 0\nblank 0\nblank 0\nblank 0\nblank 0\nblank 0\nblank 0\nblank 0\nblank 0\nblank 0",
-        "read"
-    ),
-    on!(
-        25,
-        "blank 0\nblank 0\nblank 0\nblank 0\nblank 0\nblank 0\nblank 0\nblank 0\nblank 0\nblank 0\nblank 0\nblank 0\nblank 0\nblank 0\nblank 0\nblank 0\nblank 0\nblank 0\nblank 0\nblank 0\nblank 0\nblank 0\nblank 0\nblank 0\nblank 0\nblank 0\nblank 0\nblank 0\nblank 0\nblank 0\nblank 0\nblank 0\nblank 0\nblank 0\nblank 0\nblank 0\nblank 0\nblank 0\nblank 0\nblank 0\nblank 0\nblank 0\nblank 0\nblank 0\nblank 0\nblank 0\nblank 0\nblank 0\nblank 0\nblank 0\nblank 0\nblank 0\nblank 0\nblank 0\nblank 0\nblank 0\nblank 0\nblank 0\nblank 0\nblank 0\nblank 0",
-        "85:1 TooMany"
-    ),
+    many!(25, "blank 0", "\nblank 0", 59, "read"),
+    many!(25, "blank 0", "\nblank 0", 60, "85:1 TooMany"),
     on!(26, "row -1099511627776", "read"),
     on!(26, "row", "26:4 Syntax"),
     on!(26, "row 04", "26:5 NotCanonical"),
@@ -234,28 +229,12 @@ static PIECES: [Row; 84] = [
     on!(26, "row 4 1 width:0", "26:9 Syntax"),
     on!(26, "row 4 1 pos 1 pos", "26:15 NotCanonical"),
     on!(26, "row 4 1 count 1 pos", "26:17 NotCanonical"),
-    on!(
-        26,
-        "row 0\nrow 0\nrow 0\nrow 0\nrow 0\nrow 0\nrow 0\nrow 0\nrow 0\nrow 0\nrow 0\nrow 0\nrow 0\nrow 0\nrow 0\nrow 0\nrow 0\nrow 0\nrow 0\nrow 0\nrow 0\nrow 0\nrow 0\nrow 0\nrow 0\nrow 0\nrow 0\nrow 0\nrow 0\nrow 0\nrow 0\nrow 0\nrow 0\nrow 0\nrow 0\nrow 0\nrow 0\nrow 0\nrow 0\nrow 0\nrow 0\nrow 0\nrow 0\nrow 0\nrow 0\nrow 0\nrow 0\nrow 0\nrow 0\nrow 0\nrow 0\nrow 0\nrow 0\nrow 0\nrow 0\nrow 0\nrow 0\nrow 0\nrow 0\nrow 0\nrow 0\nrow 0\nrow 0\nrow 0",
-        "read"
-    ),
-    on!(
-        26,
-        "row 0\nrow 0\nrow 0\nrow 0\nrow 0\nrow 0\nrow 0\nrow 0\nrow 0\nrow 0\nrow 0\nrow 0\nrow 0\nrow 0\nrow 0\nrow 0\nrow 0\nrow 0\nrow 0\nrow 0\nrow 0\nrow 0\nrow 0\nrow 0\nrow 0\nrow 0\nrow 0\nrow 0\nrow 0\nrow 0\nrow 0\nrow 0\nrow 0\nrow 0\nrow 0\nrow 0\nrow 0\nrow 0\nrow 0\nrow 0\nrow 0\nrow 0\nrow 0\nrow 0\nrow 0\nrow 0\nrow 0\nrow 0\nrow 0\nrow 0\nrow 0\nrow 0\nrow 0\nrow 0\nrow 0\nrow 0\nrow 0\nrow 0\nrow 0\nrow 0\nrow 0\nrow 0\nrow 0\nrow 0\nrow 0",
-        "90:1 TooMany"
-    ),
+    many!(26, "row 0", "\nrow 0", 63, "read"),
+    many!(26, "row 0", "\nrow 0", 64, "90:1 TooMany"),
     on!(27, "post post", "27:6 Syntax"),
     // With the pre there are 64 pieces and 65.
-    on!(
-        27,
-        "post\npost\npost\npost\npost\npost\npost\npost\npost\npost\npost\npost\npost\npost\npost\npost\npost\npost\npost\npost\npost\npost\npost\npost\npost\npost\npost\npost\npost\npost\npost\npost\npost\npost\npost\npost\npost\npost\npost\npost\npost\npost\npost\npost\npost\npost\npost\npost\npost\npost\npost\npost\npost\npost\npost\npost\npost\npost\npost\npost\npost\npost\npost",
-        "read"
-    ),
-    on!(
-        27,
-        "post\npost\npost\npost\npost\npost\npost\npost\npost\npost\npost\npost\npost\npost\npost\npost\npost\npost\npost\npost\npost\npost\npost\npost\npost\npost\npost\npost\npost\npost\npost\npost\npost\npost\npost\npost\npost\npost\npost\npost\npost\npost\npost\npost\npost\npost\npost\npost\npost\npost\npost\npost\npost\npost\npost\npost\npost\npost\npost\npost\npost\npost\npost\npost",
-        "90:1 TooMany"
-    ),
+    many!(27, "post", "\npost", 62, "read"),
+    many!(27, "post", "\npost", 63, "90:1 TooMany"),
     on!(28, "row 0 1 value:3", "28:9 OutOfRange"),
     on!(28, "row 0 1 value:2", "read"),
 ];
@@ -274,16 +253,8 @@ static HINTS: [Row; 69] = [
     on!(31, "step 1 1:x0", "31:8 Syntax"),
     on!(31, "step 1 1:p0", "31:8 Syntax"),
     on!(31, "step 1 1:r", "31:8 Syntax"),
-    on!(
-        31,
-        "step 1 1:p 1:p 1:p 1:p 1:p 1:p 1:p 1:p 1:p 1:p 1:p 1:p 1:p 1:p 1:p 1:p 1:p 1:p 1:p 1:p 1:p 1:p 1:p 1:p 1:p 1:p 1:p 1:p 1:p 1:p 1:p 1:p 1:p 1:p 1:p 1:p 1:p 1:p 1:p 1:p 1:p 1:p 1:p 1:p 1:p 1:p 1:p 1:p 1:p 1:p 1:p 1:p 1:p 1:p 1:p 1:p 1:p 1:p 1:p 1:p 1:p 1:p 1:p 1:p",
-        "read"
-    ),
-    on!(
-        31,
-        "step 1 1:p 1:p 1:p 1:p 1:p 1:p 1:p 1:p 1:p 1:p 1:p 1:p 1:p 1:p 1:p 1:p 1:p 1:p 1:p 1:p 1:p 1:p 1:p 1:p 1:p 1:p 1:p 1:p 1:p 1:p 1:p 1:p 1:p 1:p 1:p 1:p 1:p 1:p 1:p 1:p 1:p 1:p 1:p 1:p 1:p 1:p 1:p 1:p 1:p 1:p 1:p 1:p 1:p 1:p 1:p 1:p 1:p 1:p 1:p 1:p 1:p 1:p 1:p 1:p 1:p",
-        "31:264 TooMany"
-    ),
+    many!(31, "step 1", " 1:p", 64, "read"),
+    many!(31, "step 1", " 1:p", 65, "31:264 TooMany"),
     on!(31, "drop", "31:5 Syntax"),
     on!(34, "loop g", "34:7 Syntax"),
     on!(34, "summary g", "35:1 Syntax"),
@@ -338,16 +309,8 @@ static HINTS: [Row; 69] = [
     ),
     on!(37, "exit 0", "37:6 Syntax"),
     // With the case before there are 64 pieces and 65.
-    on!(
-        37,
-        "case\ncase\ncase\ncase\ncase\ncase\ncase\ncase\ncase\ncase\ncase\ncase\ncase\ncase\ncase\ncase\ncase\ncase\ncase\ncase\ncase\ncase\ncase\ncase\ncase\ncase\ncase\ncase\ncase\ncase\ncase\ncase\ncase\ncase\ncase\ncase\ncase\ncase\ncase\ncase\ncase\ncase\ncase\ncase\ncase\ncase\ncase\ncase\ncase\ncase\ncase\ncase\ncase\ncase\ncase\ncase\ncase\ncase\ncase\ncase\ncase\ncase\ncase",
-        "read"
-    ),
-    on!(
-        37,
-        "exit\nexit\nexit\nexit\nexit\nexit\nexit\nexit\nexit\nexit\nexit\nexit\nexit\nexit\nexit\nexit\nexit\nexit\nexit\nexit\nexit\nexit\nexit\nexit\nexit\nexit\nexit\nexit\nexit\nexit\nexit\nexit\nexit\nexit\nexit\nexit\nexit\nexit\nexit\nexit\nexit\nexit\nexit\nexit\nexit\nexit\nexit\nexit\nexit\nexit\nexit\nexit\nexit\nexit\nexit\nexit\nexit\nexit\nexit\nexit\nexit\nexit\nexit\nexit",
-        "100:1 TooMany"
-    ),
+    many!(37, "case", "\ncase", 62, "read"),
+    many!(37, "exit", "\nexit", 63, "100:1 TooMany"),
     on!(40, "command", "40:8 Syntax"),
     on!(40, "command 06", "40:9 NotCanonical"),
     on!(41, "after 0", "41:7 Syntax"),
@@ -395,15 +358,23 @@ fn expect_rows(rt: &impl Abort, alloc: Global, rows: &[Row]) -> Result<(), NoMem
 fn changed(alloc: Global, row: Row) -> Result<Vec<u8>, NoMemory> {
     let mut source = Vec::new(alloc);
     for (index, line) in LINES.iter().enumerate() {
-        let text = if index + 1 == row.line {
-            row.text
+        if index + 1 == row.line {
+            put_row(&mut source, row)?;
         } else {
-            *line
-        };
-        source.extend_from_slice(text.as_bytes())?;
+            source.extend_from_slice(line.as_bytes())?;
+        }
         source.push(b'\n')?;
     }
     Ok(source)
+}
+
+/// Appends the text of a row.
+fn put_row(source: &mut Vec<u8>, row: Row) -> Result<(), NoMemory> {
+    source.extend_from_slice(row.text.as_bytes())?;
+    for _ in 0..row.times {
+        source.extend_from_slice(row.more.as_bytes())?;
+    }
+    Ok(())
 }
 
 /// Expects a text to be read, and printed as it is, or to have this fault.

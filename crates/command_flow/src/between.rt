@@ -10,6 +10,7 @@ use bv_base::copied::Copied;
 use bv_base::memory::NoMemory;
 use bv_base::seq::Seq;
 use bv_base::text::Text;
+use cert_check::refusal::Refusal;
 use cert_format::cert::CommandPart;
 use name_table::names::{Kind, NameId, Names};
 use name_table::opening::{ENTRY_MAX, GLOBAL_MAX};
@@ -27,6 +28,9 @@ pub struct Between {
     /// Of each entry.
     pub entry: Piece,
 }
+
+/// What stands after a command, or the rule that fails.
+pub(crate) type Flow = Result<Between, Refusal>;
 
 /// What the record of a command gives: its pieces, of which one that it doesn't give says nothing, and its hints.
 #[derive(Drop)]

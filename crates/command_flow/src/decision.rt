@@ -1,21 +1,22 @@
 //! The checker's decision (docs/CHECKER.md, "Certificates").
 
-ghost use Rattle.std.specs.Prelude.{◌≡◌, ◌+◌, ◌≤◌, ℕ, [], Ok, ◌∷◌, MatchOption, MatchResult, OnOk, option_map};
+ghost use Rattle.std.specs.Prelude.{◌≡◌, ◌+◌, ◌≤◌, ℕ, [], Ok, ◌∷◌, MatchOption, OnOk, option_map};
 ghost use Rattle.name_table.specs.Sound.{IsSound};
 ghost use Rattle.bst_meaning.specs.Safe.{Safe};
 ghost use Rattle.cert_check.specs.Certified.{IsCertified};
-ghost use Rattle.cert_check.specs.Given.{Refused};
+ghost use Rattle.cert_check.specs.Given.{Takes};
 ghost use Rattle.command_flow.specs.Between as between;
 ghost use Rattle.command_flow.specs.Checks as flow;
 ghost use Rattle.command_flow.specs.Ready.{AreReady};
 ghost use Rattle.command_flow.specs.Records.{AreFrom, record_at};
 
+use crate::at::At;
 use crate::between::opened;
 use crate::flow::command_taken;
 use crate::laws::accepted_styles_are_safe;
 use bst_meaning::laws::runs_are_well_formed;
 use bv_base::place::Place;
-use cert_check::refusal::Refusal;
+use cert_check::refusal::Walk;
 use cert_check::{Checker, held};
 use cert_format::cert::{Cert, CommandPart};
 use name_table::style::Style;
@@ -23,10 +24,10 @@ use std::alloc::Global;
 
 /// Decides a certificate of a style: it is accepted exactly where every rule holds, and then the style is safe under the
 /// certificate's condition; else the first rule that fails is given, with its place.
-pub fn check(alloc: Global, style: &Style, cert: &Cert) -> Result<(), Refusal>
+pub fn check(alloc: Global, style: &Style, cert: &Cert) -> Walk
     requires sound { IsSound style.now }
     requires certified { IsCertified style.now cert.now }
-    ensures decides { MatchResult result (λ _. flow.checked style.now cert.now ≡ Ok []) (Refused (flow.checked style.now cert.now)) }
+    ensures decides { Takes (flow.checked style.now cert.now) [] result }
     ensures safe { OnOk result (Safe style.now cert.now.cond) }
 {
     accepted_styles_are_safe();
@@ -38,10 +39,9 @@ pub fn check(alloc: Global, style: &Style, cert: &Cert) -> Result<(), Refusal>
 }
 
 /// Checks the summaries in order.
-fn check_summaries(checker: &Checker<'_>, cert: &Cert) -> Result<(), Refusal>
+fn check_summaries(checker: &Checker<'_>, cert: &Cert) -> Walk
     requires cert { cert.now ≡ checker.now.cert }
-    ensures { MatchResult result (λ _. flow.summaries_checked checker.now.style checker.now.cert checker.now.cert.summaries ≡ Ok [])
-        (Refused (flow.summaries_checked checker.now.style checker.now.cert checker.now.cert.summaries)) }
+    ensures { Takes (flow.summaries_checked checker.now.style checker.now.cert checker.now.cert.summaries) [] result }
 {
     for index in 0..cert.summaries.as_slice().len() {
         checker.check_summary(index)?;
@@ -50,10 +50,9 @@ fn check_summaries(checker: &Checker<'_>, cert: &Cert) -> Result<(), Refusal>
 }
 
 /// Checks the loops in order.
-fn check_loops(checker: &Checker<'_>, cert: &Cert) -> Result<(), Refusal>
+fn check_loops(checker: &Checker<'_>, cert: &Cert) -> Walk
     requires cert { cert.now ≡ checker.now.cert }
-    ensures { MatchResult result (λ _. flow.loops_checked checker.now.style checker.now.cert checker.now.cert.loops ≡ Ok [])
-        (Refused (flow.loops_checked checker.now.style checker.now.cert checker.now.cert.loops)) }
+    ensures { Takes (flow.loops_checked checker.now.style checker.now.cert checker.now.cert.loops) [] result }
 {
     for index in 0..cert.loops.as_slice().len() {
         checker.check_loop(index)?;
@@ -62,26 +61,32 @@ fn check_loops(checker: &Checker<'_>, cert: &Cert) -> Result<(), Refusal>
 }
 
 /// Checks the commands in the style's order.
-fn check_commands(
-    checker: &Checker<'_>,
+fn check_commands<'a>(
+    checker: &'a Checker<'a>,
     alloc: Global,
-    style: &Style,
-    cert: &Cert,
-) -> Result<(), Refusal>
+    style: &'a Style,
+    cert: &'a Cert,
+) -> Walk
     requires sound { IsSound style.now }
     requires certified { IsCertified style.now cert.now }
     requires style { style.now ≡ checker.now.style }
     requires cert { cert.now ≡ checker.now.cert }
     requires opened { AreReady style.now (between.opened style.now) }
-    ensures { MatchResult result (λ _. flow.commands_checked style.now cert.now 0 (between.opened style.now) style.now.commands ≡ Ok [])
-        (Refused (flow.commands_checked style.now cert.now 0 (between.opened style.now) style.now.commands)) }
+    ensures { Takes (flow.commands_checked style.now cert.now 0 (between.opened style.now) style.now.commands) [] result }
 {
     let mut between = held(Place::START, opened(alloc, style))?;
     let mut records = cert.commands.as_slice();
-    for (index, at) in style.commands.as_slice().iter().enumerate() {
+    for (index, command) in style.commands.as_slice().iter().enumerate() {
         let (record, later) = first_record(index, records);
         records = later;
-        between = command_taken(checker, alloc, style, &cert.cond, *at, record, between)?;
+        let at = At {
+            checker,
+            alloc,
+            style,
+            cond: &cert.cond,
+            command: *command,
+        };
+        between = command_taken(&at, record, between)?;
     }
     Ok(())
 }

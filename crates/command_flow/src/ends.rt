@@ -4,13 +4,13 @@ ghost use Rattle.std.specs.Prelude.{◌≡◌, [], Ok, Err, MatchResult};
 ghost use Rattle.std.specs.List.{All};
 ghost use Rattle.sym_state.specs.Demands.{HasFewUses};
 ghost use Rattle.sym_state.specs.WellMade.{HasBounds};
-ghost use Rattle.cert_check.specs.Given.{CanEnd, Refused};
+ghost use Rattle.cert_check.specs.Given.{CanEnd, Takes};
 ghost use Rattle.cert_check.specs.Units.{none_left};
 ghost use Rattle.command_flow.specs.Commands as rule;
 
-use bst_meaning::condition::Cond;
+use crate::at::At;
 use bv_base::place::Place;
-use cert_check::refusal::{Reason, Refusal};
+use cert_check::refusal::{Reason, Walk};
 use cert_check::{placed, refuse};
 use sym_state::demand::{Demand, DemandKind};
 use sym_state::hint::Hints;
@@ -20,93 +20,70 @@ use sym_state::state::State;
 
 /// Each state at the end of a call, in order, has an empty stack and entails the pieces.
 pub(crate) fn call_ends(
-    cond: &Cond,
-    place: Place,
+    at: &At<'_>,
     pieces: &[Piece],
     states: &[State],
     hints: &mut Hints<'_>,
-) -> Result<(), Refusal>
+) -> Walk
     requires pieces { All CanEnd pieces.now }
     requires states { All HasBounds states.now }
     requires proofs { All HasFewUses hints.old }
-    ensures ends { MatchResult result (λ _. rule.call_ends cond.now place pieces.now states.now hints.old ≡ Ok hints.new)
-        (Refused (rule.call_ends cond.now place pieces.now states.now hints.old)) }
+    ensures ends { Takes (rule.call_ends at.now.cond.now at.now.command.place pieces.now states.now hints.old) hints.new result }
     ensures proofs { All HasFewUses hints.new }
 {
     for state in states {
-        state_ends(cond, place, pieces, state, hints)?;
+        state_ends(at, pieces, state, hints)?;
     }
     Ok(())
 }
 
 /// A state has an empty stack and entails the pieces.
-fn state_ends(
-    cond: &Cond,
-    place: Place,
-    pieces: &[Piece],
-    state: &State,
-    hints: &mut Hints<'_>,
-) -> Result<(), Refusal>
+fn state_ends(at: &At<'_>, pieces: &[Piece], state: &State, hints: &mut Hints<'_>) -> Walk
     requires pieces { All CanEnd pieces.now }
     requires state { HasBounds state.now }
     requires proofs { All HasFewUses hints.old }
-    ensures ends { MatchResult result (λ _. rule.state_ends cond.now place pieces.now state.now hints.old ≡ Ok hints.new)
-        (Refused (rule.state_ends cond.now place pieces.now state.now hints.old)) }
+    ensures ends { Takes (rule.state_ends at.now.cond.now at.now.command.place pieces.now state.now hints.old) hints.new result }
     ensures proofs { All HasFewUses hints.new }
 {
     if state.stack_len() > 0 {
         return refuse(
-            place,
+            at.command.place,
             Reason::Demand(Demand {
                 kind: DemandKind::StackLeft,
                 operand: 0,
             }),
         );
     }
-    pieces_shown(cond, place, state, pieces, hints)
+    pieces_shown(at, state, pieces, hints)
 }
 
 /// A state entails pieces, one after the other.
-fn pieces_shown(
-    cond: &Cond,
-    place: Place,
-    state: &State,
-    pieces: &[Piece],
-    hints: &mut Hints<'_>,
-) -> Result<(), Refusal>
+fn pieces_shown(at: &At<'_>, state: &State, pieces: &[Piece], hints: &mut Hints<'_>) -> Walk
     requires pieces { All CanEnd pieces.now }
     requires state { HasBounds state.now }
     requires proofs { All HasFewUses hints.old }
-    ensures shown { MatchResult result (λ _. rule.pieces_shown cond.now place state.now pieces.now hints.old ≡ Ok hints.new)
-        (Refused (rule.pieces_shown cond.now place state.now pieces.now hints.old)) }
+    ensures shown { Takes (rule.pieces_shown at.now.cond.now at.now.command.place state.now pieces.now hints.old) hints.new result }
     ensures proofs { All HasFewUses hints.new }
 {
     for piece in pieces {
-        piece_shown(cond, place, state, piece, hints)?;
+        piece_shown(at, state, piece, hints)?;
     }
     Ok(())
 }
 
 /// A state entails a piece, whose symbols are its own.
-pub(crate) fn piece_shown(
-    cond: &Cond,
-    place: Place,
-    state: &State,
-    piece: &Piece,
-    hints: &mut Hints<'_>,
-) -> Result<(), Refusal>
+pub(crate) fn piece_shown(at: &At<'_>, state: &State, piece: &Piece, hints: &mut Hints<'_>) -> Walk
     requires piece { CanEnd piece.now }
     requires state { HasBounds state.now }
     requires proofs { All HasFewUses hints.old }
-    ensures shown { MatchResult result (λ _. rule.piece_shown cond.now place state.now piece.now hints.old ≡ Ok hints.new)
-        (Refused (rule.piece_shown cond.now place state.now piece.now hints.old)) }
+    ensures shown { Takes (rule.piece_shown at.now.cond.now at.now.command.place state.now piece.now hints.old) hints.new result }
     ensures proofs { All HasFewUses hints.new }
 {
-    placed(place, shown_by(state, cond, piece, 0, hints))
+    placed(at.command.place, shown_by(state, at.cond, piece, 0, hints))
 }
 
 /// No hint is left where a unit ends.
-pub(crate) fn ends_there(place: Place, hints: &Hints<'_>) -> Result<(), Refusal>
+pub(crate) fn ends_there(place: Place, hints: &Hints<'_>) -> Walk
     ensures { MatchResult result (λ _. none_left place hints.now ≡ Ok []) (λ refusal. none_left place hints.now ≡ Err refusal) }
 {
     if hints.rest().is_empty() {

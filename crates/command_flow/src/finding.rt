@@ -8,14 +8,15 @@ ghost use Rattle.cert_format.specs.CertText.{IsHint};
 ghost use Rattle.sym_state.specs.Starting.{started};
 ghost use Rattle.sym_state.specs.WellMade.{HasBounds, HasSmallFields};
 ghost use Rattle.cert_check.specs.Certified.{IsCertified};
-ghost use Rattle.cert_check.specs.Given.{Finds, Refused};
+ghost use Rattle.cert_check.specs.Given.{Finds, GoesOn, Refused, Takes};
 ghost use Rattle.cert_check.specs.Room.{HasRoom};
 ghost use Rattle.cert_check.specs.Units.{call_found};
 ghost use Rattle.command_flow.specs.Between as between;
 ghost use Rattle.command_flow.specs.Commands as commands;
 ghost use Rattle.command_flow.specs.Finding as rule;
-ghost use Rattle.command_flow.specs.Ready.{AreReady, Decides, IsReady};
+ghost use Rattle.command_flow.specs.Ready.{Agrees, AreReady, Decides, IsReady};
 
+use crate::at::At;
 use crate::between::{Between, nothing, opened};
 use crate::ends::call_ends;
 use crate::flow::{one, state_of};
@@ -25,11 +26,11 @@ use bst_meaning::value::Target;
 use bv_base::memory::NoMemory;
 use bv_base::place::Place;
 use bv_base::seq::Seq;
-use cert_check::refusal::Refusal;
+use cert_check::refusal::{Refusal, Walk};
 use cert_check::{Checker, held};
 use cert_format::cert::{Cert, CommandPart};
 use name_table::names::NameId;
-use name_table::style::{Command, CommandAt, Style};
+use name_table::style::{Command, Style};
 use std::alloc::Global;
 use std::slice::from_ref;
 use straight_hints::Finding;
@@ -44,6 +45,9 @@ pub struct Found {
     pub hints: Seq<Hint>,
 }
 
+/// What is found for a command, or the rule that fails.
+type FoundHere = Result<Found, Refusal>;
+
 /// The records of a style's commands whose hints are found, or the first rule that fails, with its place. A command for
 /// which no hint is found has no record. The certificate is the bare one of the condition under which the style is walked.
 pub fn find(
@@ -54,8 +58,7 @@ pub fn find(
 ) -> Result<Vec<CommandPart>, Refusal>
     requires sound { IsSound style.now }
     requires certified { IsCertified style.now bare.now }
-    ensures finds { MatchResult result (λ parts. rule.records_found finding style.now bare.now ≡ Ok parts.items)
-        (Refused (rule.records_found finding style.now bare.now)) }
+    ensures finds { GoesOn (rule.records_found finding style.now bare.now) (λ parts. Ok parts.items) result }
     ensures written { IfOk result (λ parts. rule.AreRecords style.now parts.items) }
 {
     runs_are_well_formed();
@@ -64,27 +67,37 @@ pub fn find(
 }
 
 /// Commands in the style's order.
-fn commands_found(
-    checker: &Checker<'_>,
+fn commands_found<'a>(
+    checker: &'a Checker<'a>,
     alloc: Global,
     finding: Finding,
-    style: &Style,
-    cond: &Cond,
+    style: &'a Style,
+    cond: &'a Cond,
 ) -> Result<Vec<CommandPart>, Refusal>
     requires sound { IsSound style.now }
     requires small { HasSmallFields cond.now }
     requires style { style.now ≡ checker.now.style }
     requires cond { cond.now ≡ checker.now.cert.cond }
     requires opened { AreReady style.now (between.opened style.now) }
-    ensures finds { MatchResult result (λ parts. rule.records_found finding checker.now.style checker.now.cert ≡ Ok parts.items)
-        (Refused (rule.records_found finding checker.now.style checker.now.cert)) }
+    ensures finds { GoesOn (rule.records_found finding checker.now.style checker.now.cert) (λ parts. Ok parts.items) result }
     ensures written { IfOk result (λ parts. rule.AreRecords style.now parts.items) }
 {
     let mut parts = Vec::new(alloc);
     let mut between = held(Place::START, opened(alloc, style))?;
-    for (index, at) in style.commands.as_slice().iter().enumerate() {
-        let found = command_found(checker, alloc, finding, style, cond, *at, between)?;
-        held(at.place, push_record(&mut parts, index as u32, found.hints))?;
+    for (index, command) in style.commands.as_slice().iter().enumerate() {
+        let command = *command;
+        let at = At {
+            checker,
+            alloc,
+            style,
+            cond,
+            command,
+        };
+        let found = command_found(&at, finding, between)?;
+        held(
+            command.place,
+            push_record(&mut parts, index as u32, found.hints),
+        )?;
         between = found.between;
     }
     Ok(parts)
@@ -107,65 +120,38 @@ fn push_record(parts: &mut Vec<CommandPart>, index: u32, hints: Seq<Hint>) -> Re
 }
 
 /// A command: READ, SORT and declarations change nothing that is known.
-fn command_found(
-    checker: &Checker<'_>,
-    alloc: Global,
-    finding: Finding,
-    style: &Style,
-    cond: &Cond,
-    at: CommandAt,
-    between: Between,
-) -> Result<Found, Refusal>
-    requires sound { IsSound style.now }
-    requires small { HasSmallFields cond.now }
-    requires style { style.now ≡ checker.now.style }
-    requires cond { cond.now ≡ checker.now.cert.cond }
-    requires between { AreReady style.now between }
-    ensures decides { Decides (rule.command_found finding checker.now.style checker.now.cert at.command at.place between) result }
-    ensures ready { IfOk result (λ found. AreReady style.now found.between) }
+fn command_found(at: &At<'_>, finding: Finding, between: Between) -> FoundHere
+    requires at { Agrees at.now }
+    requires between { AreReady at.now.style.now between }
+    ensures decides { Decides (rule.command_found finding at.now.checker.now.style at.now.checker.now.cert at.now.command.command at.now.command.place between) result }
+    ensures ready { IfOk result (λ found. AreReady at.now.style.now found.between) }
     ensures written { IfOk result (λ found. Each IsHint found.hints) }
 {
-    match at.command {
-        Command::Execute(name) => executed_finding(
-            checker, alloc, finding, style, cond, name, at.place, between,
-        ),
-        Command::Iterate(name) | Command::Reverse(name) => visited_finding(
-            checker, alloc, finding, style, cond, name, at.place, between,
-        ),
+    match at.command.command {
+        Command::Execute(name) => executed_finding(at, finding, name, between),
+        Command::Iterate(name) | Command::Reverse(name) => {
+            visited_finding(at, finding, name, between)
+        }
         _ => Ok(Found {
             between,
-            hints: Seq::new(alloc),
+            hints: Seq::new(at.alloc),
         }),
     }
 }
 
 /// EXECUTE: nothing is known of the global variables after it.
-fn executed_finding(
-    checker: &Checker<'_>,
-    alloc: Global,
-    finding: Finding,
-    style: &Style,
-    cond: &Cond,
-    name: NameId,
-    place: Place,
-    between: Between,
-) -> Result<Found, Refusal>
-    requires sound { IsSound style.now }
-    requires small { HasSmallFields cond.now }
-    requires style { style.now ≡ checker.now.style }
-    requires cond { cond.now ≡ checker.now.cert.cond }
-    requires between { AreReady style.now between }
-    ensures decides { Decides (rule.executed_finding finding checker.now.style checker.now.cert name place between) result }
-    ensures ready { IfOk result (λ found. AreReady style.now found.between) }
+fn executed_finding(at: &At<'_>, finding: Finding, name: NameId, between: Between) -> FoundHere
+    requires at { Agrees at.now }
+    requires between { AreReady at.now.style.now between }
+    ensures decides { Decides (rule.executed_finding finding at.now.checker.now.style at.now.checker.now.cert name at.now.command.place between) result }
+    ensures ready { IfOk result (λ found. AreReady at.now.style.now found.between) }
     ensures written { IfOk result (λ found. Each IsHint found.hints) }
 {
     let starts = from_ref(&between.globals);
-    let hints = called_from(
-        checker, alloc, finding, style, cond, name, place, starts, false,
-    )?;
+    let hints = called_from(at, finding, name, starts, false)?;
     Ok(Found {
         between: Between {
-            globals: nothing(alloc),
+            globals: nothing(at.alloc),
             entry: between.entry,
         },
         hints,
@@ -173,33 +159,19 @@ fn executed_finding(
 }
 
 /// ITERATE and REVERSE: nothing is known of the global variables where a visit begins, and of the entries after all visits.
-fn visited_finding(
-    checker: &Checker<'_>,
-    alloc: Global,
-    finding: Finding,
-    style: &Style,
-    cond: &Cond,
-    name: NameId,
-    place: Place,
-    between: Between,
-) -> Result<Found, Refusal>
-    requires sound { IsSound style.now }
-    requires small { HasSmallFields cond.now }
-    requires style { style.now ≡ checker.now.style }
-    requires cond { cond.now ≡ checker.now.cert.cond }
-    requires between { AreReady style.now between }
-    ensures decides { Decides (rule.visited_finding finding checker.now.style checker.now.cert name place between) result }
-    ensures ready { IfOk result (λ found. AreReady style.now found.between) }
+fn visited_finding(at: &At<'_>, finding: Finding, name: NameId, between: Between) -> FoundHere
+    requires at { Agrees at.now }
+    requires between { AreReady at.now.style.now between }
+    ensures decides { Decides (rule.visited_finding finding at.now.checker.now.style at.now.checker.now.cert name at.now.command.place between) result }
+    ensures ready { IfOk result (λ found. AreReady at.now.style.now found.between) }
     ensures written { IfOk result (λ found. Each IsHint found.hints) }
 {
-    let starts = [nothing(alloc), between.entry];
-    let hints = called_from(
-        checker, alloc, finding, style, cond, name, place, &starts, true,
-    )?;
+    let starts = [nothing(at.alloc), between.entry];
+    let hints = called_from(at, finding, name, &starts, true)?;
     Ok(Found {
         between: Between {
-            globals: nothing(alloc),
-            entry: nothing(alloc),
+            globals: nothing(at.alloc),
+            entry: nothing(at.alloc),
         },
         hints,
     })
@@ -207,76 +179,65 @@ fn visited_finding(
 
 /// A command's name is called from the state that starts from pieces, of which the stack is whole.
 fn called_from(
-    checker: &Checker<'_>,
-    alloc: Global,
+    at: &At<'_>,
     finding: Finding,
-    style: &Style,
-    cond: &Cond,
     name: NameId,
-    place: Place,
     starts: &[Piece],
     at_entry: bool,
 ) -> Result<Seq<Hint>, Refusal>
-    requires sound { IsSound style.now }
-    requires small { HasSmallFields cond.now }
-    requires style { style.now ≡ checker.now.style }
-    requires cond { cond.now ≡ checker.now.cert.cond }
-    requires starts { All (IsReady style.now) starts.now }
+    requires at { Agrees at.now }
+    requires starts { All (IsReady at.now.style.now) starts.now }
     requires few { length starts.now ≤ 2 }
-    ensures decides { Decides (rule.called_finding finding checker.now.style checker.now.cert name place
-        (started style.now cond.now starts.now true at_entry)) result }
+    ensures decides { Decides (rule.called_finding finding at.now.checker.now.style at.now.checker.now.cert name at.now.command.place
+        (started at.now.style.now at.now.cond.now starts.now true at_entry)) result }
     ensures written { IfOk result (λ hints. Each IsHint hints) }
 {
-    let state = held(place, state_of(alloc, style, cond, starts, at_entry))?;
-    called_finding(checker, alloc, finding, cond, name, place, state)
+    let state = held(at.command.place, state_of(at, starts, at_entry))?;
+    called_finding(at, finding, name, state)
 }
 
 /// A command's name is called from a state: the hints that are found, where the stack of each state at the end is empty.
 fn called_finding(
-    checker: &Checker<'_>,
-    alloc: Global,
+    at: &At<'_>,
     finding: Finding,
-    cond: &Cond,
     name: NameId,
-    place: Place,
     state: State,
 ) -> Result<Seq<Hint>, Refusal>
-    requires cond { cond.now ≡ checker.now.cert.cond }
-    requires room { HasRoom checker.now.style 64 0 state }
-    ensures decides { Decides (rule.called_finding finding checker.now.style checker.now.cert name place state) result }
+    requires cond { at.now.cond.now ≡ at.now.checker.now.cert.cond }
+    requires room { HasRoom at.now.checker.now.style 64 0 state }
+    ensures decides { Decides (rule.called_finding finding at.now.checker.now.style at.now.checker.now.cert name at.now.command.place state) result }
     ensures written { IfOk result (λ hints. Each IsHint hints) }
 {
-    let (given, hints) = walked_finding(checker, alloc, finding, name, place, state)?;
-    all_emptied(cond, place, given.as_slice(), hints.as_slice())?;
+    let (given, hints) = walked_finding(at, finding, name, state)?;
+    all_emptied(at, given.as_slice(), hints.as_slice())?;
     Ok(Seq::from_vec(hints))
 }
 
 /// A command's name is called from a state: the states at its end, and the hints that are found on the way.
 fn walked_finding(
-    checker: &Checker<'_>,
-    alloc: Global,
+    at: &At<'_>,
     finding: Finding,
     name: NameId,
-    place: Place,
     state: State,
 ) -> Result<(Vec<State>, Vec<Hint>), Refusal>
-    requires room { HasRoom checker.now.style 64 0 state }
+    requires room { HasRoom at.now.checker.now.style 64 0 state }
     ensures finds { MatchResult result
-        (λ p. Finds (call_found finding checker.now.style checker.now.cert (state ∷ []) (Named name) place) p.0.items p.1.items)
-        (Refused (call_found finding checker.now.style checker.now.cert (state ∷ []) (Named name) place)) }
+        (λ p. Finds (call_found finding at.now.checker.now.style at.now.checker.now.cert (state ∷ []) (Named name) at.now.command.place) p.0.items p.1.items)
+        (Refused (call_found finding at.now.checker.now.style at.now.checker.now.cert (state ∷ []) (Named name) at.now.command.place)) }
     ensures bounds { IfOk result (λ p. All HasBounds p.0.items) }
     ensures written { IfOk result (λ p. Each IsHint p.1.items) }
 {
-    let states = held(place, one(alloc, state))?;
-    checker.find_call(finding, states, Target::Named(name), place)
+    let place = at.command.place;
+    let states = held(place, one(at.alloc, state))?;
+    at.checker
+        .find_call(finding, states, Target::Named(name), place)
 }
 
 /// Each state at the end of a call has an empty stack, and no hint is taken there.
-fn all_emptied(cond: &Cond, place: Place, states: &[State], hints: &[Hint]) -> Result<(), Refusal>
+fn all_emptied(at: &At<'_>, states: &[State], hints: &[Hint]) -> Walk
     requires states { All HasBounds states.now }
     requires written { Each IsHint hints.now }
-    ensures { MatchResult result (λ _. commands.call_ends cond.now place [] states.now hints.now ≡ Ok hints.now)
-        (Refused (commands.call_ends cond.now place [] states.now hints.now)) }
+    ensures { Takes (commands.call_ends at.now.cond.now at.now.command.place [] states.now hints.now) hints.now result }
 {
-    call_ends(cond, place, &[], states, &mut Hints::new(hints))
+    call_ends(at, &[], states, &mut Hints::new(hints))
 }

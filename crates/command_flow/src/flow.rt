@@ -4,31 +4,29 @@ ghost use Rattle.std.specs.Prelude.{◌≡◌, ◌≤◌, Bool, true, [], ◌∷
 ghost use Rattle.std.specs.List.{All};
 ghost use Rattle.std.specs.Option.{ForSome, option_map_or};
 ghost use Rattle.bv_base.specs.Answers.{then_do};
-ghost use Rattle.name_table.specs.Sound.{IsSound};
 ghost use Rattle.bst_meaning.specs.declared.value.Target.TheVariants.{Named};
 ghost use Rattle.sym_state.specs.Demands.{HasFewUses};
 ghost use Rattle.sym_state.specs.Starting.{started};
-ghost use Rattle.sym_state.specs.WellMade.{HasBounds, HasSmallFields};
+ghost use Rattle.sym_state.specs.WellMade.{HasBounds};
 ghost use Rattle.cert_check.specs.Certified.{IsCommandOf, IsMovable};
-ghost use Rattle.cert_check.specs.Given.{CanEnd, Leads, Refused};
+ghost use Rattle.cert_check.specs.Given.{CanEnd, Leads, Refused, Takes};
 ghost use Rattle.cert_check.specs.Room.{HasRoom, IsEnd};
 ghost use Rattle.cert_check.specs.Units.{call_walked, none_left};
 ghost use Rattle.command_flow.specs.Commands as rule;
-ghost use Rattle.command_flow.specs.Ready.{AreReady, ArePartsReady, Decides, IsReady};
+ghost use Rattle.command_flow.specs.Ready.{Agrees, AreReady, ArePartsReady, Decides, IsReady};
 
-use crate::between::{Between, Parts, copied, parts_of};
+use crate::at::At;
+use crate::between::{Between, Flow, Parts, copied, parts_of};
 use crate::ends::{call_ends, ends_there, piece_shown};
 use crate::moving::{Moment, piece_moved};
 use crate::shape::is_shaped;
-use bst_meaning::condition::Cond;
 use bst_meaning::value::Target;
 use bv_base::memory::NoMemory;
-use bv_base::place::Place;
-use cert_check::refusal::{Reason, Refusal};
-use cert_check::{Checker, held, refuse};
+use cert_check::refusal::{Reason, Refusal, Walk};
+use cert_check::{held, refuse};
 use cert_format::cert::CommandPart;
 use name_table::names::NameId;
-use name_table::style::{Command, CommandAt, Style};
+use name_table::style::{Command, Style};
 use std::alloc::Global;
 use std::slice::from_ref;
 use sym_state::hint::Hints;
@@ -37,42 +35,35 @@ use sym_state::start::start;
 use sym_state::state::State;
 
 /// The state that starts from the pieces of a command, of which the stack is whole.
-pub(crate) fn state_of(
-    alloc: Global,
-    style: &Style,
-    cond: &Cond,
-    pieces: &[Piece],
-    at_entry: bool,
-) -> Result<State, NoMemory>
-    requires sound { IsSound style.now }
-    requires small { HasSmallFields cond.now }
-    requires ready { All (IsReady style.now) pieces.now }
+pub(crate) fn state_of(at: &At<'_>, pieces: &[Piece], at_entry: bool) -> Result<State, NoMemory>
+    requires at { Agrees at.now }
+    requires ready { All (IsReady at.now.style.now) pieces.now }
     requires few { length pieces.now ≤ 2 }
-    ensures started { IfOk result (λ state. state ≡ started style.now cond.now pieces.now true at_entry) }
-    ensures room { IfOk result (HasRoom style.now 64 0) }
+    ensures started { IfOk result (λ state. state ≡ started at.now.style.now at.now.cond.now pieces.now true at_entry) }
+    ensures room { IfOk result (HasRoom at.now.style.now 64 0) }
 {
-    start(alloc, style, cond, pieces, true, at_entry)
+    start(at.alloc, at.style, at.cond, pieces, true, at_entry)
 }
 
 /// A command's name is called from a state: the states at its end.
 fn walked(
-    checker: &Checker<'_>,
-    alloc: Global,
+    at: &At<'_>,
     name: NameId,
-    place: Place,
     state: State,
     hints: &mut Hints<'_>,
 ) -> Result<Vec<State>, Refusal>
-    requires room { HasRoom checker.now.style 64 0 state }
+    requires room { HasRoom at.now.checker.now.style 64 0 state }
     requires proofs { All HasFewUses hints.old }
     ensures walked { MatchResult result
-        (λ given. Leads (call_walked checker.now.style checker.now.cert (state ∷ []) (Named name) place hints.old) given.items hints.new)
-        (Refused (call_walked checker.now.style checker.now.cert (state ∷ []) (Named name) place hints.old)) }
+        (λ given. Leads (call_walked at.now.checker.now.style at.now.checker.now.cert (state ∷ []) (Named name) at.now.command.place hints.old) given.items hints.new)
+        (Refused (call_walked at.now.checker.now.style at.now.checker.now.cert (state ∷ []) (Named name) at.now.command.place hints.old)) }
     ensures bounds { IfOk result (λ given. All HasBounds given.items) }
     ensures proofs { All HasFewUses hints.new }
 {
-    let states = held(place, one(alloc, state))?;
-    checker.walk_call(states, Target::Named(name), place, hints)
+    let place = at.command.place;
+    let states = held(place, one(at.alloc, state))?;
+    at.checker
+        .walk_call(states, Target::Named(name), place, hints)
 }
 
 /// One state.
@@ -85,81 +76,41 @@ pub(crate) fn one(alloc: Global, state: State) -> Result<Vec<State>, NoMemory>
 }
 
 /// Each state at the end of a call has an empty stack and entails the pieces, and no hint is left.
-fn all_end(
-    cond: &Cond,
-    place: Place,
-    pieces: &[Piece],
-    states: &[State],
-    hints: &mut Hints<'_>,
-) -> Result<(), Refusal>
+fn all_end(at: &At<'_>, pieces: &[Piece], states: &[State], hints: &mut Hints<'_>) -> Walk
     requires pieces { All CanEnd pieces.now }
     requires states { All HasBounds states.now }
     requires proofs { All HasFewUses hints.old }
-    ensures { MatchResult result (λ _. then_do (rule.call_ends cond.now place pieces.now states.now hints.old) (none_left place) ≡ Ok [])
-        (Refused (then_do (rule.call_ends cond.now place pieces.now states.now hints.old) (none_left place))) }
+    ensures { Takes (then_do (rule.call_ends at.now.cond.now at.now.command.place pieces.now states.now hints.old) (none_left at.now.command.place)) [] result }
 {
-    call_ends(cond, place, pieces, states, hints)?;
-    ends_there(place, hints)
+    call_ends(at, pieces, states, hints)?;
+    ends_there(at.command.place, hints)
 }
 
 /// A command's name is called from a state: each state at the end entails the pieces, and no hint is left.
-pub(crate) fn called(
-    checker: &Checker<'_>,
-    alloc: Global,
-    cond: &Cond,
-    name: NameId,
-    place: Place,
-    state: State,
-    pieces: &[Piece],
-    hints: &mut Hints<'_>,
-) -> Result<(), Refusal>
-    requires cond { cond.now ≡ checker.now.cert.cond }
-    requires room { HasRoom checker.now.style 64 0 state }
+fn called(at: &At<'_>, name: NameId, state: State, pieces: &[Piece], hints: &mut Hints<'_>) -> Walk
+    requires cond { at.now.cond.now ≡ at.now.checker.now.cert.cond }
+    requires room { HasRoom at.now.checker.now.style 64 0 state }
     requires pieces { All CanEnd pieces.now }
     requires proofs { All HasFewUses hints.old }
-    ensures { MatchResult result (λ _. rule.called checker.now.style checker.now.cert name place state pieces.now hints.old ≡ Ok [])
-        (Refused (rule.called checker.now.style checker.now.cert name place state pieces.now hints.old)) }
+    ensures { Takes (rule.called at.now.checker.now.style at.now.checker.now.cert name at.now.command.place state pieces.now hints.old) [] result }
 {
-    let given = walked(checker, alloc, name, place, state, hints)?;
-    all_end(cond, place, pieces, given.as_slice(), hints)
+    let given = walked(at, name, state, hints)?;
+    all_end(at, pieces, given.as_slice(), hints)
 }
 
 /// EXECUTE: `after` holds after the call.
-pub(crate) fn executed(
-    checker: &Checker<'_>,
-    alloc: Global,
-    style: &Style,
-    cond: &Cond,
-    name: NameId,
-    place: Place,
-    parts: Parts<'_>,
-    between: Between,
-) -> Result<Between, Refusal>
-    requires sound { IsSound style.now }
-    requires small { HasSmallFields cond.now }
-    requires style { style.now ≡ checker.now.style }
-    requires cond { cond.now ≡ checker.now.cert.cond }
-    requires parts { ArePartsReady style.now parts }
-    requires between { AreReady style.now between }
-    ensures decides { Decides (rule.executed checker.now.style checker.now.cert name place parts.entry between) result }
-    ensures ready { IfOk result (AreReady style.now) }
+fn executed(at: &At<'_>, name: NameId, parts: Parts<'_>, between: Between) -> Flow
+    requires at { Agrees at.now }
+    requires parts { ArePartsReady at.now.style.now parts }
+    requires between { AreReady at.now.style.now between }
+    ensures decides { Decides (rule.executed at.now.checker.now.style at.now.checker.now.cert name at.now.command.place parts.entry between) result }
+    ensures ready { IfOk result (AreReady at.now.style.now) }
 {
-    let state = held(
-        place,
-        state_of(alloc, style, cond, from_ref(&between.globals), false),
-    )?;
+    let place = at.command.place;
+    let state = held(place, state_of(at, from_ref(&between.globals), false))?;
     let mut hints = parts.hints;
     let after = parts.after;
-    called(
-        checker,
-        alloc,
-        cond,
-        name,
-        place,
-        state,
-        from_ref(&after),
-        &mut hints,
-    )?;
+    called(at, name, state, from_ref(&after), &mut hints)?;
     Ok(Between {
         globals: after,
         entry: between.entry,
@@ -167,81 +118,49 @@ pub(crate) fn executed(
 }
 
 /// `visit` holds of the global variables where no entry was visited.
-fn visit_begins(
-    alloc: Global,
-    style: &Style,
-    cond: &Cond,
-    place: Place,
-    globals: &Piece,
-    visit: &Piece,
-    hints: &mut Hints<'_>,
-) -> Result<(), Refusal>
-    requires sound { IsSound style.now }
-    requires small { HasSmallFields cond.now }
-    requires globals { IsReady style.now globals.now }
-    requires visit { IsReady style.now visit.now }
+fn visit_begins(at: &At<'_>, globals: &Piece, visit: &Piece, hints: &mut Hints<'_>) -> Walk
+    requires at { Agrees at.now }
+    requires globals { IsReady at.now.style.now globals.now }
+    requires visit { IsReady at.now.style.now visit.now }
     requires movable { All IsMovable visit.now.rows }
     requires proofs { All HasFewUses hints.old }
-    ensures begins { MatchResult result (λ _. rule.visit_begins style.now cond.now place visit.now globals.now hints.old ≡ Ok hints.new)
-        (Refused (rule.visit_begins style.now cond.now place visit.now globals.now hints.old)) }
+    ensures begins { Takes (rule.visit_begins at.now.style.now at.now.cond.now at.now.command.place visit.now globals.now hints.old) hints.new result }
     ensures proofs { All HasFewUses hints.new }
 {
-    let state = held(
-        place,
-        state_of(alloc, style, cond, from_ref(globals), false),
-    )?;
-    let first = held(place, piece_moved(alloc, Moment::Start, visit))?;
-    piece_shown(cond, place, &state, &first, hints)
+    let place = at.command.place;
+    let state = held(place, state_of(at, from_ref(globals), false))?;
+    let first = held(place, piece_moved(at.alloc, Moment::Start, visit))?;
+    piece_shown(at, &state, &first, hints)
 }
 
 /// A visit is called from the pieces that hold where it begins, and entails those that hold where it ends.
 fn visit_walked(
-    checker: &Checker<'_>,
-    alloc: Global,
-    style: &Style,
-    cond: &Cond,
+    at: &At<'_>,
     name: NameId,
-    place: Place,
     starts: &[Piece],
     ends: &[Piece],
     hints: &mut Hints<'_>,
-) -> Result<(), Refusal>
-    requires sound { IsSound style.now }
-    requires small { HasSmallFields cond.now }
-    requires style { style.now ≡ checker.now.style }
-    requires cond { cond.now ≡ checker.now.cert.cond }
-    requires starts { All (IsReady style.now) starts.now }
+) -> Walk
+    requires at { Agrees at.now }
+    requires starts { All (IsReady at.now.style.now) starts.now }
     requires few { length starts.now ≤ 2 }
     requires ends { All CanEnd ends.now }
     requires proofs { All HasFewUses hints.old }
-    ensures { MatchResult result
-        (λ _. rule.called checker.now.style checker.now.cert name place (started style.now cond.now starts.now true true) ends.now hints.old ≡ Ok [])
-        (Refused (rule.called checker.now.style checker.now.cert name place (started style.now cond.now starts.now true true) ends.now hints.old)) }
+    ensures { Takes (rule.called at.now.checker.now.style at.now.checker.now.cert name at.now.command.place
+        (started at.now.style.now at.now.cond.now starts.now true true) ends.now hints.old) [] result }
 {
-    let state = held(place, state_of(alloc, style, cond, starts, true))?;
-    called(checker, alloc, cond, name, place, state, ends, hints)
+    let state = held(at.command.place, state_of(at, starts, true))?;
+    called(at, name, state, ends, hints)
 }
 
 /// ITERATE and REVERSE: `visit` holds where no entry was visited, and a visit leaves it for the next entry, and `keeps` of
 /// its own.
-pub(crate) fn visited(
-    checker: &Checker<'_>,
-    alloc: Global,
-    style: &Style,
-    cond: &Cond,
-    name: NameId,
-    place: Place,
-    parts: Parts<'_>,
-    between: Between,
-) -> Result<Between, Refusal>
-    requires sound { IsSound style.now }
-    requires small { HasSmallFields cond.now }
-    requires style { style.now ≡ checker.now.style }
-    requires cond { cond.now ≡ checker.now.cert.cond }
-    requires parts { ArePartsReady style.now parts }
-    requires between { AreReady style.now between }
-    ensures decides { Decides (rule.visited checker.now.style checker.now.cert name place parts.entry between) result }
-    ensures ready { IfOk result (AreReady style.now) }
+fn visited(at: &At<'_>, name: NameId, parts: Parts<'_>, between: Between) -> Flow
+    requires at { Agrees at.now }
+    requires parts { ArePartsReady at.now.style.now parts }
+    requires between { AreReady at.now.style.now between }
+    ensures decides { Decides (rule.visited at.now.checker.now.style at.now.checker.now.cert name at.now.command.place parts.entry between) result }
+    ensures ready { IfOk result (AreReady at.now.style.now) }
 {
     let Parts {
         visit,
@@ -250,15 +169,14 @@ pub(crate) fn visited(
         ..
     } = parts;
     let Between { globals, entry } = between;
-    visit_begins(alloc, style, cond, place, &globals, &visit, &mut hints)?;
+    let (alloc, place) = (at.alloc, at.command.place);
+    visit_begins(at, &globals, &visit, &mut hints)?;
     let after = held(place, piece_moved(alloc, Moment::End, &visit))?;
     let next = held(place, piece_moved(alloc, Moment::Next, &visit))?;
     let kept = held(place, copied(alloc, &keeps))?;
     let starts = [visit, entry];
     let ends = [next, keeps];
-    visit_walked(
-        checker, alloc, style, cond, name, place, &starts, &ends, &mut hints,
-    )?;
+    visit_walked(at, name, &starts, &ends, &mut hints)?;
     Ok(Between {
         globals: after,
         entry: kept,
@@ -266,59 +184,35 @@ pub(crate) fn visited(
 }
 
 /// The rule of a command: READ, SORT and declarations change nothing that is known.
-fn command_checked(
-    checker: &Checker<'_>,
-    alloc: Global,
-    style: &Style,
-    cond: &Cond,
-    at: CommandAt,
-    parts: Parts<'_>,
-    between: Between,
-) -> Result<Between, Refusal>
-    requires sound { IsSound style.now }
-    requires small { HasSmallFields cond.now }
-    requires style { style.now ≡ checker.now.style }
-    requires cond { cond.now ≡ checker.now.cert.cond }
-    requires parts { ArePartsReady style.now parts }
-    requires between { AreReady style.now between }
-    ensures decides { Decides (rule.command_checked checker.now.style checker.now.cert at.command at.place parts.entry between) result }
-    ensures ready { IfOk result (AreReady style.now) }
+fn command_checked(at: &At<'_>, parts: Parts<'_>, between: Between) -> Flow
+    requires at { Agrees at.now }
+    requires parts { ArePartsReady at.now.style.now parts }
+    requires between { AreReady at.now.style.now between }
+    ensures decides { Decides (rule.command_checked at.now.checker.now.style at.now.checker.now.cert at.now.command.command at.now.command.place parts.entry between)
+        result }
+    ensures ready { IfOk result (AreReady at.now.style.now) }
 {
-    match at.command {
-        Command::Execute(name) => executed(
-            checker, alloc, style, cond, name, at.place, parts, between,
-        ),
-        Command::Iterate(name) | Command::Reverse(name) => visited(
-            checker, alloc, style, cond, name, at.place, parts, between,
-        ),
+    match at.command.command {
+        Command::Execute(name) => executed(at, name, parts, between),
+        Command::Iterate(name) | Command::Reverse(name) => visited(at, name, parts, between),
         _ => Ok(between),
     }
 }
 
 /// A command with its record, where they fit.
-pub(crate) fn command_taken(
-    checker: &Checker<'_>,
-    alloc: Global,
-    style: &Style,
-    cond: &Cond,
-    at: CommandAt,
-    part: Option<&CommandPart>,
-    between: Between,
-) -> Result<Between, Refusal>
-    requires sound { IsSound style.now }
-    requires small { HasSmallFields cond.now }
-    requires style { style.now ≡ checker.now.style }
-    requires cond { cond.now ≡ checker.now.cert.cond }
-    requires part { ForSome (option_map (λ p. p.now) part) (IsCommandOf style.now) }
-    requires between { AreReady style.now between }
-    ensures decides { Decides (rule.command_taken checker.now.style checker.now.cert at (option_map (λ p. p.now) part.entry) between) result }
-    ensures ready { IfOk result (AreReady style.now) }
+pub(crate) fn command_taken(at: &At<'_>, part: Option<&CommandPart>, between: Between) -> Flow
+    requires at { Agrees at.now }
+    requires part { ForSome (option_map (λ p. p.now) part) (IsCommandOf at.now.style.now) }
+    requires between { AreReady at.now.style.now between }
+    ensures decides { Decides (rule.command_taken at.now.checker.now.style at.now.checker.now.cert at.now.command (option_map (λ p. p.now) part.entry) between) result }
+    ensures ready { IfOk result (AreReady at.now.style.now) }
 {
-    if !fits(style, at.command, part) {
-        return refuse(at.place, Reason::CommandShape);
+    let place = at.command.place;
+    if !fits(at.style, at.command.command, part) {
+        return refuse(place, Reason::CommandShape);
     }
-    let parts = held(at.place, parts_of(alloc, part))?;
-    command_checked(checker, alloc, style, cond, at, parts, between)
+    let parts = held(place, parts_of(at.alloc, part))?;
+    command_checked(at, parts, between)
 }
 
 /// Whether a command's record fits it, where it has one.

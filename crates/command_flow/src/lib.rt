@@ -1,6 +1,7 @@
 //! The rules of commands, and what it means that a certificate is accepted.
 #![tactic(auto)]
 
+mod at;
 mod between;
 mod decision;
 mod ends;

@@ -1,17 +1,21 @@
--- The certificate that is found keeps the limits and the canonical form, and the bare one that it begins with is one of the style.
+-- The certificate that is found keeps the limits and the canonical form and is one of the style, as is the bare one that it begins with.
 use Rattle.std.proofs.Common.{◌≡◌, ◌≤◌, List, [], ◌∷◌, length, Option, None, IfSome, lit≤, refl, sym, ap, subst, ◌∙◌, arith}
 use Rattle.std.proofs.lemmas.List.Elements.{All-nil}
 use Rattle.bv_base.specs.declared.limits.TheConstants.{STYLE_BYTES}
 use Rattle.name_table.specs.Sound.{Each, IsSound}
 use Rattle.name_table.specs.declared.style.Style.{Style}
 use Rattle.bst_meaning.specs.declared.condition.Cond.{Cond}
-use Rattle.cert_format.specs.CertText.{IsCert, IsCommandPart}
+use Rattle.cert_format.specs.CertText.{IsCert, IsCommandPart, IsHint}
 use Rattle.cert_format.specs.CondText.{IsCond}
 use Rattle.cert_format.specs.declared.cert.Cert.{Cert}
 use Rattle.cert_format.specs.declared.cert.CommandPart.{CommandPart}
+use Rattle.sym_state.specs.Demands.{HasFewUses}
+use Rattle.sym_state.specs.declared.hint.Hint.{Hint}
+use Rattle.sym_state.specs.declared.hint.Hint.TheVariants as hint
 use Rattle.sym_state.specs.declared.piece.Piece.{Piece}
-use Rattle.cert_check.specs.Certified.{IsCertified}
+use Rattle.cert_check.specs.Certified.{IsCertified, IsCommandOf}
 use Rattle.cert_check.proofs.Certifying.{cond_limits}
+use Rattle.cert_check.proofs.ReadPieces.{each_all}
 use Rattle.command_flow.specs.Finding.{AreRecords, IsRecord}
 use Rattle.infer.specs.Infer.{bare}
 
@@ -68,3 +72,48 @@ written_as style admits begun parts commands sound is one two are =
     subst (IsCert style)
     (sym (ap (λ (c : Cert). record c { commands = commands }) one ∙ ap (λ (l : List CommandPart). record (bare admits) { commands = l }) two))
     (found_written style admits parts sound is are)
+
+-- a hint that has a text is short
+hint_few : (h : Hint) → IsHint h → HasFewUses h
+hint_few (hint.Step proof) is = is.few
+hint_few (hint.Drop proof) is = is.few
+hint_few (hint.Apply n) is = tt
+hint_few (hint.Loop n) is = tt
+hint_few (hint.Case n) is = tt
+hint_few hint.Walk is = tt
+hint_few hint.Keep is = tt
+hint_few hint.Plain is = tt
+
+record_certified : (style : Style) (part : CommandPart) → IsRecord style part → IsCommandOf style part
+record_certified style part is = record {
+  there = is.there;
+  after = no_piece _ part.after is.after;
+  after_pos = no_piece _ part.after is.after;
+  visit = no_piece _ part.visit is.visit;
+  moves = no_piece _ part.visit is.visit;
+  keeps = no_piece _ part.keeps is.keeps;
+  keeps_pos = no_piece _ part.keeps is.keeps;
+  hints = each_all IsHint HasFewUses hint_few part.hints is.hints;
+}
+
+found_certified : (style : Style) (admits : Cond) (parts : List CommandPart) → IsCond style.names admits → AreRecords style parts
+    → IsCertified style (record (bare admits) { commands = parts })
+found_certified style admits parts is are =
+    let begun = bare_certified style admits is in
+    record {
+      limits = begun.limits;
+      fields = begun.fields;
+      summaries = begun.summaries;
+      few_summaries = begun.few_summaries;
+      loops = begun.loops;
+      commands = each_all (IsRecord style) (IsCommandOf style) (record_certified style) parts are.each;
+      rise = are.rise;
+    }
+
+-- the bare certificate with records is one of the style, and so is one that begins as the bare one
+pub certified_as : (style : Style) (admits : Cond) (begun : Cert) (parts commands : List CommandPart) → IsCond style.names admits
+    → begun ≡ bare admits → commands ≡ parts → AreRecords style parts → IsCertified style (record begun { commands = commands })
+certified_as style admits begun parts commands is one two are =
+    subst (IsCertified style)
+    (sym (ap (λ (c : Cert). record c { commands = commands }) one ∙ ap (λ (l : List CommandPart). record (bare admits) { commands = l }) two))
+    (found_certified style admits parts is are)

@@ -2,6 +2,7 @@
 
 ghost use Rattle.std.specs.Prelude.{◌≡◌, ◌≢◌, Ok, Err, IfOk, MatchResult};
 ghost use Rattle.name_table.specs.Sound.{IsSound};
+ghost use Rattle.cert_check.specs.Certified.{IsCertified};
 ghost use Rattle.cert_format.specs.CertText.{IsCert};
 ghost use Rattle.cert_format.specs.CondText.{IsCond};
 ghost use Rattle.command_flow.specs.Checks.{Checks};
@@ -27,6 +28,7 @@ pub fn infer(alloc: Global, style: &Style, cond: Cond) -> Result<Cert, Unknown>
         (λ unknown. unknown.reason ≢ WantOfMemory → rule.infer_of style.now cond ≡ Err unknown) }
     ensures kept { IfOk result (λ cert. cert.cond ≡ cond) }
     ensures written { IfOk result (IsCert style.now) }
+    ensures certified { IfOk result (IsCertified style.now) }
     ensures accepted { IfOk result (Checks style.now) }
 {
     found_records_are_accepted();

@@ -1,4 +1,5 @@
 pub mod AddingUp
+pub mod Floored
 pub mod Lists
 pub mod Looked
 pub mod Numbered

@@ -1,5 +1,7 @@
 -- The first list of references by its cases.
-use Rattle.std.proofs.Common.{◌≡◌, ℕ, zero, suc, List, [], ◌∷◌, ◌++◌, Option, None, Some, ap}
+use Rattle.std.proofs.Common.{◌≡◌, ℕ, zero, suc, Bool, true, false, cond, List, [], ◌∷◌, Option, None, Some, ap, ◌∙◌, refl}
+use Rattle.std.specs.Prelude.{is_some}
+use Rattle.std.specs.List.{filter}
 use Rattle.std.specs.Option.{option_and_then}
 use Rattle.lin_facts.specs.declared.row.Row.{Row}
 use Rattle.lin_facts.specs.declared.row.Term.{Term}
@@ -24,11 +26,20 @@ pub under : (behind : Reference → Option (List Reference)) (r : Reference) (mo
     → first_list behind more ≡ first_list behind others → first_list behind (r ∷ more) ≡ first_list behind (r ∷ others)
 under behind r more others e = ap (λ (rest : Option (List Reference)). elim (behind r) as (λ _. Option (List Reference)) [ Some l ↦ Some (r ∷ l) | None ↦ rest ]) e
 
--- and behind some
-pub under_all : (behind : Reference → Option (List Reference)) (front more others : List Reference)
-    → first_list behind more ≡ first_list behind others → first_list behind (front ++ more) ≡ first_list behind (front ++ others)
-under_all behind [] more others e = e
-under_all behind (r ∷ front) more others e = under behind r (front ++ more) (front ++ others) (under_all behind front more others e)
+-- the first list is that of the references that are kept, where behind each other none goes on
+pub first_kept : (keeps : Reference → Bool) (behind : Reference → Option (List Reference)) → ((r : Reference) → keeps r ≡ false → behind r ≡ None)
+    → (all : List Reference) → first_list behind all ≡ first_list behind (filter keeps all)
+first_kept keeps behind h [] = refl
+first_kept keeps behind h (r ∷ all) =
+    elim (keeps r) as (λ (b : Bool). keeps r ≡ b → first_list behind (r ∷ all) ≡ first_list behind (cond b (r ∷ filter keeps all) (filter keeps all))) [
+      | true ↦ λ e. under behind r all (filter keeps all) (first_kept keeps behind h all)
+      | false ↦ λ e. first_passed behind r all (h r e) ∙ first_kept keeps behind h all
+    ] refl
+
+-- where nothing is left nothing goes on
+pub none_behind : {X : Type 0} (next : Row → Option X) (left : Option Row) → is_some left ≡ false → option_and_then next left ≡ None
+none_behind next None e = refl
+none_behind next (Some row) e = absurd (cc)
 
 -- a remainder without a lead
 pub at_end : (n : ℕ) (cond : Cond) (state : State) (remainder : Row) → lead remainder ≡ None → list_within n cond state remainder ≡ ended remainder

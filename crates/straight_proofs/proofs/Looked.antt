@@ -1,7 +1,7 @@
--- What is found by look-up is what is found among all references.
+-- The references found by look-up are, of all, those behind which something is left.
 use Rattle.std.proofs.Common.{◌≡◌, ◌≢◌, ℕ, zero, suc, ◌+◌, ◌<◌, ◌≤◌, ◌⊎◌, Bool, true, false, cond, ◌&&◌, ◌||◌, List, [], ◌∷◌, ◌++◌, length, map, take, slice_get, Option, None, Some, ap, sym, ◌∙◌, refl, subst, arith, append_assoc, nat_eq, nat_lt, inl, inr, ltb-true, ltb-false}
-use Rattle.std.specs.Prelude.{ℤ, pos, negsuc, ◌+ℤ◌, int_lt}
-use Rattle.std.specs.List.{AllByRecursion, flat_map, range_with_len}
+use Rattle.std.specs.Prelude.{ℤ, pos, negsuc, ◌+ℤ◌, int_lt, is_some}
+use Rattle.std.specs.List.{AllByRecursion, filter, flat_map, range_with_len}
 use Rattle.std.specs.Option.{IfSome, option_and_then, option_map}
 use Rattle.std.proofs.lemmas.Bool.{ne_eqb}
 use Rattle.std.proofs.lemmas.Bool.Decides.{eqb_tells}
@@ -19,8 +19,22 @@ use Rattle.sym_state.specs.declared.proof.Reference.TheVariants as ref
 use Rattle.sym_state.specs.declared.symbol.Sym.{Sym}
 use Rattle.straight_proofs.specs.Lookup.{on_term, references_to, row_on, rows_on, sym as symbol}
 use Rattle.straight_proofs.specs.Remainders.{fits, minus, same_sign}
-use Rattle.straight_proofs.specs.Straight.{first_list, kinds, left_behind, on_entries, on_symbols, references, rows_named}
-use Rattle.straight_proofs.proofs.Lists.{first_passed, under, under_all}
+use Rattle.straight_proofs.specs.Straight.{kinds, left_behind, on_entries, on_symbols, references, rows_named}
+
+-- a reference that isn't kept
+passed : (b : Reference → Bool) (r : Reference) (more : List Reference) → b r ≡ false → filter b (r ∷ more) ≡ filter b more
+passed b r more e = ap (λ (z : Bool). cond z (r ∷ filter b more) (filter b more)) e
+
+-- those that are kept behind a first reference
+under : (b : Reference → Bool) (r : Reference) (more others : List Reference)
+    → filter b more ≡ filter b others → filter b (r ∷ more) ≡ filter b (r ∷ others)
+under b r more others e = ap (λ (rest : List Reference). cond (b r) (r ∷ rest) rest) e
+
+-- and behind some
+under_all : (b : Reference → Bool) (front more others : List Reference)
+    → filter b more ≡ filter b others → filter b (front ++ more) ≡ filter b (front ++ others)
+under_all b [] more others e = e
+under_all b (r ∷ front) more others e = under b r (front ++ more) (front ++ others) (under_all b front more others e)
 
 -- whether the row of a reference may have a term
 abbrev pub speaks : Reference → Term → Bool
@@ -109,139 +123,137 @@ no_sign m =
       | false ↦ elim (int_lt m (pos 0)) as (λ (b : Bool). (b && false) ≡ false) [ true ↦ refl | false ↦ refl ]
     ]
 
--- the list behind a reference, where a term leads
-abbrev pub behind : Cond → State → Term → Row → (Row → Option (List Reference)) → Reference → Option (List Reference)
-behind c state t remainder next r = option_and_then next (left_behind c state (Some t) remainder r)
+-- whether something is left behind a reference, where a term leads
+abbrev pub leaves : Cond → State → Term → Row → Reference → Bool
+leaves c state t remainder r = is_some (left_behind c state (Some t) remainder r)
 
--- what comes of a row that is said
-abbrev pub tried : Term → Row → (Row → Option (List Reference)) → Option Row → Option (List Reference)
-tried t remainder next row =
-    option_and_then next (option_and_then (λ row. cond (fits (Some t) remainder row) (Some (minus remainder row)) None) row)
+-- whether something is left behind a row that is said
+abbrev pub tried : Term → Row → Option Row → Bool
+tried t remainder row = is_some (option_and_then (λ row. cond (fits (Some t) remainder row) (Some (minus remainder row)) None) row)
 
-unfit : (t : Term) (remainder : Row) (next : Row → Option (List Reference)) (row : Row) → fits (Some t) remainder row ≡ false
-    → tried t remainder next (Some row) ≡ None
-unfit t remainder next row e = ap (λ (b : Bool). option_and_then next (cond b (Some (minus remainder row)) None)) e
+unfit : (t : Term) (remainder : Row) (row : Row) → fits (Some t) remainder row ≡ false → tried t remainder (Some row) ≡ false
+unfit t remainder row e = ap (λ (b : Bool). is_some (cond b (Some (minus remainder row)) None)) e
 
-lacking : (t : Term) (remainder : Row) (next : Row → Option (List Reference)) (row : Option Row) → IfSome row (Lacks t) → tried t remainder next row ≡ None
-lacking t remainder next None h = refl
-lacking t remainder next (Some row) h =
-    unfit t remainder next row (ap (λ (n : ℤ). same_sign (coefficient_of remainder.parts t) n) h ∙ no_sign (coefficient_of remainder.parts t))
+lacking : (t : Term) (remainder : Row) (row : Option Row) → IfSome row (Lacks t) → tried t remainder row ≡ false
+lacking t remainder None h = refl
+lacking t remainder (Some row) h =
+    unfit t remainder row (ap (λ (n : ℤ). same_sign (coefficient_of remainder.parts t) n) h ∙ no_sign (coefficient_of remainder.parts t))
 
--- nothing goes on behind a reference that doesn't speak of the lead
-pub passes : (c : Cond) (state : State) (t : Term) (remainder : Row) (next : Row → Option (List Reference)) (r : Reference) → speaks r t ≡ false
-    → behind c state t remainder next r ≡ None
-passes c state t remainder next r e = lacking t remainder next (row_said c state r) (silent c state t r e)
+-- nothing is left behind a reference that doesn't speak of the lead
+passes : (c : Cond) (state : State) (t : Term) (remainder : Row) (r : Reference) → speaks r t ≡ false
+    → leaves c state t remainder r ≡ false
+passes c state t remainder r e = lacking t remainder (row_said c state r) (silent c state t r e)
 
 -- a reference of a kind to each of some symbols
 abbrev pub each : (Sym → Reference) → ℕ → ℕ → List Reference
 each kind a m = map (λ s. kind (record { 0 = s })) (range_with_len a m)
 
-pass_all : (b : Reference → Option (List Reference)) (kind : Sym → Reference) (a m : ℕ) (rest : List Reference)
-    → ((k : ℕ) → a ≤ k → k < a + m → b (kind (symbol k)) ≡ None) → first_list b (each kind a m ++ rest) ≡ first_list b rest
+pass_all : (b : Reference → Bool) (kind : Sym → Reference) (a m : ℕ) (rest : List Reference)
+    → ((k : ℕ) → a ≤ k → k < a + m → b (kind (symbol k)) ≡ false) → filter b (each kind a m ++ rest) ≡ filter b rest
 pass_all b kind a zero rest h = refl
 pass_all b kind a (suc m) rest h =
-    first_passed b (kind (symbol a)) (each kind (a + 1) m ++ rest) (h a (omega arith) (omega arith))
+    passed b (kind (symbol a)) (each kind (a + 1) m ++ rest) (h a (omega arith) (omega arith))
     ∙ pass_all b kind (a + 1) m rest (λ k low high. h k (omega arith) (omega arith))
 
-find_step : (b : Reference → Option (List Reference)) (kind : Sym → Reference) (s a m : ℕ) (rest : List Reference)
-    → ((k : ℕ) → k ≢ s → b (kind (symbol k)) ≡ None) → a ≤ s → s < a + suc m
-    → (a + 1 ≤ s → s < (a + 1) + m → first_list b (each kind (a + 1) m ++ rest) ≡ first_list b (kind (symbol s) ∷ rest))
+find_step : (b : Reference → Bool) (kind : Sym → Reference) (s a m : ℕ) (rest : List Reference)
+    → ((k : ℕ) → k ≢ s → b (kind (symbol k)) ≡ false) → a ≤ s → s < a + suc m
+    → (a + 1 ≤ s → s < (a + 1) + m → filter b (each kind (a + 1) m ++ rest) ≡ filter b (kind (symbol s) ∷ rest))
     → ((nat_eq a s ≡ true) × (a ≡ s)) ⊎ ((nat_eq a s ≡ false) × (a ≢ s))
-    → first_list b (kind (symbol a) ∷ (each kind (a + 1) m ++ rest)) ≡ first_list b (kind (symbol s) ∷ rest)
+    → filter b (kind (symbol a) ∷ (each kind (a + 1) m ++ rest)) ≡ filter b (kind (symbol s) ∷ rest)
 find_step b kind s a m rest h low high next (inl e) =
     let same : a ≡ s = e.1 in
-    subst (λ (k : ℕ). first_list b (kind (symbol a) ∷ (each kind (a + 1) m ++ rest)) ≡ first_list b (kind (symbol k) ∷ rest)) same
+    subst (λ (k : ℕ). filter b (kind (symbol a) ∷ (each kind (a + 1) m ++ rest)) ≡ filter b (kind (symbol k) ∷ rest)) same
     (under b (kind (symbol a)) (each kind (a + 1) m ++ rest) rest
     (pass_all b kind (a + 1) m rest (λ k least most. h k (λ (f : k ≡ s). absurd (omega arith)))))
 find_step b kind s a m rest h low high next (inr e) =
     let other : a ≢ s = e.1 in
-    first_passed b (kind (symbol a)) (each kind (a + 1) m ++ rest) (h a other) ∙ next (omega arith) (omega arith)
+    passed b (kind (symbol a)) (each kind (a + 1) m ++ rest) (h a other) ∙ next (omega arith) (omega arith)
 
-find_one : (b : Reference → Option (List Reference)) (kind : Sym → Reference) (s a m : ℕ) (rest : List Reference)
-    → ((k : ℕ) → k ≢ s → b (kind (symbol k)) ≡ None) → a ≤ s → s < a + m
-    → first_list b (each kind a m ++ rest) ≡ first_list b (kind (symbol s) ∷ rest)
+find_one : (b : Reference → Bool) (kind : Sym → Reference) (s a m : ℕ) (rest : List Reference)
+    → ((k : ℕ) → k ≢ s → b (kind (symbol k)) ≡ false) → a ≤ s → s < a + m
+    → filter b (each kind a m ++ rest) ≡ filter b (kind (symbol s) ∷ rest)
 find_one b kind s a zero rest h low high = absurd (omega arith)
 find_one b kind s a (suc m) rest h low high =
     find_step b kind s a m rest h low high (λ l m'. find_one b kind s (a + 1) m rest h l m') (eqb_tells a s)
 
 -- of a kind that doesn't speak of the lead none is wanted
-none_of : (c : Cond) (state : State) (t : Term) (remainder : Row) (next : Row → Option (List Reference)) (kind : Sym → Reference)
+none_of : (c : Cond) (state : State) (t : Term) (remainder : Row) (kind : Sym → Reference)
     → ((k : ℕ) → speaks (kind (symbol k)) t ≡ false)
-    → (rest : List Reference) → first_list (behind c state t remainder next) (on_symbols state kind ++ rest) ≡ first_list (behind c state t remainder next) rest
-none_of c state t remainder next kind h rest =
-    pass_all (behind c state t remainder next) kind 0 state.next rest (λ k low high. passes c state t remainder next (kind (symbol k)) (h k))
+    → (rest : List Reference) → filter (leaves c state t remainder) (on_symbols state kind ++ rest) ≡ filter (leaves c state t remainder) rest
+none_of c state t remainder kind h rest =
+    pass_all (leaves c state t remainder) kind 0 state.next rest (λ k low high. passes c state t remainder (kind (symbol k)) (h k))
 
 -- of a kind that speaks of the lead the one to its symbol is
-one_in_reach : (c : Cond) (state : State) (t : Term) (remainder : Row) (next : Row → Option (List Reference)) (kind : Sym → Reference) (s : ℕ)
+one_in_reach : (c : Cond) (state : State) (t : Term) (remainder : Row) (kind : Sym → Reference) (s : ℕ)
     → ((k : ℕ) → nat_eq k s ≡ false → speaks (kind (symbol k)) t ≡ false)
     → (nat_lt s state.next ≡ false → row_said c state (kind (symbol s)) ≡ None)
     → (rest : List Reference) → (b : Bool) → nat_lt s state.next ≡ b
-    → first_list (behind c state t remainder next) (on_symbols state kind ++ rest) ≡ first_list (behind c state t remainder next) (kind (symbol s) ∷ rest)
-one_in_reach c state t remainder next kind s h beyond rest true e =
-    find_one (behind c state t remainder next) kind s 0 state.next rest
-    (λ k other. passes c state t remainder next (kind (symbol k)) (h k (ne_eqb k s other))) (omega arith) (omega (arith, ltb-true s state.next e))
-one_in_reach c state t remainder next kind s h beyond rest false e =
-    let absent : behind c state t remainder next (kind (symbol s)) ≡ None =
-    ap (tried t remainder next) (beyond e) in
-    pass_all (behind c state t remainder next) kind 0 state.next rest
-    (λ k low high. passes c state t remainder next (kind (symbol k))
+    → filter (leaves c state t remainder) (on_symbols state kind ++ rest) ≡ filter (leaves c state t remainder) (kind (symbol s) ∷ rest)
+one_in_reach c state t remainder kind s h beyond rest true e =
+    find_one (leaves c state t remainder) kind s 0 state.next rest
+    (λ k other. passes c state t remainder (kind (symbol k)) (h k (ne_eqb k s other))) (omega arith) (omega (arith, ltb-true s state.next e))
+one_in_reach c state t remainder kind s h beyond rest false e =
+    let absent : leaves c state t remainder (kind (symbol s)) ≡ false =
+    ap (tried t remainder) (beyond e) in
+    pass_all (leaves c state t remainder) kind 0 state.next rest
+    (λ k low high. passes c state t remainder (kind (symbol k))
     (h k (ne_eqb k s (λ (f : k ≡ s). absurd (omega (arith, ltb-false s state.next e))))))
-    ∙ sym (first_passed (behind c state t remainder next) (kind (symbol s)) rest absent)
+    ∙ sym (passed (leaves c state t remainder) (kind (symbol s)) rest absent)
 
-one_of : (c : Cond) (state : State) (t : Term) (remainder : Row) (next : Row → Option (List Reference)) (kind : Sym → Reference) (s : ℕ)
+one_of : (c : Cond) (state : State) (t : Term) (remainder : Row) (kind : Sym → Reference) (s : ℕ)
     → ((k : ℕ) → nat_eq k s ≡ false → speaks (kind (symbol k)) t ≡ false)
     → (nat_lt s state.next ≡ false → row_said c state (kind (symbol s)) ≡ None)
     → (rest : List Reference)
-    → first_list (behind c state t remainder next) (on_symbols state kind ++ rest) ≡ first_list (behind c state t remainder next) (kind (symbol s) ∷ rest)
-one_of c state t remainder next kind s h beyond rest = one_in_reach c state t remainder next kind s h beyond rest (nat_lt s state.next) refl
+    → filter (leaves c state t remainder) (on_symbols state kind ++ rest) ≡ filter (leaves c state t remainder) (kind (symbol s) ∷ rest)
+one_of c state t remainder kind s h beyond rest = one_in_reach c state t remainder kind s h beyond rest (nat_lt s state.next) refl
 
 -- kinds of references with those of each that are wanted
 abbrev pub Pick : Type 0
 Pick = (Sym → Reference) × List Reference
 
 -- of these kinds those are wanted
-abbrev pub Picks : Cond → State → Term → Row → (Row → Option (List Reference)) → Pick → Type 0
-Picks c state t remainder next pick =
-    (rest : List Reference) → first_list (behind c state t remainder next) (on_symbols state pick.0 ++ rest) ≡ first_list (behind c state t remainder next) (pick.1 ++ rest)
+abbrev pub Picks : Cond → State → Term → Row → Pick → Type 0
+Picks c state t remainder pick =
+    (rest : List Reference) → filter (leaves c state t remainder) (on_symbols state pick.0 ++ rest) ≡ filter (leaves c state t remainder) (pick.1 ++ rest)
 
-picked : (c : Cond) (state : State) (t : Term) (remainder : Row) (next : Row → Option (List Reference)) (picks : List Pick)
-    → AllByRecursion (Picks c state t remainder next) picks → (rest : List Reference)
-    → first_list (behind c state t remainder next) (flat_map (on_symbols state) (map (λ (pick : Pick). pick.0) picks) ++ rest)
-    ≡ first_list (behind c state t remainder next) (flat_map (λ (pick : Pick). pick.1) picks ++ rest)
-picked c state t remainder next [] h rest = refl
-picked c state t remainder next (pick ∷ picks) h rest =
-    let b = behind c state t remainder next in
+picked : (c : Cond) (state : State) (t : Term) (remainder : Row) (picks : List Pick)
+    → AllByRecursion (Picks c state t remainder) picks → (rest : List Reference)
+    → filter (leaves c state t remainder) (flat_map (on_symbols state) (map (λ (pick : Pick). pick.0) picks) ++ rest)
+    ≡ filter (leaves c state t remainder) (flat_map (λ (pick : Pick). pick.1) picks ++ rest)
+picked c state t remainder [] h rest = refl
+picked c state t remainder (pick ∷ picks) h rest =
+    let b = leaves c state t remainder in
     let more = flat_map (on_symbols state) (map (λ (p : Pick). p.0) picks) in
     let wanted = flat_map (λ (p : Pick). p.1) picks in
-    ap (first_list b) (append_assoc (on_symbols state pick.0) more rest)
+    ap (filter b) (append_assoc (on_symbols state pick.0) more rest)
     ∙ h.0 (more ++ rest)
-    ∙ under_all b pick.1 (more ++ rest) (wanted ++ rest) (picked c state t remainder next picks h.1 rest)
-    ∙ ap (first_list b) (sym (append_assoc pick.1 wanted rest))
+    ∙ under_all b pick.1 (more ++ rest) (wanted ++ rest) (picked c state t remainder picks h.1 rest)
+    ∙ ap (filter b) (sym (append_assoc pick.1 wanted rest))
 
 -- the references to a term's symbol, and to no symbol, among those of all kinds
-abbrev pub FindsOn : Cond → State → Term → Row → (Row → Option (List Reference)) → Type 0
-FindsOn c state t remainder next =
-    first_list (behind c state t remainder next) (flat_map (on_symbols state) kinds ++ on_entries) ≡ first_list (behind c state t remainder next) (on_term t)
+abbrev pub FindsOn : Cond → State → Term → Row → Type 0
+FindsOn c state t remainder =
+    filter (leaves c state t remainder) (flat_map (on_symbols state) kinds ++ on_entries) ≡ filter (leaves c state t remainder) (on_term t)
 
--- behind the references to no symbol none goes on
-no_entries : (c : Cond) (state : State) (t : Term) (remainder : Row) (next : Row → Option (List Reference))
+-- behind the references to no symbol nothing is left
+no_entries : (c : Cond) (state : State) (t : Term) (remainder : Row)
     → same_term Pos t ≡ false → same_term Count t ≡ false → (list : List Reference)
-    → first_list (behind c state t remainder next) (list ++ on_entries) ≡ first_list (behind c state t remainder next) list
-no_entries c state t remainder next p n list =
-    let b = behind c state t remainder next in
+    → filter (leaves c state t remainder) (list ++ on_entries) ≡ filter (leaves c state t remainder) list
+no_entries c state t remainder p n list =
+    let b = leaves c state t remainder in
     under_all b list on_entries []
-    (first_passed b ref.PosLow (ref.PosHigh ∷ ref.CountLow ∷ ref.CountHigh ∷ []) (passes c state t remainder next ref.PosLow p)
-    ∙ first_passed b ref.PosHigh (ref.CountLow ∷ ref.CountHigh ∷ []) (passes c state t remainder next ref.PosHigh (ap (λ (z : Bool). z || same_term Pos t) n ∙ p))
-    ∙ first_passed b ref.CountLow (ref.CountHigh ∷ []) (passes c state t remainder next ref.CountLow n)
-    ∙ first_passed b ref.CountHigh [] (passes c state t remainder next ref.CountHigh n))
-    ∙ ap (first_list b) (append-nil list)
+    (passed b ref.PosLow (ref.PosHigh ∷ ref.CountLow ∷ ref.CountHigh ∷ []) (passes c state t remainder ref.PosLow p)
+    ∙ passed b ref.PosHigh (ref.CountLow ∷ ref.CountHigh ∷ []) (passes c state t remainder ref.PosHigh (ap (λ (z : Bool). z || same_term Pos t) n ∙ p))
+    ∙ passed b ref.CountLow (ref.CountHigh ∷ []) (passes c state t remainder ref.CountLow n)
+    ∙ passed b ref.CountHigh [] (passes c state t remainder ref.CountHigh n))
+    ∙ ap (filter b) (append-nil list)
 
-finds_value : (c : Cond) (state : State) (s : ℕ) (remainder : Row) (next : Row → Option (List Reference)) → FindsOn c state (Value s) remainder next
-finds_value c state s remainder next =
+finds_value : (c : Cond) (state : State) (s : ℕ) (remainder : Row) → FindsOn c state (Value s) remainder
+finds_value c state s remainder =
     let t = Value s in
-    let none = none_of c state t remainder next in
-    let one = one_of c state t remainder next in
-    picked c state t remainder next
+    let none = none_of c state t remainder in
+    let one = one_of c state t remainder in
+    picked c state t remainder
     ((ref.ValueLow, ref.ValueLow (symbol s) ∷ []) ∷ (ref.ValueHigh, ref.ValueHigh (symbol s) ∷ []) ∷ (ref.LengthLow, []) ∷ (ref.NamesLow, [])
     ∷ (ref.NamesHigh, []) ∷ (ref.ExactLow, ref.ExactLow (symbol s) ∷ []) ∷ (ref.ExactHigh, ref.ExactHigh (symbol s) ∷ []) ∷ (ref.NonblankLength, [])
     ∷ (ref.NonblankNames, []) ∷ (ref.TextLow, []) ∷ (ref.TextHigh, []) ∷ []) (
@@ -267,14 +279,14 @@ finds_value c state s remainder next =
       ),
     )
     on_entries
-    ∙ no_entries c state t remainder next refl refl (on_term t)
+    ∙ no_entries c state t remainder refl refl (on_term t)
 
-finds_length : (c : Cond) (state : State) (s : ℕ) (remainder : Row) (next : Row → Option (List Reference)) → FindsOn c state (Length s) remainder next
-finds_length c state s remainder next =
+finds_length : (c : Cond) (state : State) (s : ℕ) (remainder : Row) → FindsOn c state (Length s) remainder
+finds_length c state s remainder =
     let t = Length s in
-    let none = none_of c state t remainder next in
-    let one = one_of c state t remainder next in
-    picked c state t remainder next
+    let none = none_of c state t remainder in
+    let one = one_of c state t remainder in
+    picked c state t remainder
     ((ref.ValueLow, []) ∷ (ref.ValueHigh, []) ∷ (ref.LengthLow, ref.LengthLow (symbol s) ∷ []) ∷ (ref.NamesLow, [])
     ∷ (ref.NamesHigh, ref.NamesHigh (symbol s) ∷ []) ∷ (ref.ExactLow, []) ∷ (ref.ExactHigh, []) ∷ (ref.NonblankLength, ref.NonblankLength (symbol s) ∷ [])
     ∷ (ref.NonblankNames, []) ∷ (ref.TextLow, ref.TextLow (symbol s) ∷ []) ∷ (ref.TextHigh, ref.TextHigh (symbol s) ∷ []) ∷ []) (
@@ -309,14 +321,14 @@ finds_length c state s remainder next =
       ),
     )
     on_entries
-    ∙ no_entries c state t remainder next refl refl (on_term t)
+    ∙ no_entries c state t remainder refl refl (on_term t)
 
-finds_names : (c : Cond) (state : State) (s : ℕ) (remainder : Row) (next : Row → Option (List Reference)) → FindsOn c state (Names s) remainder next
-finds_names c state s remainder next =
+finds_names : (c : Cond) (state : State) (s : ℕ) (remainder : Row) → FindsOn c state (Names s) remainder
+finds_names c state s remainder =
     let t = Names s in
-    let none = none_of c state t remainder next in
-    let one = one_of c state t remainder next in
-    picked c state t remainder next
+    let none = none_of c state t remainder in
+    let one = one_of c state t remainder in
+    picked c state t remainder
     ((ref.ValueLow, []) ∷ (ref.ValueHigh, []) ∷ (ref.LengthLow, []) ∷ (ref.NamesLow, ref.NamesLow (symbol s) ∷ [])
     ∷ (ref.NamesHigh, ref.NamesHigh (symbol s) ∷ []) ∷ (ref.ExactLow, []) ∷ (ref.ExactHigh, []) ∷ (ref.NonblankLength, [])
     ∷ (ref.NonblankNames, ref.NonblankNames (symbol s) ∷ []) ∷ (ref.TextLow, []) ∷ (ref.TextHigh, []) ∷ []) (
@@ -342,18 +354,18 @@ finds_names c state s remainder next =
       ),
     )
     on_entries
-    ∙ no_entries c state t remainder next refl refl (on_term t)
+    ∙ no_entries c state t remainder refl refl (on_term t)
 
 -- no kind of references to symbols speaks of a term on none
-no_symbols : (c : Cond) (state : State) (t : Term) (remainder : Row) (next : Row → Option (List Reference))
+no_symbols : (c : Cond) (state : State) (t : Term) (remainder : Row)
     → ((k : ℕ) → (same_term (Value k) t ≡ false) × (same_term (Length k) t ≡ false) × (same_term (Names k) t ≡ false))
-    → first_list (behind c state t remainder next) (flat_map (on_symbols state) kinds ++ on_entries) ≡ first_list (behind c state t remainder next) on_entries
-no_symbols c state t remainder next h =
-    let none = none_of c state t remainder next in
+    → filter (leaves c state t remainder) (flat_map (on_symbols state) kinds ++ on_entries) ≡ filter (leaves c state t remainder) on_entries
+no_symbols c state t remainder h =
+    let none = none_of c state t remainder in
     let value = λ (k : ℕ). (h k).0 in
     let length = λ (k : ℕ). (h k).1 in
     let names = λ (k : ℕ). (h k).2 in
-    picked c state t remainder next
+    picked c state t remainder
     ((ref.ValueLow, []) ∷ (ref.ValueHigh, []) ∷ (ref.LengthLow, []) ∷ (ref.NamesLow, []) ∷ (ref.NamesHigh, []) ∷ (ref.ExactLow, []) ∷ (ref.ExactHigh, [])
     ∷ (ref.NonblankLength, []) ∷ (ref.NonblankNames, []) ∷ (ref.TextLow, []) ∷ (ref.TextHigh, []) ∷ []) (
       none ref.ValueLow value,
@@ -379,57 +391,57 @@ no_symbols c state t remainder next h =
     )
     on_entries
 
-finds_on : (c : Cond) (state : State) (t : Term) (remainder : Row) (next : Row → Option (List Reference)) → FindsOn c state t remainder next
-finds_on c state (Value s) remainder next = finds_value c state s remainder next
-finds_on c state (Length s) remainder next = finds_length c state s remainder next
-finds_on c state (Names s) remainder next = finds_names c state s remainder next
-finds_on c state Pos remainder next =
-    let b = behind c state Pos remainder next in
-    no_symbols c state Pos remainder next (λ k. (refl, refl, refl))
+finds_on : (c : Cond) (state : State) (t : Term) (remainder : Row) → FindsOn c state t remainder
+finds_on c state (Value s) remainder = finds_value c state s remainder
+finds_on c state (Length s) remainder = finds_length c state s remainder
+finds_on c state (Names s) remainder = finds_names c state s remainder
+finds_on c state Pos remainder =
+    let b = leaves c state Pos remainder in
+    no_symbols c state Pos remainder (λ k. (refl, refl, refl))
     ∙ under b ref.PosLow (ref.PosHigh ∷ ref.CountLow ∷ ref.CountHigh ∷ []) (ref.PosHigh ∷ [])
     (under b ref.PosHigh (ref.CountLow ∷ ref.CountHigh ∷ []) []
-    (first_passed b ref.CountLow (ref.CountHigh ∷ []) (passes c state Pos remainder next ref.CountLow refl)
-    ∙ first_passed b ref.CountHigh [] (passes c state Pos remainder next ref.CountHigh refl)))
-finds_on c state Count remainder next =
-    let b = behind c state Count remainder next in
-    no_symbols c state Count remainder next (λ k. (refl, refl, refl))
-    ∙ first_passed b ref.PosLow (ref.PosHigh ∷ ref.CountLow ∷ ref.CountHigh ∷ []) (passes c state Count remainder next ref.PosLow refl)
+    (passed b ref.CountLow (ref.CountHigh ∷ []) (passes c state Pos remainder ref.CountLow refl)
+    ∙ passed b ref.CountHigh [] (passes c state Pos remainder ref.CountHigh refl)))
+finds_on c state Count remainder =
+    let b = leaves c state Count remainder in
+    no_symbols c state Count remainder (λ k. (refl, refl, refl))
+    ∙ passed b ref.PosLow (ref.PosHigh ∷ ref.CountLow ∷ ref.CountHigh ∷ []) (passes c state Count remainder ref.PosLow refl)
 
 -- one row among those that may be subtracted
-row_found : (c : Cond) (state : State) (t : Term) (remainder : Row) (next : Row → Option (List Reference)) (n : ℕ) (row : Row) (rest others : List Reference)
+row_found : (c : Cond) (state : State) (t : Term) (remainder : Row) (n : ℕ) (row : Row) (rest others : List Reference)
     → slice_get state.rows n ≡ Some row → (b : Bool) → fits (Some t) remainder row ≡ b
-    → first_list (behind c state t remainder next) rest ≡ first_list (behind c state t remainder next) others
-    → first_list (behind c state t remainder next) (ref.Row n ∷ rest)
-    ≡ first_list (behind c state t remainder next) (cond b (ref.Row n ∷ []) [] ++ others)
-row_found c state t remainder next n row rest others is true e same = under (behind c state t remainder next) (ref.Row n) rest others same
-row_found c state t remainder next n row rest others is false e same =
-    first_passed (behind c state t remainder next) (ref.Row n) rest (ap (tried t remainder next) is ∙ unfit t remainder next row e) ∙ same
+    → filter (leaves c state t remainder) rest ≡ filter (leaves c state t remainder) others
+    → filter (leaves c state t remainder) (ref.Row n ∷ rest)
+    ≡ filter (leaves c state t remainder) (cond b (ref.Row n ∷ []) [] ++ others)
+row_found c state t remainder n row rest others is true e same = under (leaves c state t remainder) (ref.Row n) rest others same
+row_found c state t remainder n row rest others is false e same =
+    passed (leaves c state t remainder) (ref.Row n) rest (ap (tried t remainder) is ∙ unfit t remainder row e) ∙ same
 
 -- the rows that may be subtracted among all rows
-finds_rows : (c : Cond) (state : State) (t : Term) (remainder : Row) (next : Row → Option (List Reference)) (rest : List Reference) (rows : List Row) (n m : ℕ)
+finds_rows : (c : Cond) (state : State) (t : Term) (remainder : Row) (rest : List Reference) (rows : List Row) (n m : ℕ)
     → ((k : ℕ) → slice_get state.rows (n + k) ≡ slice_get rows k) → m ≤ length rows
-    → first_list (behind c state t remainder next) (map ref.Row (range_with_len n m) ++ rest)
-    ≡ first_list (behind c state t remainder next) (rows_on t remainder n (take m rows) ++ rest)
-finds_rows c state t remainder next rest [] n zero h few = refl
-finds_rows c state t remainder next rest [] n (suc m) h few = absurd (omega arith)
-finds_rows c state t remainder next rest (row ∷ rows) n zero h few = refl
-finds_rows c state t remainder next rest (row ∷ rows) n (suc m) h few =
-    let b = behind c state t remainder next in
+    → filter (leaves c state t remainder) (map ref.Row (range_with_len n m) ++ rest)
+    ≡ filter (leaves c state t remainder) (rows_on t remainder n (take m rows) ++ rest)
+finds_rows c state t remainder rest [] n zero h few = refl
+finds_rows c state t remainder rest [] n (suc m) h few = absurd (omega arith)
+finds_rows c state t remainder rest (row ∷ rows) n zero h few = refl
+finds_rows c state t remainder rest (row ∷ rows) n (suc m) h few =
+    let b = leaves c state t remainder in
     let one = row_on t remainder n row in
     let more = rows_on t remainder (suc n) (take m rows) in
     let here : slice_get state.rows n ≡ Some row = ap (slice_get state.rows) (omega arith) ∙ h 0 in
     let later : (k : ℕ) → slice_get state.rows (suc n + k) ≡ slice_get rows k = λ k. ap (slice_get state.rows) (omega arith) ∙ h (suc k) in
     let less : m ≤ length rows = omega arith in
     let next_number : n + 1 ≡ suc n = omega arith in
-    row_found c state t remainder next n row (map ref.Row (range_with_len (n + 1) m) ++ rest) (more ++ rest) here (fits (Some t) remainder row) refl
-    (ap (λ (k : ℕ). first_list b (map ref.Row (range_with_len k m) ++ rest)) next_number
-    ∙ finds_rows c state t remainder next rest rows (suc n) m later less)
-    ∙ ap (first_list b) (sym (append_assoc one more rest))
+    row_found c state t remainder n row (map ref.Row (range_with_len (n + 1) m) ++ rest) (more ++ rest) here (fits (Some t) remainder row) refl
+    (ap (λ (k : ℕ). filter b (map ref.Row (range_with_len k m) ++ rest)) next_number
+    ∙ finds_rows c state t remainder rest rows (suc n) m later less)
+    ∙ ap (filter b) (sym (append_assoc one more rest))
 
--- what is found by look-up is what is found among all references
-pub finds : (c : Cond) (state : State) (t : Term) (remainder : Row) (next : Row → Option (List Reference))
-    → first_list (behind c state t remainder next) (references state) ≡ first_list (behind c state t remainder next) (references_to state remainder t)
-finds c state t remainder next =
-    let b = behind c state t remainder next in
-    under_all b (map ref.Row (range_with_len 0 (rows_named state))) (flat_map (on_symbols state) kinds ++ on_entries) (on_term t) (finds_on c state t remainder next)
-    ∙ finds_rows c state t remainder next (on_term t) state.rows 0 (rows_named state) (λ k. ap (slice_get state.rows) (omega arith)) (omega arith)
+-- of the references found by look-up and of all the same are those behind which something is left
+pub finds : (c : Cond) (state : State) (t : Term) (remainder : Row)
+    → filter (leaves c state t remainder) (references state) ≡ filter (leaves c state t remainder) (references_to state remainder t)
+finds c state t remainder =
+    let b = leaves c state t remainder in
+    under_all b (map ref.Row (range_with_len 0 (rows_named state))) (flat_map (on_symbols state) kinds ++ on_entries) (on_term t) (finds_on c state t remainder)
+    ∙ finds_rows c state t remainder (on_term t) state.rows 0 (rows_named state) (λ k. ap (slice_get state.rows) (omega arith)) (omega arith)

@@ -1,5 +1,5 @@
 -- The first list of references, reference by reference, and its list kept with the last reference first.
-use Rattle.std.proofs.Common.{◌≡◌, ℕ, suc, ◌+◌, ◌<◌, List, [], ◌∷◌, ◌++◌, length, reverse, drop, get_or, Option, None, Some, ap, sym, ◌∙◌, add-one}
+use Rattle.std.proofs.Common.{◌≡◌, ℕ, suc, ◌+◌, ◌<◌, false, List, [], ◌∷◌, ◌++◌, length, reverse, drop, get_or, Option, None, Some, ap, sym, ◌∙◌, add-one}
 use Rattle.std.proofs.Math.Seq.{drop-cons}
 use Rattle.std.proofs.lemmas.List.{reverse-append}
 use Rattle.std.specs.Option.{option_and_then}
@@ -10,15 +10,22 @@ use Rattle.sym_state.specs.declared.proof.Reference.{Reference}
 use Rattle.sym_state.specs.State.{State}
 use Rattle.straight_proofs.specs.Lookup.{references_to}
 use Rattle.straight_proofs.specs.Remainders.{lead}
-use Rattle.straight_proofs.specs.Straight.{first_list, left_behind, list_within}
-use Rattle.straight_proofs.proofs.Lists.{first_found, first_passed, one_more}
-use Rattle.straight_proofs.proofs.Looked.{finds}
+use Rattle.straight_proofs.specs.Straight.{first_list, left_behind, list_within, references}
+use Rattle.straight_proofs.proofs.Lists.{first_found, first_kept, first_passed, none_behind, one_more}
+use Rattle.straight_proofs.proofs.Looked.{finds, leaves}
 
 -- the list behind a lead is the first behind the references to it
 pub looked_up : (n : ℕ) (c : Cond) (state : State) (remainder : Row) (t : Term) → lead remainder ≡ Some t
     → list_within (suc n) c state remainder
     ≡ first_list (λ r. option_and_then (list_within n c state) (left_behind c state (Some t) remainder r)) (references_to state remainder t)
-looked_up n c state remainder t e = one_more n c state remainder t e ∙ finds c state t remainder (list_within n c state)
+looked_up n c state remainder t e =
+    let b = λ (r : Reference). option_and_then (list_within n c state) (left_behind c state (Some t) remainder r) in
+    let none : (r : Reference) → leaves c state t remainder r ≡ false → b r ≡ None =
+    λ r f. none_behind (list_within n c state) (left_behind c state (Some t) remainder r) f in
+    one_more n c state remainder t e
+    ∙ first_kept (leaves c state t remainder) b none (references state)
+    ∙ ap (first_list b) (finds c state t remainder)
+    ∙ sym (first_kept (leaves c state t remainder) b none (references_to state remainder t))
 
 -- one reference of those that are left
 pub next_reference : (all : List Reference) (i : ℕ) (d : Reference) → i < length all → drop i all ≡ get_or all i d ∷ drop (i + 1) all

@@ -1,3 +1,4 @@
+pub mod Floors
 pub mod Lookup
 pub mod Remainders
 pub mod Straight

@@ -103,7 +103,7 @@ fn named(state: &State) -> u64
 }
 
 /// Adds the references that say something of a term.
-fn push_on_term(all: &mut Vec<Reference>, term: Term) -> Result<(), NoMemory>
+pub(crate) fn push_on_term(all: &mut Vec<Reference>, term: Term) -> Result<(), NoMemory>
     ensures { OnOk result (all.new.items ≡ all.old.items ++ rule.on_term term) }
 {
     match term {

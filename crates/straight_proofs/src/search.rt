@@ -103,7 +103,7 @@ fn ended(alloc: Global, remainder: &Row) -> Option<Vec<Reference>>
 }
 
 /// What is left of a remainder behind a reference.
-fn left_behind(
+pub(crate) fn left_behind(
     known: &Known,
     leads: Option<Term>,
     remainder: &Row,

@@ -5,7 +5,7 @@ ghost use Rattle.std.specs.List.{All};
 ghost use Rattle.sym_state.specs.WellMade.{HasBounds, HasShortText, IsBounded};
 
 use crate::tests::Known::{Integer, Nonblank, TwoLetters};
-use crate::{drop_proof, straight_proof};
+use crate::{drop_proof, floor, straight_proof};
 use bst_meaning::condition::Cond;
 use bv_base::memory::NoMemory;
 use bv_base::seq::Seq;
@@ -301,6 +301,78 @@ static DROPS: [Example; 5] = [
     open!(true, [], [], line!(-1)),
 ];
 
+/// A sum, and the greatest number that it is shown to be at least.
+#[derive(Clone, Copy)]
+struct Floored {
+    given: Given,
+    sum: Line,
+    floor: Option<i64>,
+}
+
+/// A sum with its floor, where no entry is visited.
+macro_rules! floored {
+    ($facts:expr, $rows:expr, $sum:expr, $floor:expr) => {
+        Floored {
+            given: Given {
+                at_entry: false,
+                facts: &$facts,
+                rows: &$rows,
+            },
+            sum: $sum,
+            floor: $floor,
+        }
+    };
+}
+
+/// Sums with floors, and some without.
+static FLOORS: [Floored; 12] = [
+    floored!([], [], line!(7), Some(7)),
+    floored!([], [], line!(0, 1 Value(0)), Some(-2147483648)),
+    floored!([Integer(0, 5)], [], line!(0, 1 Value(0)), Some(5)),
+    floored!([Integer(0, 5)], [], line!(0, -1 Value(0)), Some(-5)),
+    floored!(
+        [Integer(0, 10)],
+        [line!(-2, 1 Value(1), -1 Value(0))],
+        line!(0, 1 Value(1), -1 Value(0)),
+        Some(2)
+    ),
+    floored!(
+        [Integer(0, 10)],
+        [line!(-2, 1 Value(1), -1 Value(0))],
+        line!(0, 1 Value(1)),
+        Some(12)
+    ),
+    floored!(
+        [Integer(0, 5), Integer(1, 7)],
+        [line!(-3, 1 Value(2), -1 Value(0))],
+        line!(0, 2 Value(2), 1 Value(1)),
+        Some(23)
+    ),
+    floored!(
+        [],
+        [
+            line!(-1, 1 Value(0)),
+            line!(-4, 1 Value(0)),
+            line!(-3, 1 Value(0)),
+            line!(-4, 1 Value(0))
+        ],
+        line!(0, 1 Value(0)),
+        Some(4)
+    ),
+    floored!([], [line!(-1, 1 Value(0))], line!(0, 8 Value(0)), Some(8)),
+    floored!([], [line!(-1, 1 Value(0))], line!(0, 9 Value(0)), None),
+    floored!([], [], line!(0, 1 Value(3)), None),
+    floored!([], [], line!(0, 1 Pos), None),
+];
+
+#[test]
+fn the_floor_is_the_greatest_number_shown(rt: HostRuntime) {
+    for (k, example) in FLOORS.as_slice().iter().enumerate() {
+        let found = has_floor(rt.alloc(), example);
+        assert!(rt; matches!(found, Ok(true)), "sum {k}: {found:?}");
+    }
+}
+
 #[test]
 fn the_first_list_shows_the_goal(rt: HostRuntime) {
     compare(&rt, rt.alloc(), &GOALS);
@@ -336,6 +408,13 @@ fn is_found(alloc: Global, example: &Example) -> Result<bool, NoMemory> {
     let goal = row(alloc, example.goal)?;
     let proof = straight_proof(alloc, &state, &condition(alloc), &goal)?;
     Ok(is_wanted(&proof, example.proof))
+}
+
+/// Whether the floor of a sum is the one that is wanted.
+fn has_floor(alloc: Global, example: &Floored) -> Result<bool, NoMemory> {
+    let state = state(alloc, example.given)?;
+    let sum = row(alloc, example.sum)?;
+    Ok(floor(alloc, &state, &condition(alloc), &sum)? == example.floor)
 }
 
 /// Whether a proof takes these references, once each.

@@ -30,64 +30,31 @@ macro_rules! begins {
 
 /// Inputs below inputs, and a database that isn't there before one that is.
 const TREE: &[File] = &[
-    File {
-        name: "p.aux",
-        bytes: b"\\@input{i.aux}\n\\@input{j.aux}\n\\bibstyle{a}\n\\bibdata{d,e}\n",
-    },
-    File {
-        name: "i.aux",
-        bytes: b"\\@input{k.aux}\n",
-    },
-    File {
-        name: "j.aux",
-        bytes: b"\\citation{k}\n",
-    },
-    File {
-        name: "k.aux",
-        bytes: b"",
-    },
-    File {
-        name: "a.bst",
-        bytes: JOINS,
-    },
-    File {
-        name: "e.bib",
-        bytes: b"",
-    },
+    file_of!(
+        "p.aux",
+        b"\\@input{i.aux}\n\\@input{j.aux}\n\\bibstyle{a}\n\\bibdata{d,e}\n"
+    ),
+    file_of!("i.aux", b"\\@input{k.aux}\n"),
+    file_of!("j.aux", b"\\citation{k}\n"),
+    file_of!("k.aux", b""),
+    file_of!("a.bst", JOINS),
+    file_of!("e.bib", b""),
 ];
 
 /// A file without inputs.
 const LEAF: &[File] = &[
-    File {
-        name: "q.aux",
-        bytes: b"\\bibstyle{a}\n\\bibdata{e}\n",
-    },
-    File {
-        name: "a.bst",
-        bytes: JOINS,
-    },
-    File {
-        name: "e.bib",
-        bytes: b"",
-    },
+    file_of!("q.aux", b"\\bibstyle{a}\n\\bibdata{e}\n"),
+    file_of!("a.bst", JOINS),
+    file_of!("e.bib", b""),
 ];
 
 /// A file that inputs itself, and names a style.
-const ITSELF: &[File] = &[File {
-    name: "p.aux",
-    bytes: b"\\@input{p.aux}\n",
-}];
+const ITSELF: &[File] = &[file_of!("p.aux", b"\\@input{p.aux}\n")];
 
 /// An input that names a second style, and has an input of its own.
 const SECOND_STYLE: &[File] = &[
-    File {
-        name: "p.aux",
-        bytes: b"\\bibstyle{a}\n\\@input{i.aux}\n",
-    },
-    File {
-        name: "i.aux",
-        bytes: b"\\@input{k.aux}\n\\bibstyle{a}\n",
-    },
+    file_of!("p.aux", b"\\bibstyle{a}\n\\@input{i.aux}\n"),
+    file_of!("i.aux", b"\\@input{k.aux}\n\\bibstyle{a}\n"),
 ];
 
 static BEGINNINGS: [Beginning; 15] = [

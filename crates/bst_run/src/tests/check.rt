@@ -131,28 +131,10 @@ pub static HINTED: [Example; 11] = [
 ];
 
 /// The style that joins two texts, and the certificate.
-pub const BOTH: &[File] = &[
-    File {
-        name: "a.bst",
-        bytes: JOINS,
-    },
-    File {
-        name: "b.cert",
-        bytes: NO_ENTRIES,
-    },
-];
+pub const BOTH: &[File] = &[file_of!("a.bst", JOINS), file_of!("b.cert", NO_ENTRIES)];
 
 /// No style, and the certificate.
-pub const NO_STYLE: &[File] = &[
-    File {
-        name: "a.bst",
-        bytes: b"FOO",
-    },
-    File {
-        name: "b.cert",
-        bytes: NO_ENTRIES,
-    },
-];
+pub const NO_STYLE: &[File] = &[file_of!("a.bst", b"FOO"), file_of!("b.cert", NO_ENTRIES)];
 
 /// The second call reads the style, the third ends it, the fourth begins the certificate, and the fifth reads it. Then
 /// come the text that accepts, and the line that refuses.

@@ -34,78 +34,27 @@ pub static BAD_AUX: [Example; 11] = [
 
 /// A file for each depth below 16, each with the next as an input. The first also asks for the style and the database.
 const NEST: &[File] = &[
-    File {
-        name: "s.bst",
-        bytes: KEYS,
-    },
-    File {
-        name: "d.bib",
-        bytes: b"@misc{a}@misc{b}@misc{c}",
-    },
-    File {
-        name: "p.aux",
-        bytes: b"\\bibstyle{s}\n\\citation{a}\n\\@input{q1.aux}\n\\citation{b}\n\\bibdata{d}\n",
-    },
-    File {
-        name: "q1.aux",
-        bytes: b"\\@input{q2.aux}\n",
-    },
-    File {
-        name: "q2.aux",
-        bytes: b"\\@input{q3.aux}\n",
-    },
-    File {
-        name: "q3.aux",
-        bytes: b"\\@input{q4.aux}\n",
-    },
-    File {
-        name: "q4.aux",
-        bytes: b"\\@input{q5.aux}\n",
-    },
-    File {
-        name: "q5.aux",
-        bytes: b"\\@input{q6.aux}\n",
-    },
-    File {
-        name: "q6.aux",
-        bytes: b"\\@input{q7.aux}\n",
-    },
-    File {
-        name: "q7.aux",
-        bytes: b"\\@input{q8.aux}\n",
-    },
-    File {
-        name: "q8.aux",
-        bytes: b"\\@input{q9.aux}\n",
-    },
-    File {
-        name: "q9.aux",
-        bytes: b"\\@input{q10.aux}\n",
-    },
-    File {
-        name: "q10.aux",
-        bytes: b"\\@input{q11.aux}\n",
-    },
-    File {
-        name: "q11.aux",
-        bytes: b"\\@input{q12.aux}\n",
-    },
-    File {
-        name: "q12.aux",
-        bytes: b"\\@input{q13.aux}\n",
-    },
-    File {
-        name: "q13.aux",
-        bytes: b"\\@input{q14.aux}\n",
-    },
-    File {
-        name: "q14.aux",
-        bytes: b"\\@input{q15.aux}\n",
-    },
-    File {
-        name: "q15.aux",
-        bytes: b"\\@input{q16.aux}\n",
-    },
+    file_of!("s.bst", KEYS),
+    file_of!("d.bib", b"@misc{a}@misc{b}@misc{c}"),
+    file_of!(
+        "p.aux",
+        b"\\bibstyle{s}\n\\citation{a}\n\\@input{q1.aux}\n\\citation{b}\n\\bibdata{d}\n"
+    ),
+    file_of!("q1.aux", b"\\@input{q2.aux}\n"),
+    file_of!("q2.aux", b"\\@input{q3.aux}\n"),
+    file_of!("q3.aux", b"\\@input{q4.aux}\n"),
+    file_of!("q4.aux", b"\\@input{q5.aux}\n"),
+    file_of!("q5.aux", b"\\@input{q6.aux}\n"),
+    file_of!("q6.aux", b"\\@input{q7.aux}\n"),
+    file_of!("q7.aux", b"\\@input{q8.aux}\n"),
+    file_of!("q8.aux", b"\\@input{q9.aux}\n"),
+    file_of!("q9.aux", b"\\@input{q10.aux}\n"),
+    file_of!("q10.aux", b"\\@input{q11.aux}\n"),
+    file_of!("q11.aux", b"\\@input{q12.aux}\n"),
+    file_of!("q12.aux", b"\\@input{q13.aux}\n"),
+    file_of!("q13.aux", b"\\@input{q14.aux}\n"),
+    file_of!("q14.aux", b"\\@input{q15.aux}\n"),
+    file_of!("q15.aux", b"\\@input{q16.aux}\n"),
 ];
 
 /// The file of depth 16.

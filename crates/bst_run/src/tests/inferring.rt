@@ -32,42 +32,14 @@ macro_rules! found {
 /// What is answered for a style under the default condition.
 macro_rules! unfound {
     ($style:expr => $status:ident, $err:expr) => {
-        Example {
-            words: &["infer", "a.bst"],
-            shared: &[],
-            own: &[File {
-                name: "a.bst",
-                bytes: $style,
-            }],
-            failing: Failing::Nothing,
-            status: Status::$status,
-            out: "",
-            err: $err,
-        }
+        told!(["infer", "a.bst"], [file_of!("a.bst", $style)] => $status, "", $err)
     };
 }
 
 /// What is answered for a style under this condition.
 macro_rules! given {
     ($style:expr, $cond:expr => $status:ident, $out:expr, $err:expr) => {
-        Example {
-            words: &["infer", "a.bst", "c.cond"],
-            shared: &[],
-            own: &[
-                File {
-                    name: "a.bst",
-                    bytes: $style,
-                },
-                File {
-                    name: "c.cond",
-                    bytes: $cond,
-                },
-            ],
-            failing: Failing::Nothing,
-            status: Status::$status,
-            out: $out,
-            err: $err,
-        }
+        told!(["infer", "a.bst", "c.cond"], [file_of!("a.bst", $style), file_of!("c.cond", $cond)] => $status, $out, $err)
     };
 }
 

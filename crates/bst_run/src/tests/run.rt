@@ -70,16 +70,7 @@ pub static FAULTS: [Example; 5] = [
 ];
 
 /// A style and a database with one entry.
-const STYLE_AND_DATA: &[File] = &[
-    File {
-        name: "s.bst",
-        bytes: KEYS,
-    },
-    File {
-        name: "d.bib",
-        bytes: b"@misc{k}",
-    },
-];
+const STYLE_AND_DATA: &[File] = &[file_of!("s.bst", KEYS), file_of!("d.bib", b"@misc{k}")];
 
 /// Cites the entry, and one that isn't there.
 const CITED_AND_MISSING: &[u8] = b"\\citation{k,zz}\n\\bibstyle{s}\n\\bibdata{d}\n";
@@ -87,18 +78,7 @@ const CITED_AND_MISSING: &[u8] = b"\\citation{k,zz}\n\\bibstyle{s}\n\\bibdata{d}
 /// What is answered to a run over the style and the database, where this fails.
 macro_rules! failed {
     ($aux:expr, $failing:expr => $status:ident, $out:expr, $err:expr) => {
-        Example {
-            words: &["run", "p.aux", "99"],
-            shared: STYLE_AND_DATA,
-            own: &[File {
-                name: "p.aux",
-                bytes: $aux,
-            }],
-            failing: $failing,
-            status: Status::$status,
-            out: $out,
-            err: $err,
-        }
+        example!(["run", "p.aux", "99"], STYLE_AND_DATA, [file_of!("p.aux", $aux)], $failing => $status, $out, $err)
     };
 }
 

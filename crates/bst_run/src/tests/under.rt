@@ -24,32 +24,11 @@ const AGAIN_CERT: &[u8] =
 /// What is answered to a run of so many steps under a certificate over the files `p.aux`, `s.bst`, `d.bib` and `b.cert`.
 macro_rules! under {
     ($aux:expr, $style:expr, $data:expr, $cert:expr, $steps:literal => $status:ident, $out:expr, $err:expr) => {
-        Example {
-            words: &["run", "p.aux", $steps, "b.cert"],
-            shared: &[],
-            own: &[
-                File {
-                    name: "p.aux",
-                    bytes: $aux,
-                },
-                File {
-                    name: "s.bst",
-                    bytes: $style,
-                },
-                File {
-                    name: "d.bib",
-                    bytes: $data,
-                },
-                File {
-                    name: "b.cert",
-                    bytes: $cert,
-                },
-            ],
-            failing: Failing::Nothing,
-            status: Status::$status,
-            out: $out,
-            err: $err,
-        }
+        told!(
+            ["run", "p.aux", $steps, "b.cert"],
+            [file_of!("p.aux", $aux), file_of!("s.bst", $style), file_of!("d.bib", $data), file_of!("b.cert", $cert)]
+            => $status, $out, $err
+        )
     };
 }
 

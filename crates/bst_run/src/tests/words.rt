@@ -4,17 +4,14 @@ use crate::tests::check::JOINS;
 use crate::tests::{Example, Failing, File};
 use bv_base::status::Status;
 
-const USAGE: &str =
+pub const USAGE: &str =
     "usage: check STYLE CERT; infer STYLE [COND]; run AUX N [CERT]; gen SEED COUNT\n";
 
 /// The style alone.
-const STYLE: &[File] = &[File {
-    name: "a.bst",
-    bytes: JOINS,
-}];
+const STYLE: &[File] = &[file_of!("a.bst", JOINS)];
 
 /// Words of a form without their files, and words of none.
-pub static WORDS: [Example; 12] = [
+pub static WORDS: [Example; 11] = [
     answered!(["check", "a.bst", "b.cert"], &[], Failing::Nothing => NoFile, "", "no file a.bst\n"),
     answered!(["check", "a.bst", "b.cert"], STYLE, Failing::Nothing => NoFile, "", "no file b.cert\n"),
     answered!(["check", "a.bst"], STYLE, Failing::Nothing => Usage, "", USAGE),
@@ -24,7 +21,6 @@ pub static WORDS: [Example; 12] = [
     answered!(["infer", "a.bst", "c.cond", "c"], STYLE, Failing::Nothing => Usage, "", USAGE),
     answered!(["Infer", "a.bst"], STYLE, Failing::Nothing => Usage, "", USAGE),
     answered!(["run", "a.aux"], STYLE, Failing::Nothing => Usage, "", USAGE),
-    answered!(["gen", "1", "1"], STYLE, Failing::Nothing => Usage, "", USAGE),
     answered!(["--help"], STYLE, Failing::Nothing => Usage, "", USAGE),
     answered!([], STYLE, Failing::Nothing => Usage, "", USAGE),
 ];

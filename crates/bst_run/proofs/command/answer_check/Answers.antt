@@ -10,7 +10,7 @@ pub returns-clause-answer : goal.returns-clause-answer
 returns-clause-answer g c =
     told_answer g.F.Files c.args.files.now c.check-found.new.files (Check c.args.style.now c.args.cert.now)
     (λ t. check_outcome t c.args.style.now c.args.cert.now) c.check-found.result c.told.result
-    c.check-found.ensures.reads c.check-found.ensures.decided c.check-found.ensures.safe (λ under. absurd under) (λ t. refl) c.told.ensures
+    c.check-found.ensures.reads c.check-found.ensures.decided c.check-found.ensures.safe (λ under. absurd under) (λ t. refl) (λ o. tt) c.told.ensures
 
 pub returns-clause-begun : goal.returns-clause-begun
 returns-clause-begun g c =

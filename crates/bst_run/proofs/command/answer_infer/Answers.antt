@@ -10,7 +10,7 @@ pub returns-clause-answer : goal.returns-clause-answer
 returns-clause-answer g c =
     told_answer g.F.Files c.args.files.now c.infer-found.new.files (Infer c.args.style.now (name_in c.args.cond))
     (λ t. infer_outcome t c.args.style.now (name_in c.args.cond)) c.infer-found.result c.told.result
-    c.infer-found.ensures.reads c.infer-found.ensures.decided c.infer-found.ensures.safe (λ under. absurd under) (λ t. refl) c.told.ensures
+    c.infer-found.ensures.reads c.infer-found.ensures.decided c.infer-found.ensures.safe (λ under. absurd under) (λ t. refl) (λ o. tt) c.told.ensures
 
 pub returns-clause-begun : goal.returns-clause-begun
 returns-clause-begun g c =

@@ -11,7 +11,7 @@ returns-clause-answer g c =
     told_answer g.F.Files c.args.files.now c.run-found.new.files (Run c.args.aux.now c.args.steps)
     (λ t. run_outcome t c.args.aux.now c.args.steps) c.run-found.result c.told.result
     c.run-found.ensures.reads c.run-found.ensures.decided
-    (run_promises (g.F.Files.told c.args.files.now) c.args.aux.now c.args.steps c.run-found.result) (λ under. absurd under) (λ t. refl) c.told.ensures
+    (run_promises (g.F.Files.told c.args.files.now) c.args.aux.now c.args.steps c.run-found.result) (λ under. absurd under) (λ t. refl) (λ o. tt) c.told.ensures
 
 pub returns-clause-begun : goal.returns-clause-begun
 returns-clause-begun g c =

@@ -12,7 +12,7 @@ returns-clause-answer g c =
     (λ t. under_outcome t c.args.aux.now c.args.steps c.args.cert.now) c.run_under-found.result c.told.result
     c.run_under-found.ensures.reads c.run_under-found.ensures.decided
     (under_promises (g.F.Files.told c.args.files.now) c.args.aux.now c.args.steps c.args.cert.now c.run_under-found.result)
-    (λ under. c.run_under-found.ensures.outside) (λ t. refl) c.told.ensures
+    (λ under. c.run_under-found.ensures.outside) (λ t. refl) (λ o. tt) c.told.ensures
 
 pub returns-clause-begun : goal.returns-clause-begun
 returns-clause-begun g c =

@@ -1,4 +1,4 @@
-use Rattle.bst_run.proofs.CommandLemmas.{form_not_usage, form_answered, no_file_shown, read_failed_shown, write_failed_shown, form_safe, form_done, form_inside}
+use Rattle.bst_run.proofs.CommandLemmas.{form_not_usage, form_answered, no_file_shown, read_failed_shown, write_failed_shown, form_safe, form_done, form_inside, form_made}
 use Rattle.bst_run.proofs.BegunLemmas.{form_begun}
 use Rattle.bst_run.proofs.DeliveryLemmas.{sinks_told}
 use Rattle.bst_run.specs.Delivery.{sunk}
@@ -43,3 +43,7 @@ returns-clause-begun g c =
 pub returns-clause-inside : goal.returns-clause-inside
 returns-clause-inside g c = λ inside is.
     form_inside g.F.Files c.args.files.now c.answer-outcome.new.files (form_in c.args.form) c.answer-outcome.result c.deliver.result (sunk g.O.Sink c.args.out.now c.deliver.new.out) (sunk g.E.Sink c.args.err.now c.deliver.new.err) c.answer-outcome.ensures.answer c.deliver.ensures inside is
+
+pub returns-clause-made : goal.returns-clause-made
+returns-clause-made g c =
+    form_made g.F.Files c.args.files.now c.answer-outcome.new.files (form_in c.args.form) c.answer-outcome.result c.deliver.result (sunk g.O.Sink c.args.out.now c.deliver.new.out) (sunk g.E.Sink c.args.err.now c.deliver.new.err) c.answer-outcome.ensures.answer c.deliver.ensures

@@ -7,5 +7,5 @@ use Rattle.bst_step.proofs.lines.break_at.Given as goal
 abbrev pub invariant-loop-at : goal.invariant-loop-at
 invariant-loop-at l = record {
   place : rule.break_among l.best (rule.white_places l.at (drop l.at l.buffer)) ≡ rule.break_among None (rule.white_places 0 l.buffer);
-  within : IfSome l.best (λ at. at ≤ length l.buffer);
+  within : IfSome l.best (λ at. (3 ≤ at) × (at ≤ length l.buffer) × (at ≤ l.at));
 }

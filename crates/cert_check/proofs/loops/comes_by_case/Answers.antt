@@ -10,6 +10,6 @@ pub returns-in_err-comes-in-Some-clause-comes : goal.returns-in_err-comes-in-Som
 returns-in_err-comes-in-Some-clause-comes c =
     let p = err_from_is_err_and c.from_residual.result c.from_residual.ensures.1 in
     rw (p.1, p.2, c.in-Some.is)
-    (step_refused c.args.place
-    (comes_by c.args.unit.now c.args.scope.now.cert.cond c.in-Some.case.now c.args.state.now c.args.course.now.hints)
+    (step_refused c.args.at.now.place
+    (comes_by c.args.unit.now c.args.at.now.scope.now.cert.cond c.in-Some.case.now c.args.state.now c.args.course.now.hints)
     _ c.in_err-comes-in-Some.field-0.0 c.in_err-comes-in-Some.ensures.comes)

@@ -8,8 +8,8 @@ use Rattle.cert_check.proofs.turns.all_tested.Given as goal
 -- the states that are left give what all of them do
 abbrev pub invariant-loop-state : goal.invariant-loop-state
 invariant-loop-state l = record {
-  tested : rule.all_tested l.scope l.place l.one (into_iter_items l.state-iterator) l.course
-      ≡ rule.all_tested l.scope l.place l.one l.fn.states.items l.initial.course;
-  room : All (HasRoom l.scope.style 65 l.course.count) (into_iter_items l.state-iterator);
+  tested : rule.all_tested l.at.scope.now l.at.place l.one (into_iter_items l.state-iterator) l.course
+      ≡ rule.all_tested l.at.scope.now l.at.place l.one l.fn.states.items l.initial.course;
+  room : All (HasRoom l.at.scope.now.style 65 l.course.count) (into_iter_items l.state-iterator);
   none : l.course.given ≡ [];
 }

@@ -3,5 +3,5 @@ use Rattle.cert_check.proofs.turns.tested.Goals as goal
 
 pub returns-clause-takes : goal.returns-clause-takes
 returns-clause-takes c =
-    tested_takes c.args.scope.now c.args.place c.args.one.now c.args.state.now c.args.course.now c.signs.new.self c.all_turned.new.course
+    tested_takes c.args.at.now.scope.now c.args.at.now.place c.args.one.now c.args.state.now c.args.course.now c.signs.new.self c.all_turned.new.course
     c.in_ok-cases.cases.items c.all_turned.result (c.in_ok-cases.ensures.takes c.args.one.now) c.all_turned.ensures.takes

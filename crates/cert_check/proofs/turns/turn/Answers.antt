@@ -6,7 +6,7 @@ use Rattle.cert_check.proofs.turns.turn.Goals as goal
 -- the states at the test's end
 pub all_tested-requires-clause-room : goal.all_tested-requires-clause-room
 all_tested-requires-clause-room c =
-    left_room c.args.scope.now c.args.place c.args.one.now.test 65 c.in_ok-state.state c.args.course.now c.target_entered.new.course c.take_given-states.new.self
-    c.take_given-states.result.items c.requires.sound c.requires.cert
-    (room_on c.args.scope.now.style 129 129 0 c.args.course.now.count c.in_ok-state.state (omega arith) (omega arith) c.in_ok-state.ensures.room)
+    left_room c.args.at.now.scope.now c.args.at.now.place c.args.one.now.test 65 c.in_ok-state.state c.args.course.now c.target_entered.new.course c.take_given-states.new.self
+    c.take_given-states.result.items c.requires.sound.sound c.requires.sound.certified
+    (room_on c.args.at.now.scope.now.style 129 129 0 c.args.course.now.count c.in_ok-state.state (omega arith) (omega arith) c.in_ok-state.ensures.room)
     c.requires.none c.in_ok-target_entered.ensures.takes c.take_given-states.ensures.given c.take_given-states.ensures.left

@@ -11,7 +11,7 @@ returns-in_err-turn c =
     let p = err_from_is_err_and c.from_residual.result c.from_residual.ensures.1 in
     rw (p.1, p.2)
     (record {
-      takes = turn_refused c.args.scope.now c.args.place c.args.one.now _ _ _ c.loop-case.course _ c.in_err-turn.field-0.0
+      takes = turn_refused c.args.at.now.scope.now c.args.at.now.place c.args.one.now _ _ _ c.loop-case.course _ c.in_err-turn.field-0.0
           (item_at c.args.cases.now c.loop-case.case-index c.case-item.result c.loop-case-test.true
           ∙ ap (λ (piece : Piece). piece ∷ drop (c.loop-case.case-index + 1) c.args.cases.now) (sym c.case-item.is))
           c.loop-case.invariant.turned c.in_err-turn.ensures.takes;
@@ -19,7 +19,7 @@ returns-in_err-turn c =
 
 pub loop-case-preserved : goal.loop-case-preserved
 loop-case-preserved c = record {
-  turned = next_turned c.args.scope.now c.args.place c.args.one.now _ _ _ c.loop-case.course c.turn.new.course _
+  turned = next_turned c.args.at.now.scope.now c.args.at.now.place c.args.one.now _ _ _ c.loop-case.course c.turn.new.course _
       (item_at c.args.cases.now c.loop-case.case-index c.case-item.result c.loop-case-test.true
       ∙ ap (λ (piece : Piece). piece ∷ drop (c.loop-case.case-index + 1) c.args.cases.now) (sym c.case-item.is))
       c.loop-case.invariant.turned c.in_ok-turn.ensures.takes;

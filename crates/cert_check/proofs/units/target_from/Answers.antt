@@ -10,7 +10,7 @@ target_entered-requires-clause-room c =
 pub loop-state-preserved : goal.loop-state-preserved
 loop-state-preserved c =
     let kept = target_kept c.args.scope.now c.args.place c.args.target (into_iter_items c.loop-state.state-iterator) (into_iter_items c.next.new.self) c.in-Some.state
-    c.loop-state.course c.target_entered.new.course c.requires.sound c.requires.cert c.in-Some.ensures.steps.0 c.loop-state.invariant.room
+    c.loop-state.course c.target_entered.new.course c.requires.sound.sound c.requires.sound.certified c.in-Some.ensures.steps.0 c.loop-state.invariant.room
     c.in_ok-target_entered.ensures.takes in
     record {
       entered = next_target c.args.scope.now c.args.place c.args.target (into_iter_items c.loop-state.state-iterator) (into_iter_items c.next.new.self)

@@ -19,12 +19,9 @@ body_walked-walked-requires t c = (
   (
     c.requires.sound,
     (
-      c.requires.cert,
-      (
-        tokens_sound c.args.scope.now c.args.body c.tokens_of.result.now c.requires.sound
-            (c.tokens_of.ensures ∙ ap (λ (style : Style). tokens_of style c.args.body) c.style.ensures),
-        begun_room c.args.scope.now c.args.state c.args.course.now c.begin.new.self c.requires.room c.in_ok-given.ensures.1,
-      ),
+      tokens_sound c.args.at.now.scope.now c.args.body c.tokens_of.result.now c.requires.sound.sound
+          (c.tokens_of.ensures ∙ ap (λ (style : Style). tokens_of style c.args.body) c.style.ensures),
+      begun_room c.args.at.now.scope.now c.args.state c.args.course.now c.begin.new.self c.requires.room c.in_ok-given.ensures.1,
     ),
   ),
 )
@@ -34,7 +31,7 @@ body_walked-returns-in_err-walked t c =
     let p = err_from_is_err_and c.from_residual-in_err-walked.result c.from_residual-in_err-walked.ensures.1 in
     rw (p.1, p.2)
     (record {
-      takes = body_refused c.args.scope.now c.args.more c.args.place c.args.body c.args.state c.args.course.now c.begin.new.self c.tokens_of.result.now
+      takes = body_refused c.args.at.now.scope.now c.args.at.now.more c.args.at.now.place c.args.body c.args.state c.args.course.now c.begin.new.self c.tokens_of.result.now
           c.in_err-walked.field-0.0 (omega arith) c.in_ok-given.ensures.1
           (c.tokens_of.ensures ∙ ap (λ (style : Style). tokens_of style c.args.body) c.style.ensures)
           c.in_err-walked.ensures.takes;
@@ -43,7 +40,7 @@ body_walked-returns-in_err-walked t c =
 pub body_walked-returns : goal.body_walked-returns
 body_walked-returns t c =
     record {
-      takes = body_takes c.args.scope.now c.args.more c.args.place c.args.body c.args.state c.args.course.now c.begin.new.self c.walked.new.course
+      takes = body_takes c.args.at.now.scope.now c.args.at.now.more c.args.at.now.place c.args.body c.args.state c.args.course.now c.begin.new.self c.walked.new.course
           c.end.new.self c.tokens_of.result.now c.in_ok-given.given.items c.end.result (omega arith) c.in_ok-given.ensures.1
           (c.tokens_of.ensures ∙ ap (λ (style : Style). tokens_of style c.args.body) c.style.ensures)
           c.in_ok-given.ensures.0 c.in_ok-walked.ensures.takes c.end.ensures.takes;
@@ -52,28 +49,28 @@ body_walked-returns t c =
 -- a built-in function that enters nothing
 pub named-returns-in-Some-Builtin : goal.named-returns-in-Some-Builtin
 named-returns-in-Some-Builtin t c =
-    let enter = body_walked c.args.scope.now c.args.more in
+    let enter = body_walked c.args.at.now.scope.now c.args.at.now.more in
     record {
-      takes = built_in_takes c.args.scope.now enter (chosen_in c.args.scope.now enter c.args.place) (kind_of c.args.scope.now.style c.args.name)
-          c.in-Some-Builtin.op c.args.name c.args.place c.args.state c.args.course.now c.entering_nothing.new.self c.entering_nothing.result (search rules) (search rules)
+      takes = built_in_takes c.args.at.now.scope.now enter (chosen_in c.args.at.now.scope.now enter c.args.at.now.place) (kind_of c.args.at.now.scope.now.style c.args.name)
+          c.in-Some-Builtin.op c.args.name c.args.at.now.place c.args.state c.args.course.now c.entering_nothing.new.self c.entering_nothing.result (search rules) (search rules)
           c.entering_nothing.ensures.takes;
     }
 
 -- the next case
 pub cases_entered-function_entered-requires : goal.cases_entered-function_entered-requires
 cases_entered-function_entered-requires t c =
-    let within = case_within c.args.scope.now.style c.args.known c.loop-above.course.count (into_iter_items c.loop-above.above-iterator)
+    let within = case_within c.args.at.now.scope.now.style c.args.at.now.known c.loop-above.course.count (into_iter_items c.loop-above.above-iterator)
     (into_iter_items c.next.new.self) (c.in-Some.above, c.in-Some.state) c.in-Some.ensures.steps.0 c.loop-above.invariant.cases in
-    (search rules, (c.requires.sound, (c.requires.cert, (within.room, within.operands))))
+    (search rules, (c.requires.sound, (within.room, within.operands)))
 
 pub cases_entered-loop-above-preserved : goal.cases_entered-loop-above-preserved
 cases_entered-loop-above-preserved t c = record {
-  entered = next_entered c.args.scope.now (body_walked c.args.scope.now c.args.more) c.args.place c.args.three.now (into_iter_items c.loop-above.above-iterator)
+  entered = next_entered c.args.at.now.scope.now (body_walked c.args.at.now.scope.now c.args.at.now.more) c.args.at.now.place c.args.three.now (into_iter_items c.loop-above.above-iterator)
       (into_iter_items c.next.new.self) c.in-Some.above c.in-Some.state c.function-function.result c.exact_target-target.result c.loop-above.course
       c.function_entered.new.course _ c.in-Some.ensures.steps.0 c.function-function.ensures (search rules) c.loop-above.invariant.entered
       c.in_ok-function_entered.ensures.takes;
-  cases = rest_within c.args.scope.now c.args.more c.args.known c.args.place (into_iter_items c.loop-above.above-iterator) (into_iter_items c.next.new.self)
-      c.in-Some.above c.in-Some.state c.exact_target-target.result c.loop-above.course c.function_entered.new.course c.requires.sound c.requires.cert
+  cases = rest_within c.args.at.now.scope.now c.args.at.now.more c.args.at.now.known c.args.at.now.place (into_iter_items c.loop-above.above-iterator) (into_iter_items c.next.new.self)
+      c.in-Some.above c.in-Some.state c.exact_target-target.result c.loop-above.course c.function_entered.new.course c.requires.sound.sound c.requires.sound.certified
       c.in-Some.ensures.steps.0 c.loop-above.invariant.cases c.in_ok-function_entered.ensures.takes;
 }
 
@@ -83,26 +80,26 @@ chosen_in-returns-in_err-three t c =
     let p = err_from_is_err_and c.from_residual.result c.from_residual.ensures.1 in
     rw (p.1, p.2)
     (record {
-      takes = chosen_refused c.args.scope.now (body_walked c.args.scope.now c.args.more) c.args.place c.args.state c.args.course.now c.in_err-three.field-0.0
-          (c.in_err-three.ensures.takes (body_walked c.args.scope.now c.args.more) (by_own_stack c.args.scope.now (body_walked c.args.scope.now c.args.more) c.args.place));
+      takes = chosen_refused c.args.at.now.scope.now (body_walked c.args.at.now.scope.now c.args.at.now.more) c.args.at.now.place c.args.state c.args.course.now c.in_err-three.field-0.0
+          (c.in_err-three.ensures.takes (body_walked c.args.at.now.scope.now c.args.at.now.more) (by_own_stack c.args.at.now.scope.now (body_walked c.args.at.now.scope.now c.args.at.now.more) c.args.at.now.place));
     })
 
 pub chosen_in-overflow_sub-known : goal.chosen_in-overflow_sub-known
-chosen_in-overflow_sub-known t c = (c.in_ok-three.ensures.cases c.args.known c.requires.known).some
+chosen_in-overflow_sub-known t c = (c.in_ok-three.ensures.cases c.args.at.now.known c.requires.known).some
 
 pub chosen_in-cases_entered-requires : goal.chosen_in-cases_entered-requires
 chosen_in-cases_entered-requires t c =
-    let within = c.in_ok-three.ensures.cases c.args.known c.requires.known in
+    let within = c.in_ok-three.ensures.cases c.args.at.now.known c.requires.known in
     let some = within.some in
-    (search (rules, some), (c.requires.sound, (c.requires.cert, within.each)))
+    (search (rules, some), (c.requires.sound, within.each))
 
 pub chosen_in-returns : goal.chosen_in-returns
 chosen_in-returns t c =
-    let enter = body_walked c.args.scope.now c.args.more in
+    let enter = body_walked c.args.at.now.scope.now c.args.at.now.more in
     record {
-      takes = chosen_takes c.args.scope.now enter c.args.place c.args.state c.in_ok-three.three c.in_ok-three.cases.items c.args.course.now c.chooses.new.self
+      takes = chosen_takes c.args.at.now.scope.now enter c.args.at.now.place c.args.state c.in_ok-three.three c.in_ok-three.cases.items c.args.course.now c.chooses.new.self
           c.cases_entered.new.course c.cases_entered.result
-          (c.in_ok-three.ensures.takes enter (by_own_stack c.args.scope.now enter c.args.place)) c.cases_entered.ensures.takes;
+          (c.in_ok-three.ensures.takes enter (by_own_stack c.args.at.now.scope.now enter c.args.at.now.place)) c.cases_entered.ensures.takes;
     }
 
 -- the next state
@@ -111,21 +108,18 @@ taken_from-taken-requires t c = (
   search rules,
   (
     c.requires.sound,
-    (
-      c.requires.cert,
-      first_room c.args.scope.now.style c.loop-state.course.count (into_iter_items c.loop-state.state-iterator) (into_iter_items c.next.new.self) c.in-Some.state
-          c.in-Some.ensures.steps.0 c.loop-state.invariant.room,
-    ),
+    first_room c.args.at.now.scope.now.style c.loop-state.course.count (into_iter_items c.loop-state.state-iterator) (into_iter_items c.next.new.self) c.in-Some.state
+        c.in-Some.ensures.steps.0 c.loop-state.invariant.room,
   ),
 )
 
 pub taken_from-loop-state-preserved : goal.taken_from-loop-state-preserved
 taken_from-loop-state-preserved t c = record {
-  taken = next_taken c.args.scope.now (body_walked c.args.scope.now c.args.more) c.args.at.now (into_iter_items c.loop-state.state-iterator)
+  taken = next_taken c.args.at.now.scope.now (body_walked c.args.at.now.scope.now c.args.at.now.more) c.args.token.now (into_iter_items c.loop-state.state-iterator)
       (into_iter_items c.next.new.self) c.in-Some.state c.loop-state.course c.taken.new.course _ c.in-Some.ensures.steps.0 c.loop-state.invariant.taken
       c.in_ok-taken.ensures.takes;
-  room = rest_room c.args.scope.now c.args.more c.args.at.now (into_iter_items c.loop-state.state-iterator) (into_iter_items c.next.new.self) c.in-Some.state
-      c.loop-state.course c.taken.new.course c.requires.sound c.requires.cert c.requires.token c.in-Some.ensures.steps.0 c.loop-state.invariant.room
+  room = rest_room c.args.at.now.scope.now c.args.at.now.more c.args.token.now (into_iter_items c.loop-state.state-iterator) (into_iter_items c.next.new.self) c.in-Some.state
+      c.loop-state.course c.taken.new.course c.requires.sound.sound c.requires.sound.certified c.requires.token c.in-Some.ensures.steps.0 c.loop-state.invariant.room
       c.in_ok-taken.ensures.takes;
 }
 
@@ -133,11 +127,11 @@ taken_from-loop-state-preserved t c = record {
 pub typed-loop-name-preserved : goal.typed-loop-name-preserved
 typed-loop-name-preserved t c =
     let same = branch_is c.args.state.now c.in_ok-one.one c.branch-state.result c.in_ok-one.ensures c.branch-state.ensures in record {
-      typed = next_called c.args.scope.now (body_walked c.args.scope.now c.args.more) c.args.place (into_iter_items c.loop-name.name-iterator)
+      typed = next_called c.args.at.now.scope.now (body_walked c.args.at.now.scope.now c.args.at.now.more) c.args.at.now.place (into_iter_items c.loop-name.name-iterator)
           (into_iter_items c.next.new.self) c.in-Some.name c.args.state.now c.in_ok-one.one c.loop-name.course c.type_called.new.course _ c.in-Some.ensures.steps.0
           same c.loop-name.invariant.typed c.in_ok-type_called.ensures.takes;
-      room = called_room c.args.scope.now c.args.more c.args.place c.in-Some.name c.args.state.now c.in_ok-one.one c.loop-name.course c.type_called.new.course
-          c.requires.sound c.requires.cert same c.loop-name.invariant.room c.in_ok-type_called.ensures.takes;
+      room = called_room c.args.at.now.scope.now c.args.at.now.more c.args.at.now.place c.in-Some.name c.args.state.now c.in_ok-one.one c.loop-name.course c.type_called.new.course
+          c.requires.sound.sound c.requires.sound.certified same c.loop-name.invariant.room c.in_ok-type_called.ensures.takes;
     }
 
 pub typed-returns-in_err-type_called : goal.typed-returns-in_err-type_called
@@ -145,21 +139,21 @@ typed-returns-in_err-type_called t c =
     let p = err_from_is_err_and c.from_residual-in_err-type_called.result c.from_residual-in_err-type_called.ensures.1 in
     rw (p.1, p.2)
     (record {
-      takes = called_refused c.args.scope.now (body_walked c.args.scope.now c.args.more) c.args.place (into_iter_items c.loop-name.name-iterator)
+      takes = called_refused c.args.at.now.scope.now (body_walked c.args.at.now.scope.now c.args.at.now.more) c.args.at.now.place (into_iter_items c.loop-name.name-iterator)
           (into_iter_items c.next.new.self) c.in-Some.name c.args.state.now c.in_ok-one.one c.loop-name.course _ c.in_err-type_called.field-0.0
           c.in-Some.ensures.steps.0 (branch_is c.args.state.now c.in_ok-one.one c.branch-state.result c.in_ok-one.ensures c.branch-state.ensures)
           c.loop-name.invariant.typed c.in_err-type_called.ensures.takes;
     })
 
 -- the next token
-pub walked-loop-at-preserved : goal.walked-loop-at-preserved
-walked-loop-at-preserved t c = record {
-  walked = next_walked c.args.scope.now (body_walked c.args.scope.now c.args.more) _ _ _ c.take_given-states.result.items c.loop-at.course
-      c.take_given-states.new.self c.taken_from.new.course _ (item_at c.args.tokens.now c.loop-at.at-index _ c.loop-at-test.true)
-      c.take_given-states.ensures.left c.take_given-states.ensures.given c.loop-at.invariant.walked c.in_ok-taken_from.ensures.takes;
-  room = token_kept c.args.scope.now c.args.more _ c.take_given-states.result.items c.loop-at.course c.take_given-states.new.self c.taken_from.new.course
-      c.requires.sound c.requires.cert
-      (each_at (λ (at : TokenAt). IsTokenSound c.args.scope.now.style.names c.args.scope.now.style.bodies c.args.scope.now.style.texts at.token)
-      c.args.tokens.now c.loop-at.at-index _ c.requires.tokens c.loop-at-test.true)
-      c.take_given-states.ensures.left c.take_given-states.ensures.given c.loop-at.invariant.room c.in_ok-taken_from.ensures.takes;
+pub walked-loop-token-preserved : goal.walked-loop-token-preserved
+walked-loop-token-preserved t c = record {
+  walked = next_walked c.args.at.now.scope.now (body_walked c.args.at.now.scope.now c.args.at.now.more) _ _ _ c.take_given-states.result.items c.loop-token.course
+      c.take_given-states.new.self c.taken_from.new.course _ (item_at c.args.tokens.now c.loop-token.token-index _ c.loop-token-test.true)
+      c.take_given-states.ensures.left c.take_given-states.ensures.given c.loop-token.invariant.walked c.in_ok-taken_from.ensures.takes;
+  room = token_kept c.args.at.now.scope.now c.args.at.now.more _ c.take_given-states.result.items c.loop-token.course c.take_given-states.new.self c.taken_from.new.course
+      c.requires.sound.sound c.requires.sound.certified
+      (each_at (λ (at : TokenAt). IsTokenSound c.args.at.now.scope.now.style.names c.args.at.now.scope.now.style.bodies c.args.at.now.scope.now.style.texts at.token)
+      c.args.tokens.now c.loop-token.token-index _ c.requires.tokens c.loop-token-test.true)
+      c.take_given-states.ensures.left c.take_given-states.ensures.given c.loop-token.invariant.room c.in_ok-taken_from.ensures.takes;
 }

@@ -14,7 +14,7 @@ returns-in_err-between-2 c =
     rw (p.1, p.2)
     (command_refused c.args.style.now c.args.cert.now c.loop-index.index c.loop-index.between _ _ c.in_err-between-2.field-0.0
     (one_command c.args.style.now c.args.checker.now.style c.args.cert.now c.args.checker.now.cert c.loop-index.index c.loop-index.between c.loop-index.records.now
-    c.as_slice-at-items.result.now _ c.first_record.result.0 c.requires.style c.requires.cert c.as_slice-at-items.ensures (let within = c.loop-index-test.true in omega (arith, within))
+    c.as_slice-command-items.result.now _ c.first_record.result.0 c.requires.style c.requires.cert c.as_slice-command-items.ensures (let within = c.loop-index-test.true in omega (arith, within))
     c.first_record.ensures.record c.loop-index.invariant.later)
     c.loop-index.invariant.left c.in_err-between-2.ensures.decides)
 
@@ -22,7 +22,7 @@ pub loop-index-preserved : goal.loop-index-preserved
 loop-index-preserved c = record {
   left = next_command c.args.style.now c.args.cert.now c.loop-index.index c.loop-index.between c.in_ok-between-2.between _ _
       (one_command c.args.style.now c.args.checker.now.style c.args.cert.now c.args.checker.now.cert c.loop-index.index c.loop-index.between c.loop-index.records.now
-      c.as_slice-at-items.result.now _ c.first_record.result.0 c.requires.style c.requires.cert c.as_slice-at-items.ensures (let within = c.loop-index-test.true in omega (arith, within))
+      c.as_slice-command-items.result.now _ c.first_record.result.0 c.requires.style c.requires.cert c.as_slice-command-items.ensures (let within = c.loop-index-test.true in omega (arith, within))
       c.first_record.ensures.record c.loop-index.invariant.later)
       c.loop-index.invariant.left c.in_ok-between-2.ensures.decides;
   from = c.first_record.ensures.from;

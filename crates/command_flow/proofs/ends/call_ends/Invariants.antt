@@ -7,6 +7,6 @@ use Rattle.command_flow.proofs.ends.call_ends.Given as goal
 -- what is left with the hints that are left is all with all hints
 abbrev pub invariant-loop-state : goal.invariant-loop-state
 invariant-loop-state l = record {
-  left : rule.call_ends l.cond l.place l.pieces (drop l.state-index l.states) l.hints ≡ rule.call_ends l.cond l.place l.pieces l.states l.fn.hints;
+  left : rule.call_ends l.at.cond.now l.at.command.place l.pieces (drop l.state-index l.states) l.hints ≡ rule.call_ends l.at.cond.now l.at.command.place l.pieces l.states l.fn.hints;
   proofs : All HasFewUses l.hints;
 }

@@ -7,6 +7,6 @@ use Rattle.command_flow.proofs.ends.pieces_shown.Given as goal
 -- what is left with the hints that are left is all with all hints
 abbrev pub invariant-loop-piece : goal.invariant-loop-piece
 invariant-loop-piece l = record {
-  left : rule.pieces_shown l.cond l.place l.state (drop l.piece-index l.pieces) l.hints ≡ rule.pieces_shown l.cond l.place l.state l.pieces l.fn.hints;
+  left : rule.pieces_shown l.at.cond.now l.at.command.place l.state (drop l.piece-index l.pieces) l.hints ≡ rule.pieces_shown l.at.cond.now l.at.command.place l.state l.pieces l.fn.hints;
   proofs : All HasFewUses l.hints;
 }

@@ -12,22 +12,22 @@ returns-in_err-found-clause-finds c =
     rw (p.1, p.2)
     (found_refused c.args.finding c.args.checker.now.style c.args.checker.now.cert c.loop-index.index c.loop-index.between c.loop-index.parts.items _ _ c.in_err-found.field-0.0
     (one_found c.args.finding c.args.checker.now.style c.args.style.now c.args.checker.now.cert c.loop-index.index c.loop-index.between c.loop-index.parts.items
-    c.as_slice-at-items.result.now _ c.requires.style c.as_slice-at-items.ensures (let within = c.loop-index-test.true in omega (arith, within)))
+    c.as_slice-command-items.result.now _ c.requires.style c.as_slice-command-items.ensures (let within = c.loop-index-test.true in omega (arith, within)))
     c.loop-index.invariant.left c.in_err-found.ensures.decides)
 
 pub loop-index-preserved : goal.loop-index-preserved
 loop-index-preserved c =
     let put = put_on (c.push_record.new.parts.items ≡ c.loop-index.parts.items ++ record_of c.loop-index.index c.in_ok-found.found.hints)
     c.push_record.result c.in_ok-held.field-0 c.in_ok-held.ensures c.push_record.ensures in
-    let there : c.loop-index.index < length c.as_slice-at-items.result.now = (let within = c.loop-index-test.true in omega (arith, within)) in
+    let there : c.loop-index.index < length c.as_slice-command-items.result.now = (let within = c.loop-index-test.true in omega (arith, within)) in
     record {
       left = found_next c.args.finding c.args.checker.now.style c.args.checker.now.cert c.loop-index.index c.loop-index.between c.loop-index.parts.items
           c.push_record.new.parts.items c.in_ok-found.found _ _
           (one_found c.args.finding c.args.checker.now.style c.args.style.now c.args.checker.now.cert c.loop-index.index c.loop-index.between c.loop-index.parts.items
-          c.as_slice-at-items.result.now _ c.requires.style c.as_slice-at-items.ensures there)
+          c.as_slice-command-items.result.now _ c.requires.style c.as_slice-command-items.ensures there)
           c.loop-index.invariant.left c.in_ok-found.ensures.decides put;
       records = before_next c.args.style.now c.loop-index.index c.loop-index.parts.items c.push_record.new.parts.items c.in_ok-found.found.hints
-          (subst (λ (l : List CommandAt). c.loop-index.index < length l) c.as_slice-at-items.ensures there) c.loop-index.invariant.records
+          (subst (λ (l : List CommandAt). c.loop-index.index < length l) c.as_slice-command-items.ensures there) c.loop-index.invariant.records
           c.in_ok-found.ensures.written put;
       ready = c.in_ok-found.ensures.ready;
     }

@@ -10,6 +10,6 @@ use Rattle.command_flow.proofs.flow.command_taken.Goals as goal
 
 pub command_checked-requires-clause-parts : goal.command_checked-requires-clause-parts
 command_checked-requires-clause-parts c =
-    subst (ArePartsReady c.args.style.now)
+    subst (ArePartsReady c.args.at.now.style.now)
     (sym (ok_has (λ (p : Parts). p ≡ parts_of (option_map (λ q. q.now) c.args.part)) c.parts_of.result c.in_ok-parts.parts c.in_ok-parts.ensures c.parts_of.ensures))
-    (parts_ready c.args.style.now (option_map (λ q. q.now) c.args.part) c.requires.part)
+    (parts_ready c.args.at.now.style.now (option_map (λ q. q.now) c.args.part) c.requires.part)

@@ -15,30 +15,30 @@ pub returns-in_err-visit_begins-clause-decides : goal.returns-in_err-visit_begin
 returns-in_err-visit_begins-clause-decides c =
     let p = err_from_is_err_and c.from_residual.result c.from_residual.ensures.1 in
     rw (p.1, p.2)
-    (begins_refused c.args.checker.now.style c.args.style.now c.args.checker.now.cert c.args.cond.now c.args.name c.args.place c.args.parts c.args.between
-    c.in_err-visit_begins.field-0.0 c.requires.style c.requires.cond c.in_err-visit_begins.ensures.begins)
+    (begins_refused c.args.at.now.checker.now.style c.args.at.now.style.now c.args.at.now.checker.now.cert c.args.at.now.cond.now c.args.name c.args.at.now.command.place c.args.parts c.args.between
+    c.in_err-visit_begins.field-0.0 c.requires.at.style c.requires.at.cond c.in_err-visit_begins.ensures.begins)
 
 pub visit_walked-requires-clause-ends : goal.visit_walked-requires-clause-ends
 visit_walked-requires-clause-ends c =
     let moved : Piece = piece_moved AtNext c.args.parts.visit in
     All-cons CanEnd c.in_ok-next.next (c.args.parts.keeps ∷ [])
     (subst CanEnd (sym (ok_has (λ (p : Piece). p ≡ moved) c.piece_moved-2.result c.in_ok-next.next c.in_ok-next.ensures c.piece_moved-2.ensures))
-    (ready_ends c.args.style.now moved (ready_moved c.args.style.now AtNext c.args.parts.visit c.requires.parts.visit c.requires.parts.movable)))
-    (All-cons CanEnd c.args.parts.keeps [] (ready_ends c.args.style.now c.args.parts.keeps c.requires.parts.keeps) (All-nil CanEnd))
+    (ready_ends c.args.at.now.style.now moved (ready_moved c.args.at.now.style.now AtNext c.args.parts.visit c.requires.parts.visit c.requires.parts.movable)))
+    (All-cons CanEnd c.args.parts.keeps [] (ready_ends c.args.at.now.style.now c.args.parts.keeps c.requires.parts.keeps) (All-nil CanEnd))
 
 pub returns-in_err-visit_walked-clause-decides : goal.returns-in_err-visit_walked-clause-decides
 returns-in_err-visit_walked-clause-decides c =
     let p = err_from_is_err_and c.from_residual-in_err-visit_walked.result c.from_residual-in_err-visit_walked.ensures.1 in
     rw (p.1, p.2)
-    (visits_refused c.args.checker.now.style c.args.style.now c.args.checker.now.cert c.args.cond.now c.args.name c.args.place c.args.parts c.args.between c.in_ok-next.next _
-    c.in_err-visit_walked.field-0.0 c.requires.style c.requires.cond
+    (visits_refused c.args.at.now.checker.now.style c.args.at.now.style.now c.args.at.now.checker.now.cert c.args.at.now.cond.now c.args.name c.args.at.now.command.place c.args.parts c.args.between c.in_ok-next.next _
+    c.in_err-visit_walked.field-0.0 c.requires.at.style c.requires.at.cond
     (ok_has (λ (q : Piece). q ≡ piece_moved AtNext c.args.parts.visit) c.piece_moved-2.result c.in_ok-next.next c.in_ok-next.ensures c.piece_moved-2.ensures)
     c.in_ok-visit_begins.ensures.begins c.in_err-visit_walked.ensures)
 
 pub returns-clause-decides : goal.returns-clause-decides
 returns-clause-decides c =
-    visits_ok c.args.checker.now.style c.args.style.now c.args.checker.now.cert c.args.cond.now c.args.name c.args.place c.args.parts c.args.between c.in_ok-next.next
-    c.in_ok-after.after c.in_ok-kept.kept _ [] c.requires.style c.requires.cond
+    visits_ok c.args.at.now.checker.now.style c.args.at.now.style.now c.args.at.now.checker.now.cert c.args.at.now.cond.now c.args.name c.args.at.now.command.place c.args.parts c.args.between c.in_ok-next.next
+    c.in_ok-after.after c.in_ok-kept.kept _ [] c.requires.at.style c.requires.at.cond
     (ok_has (λ (q : Piece). q ≡ piece_moved AtNext c.args.parts.visit) c.piece_moved-2.result c.in_ok-next.next c.in_ok-next.ensures c.piece_moved-2.ensures)
     c.in_ok-visit_begins.ensures.begins c.in_ok-visit_walked.ensures
     (ok_has (λ (q : Piece). q ≡ piece_moved AtEnd c.args.parts.visit) c.piece_moved.result c.in_ok-after.after c.in_ok-after.ensures c.piece_moved.ensures)
@@ -46,9 +46,9 @@ returns-clause-decides c =
 
 pub returns-clause-ready : goal.returns-clause-ready
 returns-clause-ready c = record {
-  globals = subst (IsReady c.args.style.now)
+  globals = subst (IsReady c.args.at.now.style.now)
       (sym (ok_has (λ (q : Piece). q ≡ piece_moved AtEnd c.args.parts.visit) c.piece_moved.result c.in_ok-after.after c.in_ok-after.ensures c.piece_moved.ensures))
-      (ready_moved c.args.style.now AtEnd c.args.parts.visit c.requires.parts.visit c.requires.parts.movable);
-  entry = subst (IsReady c.args.style.now)
+      (ready_moved c.args.at.now.style.now AtEnd c.args.parts.visit c.requires.parts.visit c.requires.parts.movable);
+  entry = subst (IsReady c.args.at.now.style.now)
       (sym (ok_has (λ (q : Piece). q ≡ c.args.parts.keeps) c.copied.result c.in_ok-kept.kept c.in_ok-kept.ensures c.copied.ensures)) c.requires.parts.keeps;
 }

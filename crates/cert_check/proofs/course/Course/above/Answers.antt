@@ -1,11 +1,15 @@
-use Rattle.std.proofs.Common.{◌≡◌, IfOk, subst}
+use Rattle.std.proofs.Common.{◌≡◌, subst}
 use Rattle.sym_state.specs.Demands.{Three}
-use Rattle.cert_check.specs.Given.{AreCases}
-use Rattle.cert_check.proofs.CasesWithin.{given_cases}
+use Rattle.cert_check.specs.Given.{GoesOn}
+use Rattle.cert_check.specs.Walks.{cases_entered, choice}
+use Rattle.cert_check.proofs.TourSteps.{choice_goes}
 use Rattle.cert_check.proofs.course.Course.above.Goals as goal
 
-pub returns-in-None-clause-cases : goal.returns-in-None-clause-cases
-returns-in-None-clause-cases c =
-    subst (λ (three : Three). IfOk c.above_in.result (λ cases. AreCases c.args.scope.now.cert.cond three.rest three.lowest cases.items)) c.three.view_is
-    (given_cases (λ cases. cases.items) c.args.scope.now.cert.cond c.args.place c.three.inside.rest c.three.inside.lowest c.args.self.now.hints
-    c.above_in.new.self.hints c.above_in.result c.above_in.ensures.takes)
+pub returns-clause-takes : goal.returns-clause-takes
+returns-clause-takes c enter call =
+    let scope = c.args.at.now.scope.now in
+    let place = c.args.at.now.place in
+    let three : Three = record { lowest = c.three.inside.lowest; middle = c.three.inside.middle; top = c.three.inside.top; rest = c.three.inside.rest } in
+    subst (λ (three : Three). GoesOn (choice scope enter call place three c.args.self.now)
+    (λ cases. cases_entered scope enter call place three cases.items c.sign.new.self) c.sign.result) c.three.view_is
+    (choice_goes (λ cases. cases.items) scope enter call place three c.args.self.now c.sign.new.self c.sign.result c.sign.ensures.takes)

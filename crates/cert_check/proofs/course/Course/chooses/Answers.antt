@@ -5,7 +5,7 @@ use Rattle.cert_check.proofs.course.Course.chooses.Goals as goal
 
 pub returns-clause-cases : goal.returns-clause-cases
 returns-clause-cases c known few =
-    subst (λ (count : ℕ). AreWithin c.args.scope.now.style known count c.in_ok-cases.cases.items)
+    subst (λ (count : ℕ). AreWithin c.args.at.now.scope.now.style known count c.in_ok-cases.cases.items)
     (sym c.in_ok-cases.ensures.counted)
-    (cases_within c.args.scope.now.style c.args.scope.now.cert.cond c.args.place c.args.state.now c.in_ok-three.three c.in_ok-cases.cases.items known
+    (cases_within c.args.at.now.scope.now.style c.args.at.now.scope.now.cert.cond c.args.at.now.place c.args.state.now c.in_ok-three.three c.in_ok-cases.cases.items known
     c.args.self.now.count c.requires.room few c.in_ok-three.ensures c.in_ok-cases.ensures.cases)

@@ -11,11 +11,11 @@ use Rattle.cert_check.proofs.course.Course.comes.Goals as goal
 pub returns-clause-comes : goal.returns-clause-comes
 returns-clause-comes c =
     subst (λ (hints : List Hint). MatchResult c.placed.result
-    (λ _. comes_by c.args.unit.now c.args.scope.now.cert.cond c.args.pre.now c.args.state.now hints ≡ Ok c.comes_by.new.hints)
-    (Refused (placed c.args.place (comes_by c.args.unit.now c.args.scope.now.cert.cond c.args.pre.now c.args.state.now hints))))
+    (λ _. comes_by c.args.unit.now c.args.at.now.scope.now.cert.cond c.args.pre.now c.args.state.now hints ≡ Ok c.comes_by.new.hints)
+    (Refused (placed c.args.at.now.place (comes_by c.args.unit.now c.args.at.now.scope.now.cert.cond c.args.pre.now c.args.state.now hints))))
     (ap (λ (course : Course). course.hints) c.self.view_is)
     (subst (λ (cond_of : Cond). MatchResult c.placed.result
     (λ _. comes_by c.args.unit.now cond_of c.args.pre.now c.args.state.now c.self.inside.hints ≡ Ok c.comes_by.new.hints)
-    (Refused (placed c.args.place (comes_by c.args.unit.now cond_of c.args.pre.now c.args.state.now c.self.inside.hints))))
+    (Refused (placed c.args.at.now.place (comes_by c.args.unit.now cond_of c.args.pre.now c.args.state.now c.self.inside.hints))))
     c.cond.ensures
-    (placed_leaves c.args.place _ _ c.comes_by.result c.placed.result c.placed.ensures c.comes_by.ensures.shown))
+    (placed_leaves c.args.at.now.place _ _ c.comes_by.result c.placed.result c.placed.ensures c.comes_by.ensures.shown))

@@ -1,0 +1,7 @@
+pub mod CasePieces
+pub mod EndStates
+pub mod FewCases
+pub mod FoundFrames
+pub mod NextTurns
+pub mod Sequences
+pub mod WrittenNames

@@ -1,0 +1,14 @@
+-- The hints at one end more.
+use Rattle.std.specs.Vec.Iter.{into_iter_items}
+use Rattle.infer_loops.specs.Invariants.{hints_at_end}
+use Rattle.infer_loops.proofs.EndStates.{ends_left, hints_more}
+use Rattle.infer_loops.proofs.loops.hints_of.Goals as goal
+
+pub loop-end-preserved : goal.loop-end-preserved
+loop-end-preserved c = record {
+  hints = hints_more (hints_at_end c.args.frame.now c.args.candidate.now c.args.exits.now) (into_iter_items c.loop-end.end-iterator)
+      (into_iter_items c.next.new.self) c.in-Some.end c.loop-end.hints.items c.push_hints.new.hints.items _ c.in-Some.ensures.steps.0
+      c.loop-end.invariant.hints c.in_ok-push_hints.ensures;
+  ends = ends_left c.args.frame.now.style (into_iter_items c.loop-end.end-iterator) (into_iter_items c.next.new.self) c.in-Some.end
+      c.in-Some.ensures.steps.0 c.loop-end.invariant.ends;
+}

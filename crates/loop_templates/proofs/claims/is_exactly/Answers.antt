@@ -1,0 +1,8 @@
+-- The sum with each sign turned is small too.
+use Rattle.std.proofs.Common.{subst, sym}
+use Rattle.loop_templates.specs.Sums.{IsSmallSum}
+use Rattle.loop_templates.proofs.SmallSums.{negated_small}
+use Rattle.loop_templates.proofs.claims.is_exactly.Goals as goal
+
+pub is_floor-requires-2-clause-sum : goal.is_floor-requires-2-clause-sum
+is_floor-requires-2-clause-sum c = subst IsSmallSum (sym c.requires.negative) (negated_small c.args.sum.now c.requires.sum)

@@ -1,0 +1,38 @@
+-- The rows of one sum more are looked at.
+use Rattle.std.proofs.Common.{◌<◌, ◌≤◌, length, map, flat_map, ap, drop, sym, subst, ◌∙◌, arith, refl}
+use Rattle.std.specs.List.{filter}
+use Rattle.loop_templates.specs.Rows.{is_wanted, row_in_piece, rows_of_sum}
+use Rattle.loop_templates.specs.Sums.{IsSmallSum}
+use Rattle.loop_templates.proofs.Wanted.{gathered_next, kept_all, kept_full}
+use Rattle.loop_templates.proofs.rows.gathered.Goals as goal
+
+pub keep_of_sum-requires-clause-sum : goal.keep_of_sum-requires-clause-sum
+keep_of_sum-requires-clause-sum c =
+    subst IsSmallSum (sym (c.as_slice-parts.ensures ∙ c.sum-item.is)) (c.requires.sums c.loop-sum.sum-index c.sum-item.result (omega arith))
+
+pub returns-then-len-ge-MOST_ITEMS-clause-rows : goal.returns-then-len-ge-MOST_ITEMS-clause-rows
+returns-then-len-ge-MOST_ITEMS-clause-rows c =
+    let full : 64 ≤ length c.loop-sum.rows.items = omega arith in
+    kept_full 64 c.loop-sum.rows.items
+    (filter (is_wanted c.args.cond.now c.args.start.now)
+    (flat_map (λ sum. map (row_in_piece c.args.piece.now) (rows_of_sum c.args.cond.now (map (λ state. state.now) c.args.states.now) sum))
+    (drop c.loop-sum.sum-index c.args.sums.now)))
+    _ full c.loop-sum.invariant.few c.loop-sum.invariant.kept
+
+pub loop-sum-preserved : goal.loop-sum-preserved
+loop-sum-preserved c =
+    let more : c.loop-sum.sum-index < length c.args.sums.now = omega arith in
+    record {
+      kept = gathered_next (is_wanted c.args.cond.now c.args.start.now)
+          (λ sum. map (row_in_piece c.args.piece.now) (rows_of_sum c.args.cond.now (map (λ state. state.now) c.args.states.now) sum)) 64 c.loop-sum.sum-index
+          c.args.sums.now c.sum-item.result _ c.loop-sum.rows.items c.keep_of_sum.new.rows.items _ more c.sum-item.is
+          (ap (λ sum. map (row_in_piece c.args.piece.now) (rows_of_sum c.args.cond.now (map (λ state. state.now) c.args.states.now) sum)) c.as_slice-parts.ensures)
+          c.in_ok-keep_of_sum.ensures.kept c.loop-sum.invariant.kept;
+      few = c.in_ok-keep_of_sum.ensures.few;
+    }
+
+pub returns-clause-rows : goal.returns-clause-rows
+returns-clause-rows c =
+    kept_all (is_wanted c.args.cond.now c.args.start.now)
+    (λ sums. flat_map (λ sum. map (row_in_piece c.args.piece.now) (rows_of_sum c.args.cond.now (map (λ state. state.now) c.args.states.now) sum)) sums)
+    64 c.loop-sum.sum-index c.args.sums.now c.loop-sum.rows.items _ (omega arith) c.loop-sum.invariant.few refl c.loop-sum.invariant.kept

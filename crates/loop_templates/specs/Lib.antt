@@ -1,0 +1,6 @@
+pub mod Reaching
+pub mod Sums
+pub mod Rows
+pub mod Skeletons
+pub mod Cases
+pub mod Candidates

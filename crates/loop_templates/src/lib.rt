@@ -1,0 +1,30 @@
+//! Templates of loops: what a loop's cases can say, by the states that enter it and those behind its turns.
+#![tactic(auto)]
+
+mod candidates;
+mod cases;
+mod claims;
+mod copies;
+mod facts;
+mod hints;
+mod in_order;
+mod in_piece;
+mod laws;
+pub mod limits;
+mod lowering;
+mod names;
+mod places;
+mod reaching;
+mod rows;
+mod signed_sums;
+pub mod skeletons;
+mod terms;
+
+pub use crate::candidates::{Added, Candidate, Next, exits_of, first_candidate, next_after};
+pub use crate::cases::Frame;
+pub use crate::hints::{entailing, entailing_one};
+pub use crate::laws::{entailing_hints_are_short, sums_have_values};
+pub use crate::reaching::{Occurrences, is_marked, occurring};
+pub use crate::rows::rows_over;
+pub use crate::signed_sums::sums;
+pub use crate::terms::terms_over;
