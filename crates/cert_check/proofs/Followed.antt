@@ -5,6 +5,7 @@ use Rattle.std.proofs.lemmas.List.{append-nil}
 use Rattle.std.proofs.lemmas.List.Elements.{All-append, All-cons, All-head, All-nil, All-tail, All-weaker}
 use Rattle.bv_base.specs.declared.place.Place.{Place}
 use Rattle.lin_facts.specs.declared.row.Row.{Row}
+use Rattle.cert_format.specs.declared.cert.Loop.{Loop}
 use Rattle.sym_state.specs.State.{State}
 use Rattle.sym_state.specs.Changes.{symbol_at}
 use Rattle.sym_state.specs.Demands.{HasFewUses}
@@ -152,6 +153,30 @@ pub rehinted : (scope : Scope) (room : ℕ) (start : State) (before after : Cour
     → Moved scope room start (record before { hints = hints }) after → Moved scope room start before after
 rehinted scope room start before after hints short moved = record {
   short = λ all. moved.short (short all);
+  count = moved.count;
+  more = moved.more;
+  given = moved.given;
+  follow = moved.follow;
+  few = moved.few;
+}
+
+-- so do those that were found
+pub refound : (scope : Scope) (room : ℕ) (start : State) (before after : Course) (found : List Hint)
+    → Moved scope room start (record before { found = found }) after → Moved scope room start before after
+refound scope room start before after found moved = record {
+  short = moved.short;
+  count = moved.count;
+  more = moved.more;
+  given = moved.given;
+  follow = moved.follow;
+  few = moved.few;
+}
+
+-- and loops that were made
+pub remade : (scope : Scope) (room : ℕ) (start : State) (before after : Course) (loops : List Loop)
+    → Moved scope room start before after → Moved scope room start before (record after { loops = loops })
+remade scope room start before after loops moved = record {
+  short = moved.short;
   count = moved.count;
   more = moved.more;
   given = moved.given;

@@ -19,6 +19,7 @@ pub mod LeftFollowing
 pub mod LeftFramed
 pub mod Levels
 pub mod Looping
+pub mod Makings
 pub mod OwnEnd
 pub mod OwnFacts
 pub mod OwnFrame
@@ -55,3 +56,4 @@ pub mod TurnSteps
 pub mod FoundHints
 pub mod FoundWalks
 pub mod TourSteps
+pub mod WhileSteps

@@ -1,5 +1,5 @@
 -- What the steps of a unit's check come to, and those of a call.
-use Rattle.std.proofs.Common.{◌≡◌, ℕ, ◌≤◌, Bool, List, [], ◌∷◌, slice_get, Option, None, Some, IfOk, Result, Ok, sym, ap, subst, ◌∙◌, arith}
+use Rattle.std.proofs.Common.{◌≡◌, ℕ, ◌≤◌, Bool, List, [], ◌∷◌, slice_get, Option, None, Some, IfOk, Result, Ok, sym, ap, subst, ◌∙◌, arith, IfSome}
 use Rattle.std.specs.List.{All}
 use Rattle.std.specs.Option.{option_map_or}
 use Rattle.std.specs.Result.{MatchResult}
@@ -25,12 +25,12 @@ use Rattle.sym_state.specs.declared.piece.Piece.{Piece}
 use Rattle.straight_hints.specs.declared.finding.Finding.{Finding}
 use Rattle.cert_check.specs.declared.limits.TheConstants.{MOST_DEPTH}
 use Rattle.cert_check.specs.declared.refusal.Refusal.{Refusal}
-use Rattle.cert_check.specs.Certified.{IsCertified, IsSummaryOf}
+use Rattle.cert_check.specs.Certified.{IsCertified, IsSummaryOf, MakesLoops}
 use Rattle.cert_check.specs.Courses.{Course, Walk, placed}
 use Rattle.cert_check.specs.Given.{Finds, Leads, Refused}
 use Rattle.cert_check.specs.Room.{GivesRoom, HasRoom, KeepsRoom}
 use Rattle.cert_check.specs.Units.{all_end, beginning, body_of, call_found, call_walked, checked_at, everywhere, none_left, own_walked, place_of, searching, summary_checked, target_entered, target_from}
-use Rattle.cert_check.specs.Walks.{Scope}
+use Rattle.cert_check.specs.Walks.{Scope, Make}
 use Rattle.cert_check.proofs.RoomLeft.{body_room, named_room, room_on, started_room, target_room}
 use Rattle.cert_check.proofs.WalkSteps.{then_goes}
 
@@ -49,6 +49,7 @@ by_parts scope summary body place state kept =
 -- the parts are those of the definition
 pub record AreParts (scope : Scope) (summary : Summary) (body : Option BodyId) (place : Place) (state : State) (kept : ℕ) : Type 0 where
   pub writes : scope.writes ≡ Some summary.writes
+  pub unmade : scope.make ≡ None
   pub body_is : body ≡ body_of scope.style summary.body
   pub place_is : place ≡ place_of scope.style body
   pub state_is : state ≡ started scope.style scope.cert.cond (summary.pre ∷ []) summary.whole summary.entry
@@ -58,8 +59,10 @@ parts_are : (scope : Scope) (summary : Summary) (body : Option BodyId) (place : 
     → summary_checked scope.style scope.cert summary ≡ by_parts scope summary body place state kept
 parts_are scope summary body place state kept parts =
     let first : State = started scope.style scope.cert.cond (summary.pre ∷ []) summary.whole summary.entry in
-    ap (λ (w : Option (List NameId)). let s : Scope = record { style = scope.style; cert = scope.cert; writes = w } in
+    ap (λ (w : Option (List NameId)). let s : Scope = record { style = scope.style; cert = scope.cert; writes = w; make = None } in
     by_parts s summary (body_of scope.style summary.body) (place_of scope.style (body_of scope.style summary.body)) first (symbols_of summary.pre)) (sym parts.writes)
+    ∙ ap (λ (m : Option Make). let s : Scope = record { style = scope.style; cert = scope.cert; writes = scope.writes; make = m } in
+    by_parts s summary (body_of scope.style summary.body) (place_of scope.style (body_of scope.style summary.body)) first (symbols_of summary.pre)) (sym parts.unmade)
     ∙ ap (λ (b : Option BodyId). by_parts scope summary b (place_of scope.style b) first (symbols_of summary.pre)) (sym parts.body_is)
     ∙ ap (λ (p : Place). by_parts scope summary body p first (symbols_of summary.pre)) (sym parts.place_is)
     ∙ ap (λ (s : State). by_parts scope summary body place s (symbols_of summary.pre)) (sym parts.state_is)
@@ -85,10 +88,10 @@ unit_checks {T} scope summary body place state kept course after result parts is
     checks
 
 -- the state that the pre starts
-pub own_room : (scope : Scope) (summary : Summary) (state : State) (course : Course) → IsSound scope.style → IsCertified scope.style scope.cert
+pub own_room : (scope : Scope) (summary : Summary) (state : State) (course : Course) → IsSound scope.style → IsCertified scope.style scope.cert → IfSome scope.make (MakesLoops scope.style)
     → IsSummaryOf scope.style summary → state ≡ started scope.style scope.cert.cond (summary.pre ∷ []) summary.whole summary.entry
     → course ≡ beginning summary.hints → HasRoom scope.style 65 course.count state
-own_room scope summary state course sound cert is state_is course_is =
+own_room scope summary state course sound cert makes is state_is course_is =
     let few = is.short.symbols in
     let room = started_room scope.style scope.cert.cond (summary.pre ∷ []) summary.whole summary.entry sound cert.fields
     (All-cons IsNumbered summary.pre [] is.numbered (All-nil IsNumbered)) (All-cons (IsFit scope.style) summary.pre [] is.fit (All-nil (IsFit scope.style)))
@@ -110,10 +113,10 @@ pub first_target : (style : Style) (count : ℕ) (states rest : List State) (sta
 first_target style count states rest state is room = let P : State → Type 0 = HasRoom style 64 count in All-head P state rest (subst (All P) is room)
 
 pub target_kept : (scope : Scope) (place : Place) (target : Target) (states rest : List State) (state : State) (course mid : Course) → IsSound scope.style
-    → IsCertified scope.style scope.cert → states ≡ state ∷ rest → All (HasRoom scope.style 64 course.count) states
+    → IsCertified scope.style scope.cert → IfSome scope.make (MakesLoops scope.style) → states ≡ state ∷ rest → All (HasRoom scope.style 64 course.count) states
     → target_entered scope place target state course ≡ Ok mid → KeepsRoom scope.style course mid
-target_kept scope place target states rest state course mid sound cert is room e =
-    target_room scope place target state course mid sound cert (first_target scope.style course.count states rest state is room) e
+target_kept scope place target states rest state course mid sound cert makes is room e =
+    target_room scope place target state course mid sound cert makes (first_target scope.style course.count states rest state is room) e
 
 pub rest_targets : (scope : Scope) (states rest : List State) (state : State) (low high : ℕ) → states ≡ state ∷ rest → low ≤ high
     → All (HasRoom scope.style 64 low) states → All (HasRoom scope.style 64 high) rest
@@ -136,22 +139,22 @@ bounds_of : (style : Style) (count : ℕ) (states : List State) → All (HasRoom
 bounds_of style count states room = All-weaker (HasRoom style 0 count) HasBounds (λ state there. there.made.bounds) states room
 
 own_kept : (scope : Scope) (place : Place) (target : Target) (body : Option BodyId) (state : State) (course after : Course) → IsSound scope.style
-    → IsCertified scope.style scope.cert → HasRoom scope.style 65 course.count state → own_walked scope place target body state course ≡ Ok after
+    → IsCertified scope.style scope.cert → IfSome scope.make (MakesLoops scope.style) → HasRoom scope.style 65 course.count state → own_walked scope place target body state course ≡ Ok after
     → KeepsRoom scope.style course after
-own_kept scope place target (Some body) state course after sound cert room e =
-    body_room scope MOST_DEPTH place body state course after sound cert
+own_kept scope place target (Some body) state course after sound cert makes room e =
+    body_room scope MOST_DEPTH place body state course after sound cert makes
     (room_on scope.style 65 0 course.count course.count state (omega arith) (omega arith) room) e
-own_kept scope place (Named name) None state course after sound cert room e =
-    named_room scope MOST_DEPTH (kind_of scope.style name) name place state course after sound cert room e
-own_kept scope place (Block body) None state course after sound cert room e =
+own_kept scope place (Named name) None state course after sound cert makes room e =
+    named_room scope MOST_DEPTH (kind_of scope.style name) name place state course after sound cert makes room e
+own_kept scope place (Block body) None state course after sound cert makes room e =
     subst (KeepsRoom scope.style course) (sym (ok_is course after e)) (record { count = omega arith; given = λ given. given })
 
 pub own_ends : (scope : Scope) (place : Place) (target : Target) (body : Option BodyId) (state : State) (course after : Course) (hints : List Hint)
-    → IsSound scope.style → IsCertified scope.style scope.cert → HasRoom scope.style 65 course.count state → course ≡ beginning hints
+    → IsSound scope.style → IsCertified scope.style scope.cert → IfSome scope.make (MakesLoops scope.style) → HasRoom scope.style 65 course.count state → course ≡ beginning hints
     → own_walked scope place target body state course ≡ Ok after → All HasBounds after.given
-own_ends scope place target body state course after hints sound cert room is e =
+own_ends scope place target body state course after hints sound cert makes room is e =
     bounds_of scope.style after.count after.given
-    ((own_kept scope place target body state course after sound cert room e).given
+    ((own_kept scope place target body state course after sound cert makes room e).given
     (subst (GivesRoom scope.style) (sym is) (All-nil (HasRoom scope.style 0 0))))
 
 -- the summary of a number

@@ -78,11 +78,11 @@ none_left place (hint ∷ hints) = refuses place HintsLeft
 
 -- a walk that begins with these hints
 abbrev pub beginning : List Hint → Course
-beginning hints = record { given = []; hints = hints; count = 0; finding = None; found = [] }
+beginning hints = record { given = []; hints = hints; count = 0; finding = None; found = []; loops = [] }
 
 -- a walk that finds its hints
 abbrev pub searching : Finding → Course
-searching finding = record { given = []; hints = []; count = 0; finding = Some finding; found = [] }
+searching finding = record { given = []; hints = []; count = 0; finding = Some finding; found = []; loops = [] }
 
 -- a unit's own body is walked from a state, of a name that isn't a function of the style its call
 abbrev pub own_walked : Scope → Place → Target → Option BodyId → Onward
@@ -95,7 +95,7 @@ own_walked scope place (Block body) None state course = Ok course
 -- the body of a summary is walked from its pre: each state at its end entails one of its posts, and no hint is left
 abbrev pub summary_checked : Style → Cert → Summary → Result (List Hint) Refusal
 summary_checked style cert summary =
-    let scope : Scope = record { style = style; cert = cert; writes = Some summary.writes } in
+    let scope : Scope = record { style = style; cert = cert; writes = Some summary.writes; make = None } in
     let body = body_of style summary.body in
     let place = place_of style body in
     let state = started style cert.cond (summary.pre ∷ []) summary.whole summary.entry in
@@ -108,7 +108,7 @@ checked_at style cert k = option_map_or (summary_checked style cert) (slice_get 
 
 -- a walk that may write every variable
 abbrev pub everywhere : Style → Cert → Scope
-everywhere style cert = record { style = style; cert = cert; writes = None }
+everywhere style cert = record { style = style; cert = cert; writes = None; make = None }
 
 -- a target is entered from a state: a name counts
 abbrev pub target_entered : Scope → Place → Target → Onward
@@ -164,7 +164,7 @@ turned_from scope place one (case ∷ cases) course =
 -- a loop is checked from each of its cases, and no hint is left; its place is that of its body
 abbrev pub loop_checked : Style → Cert → Loop → Result (List Hint) Refusal
 loop_checked style cert one =
-    let scope : Scope = record { style = style; cert = cert; writes = Some one.writes } in
+    let scope : Scope = record { style = style; cert = cert; writes = Some one.writes; make = None } in
     let place = place_of style (body_of style one.body) in
     then_do (turned_from scope place one one.cases (beginning one.hints)) (λ course. none_left place course.hints)
 

@@ -12,6 +12,7 @@ ghost use Rattle.cert_check.specs.Tours as tours;
 ghost use Rattle.cert_check.specs.Units as rule;
 
 use crate::course::Course;
+use crate::making::Unmade;
 use crate::refusal::{Refusal, Walk};
 use crate::scope::Scope;
 use crate::tables::Tables;
@@ -116,7 +117,8 @@ impl<'a> Checker<'a> {
     {
         let scope = self.scope(None);
         let mut course = Course::new(self.alloc, hints.rest());
-        target_from(&scope, place, target, states, &mut course)?;
+        let maker = Unmade { style: self.style };
+        target_from(&scope, &maker, place, target, states, &mut course)?;
         *hints = Hints::new(course.rest());
         Ok(course.take_given())
     }
@@ -139,7 +141,8 @@ impl<'a> Checker<'a> {
     {
         let scope = self.scope(None);
         let mut course = Course::searching(self.alloc, finding);
-        target_from(&scope, place, target, states, &mut course)?;
+        let maker = Unmade { style: self.style };
+        target_from(&scope, &maker, place, target, states, &mut course)?;
         let found = course.take_found();
         Ok((course.take_given(), found))
     }

@@ -9,6 +9,7 @@ pub mod laws;
 pub mod limits;
 mod literals;
 mod loops;
+mod making;
 pub mod refusal;
 mod scope;
 mod summaries;
@@ -20,8 +21,10 @@ mod types;
 mod units;
 mod uses;
 mod walk;
+mod whiles;
 
 pub use crate::checker::Checker;
 pub use crate::course::{held, placed, refuse};
+pub use crate::making::{Loops, Unmade};
 pub use crate::tours::{Ended, Tour, Turning};
 pub use crate::types::type_functions;
