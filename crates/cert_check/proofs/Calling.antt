@@ -1,9 +1,8 @@
 -- The call of a command that is walked is safe where all units are checked.
 use Rattle.cert_check.proofs.Makings.{target_self}
-use Rattle.std.proofs.Common.{◌≡◌, ℕ, suc, true, nat_eq, List, [], ◌∷◌, ◌++◌, slice_get, Option, None, Some, Ok, refl, sym, ap, subst, ◌∙◌, append_assoc, arith, inl, inr, IfSome}
+use Rattle.std.proofs.Common.{◌≡◌, ℕ, suc, List, [], ◌∷◌, ◌++◌, slice_get, Option, None, Some, Ok, refl, sym, ap, subst, ◌∙◌, append_assoc, arith, inl, inr, IfSome}
 use Rattle.std.specs.List.{All}
 use Rattle.std.specs.Option.{option_map_or}
-use Rattle.std.proofs.lemmas.Bool.Decides.{nat_tests}
 use Rattle.std.proofs.lemmas.List.{append-nil}
 use Rattle.std.proofs.lemmas.List.Elements.{All-head, All-tail}
 use Rattle.bv_base.specs.declared.place.Place.{Place}
@@ -31,7 +30,7 @@ use Rattle.cert_check.specs.Certified.{IsCertified, MakesLoops}
 use Rattle.cert_check.specs.Courses.{Course}
 use Rattle.cert_check.specs.Safely.{EntersSafely, IsAllChecked, IsAt, IsLeft, RepeatsSafely, SafeFor, loop_step, target_step}
 use Rattle.cert_check.specs.Units.{beginning, call_walked, everywhere, loop_checked, summary_checked, target_entered, target_from}
-use Rattle.cert_check.specs.Walks.{Scope, body_walked, chosen_in, is_target, loop_used, summary_used, Make}
+use Rattle.cert_check.specs.Walks.{Scope, body_walked, chosen_in, loop_used, summary_used, Make}
 use Rattle.cert_check.specs.declared.limits.TheConstants.{MOST_DEPTH}
 use Rattle.cert_check.proofs.Bodies.{returned}
 use Rattle.cert_check.proofs.Choosing.{name_safe}

@@ -5,11 +5,10 @@ use Rattle.sym_state.proofs.Resulting.{rest_made}
 use Rattle.sym_state.proofs.Leaving.{moved}
 use Rattle.sym_state.proofs.Frames.{all_reversed}
 use Rattle.sym_state.specs.declared.symbol.Sym.{Sym}
-use Rattle.bst_meaning.specs.StyleParts.{kind_of}
 use Rattle.name_table.specs.declared.style.Token.{Token}
 use Rattle.sym_state.specs.declared.demand.EffectFault.{EffectFault}
-use Rattle.std.proofs.Common.{◌≡◌, ℕ, ◌+◌, ◌≤◌, Bool, true, false, ◌&&◌, List, [], ◌∷◌, ◌++◌, length, slice_get, Option, None, Some, IfSome, Result, Ok, Err, refl, sym, ap, ◌∙◌, subst, arith, inl, inr, reverse, cond, nat_eq, nat_lt, zero, suc, map, ◌<◌}
-use Rattle.std.specs.List.{All, cons_option, filter_map}
+use Rattle.std.proofs.Common.{◌≡◌, ℕ, ◌+◌, ◌≤◌, Bool, true, false, ◌&&◌, List, [], ◌∷◌, ◌++◌, length, Option, None, Some, IfSome, Result, Ok, Err, refl, sym, ap, ◌∙◌, subst, arith, inl, inr, reverse, cond, nat_eq, nat_lt, suc, ◌<◌}
+use Rattle.std.specs.List.{All, cons_option}
 use Rattle.std.specs.Option.{option_and_then, option_map_or}
 use Rattle.std.specs.Result.{result_ok}
 use Rattle.std.proofs.lemmas.List.Elements.{All-append, All-cons, All-head, All-nil, All-tail}
@@ -25,12 +24,11 @@ use Rattle.sym_state.specs.declared.hint.Hint.{Hint}
 use Rattle.sym_state.specs.declared.hint.Hint.TheVariants as hint
 use Rattle.sym_state.specs.declared.symbol.Kinds.TheVariants.{Func}
 use Rattle.refinements.specs.Covered.{IsAmong}
-use Rattle.name_table.specs.declared.style.Token.TheVariants as token
 use Rattle.cert_check.specs.Certified.{HasMade, IsLoopOf, IsPieceOf, MakesLoops}
-use Rattle.cert_check.specs.Courses.{Course, counts, placed}
+use Rattle.cert_check.specs.Courses.{Course, placed}
 use Rattle.cert_check.specs.Uses.{around}
-use Rattle.cert_check.specs.Walks.{Make, Making, Numbered, Scope, While, all_made, coming_hints, comes_to, entering_with, exact_target, is_target, leaves, loop_made, made_used, next_number, none_made, numbered, rest_of, while_alone, while_by, while_in, while_made, while_of, while_taken, is_while, making_for, is_while_token}
-use Rattle.cert_check.proofs.Followed.{Follows, Moved, counted_moved, moved_from, moved_self, moved_twice, refound, remade, left_follows}
+use Rattle.cert_check.specs.Walks.{Make, Making, Numbered, Scope, While, all_made, coming_hints, comes_to, entering_with, exact_target, is_target, leaves, loop_made, made_used, next_number, none_made, numbered, rest_of, while_alone, while_by, while_in, while_made, while_of, while_taken, making_for, is_while_token}
+use Rattle.cert_check.proofs.Followed.{Follows, Moved, moved_from, refound, remade, left_follows}
 use Rattle.cert_check.proofs.Inverted.{placed_ok}
 use Rattle.cert_check.proofs.Keeping.{Told, comes_to_ok, element, leaves_moved}
 use Rattle.cert_check.proofs.Passing.{loop_passed}

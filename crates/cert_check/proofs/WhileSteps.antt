@@ -13,7 +13,6 @@ use Rattle.bv_base.specs.declared.memory.NoMemory.{NoMemory as Wanting}
 use Rattle.bv_base.specs.declared.place.Place.{Place}
 use Rattle.bv_base.proofs.ThenLemmas.{ok_is, then_ok, where_ok}
 use Rattle.name_table.specs.declared.style.Style.{Style}
-use Rattle.name_table.specs.declared.style.Token.{Token}
 use Rattle.name_table.specs.declared.style.TokenAt.{TokenAt}
 use Rattle.bst_meaning.specs.declared.condition.Cond.{Cond}
 use Rattle.bst_meaning.specs.declared.value.Target.{Target}
@@ -43,7 +42,7 @@ use Rattle.cert_check.specs.declared.refusal.Reason.TheVariants.{NoInvariant, No
 use Rattle.cert_check.specs.declared.refusal.Refusal.{Refusal}
 use Rattle.cert_check.proofs.Inverted.{counts_ok, gives_all_ok, placed_ok}
 use Rattle.cert_check.proofs.Keeping.{Told, element, told_by}
-use Rattle.cert_check.proofs.Makings.{Whiled, entering_all, some_enter, while_moved}
+use Rattle.cert_check.proofs.Makings.{entering_all, some_enter, while_moved}
 use Rattle.cert_check.proofs.Walked.{making_is}
 use Rattle.cert_check.proofs.Placing.{placed_leaves}
 use Rattle.cert_check.proofs.RoomLeft.{all_room}

@@ -1,5 +1,5 @@
 -- A loop that was made is used by the hints that are found for its case.
-use Rattle.std.proofs.Common.{◌≡◌, ◌∷◌, List, arith, rules, subst}
+use Rattle.std.proofs.Common.{◌∷◌, List, arith, rules, subst}
 use Rattle.std.proofs.lemmas.Option.{slice_get_within}
 use Rattle.std.proofs.lemmas.Result.{err_from_is_err_and}
 use Rattle.sym_state.specs.declared.hint.Hint.{Hint}

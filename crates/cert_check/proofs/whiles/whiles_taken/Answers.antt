@@ -1,5 +1,5 @@
 -- The next state.
-use Rattle.std.proofs.Common.{◌+◌, drop, take, rules}
+use Rattle.std.proofs.Common.{◌+◌, drop, take}
 use Rattle.std.proofs.lemmas.Result.{err_from_is_err_and}
 use Rattle.cert_check.specs.Here.{here}
 use Rattle.cert_check.specs.Walks.{made_by}
