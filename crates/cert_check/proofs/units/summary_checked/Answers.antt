@@ -16,7 +16,7 @@ use Rattle.cert_check.proofs.units.summary_checked.Goals as goal
 -- the walk begins in the state that the pre starts
 pub own_walked-requires-clause-room : goal.own_walked-requires-clause-room
 own_walked-requires-clause-room c =
-    own_room (scope_of c.args.scope.now None) c.args.summary.now c.in_ok-state.state c.new-course.result c.requires.sound.sound c.requires.sound.certified c.requires.summary
+    own_room (scope_of c.args.scope.now None) c.args.summary.now c.in_ok-state.state c.new-course.result c.requires.sound.sound c.requires.sound.certified tt c.requires.summary
     (started_is c.args.scope.now.style c.style-3.result.now c.args.scope.now.cert.cond c.cond.result.now c.from_ref-pieces.result.now c.args.summary.now.pre
     c.args.summary.now.whole c.args.summary.now.entry c.start.result c.in_ok-state.state c.in_ok-state.ensures c.start.ensures.started c.style-3.ensures c.cond.ensures
     c.from_ref-pieces.ensures.value)
@@ -46,7 +46,7 @@ pub ends-requires-clause-states : goal.ends-requires-clause-states
 ends-requires-clause-states c =
     own_ends (scope_of c.args.scope.now None) c.place_of-place.result c.args.summary.now.body c.body_of-body.result c.in_ok-state.state c.new-course.result c.own_walked.new.course
     c.args.summary.now.hints c.requires.sound.sound c.requires.sound.certified tt
-    (own_room (scope_of c.args.scope.now None) c.args.summary.now c.in_ok-state.state c.new-course.result c.requires.sound.sound c.requires.sound.certified c.requires.summary
+    (own_room (scope_of c.args.scope.now None) c.args.summary.now c.in_ok-state.state c.new-course.result c.requires.sound.sound c.requires.sound.certified tt c.requires.summary
     (started_is c.args.scope.now.style c.style-3.result.now c.args.scope.now.cert.cond c.cond.result.now c.from_ref-pieces.result.now c.args.summary.now.pre
     c.args.summary.now.whole c.args.summary.now.entry c.start.result c.in_ok-state.state c.in_ok-state.ensures c.start.ensures.started c.style-3.ensures c.cond.ensures
     c.from_ref-pieces.ensures.value)
