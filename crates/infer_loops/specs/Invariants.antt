@@ -23,6 +23,7 @@ use Rattle.loop_templates.specs.declared.candidates.Candidate.{Candidate}
 use Rattle.loop_templates.specs.declared.candidates.Next.{Next}
 use Rattle.loop_templates.specs.declared.candidates.Next.TheVariants.{Passes, Ends, Goes}
 use Rattle.loop_templates.specs.declared.limits.TheConstants.{MOST_PIECES}
+use Rattle.loop_templates.specs.Bound.{all_bound}
 use Rattle.loop_templates.specs.Candidates.{HasCases, entailing_one, exits_of, first_candidate, is_short, next_after}
 use Rattle.loop_templates.specs.Cases.{Frame}
 use Rattle.loop_templates.specs.Reaching.{Occurring, bodies_entered, occurring, occurring_of, terms_over}
@@ -80,6 +81,8 @@ frame_over style admits one found entering = record {
   admits = admits;
   whole = one.whole;
   at_entry = one.entry;
+  has_pos = one.entry;
+  bound = all_bound one.entry;
   writes = written_in style one found;
   sums = sums_in style one found;
   entering = entering;

@@ -19,12 +19,14 @@ mod rows;
 mod signed_sums;
 pub mod skeletons;
 mod terms;
+mod visits;
 
 pub use crate::candidates::{Added, Candidate, Next, exits_of, first_candidate, next_after};
-pub use crate::cases::Frame;
+pub use crate::cases::{Bound, Frame};
 pub use crate::hints::{entailing, entailing_one};
 pub use crate::laws::{entailing_hints_are_short, sums_have_values};
-pub use crate::reaching::{Occurrences, is_marked, occurring};
+pub use crate::reaching::{Occurrences, is_marked, occurring, occurring_anywhere};
 pub use crate::rows::rows_over;
 pub use crate::signed_sums::sums;
-pub use crate::terms::terms_over;
+pub use crate::terms::{command_terms, terms_over};
+pub use crate::visits::{common_case, rows_left};
