@@ -8,20 +8,19 @@ use Rattle.name_table.specs.declared.style.Command.{Command}
 use Rattle.name_table.specs.declared.style.Command.TheVariants.{Execute, Iterate, Reverse}
 use Rattle.name_table.specs.declared.style.CommandAt.{CommandAt}
 use Rattle.name_table.specs.declared.style.Style.{Style}
-use Rattle.bst_meaning.specs.StyleParts.{kind_of}
 use Rattle.bst_meaning.specs.declared.condition.Cond.{Cond}
 use Rattle.bst_meaning.specs.declared.value.Target.TheVariants.{Named}
 use Rattle.cert_format.specs.declared.cert.Cert.{Cert}
 use Rattle.cert_format.specs.declared.cert.CommandPart.{CommandPart}
 use Rattle.sym_state.specs.Positions.{AtStart, AtNext, AtEnd}
 use Rattle.sym_state.specs.State.{State}
-use Rattle.sym_state.specs.WellMade.{is_variable}
 use Rattle.sym_state.specs.declared.hint.Hint.{Hint}
 use Rattle.sym_state.specs.declared.piece.Piece.{Piece}
 use Rattle.straight_hints.specs.Found.{piece_hints}
 use Rattle.straight_hints.specs.declared.finding.Finding.TheVariants.{Straight}
+use Rattle.loop_templates.specs.Bound.{all_bound, is_bound_variable}
 use Rattle.loop_templates.specs.Cases.{Frame}
-use Rattle.loop_templates.specs.Reaching.{Occurring, bodies_entered, command_terms, occurring, occurring_anywhere, occurring_of}
+use Rattle.loop_templates.specs.Reaching.{Occurring, command_terms, occurring, occurring_anywhere, occurring_of, roots_of}
 use Rattle.loop_templates.specs.Sums.{sums}
 use Rattle.loop_templates.specs.Visits.{common_case, left_by}
 use Rattle.loop_templates.specs.declared.limits.TheConstants.{MOST_ITEMS}
@@ -66,7 +65,7 @@ after_visit = record { at_entry = true; has_pos = false; bound = record { global
 -- which names occur in the bodies that a command's name reaches
 abbrev pub reached_from : Style → Cond → NameId → Occurring
 reached_from style admits name =
-    let types = type_functions style admits in occurring style types (bodies_entered style types (kind_of style name))
+    let types = type_functions style admits in occurring style types (roots_of style types (Named name))
 
 -- the frame of a piece that a command leaves: it is made against one state, and a variable counts as written where it is quoted in the
 -- bodies that the command's name reaches
@@ -78,7 +77,7 @@ frame_left style admits name leaving start = record {
   at_entry = leaving.at_entry;
   has_pos = leaving.has_pos;
   bound = leaving.bound;
-  writes = occurring_of (is_variable true) style (reached_from style admits name).quoted;
+  writes = occurring_of (is_bound_variable (all_bound true)) style (reached_from style admits name).quoted;
   sums = sums (command_terms style (occurring_anywhere style) leaving.bound leaving.has_pos);
   entering = start ∷ [];
 }

@@ -16,12 +16,12 @@ use crate::flow::state_of;
 use crate::leaving::{BEFORE_VISITS, Leaving};
 use crate::moving::{Moment, piece_moved};
 use bst_meaning::condition::Cond;
-use bst_meaning::style_parts::kind_of;
+use bst_meaning::value::Target;
 use bv_base::memory::NoMemory;
 use cert_check::type_functions;
 use lin_facts::row::Row;
 use loop_templates::{
-    Frame, Occurrences, bodies_entered, command_terms, common_case, occurring, occurring_anywhere, quoted_variables, rows_left, sums,
+    Bound, Frame, Occurrences, command_terms, common_case, occurring, occurring_anywhere, push_roots, quoted_variables, rows_left, sums,
 };
 use name_table::names::NameId;
 use name_table::style::Style;
@@ -66,7 +66,11 @@ fn case_left(
     ensures stands { IfOk result (IsCase (rule.frame_left at.now.style.now at.now.cond.now name leaving start)) }
 {
     let reached = reached_from(at, name)?;
-    let writes = quoted_variables(at.alloc, at.style, &reached)?;
+    let all = Bound {
+        globals: true,
+        entry: true,
+    };
+    let writes = quoted_variables(at.alloc, at.style, &reached, all)?;
     let anywhere = occurring_anywhere(at.alloc, at.style)?;
     let terms = command_terms(at.alloc, at.style, &anywhere, leaving.bound, leaving.has_pos)?;
     let sums = sums(at.alloc, terms.as_slice())?;
@@ -90,7 +94,8 @@ fn reached_from(at: &At<'_>, name: NameId) -> Result<Occurrences, NoMemory>
     ensures { IfOk result (λ found. found ≡ rule.reached_from at.now.style.now at.now.cond.now name) }
 {
     let types = type_functions(at.alloc, at.style, at.cond)?;
-    let roots = bodies_entered(at.alloc, at.style, types.as_slice(), kind_of(at.style, name))?;
+    let mut roots = Vec::new(at.alloc);
+    push_roots(&mut roots, at.style, types.as_slice(), Target::Named(name))?;
     occurring(at.alloc, at.style, types.as_slice(), roots.as_slice())
 }
 

@@ -17,6 +17,8 @@ use Rattle.name_table.specs.declared.style.Token.{Token}
 use Rattle.name_table.specs.declared.style.Token.TheVariants.{Int, Str, Quote, Call, Block}
 use Rattle.name_table.specs.declared.style.TokenAt.{TokenAt}
 use Rattle.bst_meaning.specs.StyleParts.{kind_of}
+use Rattle.bst_meaning.specs.declared.value.Target.{Target}
+use Rattle.bst_meaning.specs.declared.value.Target.TheVariants.{Named, Block as BlockTarget}
 use Rattle.sym_state.specs.WellMade.{ids_from, is_field}
 use Rattle.loop_templates.specs.Bound.{all_bound}
 use Rattle.loop_templates.specs.declared.cases.Bound.{Bound}
@@ -42,6 +44,11 @@ own_body _ = []
 abbrev pub bodies_entered : Style → List NameId → Option Kind → List BodyId
 bodies_entered style types (Some (Builtin op.CallType)) = flat_map (λ name. own_body (kind_of style name)) types
 bodies_entered style types found = own_body found
+
+-- the bodies that a target enters
+abbrev pub roots_of : Style → List NameId → Target → List BodyId
+roots_of style types (Named name) = bodies_entered style types (kind_of style name)
+roots_of style types (BlockTarget body) = body ∷ []
 
 -- the bodies behind a token, entered there or quoted
 abbrev pub bodies_behind : Style → List NameId → Token → List BodyId

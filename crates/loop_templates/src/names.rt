@@ -58,7 +58,7 @@ fn push_where(names: &mut Vec<NameId>, wanted: bool, name: NameId) -> Result<(),
 }
 
 /// Whether a variable of a kind is bound.
-fn is_variable(bound: Bound, kind: Kind) -> bool
+pub(crate) fn is_variable(bound: Bound, kind: Kind) -> bool
     ensures { result ≡ rule.is_bound_variable bound kind }
 {
     match kind {
