@@ -13,11 +13,7 @@ use std::alloc::Global;
 
 /// The variables that are bound, upwards by id.
 #[tactic(auto, using(crate::proofs::Ids::id_more))]
-pub(crate) fn variables(
-    alloc: Global,
-    style: &Style,
-    bound: Bound,
-) -> Result<Vec<NameId>, NoMemory>
+pub(crate) fn variables(alloc: Global, style: &Style, bound: Bound) -> Result<Vec<NameId>, NoMemory>
     ensures { IfOk result (λ names. names.items ≡ ids_from (rule.is_bound_variable bound) 0 style.now.names) }
 {
     let mut names = Vec::new(alloc);

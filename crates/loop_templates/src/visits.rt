@@ -20,11 +20,7 @@ use sym_state::piece::Piece;
 use sym_state::state::State;
 
 /// The case that states with empty stacks have in common.
-pub fn common_case(
-    alloc: Global,
-    frame: &Frame<'_>,
-    states: &[State],
-) -> Result<Piece, NoMemory>
+pub fn common_case(alloc: Global, frame: &Frame<'_>, states: &[State]) -> Result<Piece, NoMemory>
     requires frame { IsFrame frame.now }
     requires states { All (WellMade frame.now.style) states.now }
     ensures case { IfOk result (λ case. case ≡ rule.common_case frame.now states.now) }
