@@ -27,6 +27,7 @@ use Rattle.loop_templates.specs.Bound.{is_bound_field, is_bound_variable}
 use Rattle.loop_templates.specs.Cases.{CanStand, Frame, IsFrame, IsSumOver, bare_case, case_of, common_facts, entering_case, facts_for, fields_of, further_facts, given_facts, numbered, ordered_facts, places_behind, places_for, seated, skeleton_facts, taken_symbols, variables_of, with_rows}
 use Rattle.loop_templates.specs.Skeletons.{IsBoneOf, Skeleton, bone_of, new_skeletons, skeleton, states_of}
 use Rattle.loop_templates.specs.Sums.{IsSmallSum}
+use Rattle.loop_templates.specs.Visits.{common_case}
 use Rattle.loop_templates.specs.declared.candidates.Added.{Added}
 use Rattle.loop_templates.specs.declared.candidates.Candidate.{Candidate}
 use Rattle.loop_templates.specs.declared.candidates.Next.{Next}
@@ -330,3 +331,8 @@ exits_are_cases frame left exits is ready made =
 
 pub exits_made : (frame : Frame) (left : List State) (exits : List Added) → exits ≡ exits_of frame left → IsFrame frame → All IsMade exits
 exits_made frame left exits is ready = subst (λ (them : List Added). All IsMade them) (sym is) (added_made frame left (new_skeletons [] left) ready)
+
+-- the case that states with empty stacks have in common
+pub common_is_case : (frame : Frame) (states : List State) (case : Piece) → case ≡ common_case frame states → IsFrame frame → IsCase frame case
+common_is_case frame states case is ready =
+    subst (IsCase frame) (sym is) (added_is_case frame states [] ready (All-nil (IsBoneOf frame.style)) refl)

@@ -4,7 +4,6 @@ ghost use Rattle.std.specs.Prelude.{◌≡◌, map, length, IfOk};
 ghost use Rattle.std.specs.List.{All, list_all};
 ghost use Rattle.sym_state.specs.Positions.{AtNext, row_moved};
 ghost use Rattle.sym_state.specs.WellMade.{IsBounded, WellMade};
-ghost use Rattle.sym_state.specs.declared.piece.Piece.{Piece as PieceOf};
 ghost use Rattle.loop_templates.specs.Candidates.{CanMatch, IsCase};
 ghost use Rattle.loop_templates.specs.Cases.{IsFrame};
 ghost use Rattle.loop_templates.specs.Visits as rule;
@@ -45,8 +44,8 @@ pub fn rows_left(
 {
     let those = each(alloc, states)?;
     let mut rows = Vec::new(alloc);
-    for (row, goal) in case.rows.as_slice().iter().zip(moved) {
-        if is_proved_in_all(alloc, cond, case, goal, those.as_slice())? {
+    for (k, row) in case.rows.as_slice().iter().enumerate() {
+        if is_proved_in_all(alloc, cond, case, &moved[k], those.as_slice())? {
             rows.push(row.copied(alloc)?)?;
         }
     }
