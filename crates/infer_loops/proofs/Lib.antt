@@ -4,4 +4,3 @@ pub mod FewCases
 pub mod FoundFrames
 pub mod NextTurns
 pub mod Sequences
-pub mod WrittenNames

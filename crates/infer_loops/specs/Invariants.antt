@@ -5,16 +5,12 @@ use Rattle.std.specs.Option.{option_and_then}
 use Rattle.std.specs.Result.{result_ok}
 use Rattle.lin_facts.specs.declared.row.Part.{Part}
 use Rattle.name_table.specs.declared.names.NameId.{NameId}
-use Rattle.name_table.specs.declared.style.BodyId.{BodyId}
 use Rattle.name_table.specs.declared.style.Style.{Style}
-use Rattle.bst_meaning.specs.StyleParts.{kind_of}
 use Rattle.bst_meaning.specs.declared.condition.Cond.{Cond}
 use Rattle.bst_meaning.specs.declared.value.Target.{Target}
-use Rattle.bst_meaning.specs.declared.value.Target.TheVariants.{Named, Block}
 use Rattle.cert_format.specs.declared.cert.Cert.{Cert}
 use Rattle.cert_format.specs.declared.cert.Loop.{Loop}
 use Rattle.sym_state.specs.State.{State}
-use Rattle.sym_state.specs.WellMade.{is_variable}
 use Rattle.sym_state.specs.declared.hint.Hint.{Hint}
 use Rattle.sym_state.specs.declared.piece.Piece.{Piece}
 use Rattle.straight_hints.specs.declared.finding.Finding.TheVariants.{Straight}
@@ -23,9 +19,10 @@ use Rattle.loop_templates.specs.declared.candidates.Candidate.{Candidate}
 use Rattle.loop_templates.specs.declared.candidates.Next.{Next}
 use Rattle.loop_templates.specs.declared.candidates.Next.TheVariants.{Passes, Ends, Goes}
 use Rattle.loop_templates.specs.declared.limits.TheConstants.{MOST_PIECES}
+use Rattle.loop_templates.specs.Bound.{all_bound, is_bound_variable}
 use Rattle.loop_templates.specs.Candidates.{HasCases, entailing_one, exits_of, first_candidate, is_short, next_after}
 use Rattle.loop_templates.specs.Cases.{Frame}
-use Rattle.loop_templates.specs.Reaching.{Occurring, bodies_entered, occurring, occurring_of, terms_over}
+use Rattle.loop_templates.specs.Reaching.{Occurring, occurring, occurring_of, roots_of, terms_over}
 use Rattle.loop_templates.specs.Sums.{sums}
 use Rattle.cert_check.specs.Tours.{found_since, setting_out, turns_of}
 use Rattle.cert_check.specs.declared.tours.Ended.{Ended}
@@ -45,11 +42,6 @@ added_cases added = map (λ one. one.case) added
 abbrev pub cases_of : Candidate → List Piece
 cases_of candidate = candidate.first ++ added_cases candidate.added
 
--- the bodies that a target enters
-abbrev pub roots_of : Style → List NameId → Target → List BodyId
-roots_of style types (Named name) = bodies_entered style types (kind_of style name)
-roots_of style types (Block body) = body ∷ []
-
 -- the two functions of a loop as these states enter it: at an entry, and with whole stacks, where each of them is
 abbrev pub turning : Target → Target → List State → Turning
 turning test body entering = record {
@@ -67,7 +59,7 @@ occurring_in style admits one =
 
 -- the variables that count as written, which are those that are quoted
 abbrev pub written_in : Style → Turning → Occurring → List NameId
-written_in style one found = occurring_of (is_variable one.entry) style found.quoted
+written_in style one found = occurring_of (is_bound_variable (all_bound one.entry)) style found.quoted
 
 -- the sums over the terms that occur
 abbrev pub sums_in : Style → Turning → Occurring → List (List Part)
@@ -80,6 +72,8 @@ frame_over style admits one found entering = record {
   admits = admits;
   whole = one.whole;
   at_entry = one.entry;
+  has_pos = one.entry;
+  bound = all_bound one.entry;
   writes = written_in style one found;
   sums = sums_in style one found;
   entering = entering;

@@ -14,11 +14,12 @@ use Rattle.name_table.specs.declared.style.Style.{Style}
 use Rattle.sym_state.specs.Entailing.{line_count}
 use Rattle.sym_state.specs.Starting.{started}
 use Rattle.sym_state.specs.State.{State}
-use Rattle.sym_state.specs.WellMade.{HasBounds, IsBounded, WellMade, is_field, is_variable}
+use Rattle.sym_state.specs.WellMade.{HasBounds, IsBounded, WellMade}
 use Rattle.sym_state.specs.declared.piece.Piece.{Piece}
 use Rattle.sym_state.specs.declared.symbol.Bind.{Bind}
 use Rattle.sym_state.specs.declared.symbol.Fact.{Fact}
 use Rattle.sym_state.proofs.Started.{ids_from-length}
+use Rattle.loop_templates.specs.Bound.{is_bound_field, is_bound_variable}
 use Rattle.loop_templates.specs.Candidates.{CanMatch, IsMade, grown, is_proved, lowered, next_by, settled}
 use Rattle.loop_templates.specs.Cases.{Frame, IsFrame, bare_case, case_of, common_facts, entering_case, facts_for, fields_of, further_facts, given_facts, numbered, ordered_facts, piece_of, places_behind, places_for, skeleton_facts, taken_symbols, variables_of, with_rows}
 use Rattle.loop_templates.specs.Rows.{is_wanted, row_in_piece, rows_of_sum, rows_over}
@@ -78,8 +79,8 @@ all_lowered_made admits turned added made =
 places_few : (frame : Frame) (n : ℕ) → length (places_for frame n) ≤ length frame.style.names + length frame.style.names
 places_few frame n =
     let names = variables_of frame ++ fields_of frame in
-    let vars = ids_from-length (is_variable frame.at_entry) 0 frame.style.names in
-    let fields = ids_from-length (is_field frame.at_entry) 0 frame.style.names in
+    let vars = ids_from-length (is_bound_variable frame.bound) 0 frame.style.names in
+    let fields = ids_from-length (is_bound_field frame.bound) 0 frame.style.names in
     let both = length-append (variables_of frame) (fields_of frame) in
     elim frame.entering as (λ (states : List State). length (elim states as (λ _. List Bind) [ [] ↦ [] | first ∷ more ↦ places_behind frame.writes n first names ])
     ≤ length frame.style.names + length frame.style.names) [

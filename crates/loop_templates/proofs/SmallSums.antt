@@ -106,3 +106,22 @@ with_part_within n part (first ∷ parts) one h =
             (All-head (λ (p : Part). IsWithin (n + 1) p.coefficient) first parts more) (with_part_within n part parts one rest)
       ]
     ]
+
+-- a sum with parts left out is no longer
+kept_few : (test : Part → Bool) (sum : List Part) → length (filter test sum) ≤ length sum
+kept_few test [] = omega arith
+kept_few test (part ∷ sum) =
+    let rest = kept_few test sum in
+    elim (test part) as (λ (b : Bool). length (cond b (part ∷ filter test sum) (filter test sum)) ≤ suc (length sum)) [
+      | true ↦ omega (arith, rest)
+      | false ↦ omega (arith, rest)
+    ]
+
+pub kept_small : (test : Part → Bool) (sum : List Part) → IsSmallSum sum → IsSmallSum (filter test sum)
+kept_small test sum h =
+    let few = h.few in
+    let kept = kept_few test sum in
+    record {
+      few = omega (arith, few, kept);
+      units = All-filter test (λ part. IsWithin 1 part.coefficient) sum h.units;
+    }

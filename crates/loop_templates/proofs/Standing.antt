@@ -18,18 +18,21 @@ use Rattle.name_table.specs.declared.style.Style.{Style}
 use Rattle.sym_state.proofs.Started.{ids_from-length}
 use Rattle.sym_state.specs.Fitting.{FactFits}
 use Rattle.sym_state.specs.State.{State}
-use Rattle.sym_state.specs.WellMade.{WellMade, is_field, is_variable}
+use Rattle.sym_state.specs.WellMade.{WellMade}
 use Rattle.sym_state.specs.declared.symbol.Bind.{Bind}
 use Rattle.sym_state.specs.declared.symbol.Fact.{Fact}
 use Rattle.sym_state.specs.declared.symbol.Sym.{Sym}
 use Rattle.loop_templates.specs.Candidates.{HasCases, HasNextCases, IsCase, IsMade, added_for, exits_of, first_candidate, goes, grown, has_room, is_lower, is_met, is_proved, is_short, lowered, may_enter, may_grow, next_after, next_by, passes, settled}
+use Rattle.loop_templates.specs.Bound.{is_bound_field, is_bound_variable}
 use Rattle.loop_templates.specs.Cases.{CanStand, Frame, IsFrame, IsSumOver, bare_case, case_of, common_facts, entering_case, facts_for, fields_of, further_facts, given_facts, numbered, ordered_facts, places_behind, places_for, seated, skeleton_facts, taken_symbols, variables_of, with_rows}
 use Rattle.loop_templates.specs.Skeletons.{IsBoneOf, Skeleton, bone_of, new_skeletons, skeleton, states_of}
 use Rattle.loop_templates.specs.Sums.{IsSmallSum}
+use Rattle.loop_templates.specs.Visits.{common_case}
 use Rattle.loop_templates.specs.declared.candidates.Added.{Added}
 use Rattle.loop_templates.specs.declared.candidates.Candidate.{Candidate}
 use Rattle.loop_templates.specs.declared.candidates.Next.{Next}
 use Rattle.loop_templates.specs.declared.candidates.Next.TheVariants as next
+use Rattle.loop_templates.specs.declared.cases.Bound.{Bound}
 use Rattle.loop_templates.specs.declared.places.Seats.{Seats}
 use Rattle.loop_templates.proofs.Cased.{case_fit, entering_stands, later_stands, more_added}
 use Rattle.loop_templates.proofs.Fit.{facts_fit}
@@ -49,8 +52,8 @@ places_are : (frame : Frame) (n : ℕ) → n + (length frame.style.names + lengt
     → (m : ℕ) × ArePlaces frame n m (places_for frame n)
 places_are frame n few some =
     let names = variables_of frame ++ fields_of frame in
-    let vars = ids_from-length (is_variable frame.at_entry) 0 frame.style.names in
-    let fields = ids_from-length (is_field frame.at_entry) 0 frame.style.names in
+    let vars = ids_from-length (is_bound_variable frame.bound) 0 frame.style.names in
+    let fields = ids_from-length (is_bound_field frame.bound) 0 frame.style.names in
     let both = length-append (variables_of frame) (fields_of frame) in
     let none : Seats = record { places = []; seen = []; next = n } in
     elim frame.entering as (λ (states : List State). 1 ≤ length states
@@ -101,20 +104,22 @@ facts_say frame bones places common further =
     All-take SaysSome 64 (ordered_facts given facts) (kept_says given [] facts (All-nil SaysSome))
 
 -- the rows of a case
-both_sums : (style : Style) (at_entry : Bool) (sums : List (List Part)) → All IsSmallSum sums → All (IsSumOver style at_entry) sums → All (IsSumOf style at_entry) sums
-both_sums style at_entry [] small over = All-nil (IsSumOf style at_entry)
-both_sums style at_entry (sum ∷ sums) small over =
-    All-cons (IsSumOf style at_entry) sum sums (All-head IsSmallSum sum sums small, All-head (IsSumOver style at_entry) sum sums over)
-    (both_sums style at_entry sums (All-tail IsSmallSum sum sums small) (All-tail (IsSumOver style at_entry) sum sums over))
+both_sums : (style : Style) (bound : Bound) (has_pos : Bool) (sums : List (List Part)) → All IsSmallSum sums → All (IsSumOver style bound has_pos) sums → All (IsSumOf style bound has_pos) sums
+both_sums style bound has_pos [] small over = All-nil (IsSumOf style bound has_pos)
+both_sums style bound has_pos (sum ∷ sums) small over =
+    All-cons (IsSumOf style bound has_pos) sum sums (All-head IsSmallSum sum sums small, All-head (IsSumOver style bound has_pos) sum sums over)
+    (both_sums style bound has_pos sums (All-tail IsSmallSum sum sums small) (All-tail (IsSumOver style bound has_pos) sum sums over))
 
 -- a case of these parts may stand in a certificate
 written : (frame : Frame) (bones : Skeleton) (common : List State) (further : Option State) (states : List State) (m : ℕ)
     → IsFrame frame → CanStand frame bones common further → length bones ≤ 64 → ArePlaces frame (length bones) m (places_for frame (length bones))
-    → IsPiece frame.style frame.at_entry frame.at_entry 0 (with_rows frame states (bare_case frame bones common further))
+    → IsPiece frame.style frame.at_entry frame.has_pos 0 (with_rows frame states (bare_case frame bones common further))
 written frame bones common further states m ready can short are =
     let n = length bones in
     let style = frame.style in
     let at = frame.at_entry in
+    let bound = frame.bound in
+    let has_pos = frame.has_pos in
     let vars = variables_of frame in
     let fields = fields_of frame in
     let v = length vars in
@@ -131,7 +136,7 @@ written frame bones common further states m ready can short are =
     let few : n ≤ m = subst (λ (k : ℕ). n ≤ k) are.next (behind_least n (syms_of places) (omega (arith, short))) in
     let fits = facts_fit style m (given_facts style frame.admits places) bones frame.writes places common further few can.each_bone are.below can.each_state
     (more_added frame n m further few can.may_add) in
-    let binds : Binds style at m bare = record {
+    let binds : Binds style bound m bare = record {
       vars = vars_named vars fields places are.names;
       fields = fields_named vars fields places are.names;
       vars_below = All-take (λ (place : Bind). place.sym.0 < m) v places are.below;
@@ -143,17 +148,17 @@ written frame bones common further states m ready can short are =
     record {
       placed = ap (are_placed 0) split ∙ numbers_placed 0 n (syms_of places) (omega (arith, short)) placed;
       few_symbols = omega (arith, stacked, short);
-      vars = binds_each (IsVariable at style.names) (take v places) (subst (λ (names : List NameId). Each (IsVariable at style.names) names) (sym named) (variables_are at style.names));
-      vars_rise = sym (binds_rise (take v places)) ∙ ap (λ (names : List NameId). is_chain is_below names) named ∙ names_rise (is_variable at) 0 style.names;
+      vars = binds_each (IsVariable at style.names) (take v places) (subst (λ (names : List NameId). Each (IsVariable at style.names) names) (sym named) (variables_are bound at style.names ready.there));
+      vars_rise = sym (binds_rise (take v places)) ∙ ap (λ (names : List NameId). is_chain is_below names) named ∙ names_rise (is_bound_variable bound) 0 style.names;
       fields = binds_each (λ name. IsField style.names name × (at ≡ true)) (drop v places)
-          (subst (λ (names : List NameId). Each (λ name. IsField style.names name × (at ≡ true)) names) (sym told) (fields_are at style.names));
-      fields_rise = sym (binds_rise (drop v places)) ∙ ap (λ (names : List NameId). is_chain is_below names) told ∙ names_rise (is_field at) 0 style.names;
+          (subst (λ (names : List NameId). Each (λ name. IsField style.names name × (at ≡ true)) names) (sym told) (fields_are bound at style.names ready.there));
+      fields_rise = sym (binds_rise (drop v places)) ∙ ap (λ (names : List NameId). is_chain is_below names) told ∙ names_rise (is_bound_field bound) 0 style.names;
       facts = subst (λ (k : ℕ). Each (IsFact style k) facts) (sym behind)
           (all_facts style m facts (λ it f s. is_fact style m it ready.sound f s) fits (facts_say frame bones places common further));
       few_facts = facts_few frame bones places common further;
-      rows = subst (λ (k : ℕ). Each (IsRow at k) case.rows) (sym behind)
-          (each_of_all (IsRow at m) case.rows
-          (rows_placed style frame.admits frame.whole at m frame.sums states bare binds (both_sums style at frame.sums ready.sums ready.over)));
+      rows = subst (λ (k : ℕ). Each (IsRow has_pos k) case.rows) (sym behind)
+          (each_of_all (IsRow has_pos m) case.rows
+          (rows_placed style frame.admits frame.whole at bound has_pos m frame.sums states bare binds (both_sums style bound has_pos frame.sums ready.sums ready.over)));
       few_rows = rows_few style frame.admits frame.whole at frame.sums states bare;
     }
 
@@ -247,7 +252,7 @@ lowered_is_case frame turned one is =
         fields_rise = piece.fields_rise;
         facts = piece.facts;
         few_facts = piece.few_facts;
-        rows = each_kept (IsRow frame.at_entry (next_behind 0 (places_of one.case))) test one.case.rows piece.rows;
+        rows = each_kept (IsRow frame.has_pos (next_behind 0 (places_of one.case))) test one.case.rows piece.rows;
         few_rows = omega (arith, few, most);
       };
       texts = is.texts;
@@ -326,3 +331,8 @@ exits_are_cases frame left exits is ready made =
 
 pub exits_made : (frame : Frame) (left : List State) (exits : List Added) → exits ≡ exits_of frame left → IsFrame frame → All IsMade exits
 exits_made frame left exits is ready = subst (λ (them : List Added). All IsMade them) (sym is) (added_made frame left (new_skeletons [] left) ready)
+
+-- the case that states with empty stacks have in common
+pub common_is_case : (frame : Frame) (states : List State) (case : Piece) → case ≡ common_case frame states → IsFrame frame → IsCase frame case
+common_is_case frame states case is ready =
+    subst (IsCase frame) (sym is) (added_is_case frame states [] ready (All-nil (IsBoneOf frame.style)) refl)

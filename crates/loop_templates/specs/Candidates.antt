@@ -135,7 +135,7 @@ CanMatch n state = HasBounds state × (n ≤ length state.stack)
 
 -- a case that a certificate may have where it is walked, with texts that states may have
 pub record IsCase (frame : Frame) (case : Piece) : Type 0 where
-  pub piece : IsPiece frame.style frame.at_entry frame.at_entry 0 case
+  pub piece : IsPiece frame.style frame.at_entry frame.has_pos 0 case
   pub texts : All HasShortText case.facts
 
 -- the cases of a candidate are such, and those that were added are made so

@@ -2,7 +2,7 @@
 use Rattle.std.proofs.Common.{◌≡◌, ◌++◌, drop, flat_map}
 use Rattle.bst_meaning.specs.StyleParts.{kind_of}
 use Rattle.loop_templates.specs.Reaching.{own_body}
-use Rattle.infer_loops.proofs.frames.push_types.Given as goal
+use Rattle.loop_templates.proofs.roots.push_types.Given as goal
 
 abbrev pub invariant-loop-name : goal.invariant-loop-name
 invariant-loop-name l =

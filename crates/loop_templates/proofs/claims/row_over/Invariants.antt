@@ -3,7 +3,7 @@ use Rattle.std.proofs.Common.{◌≡◌, map, take}
 use Rattle.lin_facts.specs.declared.row.Part.{Part}
 use Rattle.sym_state.specs.Renaming.{term_renamed}
 use Rattle.loop_templates.specs.Rows.{symbol_in}
-use Rattle.loop_templates.proofs.claims.row_in_state.Given as goal
+use Rattle.loop_templates.proofs.claims.row_over.Given as goal
 
 abbrev pub invariant-loop-part : goal.invariant-loop-part
 invariant-loop-part l =

@@ -7,7 +7,7 @@ use Rattle.sym_state.specs.WellMade.{IsBounded}
 use Rattle.loop_templates.specs.Rows.{row_of_parts, symbol_in}
 use Rattle.loop_templates.proofs.SmallSums.{renamed, sum_bounded}
 use Rattle.loop_templates.proofs.Taken.{take_room}
-use Rattle.loop_templates.proofs.claims.row_in_state.Goals as goal
+use Rattle.loop_templates.proofs.claims.row_over.Goals as goal
 
 pub returns-clause-bounded : goal.returns-clause-bounded
 returns-clause-bounded c =
