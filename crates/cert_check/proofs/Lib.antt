@@ -56,4 +56,5 @@ pub mod TurnSteps
 pub mod FoundHints
 pub mod FoundWalks
 pub mod TourSteps
+pub mod TourEnds
 pub mod WhileSteps

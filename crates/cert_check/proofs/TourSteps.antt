@@ -131,11 +131,11 @@ all_end_so style turned (state ∷ states) tour are written ends =
     (one_ends style turned state tour (All-head (IsEnd style) state states are) written ends)
 
 -- what the ends leave of the course
-none_ended : (turned : Bool) (states : List State) (tour : Tour) → GivesNone tour → GivesNone (all_ended turned states tour)
+pub none_ended : (turned : Bool) (states : List State) (tour : Tour) → GivesNone tour → GivesNone (all_ended turned states tour)
 none_ended turned [] tour none = none
 none_ended turned (state ∷ states) tour none = none_ended turned states (ended turned state tour) none
 
-count_ended : (turned : Bool) (states : List State) (tour : Tour) → (all_ended turned states tour).course.count ≡ tour.course.count
+pub count_ended : (turned : Bool) (states : List State) (tour : Tour) → (all_ended turned states tour).course.count ≡ tour.course.count
 count_ended turned [] tour = refl
 count_ended turned (state ∷ states) tour = count_ended turned states (ended turned state tour)
 

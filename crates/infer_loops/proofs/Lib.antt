@@ -2,5 +2,6 @@ pub mod CasePieces
 pub mod EndStates
 pub mod FewCases
 pub mod FoundFrames
+pub mod LoopsMade
 pub mod NextTurns
 pub mod Sequences

@@ -1,0 +1,12 @@
+//! What the loops that are found are.
+
+ghost use Rattle.name_table.specs.Sound.{IsSound};
+ghost use Rattle.name_table.specs.declared.style.Style.{Style};
+ghost use Rattle.cert_format.specs.declared.cert.Cert.{Cert};
+ghost use Rattle.cert_check.specs.Certified.{IsCertified, MakesLoops};
+ghost use Rattle.infer_loops.specs.Invariants.{invariant_of};
+
+/// The invariants that are found for a style are loops of it: a walk may make its loops so.
+pub fn invariants_are_loops()
+    ensures { (style : Style) (cert : Cert) → IsSound style → IsCertified style cert → MakesLoops style (invariant_of style cert) }
+{}
