@@ -19,6 +19,7 @@ pub mod LeftFollowing
 pub mod LeftFramed
 pub mod Levels
 pub mod Looping
+pub mod Nameable
 pub mod Makings
 pub mod OwnEnd
 pub mod OwnFacts

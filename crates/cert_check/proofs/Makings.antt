@@ -24,13 +24,14 @@ use Rattle.sym_state.specs.declared.hint.Hint.{Hint}
 use Rattle.sym_state.specs.declared.hint.Hint.TheVariants as hint
 use Rattle.sym_state.specs.declared.symbol.Kinds.TheVariants.{Func}
 use Rattle.refinements.specs.Covered.{IsAmong}
-use Rattle.cert_check.specs.Certified.{HasMade, IsLoopOf, IsPieceOf, MakesLoops}
+use Rattle.cert_check.specs.Certified.{HasMade, IsLoopOf, IsPieceOf, MakesLoops, MakesStanding, MayStand}
 use Rattle.cert_check.specs.Courses.{Course, placed}
 use Rattle.cert_check.specs.Uses.{around}
 use Rattle.cert_check.specs.Walks.{Make, Making, Numbered, Scope, While, all_made, coming_hints, comes_to, entering_with, exact_target, is_target, leaves, loop_made, made_used, next_number, none_made, numbered, rest_of, while_alone, while_by, while_in, while_made, while_of, while_taken, making_for, is_while_token}
 use Rattle.cert_check.proofs.Followed.{Follows, Moved, moved_from, refound, remade, left_follows}
 use Rattle.cert_check.proofs.Inverted.{placed_ok}
 use Rattle.cert_check.proofs.Keeping.{Told, comes_to_ok, element, leaves_moved}
+use Rattle.cert_check.proofs.Nameable.{while_named}
 use Rattle.cert_check.proofs.Passing.{loop_passed}
 use Rattle.cert_check.proofs.Repeating.{TwoMet, two_ok, without_two}
 
@@ -152,35 +153,45 @@ numbered_one scope one number (loop ∷ made) all =
       | false ↦ numbered_one scope one (suc number) made (All-tail (IsLoopOf scope.style) loop made all)
     ]
 
--- the loop of a `while$`, and what was made with it
-record Known (scope : Scope) (known : Numbered × Making) (before : Making) : Type 0 where
+-- the loop of a `while$`, and what was made with it, where this is the one that may be new
+record Known (scope : Scope) (new : Option Loop) (known : Numbered × Making) (before : Making) : Type 0 where
   pub one : IsLoopOf scope.style known.0.one
+  pub written : IfSome new (MayStand scope.style) → All (MayStand scope.style) before.made → All (MayStand scope.style) known.1.made
   pub made : HasMade scope.style known.1
   pub course : known.1.course ≡ before.course
 
 loop_known : (scope : Scope) (place : Place) (found : Option Numbered) (new : Option Loop) (making : Making) (known : Numbered × Making)
     → IfSome found (λ f. IsLoopOf scope.style f.one) → IfSome new (IsLoopOf scope.style) → HasMade scope.style making
-    → loop_made place found new making ≡ Ok known → Known scope known making
+    → loop_made place found new making ≡ Ok known → Known scope new known making
 loop_known scope place (Some found) new making known is fresh made e =
-    subst (λ (k : Numbered × Making). Known scope k making) (sym (ok_is (found, making) known e)) (record { one = is; made = made; course = refl })
+    subst (λ (k : Numbered × Making). Known scope new k making) (sym (ok_is (found, making) known e))
+    (record { one = is; written = λ new all. all; made = made; course = refl })
 loop_known scope place None None making known is fresh made e = absurd (cc)
 loop_known scope place None (Some one) making known is fresh made e =
     let there = where_ok (nat_lt (next_number making) MOST_LOOPS) _ _ known e in
-    subst (λ (k : Numbered × Making). Known scope k making) (sym (ok_is _ known there.1)) (record {
+    subst (λ (k : Numbered × Making). Known scope (Some one) k making) (sym (ok_is _ known there.1)) (record {
       one = fresh;
+      written = λ new all.
+          All-append (MayStand scope.style) making.made (one ∷ []) all (All-cons (MayStand scope.style) one [] new (All-nil (MayStand scope.style)));
       made = All-append (IsLoopOf scope.style) making.made (one ∷ []) made (All-cons (IsLoopOf scope.style) one [] fresh (All-nil (IsLoopOf scope.style)));
       course = refl;
     })
 
+-- the loops that were made for the token may stand in a certificate, where those may that are made
+abbrev pub KeepsMade : Make → Scope → Making → Making → Type 0
+KeepsMade make scope before after =
+    MakesStanding scope.style make → All (MayStand scope.style) before.made → All (MayStand scope.style) after.made
+
 -- what a `while$` keeps: a state is followed by what it leaves, and the loops that were made are loops of the style
-pub record Whiled (scope : Scope) (room : ℕ) (state : State) (before after : Making) : Type 0 where
+pub record Whiled (make : Make) (scope : Scope) (room : ℕ) (state : State) (before after : Making) : Type 0 where
   pub moved : Moved scope room state before.course after.course
   pub made : HasMade scope.style after
+  pub written : KeepsMade make scope before after
 
 while_known : (make : Make) (scope : Scope) (place : Place) (states earlier : List State) (state : State) (two : Two) (one : While) (making after : Making)
     → Told scope → MakesLoops scope.style make → All (WellMade scope.style) states → IsAmong state states → WellMade scope.style state
     → two_of Func Func state ≡ Ok two → while_of scope state two ≡ Some one → HasMade scope.style making
-    → while_made make scope place states earlier (Some one) making ≡ Ok after → Whiled scope 64 state making after
+    → while_made make scope place states earlier (Some one) making ≡ Ok after → Whiled make scope 64 state making after
 while_known make scope place states earlier state two one making after told makes all among well e is made ends =
     let found = numbered one (length making.course.loops) making.made in
     let entering = entering_with scope one states in
@@ -194,22 +205,26 @@ while_known make scope place states earlier state two one making after told make
     let next = ap (λ (s : State). s.next) left ∙ rest_next state two e in
     let follows : Follows scope state one.rest = subst (λ (s : State). Follows scope state s) (sym left) (rest_follows scope state two e well) in
     let moves = made_moved scope place known.0.0 (length (entering_with scope one earlier)) one.rest known.0.1.course used.0 told loop.one follows.made used.1 in
-    subst (Whiled scope 64 state making) (sym (ok_is _ after used.2)) (record {
+    let named = while_named scope state two one told.sound well is in
+    subst (Whiled make scope 64 state making) (sym (ok_is _ after used.2)) (record {
       moved = subst (λ (c : Course). Moved scope 64 state c used.0) loop.course
           (moved_from scope 64 64 state one.rest known.0.1.course used.0 follows (omega (arith, next)) moves);
       made = loop.made;
+      written = λ writes loops.
+          loop.written (writes one.test one.body entering named.0 named.1
+          (some_enter scope one state states here among) (entering_all scope one states all)) loops;
     })
 
 pub while_moved : (make : Make) (scope : Scope) (place : Place) (states earlier : List State) (state : State) (making after : Making) → Told scope
     → MakesLoops scope.style make → All (WellMade scope.style) states → IsAmong state states → WellMade scope.style state → HasMade scope.style making
-    → while_taken make scope place states earlier state making ≡ Ok after → Whiled scope 64 state making after
+    → while_taken make scope place states earlier state making ≡ Ok after → Whiled make scope 64 state making after
 while_moved make scope place states earlier state making after told makes all among well made e =
     let operands = two_of Func Func state in
     let found = then_ok (placed place operands) (λ two. while_made make scope place states earlier (while_of scope state two) making) after e in
     by_while found.0 (placed_ok place operands found.0 found.1) (while_of scope state found.0) refl found.2
   where
     by_while : (two : Two) → two_of Func Func state ≡ Ok two → (o : Option While) → while_of scope state two ≡ o
-        → while_made make scope place states earlier o making ≡ Ok after → Whiled scope 64 state making after
+        → while_made make scope place states earlier o making ≡ Ok after → Whiled make scope 64 state making after
     by_while two met (Some one) is ends = while_known make scope place states earlier state two one making after told makes all among well met is made ends
     by_while two met None is ends = absurd (cc)
 
@@ -218,11 +233,19 @@ pub making_none : (scope : Scope) (t : Token) → scope.make ≡ None → making
 making_none scope t unmade =
     elim (is_while_token scope.style t) as (λ (b : Bool). cond b scope.make None ≡ None) [ true ↦ unmade | false ↦ refl ]
 
+-- those that were made for a token stand behind the others
+pub all_written : (make : Make) (scope : Scope) (making : Making) → scope.make ≡ Some make
+    → (MakesStanding scope.style make → All (MayStand scope.style) [] → All (MayStand scope.style) making.made)
+    → IfSome scope.make (MakesStanding scope.style) → All (MayStand scope.style) making.course.loops → All (MayStand scope.style) (all_made making).loops
+all_written make scope making by written makes all =
+    All-append (MayStand scope.style) making.course.loops making.made all
+    (written (subst (λ (o : Option Make). IfSome o (MakesStanding scope.style)) by makes) (All-nil (MayStand scope.style)))
+
 -- in one state
 pub alone_moved : (make : Make) (scope : Scope) (place : Place) (state : State) (course after : Course) → Told scope → MakesLoops scope.style make
-    → WellMade scope.style state → while_alone make scope place state course ≡ Ok after → Moved scope 64 state course after
-alone_moved make scope place state course after told makes well e =
+    → scope.make ≡ Some make → WellMade scope.style state → while_alone make scope place state course ≡ Ok after → Moved scope 64 state course after
+alone_moved make scope place state course after told makes by well e =
     let mid = then_ok (while_taken make scope place (state ∷ []) [] state (none_made course)) (λ making. Ok (all_made making)) after e in
     let one = while_moved make scope place (state ∷ []) [] state (none_made course) mid.0 told makes
     (All-cons (WellMade scope.style) state [] well (All-nil (WellMade scope.style))) (inl refl) well (All-nil (IsLoopOf scope.style)) mid.1 in
-    subst (Moved scope 64 state course) (sym (ok_is (all_made mid.0) after mid.2)) (remade scope 64 state course mid.0.course (all_made mid.0).loops one.moved)
+    subst (Moved scope 64 state course) (sym (ok_is (all_made mid.0) after mid.2)) (remade scope 64 state course mid.0.course (all_made mid.0).loops (all_written make scope mid.0 by one.written) one.moved)

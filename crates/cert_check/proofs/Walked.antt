@@ -44,10 +44,10 @@ use Rattle.straight_hints.specs.Found.{above_hints}
 use Rattle.cert_check.specs.Certified.{HasMade, IsLoopOf, IsSummaryOf, MakesLoops}
 use Rattle.cert_check.specs.Courses.{Course, behind, counts, gives, gives_all, placed}
 use Rattle.cert_check.specs.Walks.{Call, Enter, Make, Making, Onward, Scope, all_made, body_walked, built_in, cases_entered, choice, chosen, chosen_in, each_taken, entered, entered_by, entering, exact_target, function_entered, has_summary, hints_of_choice, if_else, is_target, is_wizard, literal_state, making_for, name_entered, named, none_made, repeated, summary_used, taken, taken_by, taken_from, test_of, token_taken, type_called, type_functions, type_walked, types_called, use_of, walked, while_by_make, while_taken, whiles_taken, is_while_token}
-use Rattle.cert_check.proofs.Followed.{Follows, HasFewNew, Moved, among_all, behind_moved, counted_moved, follows_self, follows_twice, left_follows, moved_from, moved_self, moved_twice, moved_within, one_given, rehinted}
+use Rattle.cert_check.proofs.Followed.{Follows, HasFewNew, KeepsLoops, Moved, among_all, behind_moved, counted_moved, follows_self, follows_twice, left_follows, moved_from, moved_self, moved_twice, moved_within, one_given, rehinted}
 use Rattle.cert_check.proofs.Inverted.{gives_all_ok, placed_ok}
 use Rattle.cert_check.proofs.Keeping.{Told, element, loop_moved, nothing_entered, token_few, token_follows, used_moved, variable_moved}
-use Rattle.cert_check.proofs.Makings.{alone_moved, popped_follows, while_moved}
+use Rattle.cert_check.proofs.Makings.{KeepsMade, all_written, alone_moved, popped_follows, while_moved}
 use Rattle.cert_check.proofs.Repeating.{repeated_ok, without_two}
 
 -- a way on from a state gives states that follow it
@@ -239,7 +239,7 @@ built_in_moved scope enter other op.WhileDo place state told enters made moves c
     by_make : (make : Option Make) → scope.make ≡ make → while_by_make make scope place state course ≡ Ok after → Moved scope 64 state course after
     by_make None is e = repeated_moved scope place state told made course after e
     by_make (Some make) is e =
-        alone_moved make scope place state course after told (subst (λ (o : Option Make). IfSome o (MakesLoops scope.style)) is told.makes) made e
+        alone_moved make scope place state course after told (subst (λ (o : Option Make). IfSome o (MakesLoops scope.style)) is told.makes) is made e
 built_in_moved scope enter other op.CallType place state told enters made moves course after e =
     let at = where_ok state.at_entry (types_called scope enter place (type_functions scope.style scope.cert.cond) state course) _ after e in
     moved_within scope 0 65 state course after (omega arith)
@@ -410,6 +410,7 @@ pub record MovedFrom (scope : Scope) (starts : List State) (before after : Cours
   pub come : All (Comes scope starts before.count after.count) more
   pub count : before.count ≤ after.count
   pub short : All HasFewUses before.hints → All HasFewUses after.hints
+  pub loops : KeepsLoops scope before after
 
 -- what a rule gives of the first state, and what it gives of the others
 pub from_twice : (scope : Scope) (state : State) (states : List State) (before middle after : Course) → Moved scope 0 state before middle
@@ -427,6 +428,7 @@ from_twice scope state states before middle after one rest =
           (λ x among. inr among) rest.come);
       count = omega (arith, low, high);
       short = λ short. rest.short (one.short short);
+      loops = λ makes all. rest.loops makes (one.loops makes all);
     }
   where
     only_first : (x : State) → IsAmong x (state ∷ []) → IsAmong x (state ∷ states)
@@ -441,6 +443,7 @@ from_none scope course = record {
   come = All-nil (Comes scope [] course.count course.count);
   count = omega arith;
   short = λ short. short;
+  loops = λ makes all. all;
 }
 
 pub each_taken_moved : (scope : Scope) (enter : Enter) (t : TokenAt) (states : List State) (course after : Course) → Told scope → Enters scope enter
@@ -453,13 +456,18 @@ each_taken_moved scope enter t (state ∷ states) course after told enters sound
     (taken_moved scope enter t state told enters (All-head (WellMade scope.style) state states made) sound course first.0 first.1)
     (each_taken_moved scope enter t states first.0 after told enters sound (All-tail (WellMade scope.style) state states made) first.2)
 
+-- what loops that are made for the states of a token keep
+record WhiledFrom (make : Make) (scope : Scope) (starts : List State) (before after : Making) : Type 0 where
+  pub moved : MovedFrom scope starts before.course after.course
+  pub written : KeepsMade make scope before after
+
 -- loops that are made for the states of a token
 whiles_moved : (make : Make) (scope : Scope) (place : Place) (states earlier later : List State) (making after : Making) → Told scope
     → MakesLoops scope.style make → All (WellMade scope.style) states → ((x : State) → IsAmong x later → IsAmong x states)
     → All (WellMade scope.style) later → HasMade scope.style making → whiles_taken make scope place states earlier later making ≡ Ok after
-    → MovedFrom scope later making.course after.course
+    → WhiledFrom make scope later making after
 whiles_moved make scope place states earlier [] making after told makes all among well made e =
-    subst (λ (m : Making). MovedFrom scope [] making.course m.course) (sym (ok_is making after e)) (from_none scope making.course)
+    subst (WhiledFrom make scope [] making) (sym (ok_is making after e)) (record { moved = from_none scope making.course; written = λ makes all. all })
 whiles_moved make scope place states earlier (state ∷ later) making after told makes all among well made e =
     let rest = whiles_taken make scope place states (earlier ++ state ∷ []) later in
     let counted = then_ok (counts 1 place making.course)
@@ -468,11 +476,14 @@ whiles_moved make scope place states earlier (state ∷ later) making after told
     let taken = then_ok (while_taken make scope place states earlier state begun) rest after counted.2 in
     let one = while_moved make scope place states earlier state begun taken.0 told makes all (among state (inl refl))
     (All-head (WellMade scope.style) state later well) made taken.1 in
-    from_twice scope state later making.course taken.0.course after.course
-    (counted_moved scope 1 0 state place making.course counted.0 taken.0.course counted.1
-    (moved_within scope 64 65 state counted.0 taken.0.course (omega arith) one.moved))
-    (whiles_moved make scope place states (earlier ++ state ∷ []) later taken.0 after told makes all (λ x later. among x (inr later))
-    (All-tail (WellMade scope.style) state later well) one.made taken.2)
+    let others = whiles_moved make scope place states (earlier ++ state ∷ []) later taken.0 after told makes all (λ x later. among x (inr later))
+    (All-tail (WellMade scope.style) state later well) one.made taken.2 in
+    record {
+      moved = from_twice scope state later making.course taken.0.course after.course
+          (counted_moved scope 1 0 state place making.course counted.0 taken.0.course counted.1
+          (moved_within scope 64 65 state counted.0 taken.0.course (omega arith) one.moved)) others.moved;
+      written = λ writes loops. others.written writes (one.written writes loops);
+    }
 
 -- how loops are made for a token is how they are made
 pub making_is : (scope : Scope) (t : Token) (make : Make) → making_for scope t ≡ Some make → scope.make ≡ Some make
@@ -495,12 +506,15 @@ taken_from_moved scope enter t states course after told enters sound made e = by
         let makes = subst (λ (o : Option Make). IfSome o (MakesLoops scope.style)) (making_is scope t.token make is) told.makes in
         let moved = whiles_moved make scope t.place states [] states (none_made course) all.0 told makes made (λ x among. among) made
         (All-nil (IsLoopOf scope.style)) all.1 in
+        let come = moved.moved in
         subst (MovedFrom scope states course) (sym (ok_is (all_made all.0) after all.2)) (record {
-          more = moved.more;
-          given = moved.given;
-          come = moved.come;
-          count = moved.count;
-          short = moved.short;
+          more = come.more;
+          given = come.given;
+          come = come.come;
+          count = come.count;
+          short = come.short;
+          loops = λ writes loops.
+              all_written make scope all.0 (making_is scope t.token make is) moved.written writes (come.loops writes loops);
         })
 
 -- the states at a walk's end come from those at its start
@@ -508,6 +522,7 @@ pub record Ended (scope : Scope) (starts : List State) (before after : Course) :
   pub come : All (Comes scope starts before.count after.count) after.given
   pub count : before.count ≤ after.count
   pub short : All HasFewUses before.hints → All HasFewUses after.hints
+  pub loops : KeepsLoops scope before after
 
 pub walked_ends : (scope : Scope) (enter : Enter) (tokens : List TokenAt) (course after : Course) → Told scope → Enters scope enter
     → AreSound scope tokens → All (WellMade scope.style) course.given → walked scope enter tokens course ≡ Ok after → Ended scope course.given course after
@@ -516,6 +531,7 @@ walked_ends scope enter [] course after told enters sound made e =
       come = come_self scope course.count course.given made;
       count = omega arith;
       short = λ short. short;
+      loops = λ makes all. all;
     })
 walked_ends scope enter (t ∷ tokens) course after told enters sound made e =
     let fresh = record course { given = [] } in
@@ -529,6 +545,7 @@ walked_ends scope enter (t ∷ tokens) course after told enters sound made e =
       come = come_twice scope course.given first.0.given course.count first.0.count after.count after.given come rest.come;
       count = omega (arith, low, high);
       short = λ short. rest.short (one.short short);
+      loops = λ makes all. rest.loops makes (one.loops makes all);
     }
 
 -- the tokens of a body of the style
@@ -558,4 +575,5 @@ body_moved scope (suc more) told place body state made course after e =
       few = come_few scope state course.count inner.0.count inner.0.given ended.come;
       count = ended.count;
       short = ended.short;
+      loops = ended.loops;
     })

@@ -1,12 +1,13 @@
 -- What is found for states that enter is a loop of the style.
-use Rattle.std.proofs.Common.{◌≡◌, ℕ, zero, suc, ◌+◌, ◌≤◌, Bool, true, false, cond, ◌&&◌, nat_le, List, [], ◌∷◌, ◌++◌, length, map, Option, None, Some, Result, Ok, Err, IfSome, refl, sym, subst, ap, ◌∙◌, arith}
+use Rattle.std.proofs.Common.{◌≡◌, ℕ, zero, suc, ◌+◌, ◌≤◌, Bool, true, false, cond, ◌&&◌, nat_le, List, [], ◌∷◌, ◌++◌, length, map, Option, None, Some, Result, Ok, Err, IfSome, refl, sym, subst, ap, ◌∙◌, arith, nat_lt, ◌<◌}
 use Rattle.std.specs.List.{All, filter, list_all}
 use Rattle.std.specs.Option.{option_and_then, option_map_or}
 use Rattle.std.specs.Result.{result_ok}
+use Rattle.std.specs.Cmp.Derive.{both_true}
 use Rattle.std.proofs.lemmas.Bool.{and_parts}
 use Rattle.std.proofs.lemmas.Bool.Decides.{nat_tests}
 use Rattle.std.proofs.lemmas.List.{length-append, length-map}
-use Rattle.std.proofs.lemmas.List.Elements.{All-append, All-cons, All-filter, All-head, All-map, All-nil, All-tail}
+use Rattle.std.proofs.lemmas.List.Elements.{All-append, All-cons, All-filter, All-head, All-map, All-nil, All-tail, All-weaker}
 use Rattle.std.proofs.lemmas.List.Sums.{count_by-le-length, length-filter}
 use Rattle.name_table.specs.Sound.{Each, IsSound}
 use Rattle.name_table.specs.declared.names.Kind.{Kind}
@@ -17,15 +18,12 @@ use Rattle.bst_meaning.specs.StyleParts.{kind_of}
 use Rattle.bst_meaning.specs.declared.value.Target.{Target}
 use Rattle.cert_format.specs.declared.cert.Cert.{Cert}
 use Rattle.cert_format.specs.declared.cert.Loop.{Loop}
-use Rattle.sym_state.specs.Demands.{HasFewUses}
 use Rattle.sym_state.specs.State.{State}
 use Rattle.sym_state.specs.WellMade.{WellMade, ids_from, is_variable}
-use Rattle.sym_state.specs.declared.hint.Hint.{Hint}
-use Rattle.sym_state.specs.declared.hint.Hint.TheVariants as hint
 use Rattle.sym_state.proofs.Started.{ids_from-length}
 use Rattle.straight_hints.specs.declared.finding.Finding.TheVariants.{Straight}
 use Rattle.loop_templates.specs.Bound.{all_bound, is_bound_variable}
-use Rattle.loop_templates.specs.Candidates.{HasCases, HasNextCases, IsMade, exits_of, first_candidate, is_short}
+use Rattle.loop_templates.specs.Candidates.{HasCases, HasNextCases, IsMade, exits_of, first_candidate, is_short, IsCase}
 use Rattle.loop_templates.specs.Cases.{Frame, IsFrame}
 use Rattle.loop_templates.specs.Reaching.{Marks, Occurring, is_marked, occurring_of, terms_over}
 use Rattle.loop_templates.specs.declared.candidates.Added.{Added}
@@ -36,36 +34,21 @@ use Rattle.loop_templates.specs.declared.limits.TheConstants.{MOST_PIECES}
 use Rattle.loop_templates.proofs.FewTerms.{sums_small}
 use Rattle.loop_templates.proofs.Over.{sums_over_names}
 use Rattle.loop_templates.proofs.Seated.{ids_below}
-use Rattle.loop_templates.proofs.Standing.{MayExit, exits_are_cases, exits_made, first_has_cases, next_has_cases}
-use Rattle.loop_templates.proofs.Written.{ids_hold}
-use Rattle.cert_check.specs.Certified.{AreWritten, IsCertified, IsLoopOf, IsPieceOf, MakesLoops}
+use Rattle.loop_templates.proofs.Standing.{MayExit, exits_are_cases, exits_made, first_has_cases, next_has_cases, each_kept}
+use Rattle.loop_templates.proofs.Written.{ids_hold, variables_are}
+use Rattle.cert_check.specs.Certified.{AreWritten, IsCertified, IsLoopOf, IsPieceOf, MakesLoops, MakesStanding, MayStand}
 use Rattle.cert_check.specs.Tours.{Toured, setting_out, turns_of}
 use Rattle.cert_check.specs.Units.{everywhere}
 use Rattle.cert_check.specs.declared.tours.Ended.{Ended}
 use Rattle.cert_check.specs.declared.tours.Tour.{Tour}
 use Rattle.cert_check.specs.declared.tours.Turning.{Turning}
 use Rattle.cert_check.proofs.TourEnds.{HasMadeEnds, turns_keep}
-use Rattle.infer_loops.specs.Invariants.{added_cases, cases_of, ended_states, found_in, frame_of, invariant_of, is_short_hint, loop_of, loop_with, may_be_written, next_of, occurring_in, sequence, settled_by, toured, turning, walked_by, with_short_hints, written_in}
+use Rattle.cert_format.specs.CertText.{AreWrites, IsNameable, IsPiece, IsVariable}
+use Rattle.cert_format.specs.CondText.{is_below, is_chain}
+use Rattle.infer_loops.specs.Invariants.{added_cases, cases_of, ended_states, found_in, frame_of, invariant_of, loop_of, loop_with, may_be_written, next_of, occurring_in, sequence, settled_by, toured, turning, walked_by, written_in}
 use Rattle.infer_loops.specs.declared.limits.TheConstants.{MOST_CANDIDATES}
 use Rattle.infer_loops.proofs.CasePieces.{added_pieces, case_piece, first_pieces}
 use Rattle.infer_loops.proofs.EndStates.{made_states}
-
--- short hints
-few_uses : (it : Hint) → is_short_hint it ≡ true → HasFewUses it
-few_uses (hint.Drop proof) short = grind (arith, nat_tests)
-few_uses (hint.Step proof) short = grind (arith, nat_tests)
-few_uses (hint.Apply n) short = tt
-few_uses hint.Walk short = tt
-few_uses (hint.Loop n) short = tt
-few_uses (hint.Case n) short = tt
-few_uses hint.Plain short = tt
-few_uses hint.Keep short = tt
-
-hints_few : (hints : List Hint) → list_all is_short_hint hints ≡ true → All HasFewUses hints
-hints_few [] short = All-nil HasFewUses
-hints_few (it ∷ hints) short =
-    let parts = and_parts (is_short_hint it) (list_all is_short_hint hints) short in
-    All-cons HasFewUses it hints (few_uses it parts.0) (hints_few hints parts.1)
 
 -- what is written are variables
 variable_takes : (entry : Bool) (k : Kind) → is_bound_variable (all_bound entry) k ≡ true → is_variable entry k ≡ true
@@ -101,15 +84,60 @@ are_written style entry marks sound =
           omega (arith, kept, fewer, most, names);
     }
 
+-- they stand in their order
+below_next : (i id : ℕ) → i < id → nat_lt i id ≡ true
+below_next i id less = grind (arith, nat_tests)
+
+kept_behind : (keep : NameId → Bool) (test : Kind → Bool) (i id : ℕ) (names : List (List ℕ × Kind)) → i < id
+    → is_chain is_below (record { 0 = i } ∷ filter keep (ids_from test id names)) ≡ true
+kept_behind keep test i id [] less = refl
+kept_behind keep test i id (name ∷ names) less =
+    let first : NameId = record { 0 = i } in
+    let this : NameId = record { 0 = id } in
+    let rest = filter keep (ids_from test (suc id) names) in
+    elim (test name.1) as (λ (t : Bool). is_chain is_below (first ∷ filter keep (cond t (this ∷ ids_from test (suc id) names) (ids_from test (suc id) names))) ≡ true) [
+      | true ↦ elim (keep this) as (λ (b : Bool). is_chain is_below (first ∷ cond b (this ∷ rest) rest) ≡ true) [
+        | true ↦ both_true (below_next i id less) (kept_behind keep test id (suc id) names (omega arith))
+        | false ↦ kept_behind keep test i (suc id) names (omega (arith, less))
+      ]
+      | false ↦ kept_behind keep test i (suc id) names (omega (arith, less))
+    ]
+
+kept_rise : (keep : NameId → Bool) (test : Kind → Bool) (id : ℕ) (names : List (List ℕ × Kind)) → is_chain is_below (filter keep (ids_from test id names)) ≡ true
+kept_rise keep test id [] = refl
+kept_rise keep test id (name ∷ names) =
+    let this : NameId = record { 0 = id } in
+    let rest = filter keep (ids_from test (suc id) names) in
+    elim (test name.1) as (λ (t : Bool). is_chain is_below (filter keep (cond t (this ∷ ids_from test (suc id) names) (ids_from test (suc id) names))) ≡ true) [
+      | true ↦ elim (keep this) as (λ (b : Bool). is_chain is_below (cond b (this ∷ rest) rest) ≡ true) [
+        | true ↦ kept_behind keep test id (suc id) names (omega arith)
+        | false ↦ kept_rise keep test (suc id) names
+      ]
+      | false ↦ kept_rise keep test (suc id) names
+    ]
+
+written_rise : (style : Style) (entry : Bool) (marks : Marks)
+    → AreWrites entry style.names (occurring_of (is_bound_variable (all_bound entry)) style marks)
+written_rise style entry marks =
+    let test = is_bound_variable (all_bound entry) in
+    let marked : NameId → Bool = λ name. is_marked marks name.0 in
+    (
+      each_kept (IsVariable entry style.names) marked (ids_from test 0 style.names) (variables_are (all_bound entry) entry style.names (λ at. at)),
+      kept_rise marked test 0 style.names,
+    )
+
+-- an exit whose stack is short is a case
+short_case : (frame : Frame) (exit : Added) → MayExit frame exit → IsMade exit → is_short exit.case.stack ≡ true → IsCase frame exit.case
+short_case frame exit may made short = may (ap (λ (n : ℕ). nat_le n 64) (sym made.stack) ∙ short)
+
 -- exits whose stacks are short are pieces of the style
 exit_pieces : (frame : Frame) (exits : List Added) → IsSound frame.style → All (MayExit frame) exits → All IsMade exits
     → list_all (λ one. is_short one.case.stack) exits ≡ true → All (λ one. IsPieceOf frame.style frame.at_entry one.case) exits
 exit_pieces frame [] sound may made short = All-nil (λ (one : Added). IsPieceOf frame.style frame.at_entry one.case)
 exit_pieces frame (exit ∷ exits) sound may made short =
     let parts = and_parts (is_short exit.case.stack) (list_all (λ (one : Added). is_short one.case.stack) exits) short in
-    let long = (All-head IsMade exit exits made).stack in
     All-cons (λ (one : Added). IsPieceOf frame.style frame.at_entry one.case) exit exits
-    (case_piece frame exit.case sound (All-head (MayExit frame) exit exits may (ap (λ (n : ℕ). nat_le n 64) (sym long) ∙ parts.0)))
+    (case_piece frame exit.case sound (short_case frame exit (All-head (MayExit frame) exit exits may) (All-head IsMade exit exits made) parts.0))
     (exit_pieces frame exits sound (All-tail (MayExit frame) exit exits may) (All-tail IsMade exit exits made) parts.1)
 
 few_there : (candidate : Candidate) (exits : List Added) → may_be_written candidate exits ≡ true
@@ -126,12 +154,29 @@ few_there candidate exits may =
     within : (n m : ℕ) → nat_le n m ≡ true → n ≤ m
     within n m e = grind (arith, nat_tests)
 
+if_some_weaker : {X : Type 0} {P Q : X → Type 0} (o : Option X) → ((x : X) → P x → Q x) → IfSome o P → IfSome o Q
+if_some_weaker None gives holds = tt
+if_some_weaker (Some x) gives holds = gives x holds
+
 tour_ok : (r : Toured) (tour : Tour) → result_ok r ≡ Some tour → r ≡ Ok tour
 tour_ok (Ok other) tour e = cc
 tour_ok (Err refusal) tour e = absurd (cc)
 
 module _ (cert : Cert) (frame : Frame) (one : Turning) (ready : IsFrame frame) (certified : IsCertified frame.style cert)
-    (at : frame.at_entry ≡ one.entry) (writes : AreWritten frame.style one.entry frame.writes) where
+    (at : frame.at_entry ≡ one.entry) (pos : frame.has_pos ≡ one.entry) (writes : AreWritten frame.style one.entry frame.writes)
+    (written : AreWrites one.entry frame.style.names frame.writes) where
+  -- a case as certificates have it
+  piece_of : (case : Piece) → IsCase frame case → IsPiece frame.style one.entry one.entry 0 case
+  piece_of case is =
+      subst (λ (has_pos : Bool). IsPiece frame.style one.entry has_pos 0 case) pos
+      (subst (λ (entry : Bool). IsPiece frame.style entry frame.has_pos 0 case) at is.piece)
+
+  some_there : (candidate : Candidate) → HasCases frame candidate → 1 ≤ length (cases_of candidate)
+  some_there candidate has =
+      let all = length-append candidate.first (added_cases candidate.added) in
+      let first = has.some in
+      omega (arith, all, first)
+
   cases_there : (candidate : Candidate) → HasCases frame candidate → All (IsPieceOf frame.style one.entry) (cases_of candidate)
   cases_there candidate has =
       All-append (IsPieceOf frame.style one.entry) candidate.first (added_cases candidate.added)
@@ -146,31 +191,66 @@ module _ (cert : Cert) (frame : Frame) (one : Turning) (ready : IsFrame frame) (
       (subst (λ (entry : Bool). All (λ (added : Added). IsPieceOf frame.style entry added.case) exits) at
       (exit_pieces frame exits ready.sound (exits_are_cases frame left exits is ready made) (exits_made frame left exits is ready) short))
 
+  pieces_written : (candidate : Candidate) → HasCases frame candidate → Each (IsPiece frame.style one.entry one.entry 0) (cases_of candidate)
+  pieces_written candidate has =
+      let P = IsPiece frame.style one.entry one.entry 0 in
+      each_of_all P (cases_of candidate)
+      (All-append P candidate.first (added_cases candidate.added)
+      (All-weaker (IsCase frame) P (λ case is. piece_of case is) candidate.first has.first)
+      (All-map P (λ (added : Added). added.case) candidate.added
+      (All-weaker (λ (added : Added). IsCase frame added.case) (λ added. P added.case) (λ added is. piece_of added.case is) candidate.added has.added)))
+
+  exits_written : (exits : List Added) → All (MayExit frame) exits → All IsMade exits → list_all (λ added. is_short added.case.stack) exits ≡ true
+      → Each (IsPiece frame.style one.entry one.entry 0) (added_cases exits)
+  exits_written [] may made short = tt
+  exits_written (exit ∷ exits) may made short =
+      let parts = and_parts (is_short exit.case.stack) (list_all (λ (added : Added). is_short added.case.stack) exits) short in
+      (
+        piece_of exit.case (short_case frame exit (All-head (MayExit frame) exit exits may) (All-head IsMade exit exits made) parts.0),
+        exits_written exits (All-tail (MayExit frame) exit exits may) (All-tail IsMade exit exits made) parts.1,
+      )
+
+  -- what is found is a loop of the style, and may stand in a certificate where its hints may
+  record IsMadeLoop (found : Loop) : Type 0 where
+    pub of_style : IsLoopOf frame.style found
+    pub stands : IsNameable frame.style one.test → IsNameable frame.style one.body → MayStand frame.style found
+
+  made_there : (candidate : Candidate) (tour : Tour) (left : List State) (exits : List Added) → exits ≡ exits_of frame left → HasCases frame candidate
+      → All (WellMade frame.style) left → may_be_written candidate exits ≡ true → IsMadeLoop (loop_with frame one candidate tour exits)
+  made_there candidate tour left exits is has made may =
+      let short = (and_parts (nat_le ((length candidate.first + length candidate.added) + length exits) MOST_PIECES)
+      (list_all (λ (added : Added). is_short added.case.stack) exits) may).1 in
+      let some = some_there candidate has in
+      let few = few_there candidate exits may in
+      record {
+        of_style = record {
+          cases = cases_there candidate has;
+          exits = exits_there exits left is made short;
+          some = some;
+          few = few;
+          writes = writes;
+        };
+        stands = λ test body hints. record {
+          test = test;
+          body = body;
+          writes = written;
+          cases = pieces_written candidate has;
+          exits = exits_written exits (exits_are_cases frame left exits is ready made) (exits_made frame left exits is ready) short;
+          some = some;
+          few = few;
+          hints = hints;
+        };
+      }
+
   -- the loop of a candidate that passes
   loop_there : (candidate : Candidate) (tour : Tour) → HasCases frame candidate → HasMadeEnds frame.style tour
-      → IfSome (loop_of frame one candidate tour) (IsLoopOf frame.style)
+      → IfSome (loop_of frame one candidate tour) IsMadeLoop
   loop_there candidate tour has ends =
       let left : List State = ended_states false tour.ends in
       let exits : List Added = exits_of frame left in
-      let found : Loop = loop_with frame one candidate tour exits in
       elim (may_be_written candidate exits) as (λ (b : Bool). may_be_written candidate exits ≡ b
-      → IfSome (cond b (with_short_hints found) None) (IsLoopOf frame.style)) [
-        | true ↦ λ may. elim (list_all is_short_hint found.hints) as (λ (b : Bool). list_all is_short_hint found.hints ≡ b
-        → IfSome (cond b (Some found) None) (IsLoopOf frame.style)) [
-          | true ↦ λ short. record {
-            cases = cases_there candidate has;
-            exits = exits_there exits left refl (made_states frame.style false tour.ends ends)
-                ((and_parts (nat_le ((length candidate.first + length candidate.added) + length exits) MOST_PIECES)
-                (list_all (λ (added : Added). is_short added.case.stack) exits) may).1);
-            some = let all = length-append candidate.first (added_cases candidate.added) in
-                let first = has.some in
-                omega (arith, all, first);
-            few = few_there candidate exits may;
-            writes = writes;
-            hints = hints_few found.hints short;
-          }
-          | false ↦ λ _. tt
-        ] refl
+      → IfSome (cond b (Some (loop_with frame one candidate tour exits)) None) IsMadeLoop) [
+        | true ↦ λ may. made_there candidate tour left exits refl has (made_states frame.style false tour.ends ends) may
         | false ↦ λ _. tt
       ] refl
 
@@ -185,15 +265,15 @@ module _ (cert : Cert) (frame : Frame) (one : Turning) (ready : IsFrame frame) (
   -- what comes of a candidate that was walked
   settled_there : (candidate : Candidate) (tour : Tour) (later : Candidate → Option Loop) (next : Next) → HasCases frame candidate
       → HasMadeEnds frame.style tour → HasNextCases frame next
-      → ((after : Candidate) → HasCases frame after → IfSome (later after) (IsLoopOf frame.style))
-      → IfSome (settled_by frame one candidate tour later next) (IsLoopOf frame.style)
+      → ((after : Candidate) → HasCases frame after → IfSome (later after) IsMadeLoop)
+      → IfSome (settled_by frame one candidate tour later next) IsMadeLoop
   settled_there candidate tour later Passes has ends nexts made = loop_there candidate tour has ends
   settled_there candidate tour later Ends has ends nexts made = tt
   settled_there candidate tour later (Goes after) has ends nexts made = made after nexts
 
   walked_there : (candidate : Candidate) (later : Candidate → Option Loop) (walked : Option Tour) → walked ≡ toured frame.style cert one candidate
-      → HasCases frame candidate → ((after : Candidate) → HasCases frame after → IfSome (later after) (IsLoopOf frame.style))
-      → IfSome (walked_by frame one candidate later walked) (IsLoopOf frame.style)
+      → HasCases frame candidate → ((after : Candidate) → HasCases frame after → IfSome (later after) IsMadeLoop)
+      → IfSome (walked_by frame one candidate later walked) IsMadeLoop
   walked_there candidate later None is has made = tt
   walked_there candidate later (Some tour) is has made =
       let ends = ends_there candidate tour has (sym is) in
@@ -202,21 +282,25 @@ module _ (cert : Cert) (frame : Frame) (one : Turning) (ready : IsFrame frame) (
       (next_has_cases frame candidate turned (next_of frame candidate tour) refl ready (made_states frame.style true tour.ends ends) has) made
 
   -- candidates one after the other
-  sequence_there : (n : ℕ) (candidate : Candidate) → HasCases frame candidate → IfSome (sequence n cert frame one candidate) (IsLoopOf frame.style)
+  sequence_there : (n : ℕ) (candidate : Candidate) → HasCases frame candidate → IfSome (sequence n cert frame one candidate) IsMadeLoop
   sequence_there zero candidate has = tt
   sequence_there (suc n) candidate has =
       walked_there candidate (sequence n cert frame one) (toured frame.style cert one candidate) refl has (λ after. sequence_there n after)
 
-  pub loop_found : IfSome (found_in cert frame one) (IsLoopOf frame.style)
+  pub loop_found : IfSome (found_in cert frame one) IsMadeLoop
   loop_found = first_there (first_candidate frame) refl
     where
       first_there : (first : Option Candidate) → first ≡ first_candidate frame
-          → IfSome (option_and_then (sequence MOST_CANDIDATES cert frame one) first) (IsLoopOf frame.style)
+          → IfSome (option_and_then (sequence MOST_CANDIDATES cert frame one) first) IsMadeLoop
       first_there None is = tt
       first_there (Some candidate) is = sequence_there MOST_CANDIDATES candidate (first_has_cases frame (Some candidate) is ready)
 
-pub invariants_made : (style : Style) (cert : Cert) → IsSound style → IsCertified style cert → MakesLoops style (invariant_of style cert)
-invariants_made style cert sound certified test body entering some made =
+-- what is found for states that enter
+invariant_there : (style : Style) (cert : Cert) (test body : Target) (entering : List State) → IsSound style → IsCertified style cert → 1 ≤ length entering
+    → All (WellMade style) entering
+    → IfSome (invariant_of style cert test body entering)
+        (IsMadeLoop cert (frame_of style cert.cond (turning test body entering) entering) (turning test body entering))
+invariant_there style cert test body entering sound certified some made =
     let one : Turning = turning test body entering in
     let found : Occurring = occurring_in style cert.cond one in
     loop_found cert (frame_of style cert.cond one entering) one (record {
@@ -227,4 +311,14 @@ invariants_made style cert sound certified test body entering some made =
       sums = sums_small (terms_over style found one.entry);
       over = sums_over_names style found one.entry one.entry;
     })
-    certified refl (are_written style one.entry found.quoted sound)
+    certified refl refl (are_written style one.entry found.quoted sound) (written_rise style one.entry found.quoted)
+
+pub invariants_made : (style : Style) (cert : Cert) → IsSound style → IsCertified style cert → MakesLoops style (invariant_of style cert)
+invariants_made style cert sound certified test body entering some made =
+    if_some_weaker (invariant_of style cert test body entering) (λ found is. is.of_style)
+    (invariant_there style cert test body entering sound certified some made)
+
+pub invariants_stand : (style : Style) (cert : Cert) → IsSound style → IsCertified style cert → MakesStanding style (invariant_of style cert)
+invariants_stand style cert sound certified test body entering names named some made =
+    if_some_weaker (invariant_of style cert test body entering) (λ found is. is.stands names named)
+    (invariant_there style cert test body entering sound certified some made)

@@ -12,14 +12,13 @@ use Rattle.cert_format.specs.declared.cert.Cert.{Cert}
 use Rattle.cert_format.specs.declared.cert.Loop.{Loop}
 use Rattle.sym_state.specs.State.{State}
 use Rattle.sym_state.specs.declared.hint.Hint.{Hint}
-use Rattle.sym_state.specs.declared.hint.Hint.TheVariants.{Drop, Step}
 use Rattle.sym_state.specs.declared.piece.Piece.{Piece}
 use Rattle.straight_hints.specs.declared.finding.Finding.TheVariants.{Straight}
 use Rattle.loop_templates.specs.declared.candidates.Added.{Added}
 use Rattle.loop_templates.specs.declared.candidates.Candidate.{Candidate}
 use Rattle.loop_templates.specs.declared.candidates.Next.{Next}
 use Rattle.loop_templates.specs.declared.candidates.Next.TheVariants.{Passes, Ends, Goes}
-use Rattle.loop_templates.specs.declared.limits.TheConstants.{MOST_ITEMS, MOST_PIECES}
+use Rattle.loop_templates.specs.declared.limits.TheConstants.{MOST_PIECES}
 use Rattle.loop_templates.specs.Bound.{all_bound, is_bound_variable}
 use Rattle.loop_templates.specs.Candidates.{HasCases, entailing_one, exits_of, first_candidate, is_short, next_after}
 use Rattle.loop_templates.specs.Cases.{Frame}
@@ -131,21 +130,11 @@ abbrev pub may_be_written : Candidate → List Added → Bool
 may_be_written candidate exits =
     nat_le ((length candidate.first + length candidate.added) + length exits) MOST_PIECES && list_all (λ added. is_short added.case.stack) exits
 
--- a hint takes no more references than one of a certificate may
-abbrev pub is_short_hint : Hint → Bool
-is_short_hint (Drop proof) = nat_le (length proof.uses) MOST_ITEMS
-is_short_hint (Step proof) = nat_le (length proof.uses) MOST_ITEMS
-is_short_hint _ = true
-
--- a loop, where its hints may be written
-abbrev pub with_short_hints : Loop → Option Loop
-with_short_hints one = if list_all is_short_hint one.hints then Some one else None
-
 -- the loop of a candidate that passes, where it is within the limits
 abbrev pub loop_of : Frame → Turning → Candidate → Tour → Option Loop
 loop_of frame one candidate tour =
     let exits = exits_of frame (ended_states false tour.ends) in
-    if may_be_written candidate exits then with_short_hints (loop_with frame one candidate tour exits) else None
+    if may_be_written candidate exits then Some (loop_with frame one candidate tour exits) else None
 
 -- what comes of a candidate that was walked: its loop where it passes, and else what the next one gives
 abbrev pub settled_by : Frame → Turning → Candidate → Tour → (Candidate → Option Loop) → Next → Option Loop

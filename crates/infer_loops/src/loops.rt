@@ -36,31 +36,10 @@ pub(crate) fn loop_of(
 {
     let left = ended_states(alloc, false, tour.ends.as_slice())?;
     let exits = exits_of(alloc, frame, left.as_slice())?;
-    if !may_be_written(&candidate, exits.as_slice()) {
-        return Ok(None);
-    }
-    let found = loop_with(alloc, frame, one, candidate, tour, exits)?;
-    if are_hints_short(found.hints.as_slice()) {
-        Ok(Some(found))
+    if may_be_written(&candidate, exits.as_slice()) {
+        Ok(Some(loop_with(alloc, frame, one, candidate, tour, exits)?))
     } else {
         Ok(None)
-    }
-}
-
-/// Whether hints take no more references than those of a certificate may.
-fn are_hints_short(hints: &[Hint]) -> bool
-    ensures { result ≡ list_all rule.is_short_hint hints.now }
-{
-    hints.iter().all(is_short_hint)
-}
-
-/// Whether a hint does.
-fn is_short_hint(hint: &Hint) -> bool
-    ensures { result ≡ rule.is_short_hint hint.now }
-{
-    match hint {
-        Hint::Drop(proof) | Hint::Step(proof) => proof.uses.as_slice().len() <= MOST_ITEMS,
-        _ => true,
     }
 }
 

@@ -229,7 +229,7 @@ added_made frame states (bones ∷ new) ready =
     (made_of frame bones frame.entering None (states_of bones states) (case_of frame states bones) refl ready) (added_made frame states new ready)
 
 -- a case without some of its rows
-each_kept : {X : Type 0} (P : X → Type 0) (test : X → Bool) (xs : List X) → Each P xs → Each P (filter test xs)
+pub each_kept : {X : Type 0} (P : X → Type 0) (test : X → Bool) (xs : List X) → Each P xs → Each P (filter test xs)
 each_kept P test [] each = tt
 each_kept {X} P test (x ∷ xs) each =
     elim (test x) as (λ (b : Bool). Each P (cond b (x ∷ filter test xs) (filter test xs))) [
