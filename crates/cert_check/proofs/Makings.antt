@@ -25,7 +25,7 @@ use Rattle.sym_state.specs.declared.hint.Hint.TheVariants as hint
 use Rattle.sym_state.specs.declared.symbol.Kinds.TheVariants.{Func}
 use Rattle.refinements.specs.Covered.{IsAmong}
 use Rattle.cert_check.specs.Certified.{HasMade, IsLoopOf, IsPieceOf, MakesLoops, MakesStanding, MayStand}
-use Rattle.cert_check.specs.Courses.{Course, placed}
+use Rattle.cert_check.specs.Courses.{Course, first_number, placed}
 use Rattle.cert_check.specs.Uses.{around}
 use Rattle.cert_check.specs.Walks.{Make, Making, Numbered, Scope, While, all_made, coming_hints, comes_to, entering_with, exact_target, is_target, leaves, loop_made, made_used, next_number, none_made, numbered, rest_of, while_alone, while_by, while_in, while_made, while_of, while_taken, making_for, is_while_token}
 use Rattle.cert_check.proofs.Followed.{Follows, Moved, moved_from, refound, remade, left_follows}
@@ -193,12 +193,12 @@ while_known : (make : Make) (scope : Scope) (place : Place) (states earlier : Li
     → two_of Func Func state ≡ Ok two → while_of scope state two ≡ Some one → HasMade scope.style making
     → while_made make scope place states earlier (Some one) making ≡ Ok after → Whiled make scope 64 state making after
 while_known make scope place states earlier state two one making after told makes all among well e is made ends =
-    let found = numbered one (length making.course.loops) making.made in
+    let found = numbered one (first_number making.course) making.made in
     let entering = entering_with scope one states in
     let known = then_ok (loop_made place found (make one.test one.body entering) making) _ after ends in
     let here : while_in scope state ≡ Some one =
     ap (λ (r : Result Two EffectFault). option_and_then (while_of scope state) (result_ok r)) e ∙ is in
-    let loop = loop_known scope place found (make one.test one.body entering) making known.0 (numbered_one scope one (length making.course.loops) making.made made)
+    let loop = loop_known scope place found (make one.test one.body entering) making known.0 (numbered_one scope one (first_number making.course) making.made made)
     (makes one.test one.body entering (some_enter scope one state states here among) (entering_all scope one states all)) made known.1 in
     let used = then_ok (made_used scope place known.0.0 (length (entering_with scope one earlier)) one.rest known.0.1.course) _ after known.2 in
     let left = while_rest (exact_target scope.style state two.lower) (exact_target scope.style state two.upper) two.rest one is in

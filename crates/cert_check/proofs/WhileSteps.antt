@@ -32,7 +32,7 @@ use Rattle.refinements.specs.Covered.{IsAmong}
 use Rattle.straight_hints.specs.Found.{piece_hints}
 use Rattle.straight_hints.specs.declared.finding.Finding.TheVariants.{Straight}
 use Rattle.cert_check.specs.Certified.{AreMade, CanWalk, IsLoopOf, MakesLoops}
-use Rattle.cert_check.specs.Courses.{Course, Walk, counts, gives_all, placed, refuses}
+use Rattle.cert_check.specs.Courses.{Course, Walk, counts, first_number, gives_all, placed, refuses}
 use Rattle.cert_check.specs.Given.{GoesOn, Refused, Takes}
 use Rattle.cert_check.specs.Room.{HasRoom}
 use Rattle.cert_check.specs.Uses.{Passage, around, comes_by, fits, left_state}
@@ -234,11 +234,11 @@ known_at place found number k new made course is inside =
 
 -- a new one comes behind the others
 pub put_at : (place : Place) (one : Loop) (made new : List Loop) (k : ℕ) (course : Course) → new ≡ made ++ one ∷ [] → k ≡ length made
-    → length course.loops + k < MOST_LOOPS
+    → first_number course + k < MOST_LOOPS
     → loop_made place None (Some one) (record { made = made; course = course })
-    ≡ loop_made place (numbered_at (length course.loops) k new) None (record { made = new; course = course })
+    ≡ loop_made place (numbered_at (first_number course) k new) None (record { made = new; course = course })
 put_at place one made new k course is last few =
-    let number = length course.loops in
+    let number = first_number course in
     let within = below (number + length made) (omega (arith, last, few)) in
     let there : slice_get new k ≡ Some one = ap (λ (l : List Loop). slice_get l k) is ∙ ap (slice_get (made ++ one ∷ [])) last ∙ last_at made one in
     ap (λ (b : Bool). cond b (known_so (number + length made) one (made ++ one ∷ []) course) (refuses place NoInvariant)) within
@@ -249,16 +249,16 @@ put_at place one made new k course is last few =
     below : (n : ℕ) → n < MOST_LOOPS → nat_lt n MOST_LOOPS ≡ true
     below n few = grind (arith, nat_tests)
 
-pub put_refused : (place : Place) (one : Loop) (made : List Loop) (course : Course) → MOST_LOOPS ≤ length course.loops + length made
+pub put_refused : (place : Place) (one : Loop) (made : List Loop) (course : Course) → MOST_LOOPS ≤ first_number course + length made
     → loop_made place None (Some one) (record { made = made; course = course }) ≡ refuses place NoInvariant
 put_refused place one made course many =
-    ap (λ (b : Bool). cond b (known_so (length course.loops + length made) one (made ++ one ∷ []) course) (refuses place NoInvariant))
-    (above (length course.loops + length made) many)
+    ap (λ (b : Bool). cond b (known_so (first_number course + length made) one (made ++ one ∷ []) course) (refuses place NoInvariant))
+    (above (first_number course + length made) many)
   where
     above : (n : ℕ) → MOST_LOOPS ≤ n → nat_lt n MOST_LOOPS ≡ false
     above n many = grind (arith, nat_tests)
 
-pub put_made : (style : Style) (one : Loop) (made new : List Loop) (course : Course) → new ≡ made ++ one ∷ [] → length course.loops + length made < MOST_LOOPS
+pub put_made : (style : Style) (one : Loop) (made new : List Loop) (course : Course) → new ≡ made ++ one ∷ [] → first_number course + length made < MOST_LOOPS
     → AreMade style (record { made = made; course = course }) → IsLoopOf style one → AreMade style (record { made = new; course = course })
 put_made style one made new course is few all fresh =
     let longer : length (made ++ one ∷ []) ≡ length made + 1 = length-append made (one ∷ []) in
@@ -270,9 +270,9 @@ put_made style one made new course is few all fresh =
 -- a loop that is known is used
 pub known_takes : {T : Type 0} (make : Make) (scope : Scope) (place : Place) (states earlier : List State) (one : While) (before made : List Loop) (found : Loop)
     (k number case : ℕ) (course after : Course) (result : Result T Refusal)
-    → loop_made place (numbered one (length course.loops) before) (make one.test one.body (entering_with scope one states)) (record { made = before; course = course })
-    ≡ loop_made place (numbered_at (length course.loops) k made) None (record { made = made; course = course })
-    → slice_get made k ≡ Some found → number ≡ length course.loops + k → case ≡ length (entering_with scope one earlier)
+    → loop_made place (numbered one (first_number course) before) (make one.test one.body (entering_with scope one states)) (record { made = before; course = course })
+    ≡ loop_made place (numbered_at (first_number course) k made) None (record { made = made; course = course })
+    → slice_get made k ≡ Some found → number ≡ first_number course + k → case ≡ length (entering_with scope one earlier)
     → Takes (made_used scope place (record { number = number; one = found }) case one.rest course) after result
     → Takes (while_made make scope place states earlier (Some one) (record { made = before; course = course })) (record { made = made; course = after }) result
 known_takes {T} make scope place states earlier one before made found k number case course after result same there is counted takes =
@@ -282,8 +282,8 @@ known_takes {T} make scope place states earlier one before made found k number c
     let with_course : Course → Making = λ course. record m { course = course } in
     let next : Numbered × Making → Result Making Refusal = λ known.
     then_do (made_used scope place known.0 entered one.rest known.1.course) (λ course. Ok (record known.1 { course = course })) in
-    let at : numbered_at (length course.loops) k made ≡ Some at_it =
-    ap (option_map (placed_so (length course.loops) k)) there ∙ ap (λ (n : ℕ). numbered_so n found) (sym is) in
+    let at : numbered_at (first_number course) k made ≡ Some at_it =
+    ap (option_map (placed_so (first_number course) k)) there ∙ ap (λ (n : ℕ). numbered_so n found) (sym is) in
     takes_same _ (then_do (made_used scope place at_it case one.rest course) (λ course. Ok (with_course course))) (with_course after) result
     (first_goes _ next (at_it, m) (same ∙ ap (λ (o : Option Numbered). loop_made place o None m) at)
     ∙ ap (λ (n : ℕ). then_do (made_used scope place at_it n one.rest course) (λ course. Ok (with_course course))) (sym counted))
@@ -338,16 +338,15 @@ unknown_while make scope place states earlier state rest lower upper test body m
 
 -- what a use of a loop leaves of the loops that were made
 leaves_loops : (scope : Scope) (place : Place) (unit : Passage) (pre : Piece) (posts : List Piece) (kept : ℕ) (state : State) (course after : Course)
-    → leaves scope place unit pre posts kept state course ≡ Ok after → after.loops ≡ course.loops
+    → leaves scope place unit pre posts kept state course ≡ Ok after → first_number after ≡ first_number course
 leaves_loops scope place unit pre posts kept state course after e =
     let states = map (left_state scope.style scope.cert.cond unit pre kept state) posts in
     let inside = where_ok (list_all (may_write scope.writes) unit.writes) _ _ after e in
     let counted = then_ok (counts (length unit.writes) place course) (gives_all place states) after inside.1 in
-    ap (λ (c : Course). c.loops) (gives_all_ok place states counted.0 after counted.2)
-    ∙ ap (λ (c : Course). c.loops) (counts_ok (length unit.writes) place course counted.0 counted.1)
+    ap first_number (gives_all_ok place states counted.0 after counted.2) ∙ ap first_number (counts_ok (length unit.writes) place course counted.0 counted.1)
 
 used_loops : (scope : Scope) (place : Place) (found : Numbered) (k : ℕ) (state : State) (course after : Course)
-    → made_used scope place found k state course ≡ Ok after → after.loops ≡ course.loops
+    → made_used scope place found k state course ≡ Ok after → first_number after ≡ first_number course
 used_loops scope place found k state course after e =
     let hints = coming_hints scope.cert.cond state k found in
     let all : List Hint = course.found ++ hint.Loop found.number ∷ hints in
@@ -357,16 +356,16 @@ used_loops scope place found k state course after e =
 
 -- the loops that were made are few
 abbrev IsFew : Making → Type 0
-IsFew making = length making.course.loops + length making.made ≤ MOST_LOOPS
+IsFew making = first_number making.course + length making.made ≤ MOST_LOOPS
 
 loop_few : (place : Place) (found : Option Numbered) (new : Option Loop) (making : Making) (known : Numbered × Making) → IsFew making
     → loop_made place found new making ≡ Ok known → IsFew known.1
 loop_few place (Some found) new making known few e = subst (λ (k : Numbered × Making). IsFew k.1) (sym (ok_is (found, making) known e)) few
 loop_few place None None making known few e = absurd (cc)
 loop_few place None (Some one) making known few e =
-    let there = where_ok (nat_lt (length making.course.loops + length making.made) MOST_LOOPS) _ _ known e in
+    let there = where_ok (nat_lt (first_number making.course + length making.made) MOST_LOOPS) _ _ known e in
     let longer : length (making.made ++ one ∷ []) ≡ length making.made + 1 = length-append making.made (one ∷ []) in
-    let below = less (length making.course.loops + length making.made) there.0 in
+    let below = less (first_number making.course + length making.made) there.0 in
     subst (λ (k : Numbered × Making). IsFew k.1) (sym (ok_is _ known there.1)) (omega (arith, longer, below))
   where
     less : (n : ℕ) → nat_lt n MOST_LOOPS ≡ true → n < MOST_LOOPS
@@ -376,13 +375,13 @@ while_few : (make : Make) (scope : Scope) (place : Place) (states earlier : List
     → while_made make scope place states earlier one making ≡ Ok after → IsFew after
 while_few make scope place states earlier None making after few e = absurd (cc)
 while_few make scope place states earlier (Some one) making after few e =
-    let found = numbered one (length making.course.loops) making.made in
+    let found = numbered one (first_number making.course) making.made in
     let known = then_ok (loop_made place found (make one.test one.body (entering_with scope one states)) making) _ after e in
     let used = then_ok (made_used scope place known.0.0 (length (entering_with scope one earlier)) one.rest known.0.1.course) _ after known.2 in
     let kept = used_loops scope place known.0.0 (length (entering_with scope one earlier)) one.rest known.0.1.course used.0 used.1 in
-    let low : length known.0.1.course.loops + length known.0.1.made ≤ MOST_LOOPS = loop_few place found _ making known.0 few known.1 in
+    let low : first_number known.0.1.course + length known.0.1.made ≤ MOST_LOOPS = loop_few place found _ making known.0 few known.1 in
     subst IsFew (sym (ok_is _ after used.2))
-    (subst (λ (l : List Loop). length l + length known.0.1.made ≤ MOST_LOOPS) (sym kept) low)
+    (subst (λ (n : ℕ). n + length known.0.1.made ≤ MOST_LOOPS) (sym kept) low)
 
 taken_few : (make : Make) (scope : Scope) (place : Place) (states earlier : List State) (state : State) (making after : Making) → IsFew making
     → while_taken make scope place states earlier state making ≡ Ok after → IsFew after
@@ -592,8 +591,8 @@ counted_room style state place course counted e room =
 pub counted_made : (style : Style) (place : Place) (made : List Loop) (course counted : Course) → counts 1 place course ≡ Ok counted
     → AreMade style (record { made = made; course = course }) → AreMade style (record { made = made; course = counted })
 counted_made style place made course counted e all =
-    let same : counted.loops ≡ course.loops = ap (λ (c : Course). c.loops) (counts_ok 1 place course counted e) in
-    record { made = all.made; few = subst (λ (l : List Loop). length l + length made ≤ MOST_LOOPS) (sym same) all.few }
+    let same : first_number counted ≡ first_number course = ap first_number (counts_ok 1 place course counted e) in
+    record { made = all.made; few = subst (λ (n : ℕ). n + length made ≤ MOST_LOOPS) (sym same) all.few }
 
 pub counted_later : (place : Place) (course counted after : Course) → counts 1 place course ≡ Ok counted → counted.count ≤ after.count → course.count ≤ after.count
 counted_later place course counted after e rises =
@@ -601,7 +600,7 @@ counted_later place course counted after e rises =
     omega (arith, more, rises)
 
 -- none was made yet
-pub none_are : (style : Style) (made : List Loop) (course : Course) → made ≡ [] → length course.loops ≤ MOST_LOOPS
+pub none_are : (style : Style) (made : List Loop) (course : Course) → made ≡ [] → first_number course ≤ MOST_LOOPS
     → AreMade style (record { made = made; course = course })
 none_are style made course none few =
     subst (λ (l : List Loop). AreMade style (record { made = l; course = course })) (sym none)

@@ -24,7 +24,7 @@ use Rattle.sym_state.specs.WellMade.{HasSmallFields, HasSmallLimits, is_field, i
 use Rattle.sym_state.specs.declared.piece.Piece.{Piece}
 use Rattle.cert_check.specs.Left.{AreUpwards, HasPlaces, IsPlaced, IsPost}
 use Rattle.cert_check.specs.Uses.{Passage, passage}
-use Rattle.cert_check.specs.Walks.{Make, Making, Over}
+use Rattle.cert_check.specs.Walks.{Make, Making, Over, next_number}
 use Rattle.cert_check.specs.declared.limits.TheConstants.{MOST_LOOPS}
 
 -- a piece is within the bounds of calls: few symbols, of which few on its stack, and few lines
@@ -138,4 +138,4 @@ HasMade style making = All (IsLoopOf style) making.made
 -- with those that were made before they are no more than a certificate may have
 pub record AreMade (style : Style) (making : Making) : Type 0 where
   pub made : HasMade style making
-  pub few : length making.course.loops + length making.made ≤ MOST_LOOPS
+  pub few : next_number making ≤ MOST_LOOPS

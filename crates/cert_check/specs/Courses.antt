@@ -14,14 +14,20 @@ use Rattle.cert_check.specs.declared.refusal.Reason.TheVariants.{Demand, NotEnta
 use Rattle.cert_check.specs.declared.refusal.Refusal.{Refusal}
 
 -- the states that the token in hand has given so far, the hints of the certificate that are left, and how much the unit's walk has
--- counted; where hints are found and not read, how that is done, those that were found so far, and the loops that were made
+-- counted; where hints are found and not read, how that is done, those that were found so far, and the loops that were made, behind so
+-- many that stay from walks before
 pub record Course : Type 0 where
   pub given : List State
   pub hints : List Hint
   pub count : ℕ
   pub finding : Option Finding
   pub found : List Hint
+  pub stay : ℕ
   pub loops : List Loop
+
+-- the number of the first loop that is made for the token in hand
+abbrev pub first_number : Course → ℕ
+first_number course = course.stay + length course.loops
 
 -- the course after a rule, or the first rule that fails
 abbrev pub Walk : Type 0

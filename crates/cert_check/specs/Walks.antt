@@ -53,7 +53,7 @@ use Rattle.cert_check.specs.declared.refusal.Reason.TheVariants as reason
 use Rattle.straight_hints.specs.Found.{above_hints, piece_hints, plain_hints, test_hints}
 use Rattle.straight_hints.specs.declared.finding.Finding.TheVariants.{Straight}
 use Rattle.cert_check.specs.declared.limits.TheConstants.{MOST_LOOPS}
-use Rattle.cert_check.specs.Courses.{Course, Walk, behind, counts, gives, gives_all, handed, placed, refuses}
+use Rattle.cert_check.specs.Courses.{Course, Walk, behind, counts, first_number, gives, gives_all, handed, placed, refuses}
 use Rattle.cert_check.specs.Uses.{Passage, around, comes_by, is_among, left_state, passage}
 
 -- how the loop of two functions is made that these states enter: there may be none
@@ -346,7 +346,7 @@ numbered_at number k loops = option_map (λ one. record { number = number + k; o
 
 -- the number of the next loop
 abbrev pub next_number : Making → ℕ
-next_number making = length making.course.loops + length making.made
+next_number making = first_number making.course + length making.made
 
 -- a loop that was made for the token, or else the one that is made now
 abbrev pub loop_made : Place → Option Numbered → Option Loop → Making → Result (Numbered × Making) Refusal
@@ -374,7 +374,7 @@ made_used scope place found k state course =
 abbrev pub while_made : Make → Scope → Place → List State → List State → Option While → Making → Result Making Refusal
 while_made make scope place states earlier None making = refuses place reason.UnknownFunction
 while_made make scope place states earlier (Some one) making =
-    let found = numbered one (length making.course.loops) making.made in
+    let found = numbered one (first_number making.course) making.made in
     then_do (loop_made place found (make one.test one.body (entering_with scope one states)) making) (λ known.
     then_do (made_used scope place known.0 (length (entering_with scope one earlier)) one.rest known.1.course) (λ course.
     Ok (record known.1 { course = course })))

@@ -12,7 +12,8 @@ ghost use Rattle.cert_check.specs.Tours as tours;
 ghost use Rattle.cert_check.specs.Units as rule;
 
 use crate::course::Course;
-use crate::making::Unmade;
+use crate::limits::MOST_LOOPS;
+use crate::making::{Loops, Unmade};
 use crate::refusal::{Refusal, Walk};
 use crate::scope::Scope;
 use crate::tables::Tables;
@@ -23,6 +24,7 @@ use bst_meaning::condition::Cond;
 use bst_meaning::value::Target;
 use bv_base::memory::NoMemory;
 use bv_base::place::Place;
+use bv_base::seq::Seq;
 use cert_format::cert::{Cert, Loop, Summary};
 use name_table::names::NameId;
 use name_table::style::Style;
@@ -32,6 +34,14 @@ use straight_hints::Finding;
 use sym_state::hint::{Hint, Hints};
 use sym_state::piece::Piece;
 use sym_state::state::State;
+
+/// What a call came to whose hints are found and whose loops are made: the states at its end, those hints, and those loops.
+#[derive(Drop)]
+pub struct Calling {
+    pub given: Seq<State>,
+    pub found: Seq<Hint>,
+    pub loops: Seq<Loop>,
+}
 
 /// A style and a certificate that is checked for it.
 #[derive(Drop)]
@@ -145,6 +155,36 @@ impl<'a> Checker<'a> {
         target_from(&scope, &maker, place, target, states, &mut course)?;
         let found = course.take_found();
         Ok((course.take_given(), found))
+    }
+
+    /// Calls a target from states, where hints are found and loops are made: the states at its end, those hints, and those loops, which are
+    /// numbered behind so many that stay.
+    pub fn make_call<M: Loops>(
+        &self,
+        maker: &M,
+        stay: usize,
+        states: Vec<State>,
+        target: Target,
+        place: Place,
+    ) -> Result<Calling, Refusal>
+        requires style { M.style maker.now ≡ self.now.style }
+        requires stay { stay ≤ MOST_LOOPS }
+        requires room { All (HasRoom self.now.style 64 0) states.items }
+        ensures makes { MatchResult result
+            (λ calling. rule.call_made (M.made maker.now) self.now.style self.now.cert stay states.items target place ≡ Ok calling)
+            (Refused (rule.call_made (M.made maker.now) self.now.style self.now.cert stay states.items target place)) }
+        ensures made { IfOk result (λ calling. All (IsEnd self.now.style) calling.given) }
+        ensures written { IfOk result (λ calling. Each IsHint calling.found) }
+    {
+        maker.makes();
+        let scope = self.scope(None);
+        let mut course = Course::making(self.alloc, stay);
+        target_from(&scope, maker, place, target, states, &mut course)?;
+        Ok(Calling {
+            given: Seq::from_vec(course.take_given()),
+            found: Seq::from_vec(course.take_found()),
+            loops: Seq::from_vec(course.take_loops()),
+        })
     }
 
     /// A turn from a case of a loop, by a certificate that has no such loop: the states that come to its ends, with the hints that are

@@ -18,6 +18,7 @@ ghost use Rattle.cert_format.specs.declared.cert.Loop.{Loop};
 ghost use Rattle.cert_check.specs.Courses as courses;
 ghost use Rattle.cert_check.specs.Given.{AnswersAt, AreCases, CanEnd, GoesOn, Takes};
 ghost use Rattle.cert_check.specs.Here.{here};
+ghost use Rattle.straight_hints.specs.declared.finding.Finding.TheVariants.{Straight};
 ghost use Rattle.cert_check.specs.Room.{AreWithin, HasRoom};
 ghost use Rattle.cert_check.specs.Tours as tours;
 ghost use Rattle.cert_check.specs.Units as units;
@@ -53,7 +54,8 @@ use sym_state::state::State;
 use sym_state::symbol::{Kinds, Sym};
 
 /// The states that the token in hand has given so far, the hints of the certificate that are left, and how much the unit's
-/// walk has counted. Where hints are found and not read, how that is done, those that were found so far, and the loops that were made.
+/// walk has counted. Where hints are found and not read, how that is done, those that were found so far, and the loops that were made,
+/// behind so many that stay from walks before.
 #[derive(Drop)]
 pub(crate) struct Course<'a> {
     alloc: Global,
@@ -62,6 +64,7 @@ pub(crate) struct Course<'a> {
     count: u32,
     finding: Option<Finding>,
     found: Vec<Hint>,
+    stay: usize,
     loops: Vec<Loop>,
 }
 
@@ -76,9 +79,9 @@ impl<'a> Model for Course<'a> {
 
     ghost Value = { courses.Course };
 
-    ghost view = { λ c. record { given = c.given.items; hints = c.hints; count = c.count; finding = c.finding; found = c.found.items; loops = c.loops.items } };
+    ghost view = { λ c. record { given = c.given.items; hints = c.hints; count = c.count; finding = c.finding; found = c.found.items; stay = c.stay; loops = c.loops.items } };
 
-    ghost invariant = { λ c. (c.count ≤ MOST_COUNT) × All HasFewUses c.hints × Each IsHint c.found.items × (length c.loops.items ≤ MOST_LOOPS) };
+    ghost invariant = { λ c. (c.count ≤ MOST_COUNT) × All HasFewUses c.hints × Each IsHint c.found.items × (c.stay + length c.loops.items ≤ MOST_LOOPS) };
 }
 
 impl<'a> Course<'a> {
@@ -94,6 +97,7 @@ impl<'a> Course<'a> {
             count: 0,
             finding: None,
             found: Vec::new(alloc),
+            stay: 0,
             loops: Vec::new(alloc),
         }
     }
@@ -109,6 +113,24 @@ impl<'a> Course<'a> {
             count: 0,
             finding: Some(finding),
             found: Vec::new(alloc),
+            stay: 0,
+            loops: Vec::new(alloc),
+        }
+    }
+
+    /// A walk that finds its hints and makes its loops, behind so many that stay.
+    pub(crate) fn making(alloc: Global, stay: usize) -> Course<'a>
+        requires few { stay ≤ MOST_LOOPS }
+        ensures { result ≡ record (units.searching Straight) { stay = stay } }
+    {
+        Course {
+            alloc,
+            given: Vec::new(alloc),
+            hints: Hints::new(&[]),
+            count: 0,
+            finding: Some(Finding::Straight),
+            found: Vec::new(alloc),
+            stay,
             loops: Vec::new(alloc),
         }
     }
@@ -204,18 +226,18 @@ impl<'a> Course<'a> {
         mem::replace(&mut self.found, Vec::new(self.alloc))
     }
 
-    /// How many loops were made.
+    /// How many loops stay and were made.
     pub(crate) fn loop_count(&self) -> usize
-        ensures made { result ≡ length self.now.loops }
-        ensures few { length self.now.loops ≤ MOST_LOOPS }
+        ensures made { result ≡ courses.first_number self.now }
+        ensures few { courses.first_number self.now ≤ MOST_LOOPS }
         ensures counted { self.now.count ≤ MOST_COUNT }
     {
-        self.loops.len()
+        self.stay + self.loops.len()
     }
 
     /// The loops that were made for a token come behind those that were made before.
     pub(crate) fn makes(&mut self, place: Place, mut made: Vec<Loop>) -> Walk
-        requires few { length self.old.loops + length made.items ≤ MOST_LOOPS }
+        requires few { courses.first_number self.old + length made.items ≤ MOST_LOOPS }
         ensures { MatchResult result (λ _. self.new ≡ rule.all_made (record { made = made.items; course = self.old }))
             (λ refusal. refusal.reason ≡ WantOfMemory) }
     {
@@ -223,6 +245,14 @@ impl<'a> Course<'a> {
             Ok(()) => Ok(()),
             Err(_) => refuse(place, Reason::NoMemory),
         }
+    }
+
+    /// The loops that were made, which are taken.
+    pub(crate) fn take_loops(&mut self) -> Vec<Loop>
+        ensures loops { result.items ≡ self.old.loops }
+        ensures rest { self.new ≡ record self.old { loops = [] } }
+    {
+        mem::replace(&mut self.loops, Vec::new(self.alloc))
     }
 
     /// The hints by which a state comes to a loop that was made were found: its number, that of its case, and the steps.

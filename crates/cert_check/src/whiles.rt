@@ -223,10 +223,10 @@ fn loop_for<M: Loops>(
     requires states { All (WellMade at.now.scope.now.style) states.now }
     requires enters { 1 ≤ length (rule.entering_with (here M.made at.now) one.now states.now) }
     requires made { AreMade at.now.scope.now.style (record { made = made.old.items; course = course.now }) }
-    ensures takes { GoesOn (rule.loop_made at.now.place (rule.numbered one.now (length course.now.loops) made.old.items)
+    ensures takes { GoesOn (rule.loop_made at.now.place (rule.numbered one.now (courses.first_number course.now) made.old.items)
         (made_by (M.made at.now.maker.now) one.now.test one.now.body (rule.entering_with (here M.made at.now) one.now states.now))
         (record { made = made.old.items; course = course.now }))
-        (λ k. rule.loop_made at.now.place (rule.numbered_at (length course.now.loops) k made.new.items) None (record { made = made.new.items; course = course.now })) result }
+        (λ k. rule.loop_made at.now.place (rule.numbered_at (courses.first_number course.now) k made.new.items) None (record { made = made.new.items; course = course.now })) result }
     ensures made { IfOk result (λ _. AreMade at.now.scope.now.style (record { made = made.new.items; course = course.now })) }
     ensures there { IfOk result (λ k. k < length made.new.items) }
 {
@@ -290,7 +290,7 @@ fn loop_made(
     course: &Course<'_>,
 ) -> Result<usize, Refusal>
     ensures takes { GoesOn (rule.loop_made place None found (record { made = made.old.items; course = course.now }))
-        (λ k. rule.loop_made place (rule.numbered_at (length course.now.loops) k made.new.items) None (record { made = made.new.items; course = course.now })) result }
+        (λ k. rule.loop_made place (rule.numbered_at (courses.first_number course.now) k made.new.items) None (record { made = made.new.items; course = course.now })) result }
     ensures made { (style : StyleValue) → AreMade style (record { made = made.old.items; course = course.now }) → IfSome found (IsLoopOf style)
         → IfOk result (λ _. AreMade style (record { made = made.new.items; course = course.now })) }
     ensures there { IfOk result (λ k. k < length made.new.items) }
@@ -309,7 +309,7 @@ fn put_loop(
     course: &Course<'_>,
 ) -> Result<usize, Refusal>
     ensures takes { GoesOn (rule.loop_made place None (Some found) (record { made = made.old.items; course = course.now }))
-        (λ k. rule.loop_made place (rule.numbered_at (length course.now.loops) k made.new.items) None (record { made = made.new.items; course = course.now })) result }
+        (λ k. rule.loop_made place (rule.numbered_at (courses.first_number course.now) k made.new.items) None (record { made = made.new.items; course = course.now })) result }
     ensures made { (style : StyleValue) → AreMade style (record { made = made.old.items; course = course.now }) → IsLoopOf style found
         → IfOk result (λ _. AreMade style (record { made = made.new.items; course = course.now })) }
     ensures there { IfOk result (λ k. k < length made.new.items) }

@@ -1,6 +1,7 @@
 -- The loop is there, or it is made.
 use Rattle.std.proofs.Common.{◌≡◌, ◌<◌, List, length, sym, subst, ap, ◌∙◌, Option, None}
 use Rattle.cert_format.specs.declared.cert.Loop.{Loop}
+use Rattle.cert_check.specs.Courses.{first_number}
 use Rattle.cert_check.specs.Here.{here}
 use Rattle.cert_check.specs.Walks.{Making, Numbered, entering_with, loop_made, made_by, numbered, numbered_at}
 use Rattle.cert_check.proofs.WhileSteps.{goes_same, known_at}
@@ -8,7 +9,7 @@ use Rattle.cert_check.proofs.whiles.loop_for.Goals as goal
 
 pub returns-in-Some-clause-takes : goal.returns-in-Some-clause-takes
 returns-in-Some-clause-takes g c =
-    let first = length c.args.course.now.loops in
+    let first = first_number c.args.course.now in
     let k = c.in-Some.k in
     let one = c.args.one.now in
     known_at c.args.at.now.place (numbered one first c.args.made.now.items) first k _ c.args.made.now.items c.args.course.now
@@ -17,7 +18,7 @@ returns-in-Some-clause-takes g c =
 
 pub returns-in_ok-found-in-None-clause-takes : goal.returns-in_ok-found-in-None-clause-takes
 returns-in_ok-found-in-None-clause-takes g c =
-    let first = length c.args.course.now.loops in
+    let first = first_number c.args.course.now in
     let one = c.args.one.now in
     let making : Making = record { made = c.args.made.now.items; course = c.args.course.now } in
     let place = c.args.at.now.place in
