@@ -40,7 +40,7 @@ hint_few hint.Walk is = tt
 hint_few hint.Keep is = tt
 hint_few hint.Plain is = tt
 
-hints_few : (hints : List Hint) → Each IsHint hints → All HasFewUses hints
+pub hints_few : (hints : List Hint) → Each IsHint hints → All HasFewUses hints
 hints_few hints is = each_all IsHint HasFewUses hint_few hints is
 
 -- what a unit writes
@@ -105,6 +105,7 @@ loop_read style loop sound is short = record {
   some = is.some;
   few = is.few;
   writes = written style loop.entry loop.writes sound is.writes;
+  hints = hints_few loop.hints is.hints;
 }
 
 -- a piece of a command that may be missing
@@ -162,7 +163,6 @@ cert_certified style source cert sound few is =
       summaries = both_all (IsSummary style) HasShortPieces (IsSummaryOf style) (λ summary one texts. summary_read style summary sound one texts) cert.summaries kept.summaries short.summaries;
       few_summaries = kept.few_summaries;
       loops = both_all (IsLoop style) HasShortCases (IsLoopOf style) (λ loop one texts. loop_read style loop sound one texts) cert.loops kept.loops short.loops;
-      loop_hints = each_all (IsLoop style) (λ loop. All HasFewUses loop.hints) (λ loop one. hints_few loop.hints one.hints) cert.loops kept.loops;
       commands = both_all (IsCommandPart style) HasShortParts (IsCommandOf style) (λ command one texts. command_read style command sound one texts) cert.commands kept.commands short.commands;
       rise = kept.rise;
     }

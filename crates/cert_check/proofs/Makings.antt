@@ -16,6 +16,7 @@ use Rattle.bv_base.specs.declared.place.Place.{Place}
 use Rattle.bv_base.proofs.ThenLemmas.{ok_is, then_ok, where_ok}
 use Rattle.bst_meaning.specs.declared.value.Target.{Target}
 use Rattle.bst_meaning.specs.declared.value.Target.TheVariants.{Named, Block}
+use Rattle.cert_format.specs.CertText.{IsLoop}
 use Rattle.cert_format.specs.declared.cert.Loop.{Loop}
 use Rattle.sym_state.specs.State.{State}
 use Rattle.sym_state.specs.Demands.{Two, two_of}
@@ -24,7 +25,7 @@ use Rattle.sym_state.specs.declared.hint.Hint.{Hint}
 use Rattle.sym_state.specs.declared.hint.Hint.TheVariants as hint
 use Rattle.sym_state.specs.declared.symbol.Kinds.TheVariants.{Func}
 use Rattle.refinements.specs.Covered.{IsAmong}
-use Rattle.cert_check.specs.Certified.{HasMade, IsLoopOf, IsPieceOf, MakesLoops, MakesStanding, MayStand}
+use Rattle.cert_check.specs.Certified.{HasMade, IsLoopOf, IsPieceOf, MakesLoops, MakesStanding}
 use Rattle.cert_check.specs.Courses.{Course, first_number, placed}
 use Rattle.cert_check.specs.Uses.{around}
 use Rattle.cert_check.specs.Walks.{Make, Making, Numbered, Scope, While, all_made, coming_hints, comes_to, entering_with, exact_target, is_target, leaves, loop_made, made_used, next_number, none_made, numbered, rest_of, while_alone, while_by, while_in, while_made, while_of, while_taken, making_for, is_while_token}
@@ -156,7 +157,7 @@ numbered_one scope one number (loop ∷ made) all =
 -- the loop of a `while$`, and what was made with it, where this is the one that may be new
 record Known (scope : Scope) (new : Option Loop) (known : Numbered × Making) (before : Making) : Type 0 where
   pub one : IsLoopOf scope.style known.0.one
-  pub written : IfSome new (MayStand scope.style) → All (MayStand scope.style) before.made → All (MayStand scope.style) known.1.made
+  pub written : IfSome new (IsLoop scope.style) → All (IsLoop scope.style) before.made → All (IsLoop scope.style) known.1.made
   pub made : HasMade scope.style known.1
   pub course : known.1.course ≡ before.course
 
@@ -172,7 +173,7 @@ loop_known scope place None (Some one) making known is fresh made e =
     subst (λ (k : Numbered × Making). Known scope (Some one) k making) (sym (ok_is _ known there.1)) (record {
       one = fresh;
       written = λ new all.
-          All-append (MayStand scope.style) making.made (one ∷ []) all (All-cons (MayStand scope.style) one [] new (All-nil (MayStand scope.style)));
+          All-append (IsLoop scope.style) making.made (one ∷ []) all (All-cons (IsLoop scope.style) one [] new (All-nil (IsLoop scope.style)));
       made = All-append (IsLoopOf scope.style) making.made (one ∷ []) made (All-cons (IsLoopOf scope.style) one [] fresh (All-nil (IsLoopOf scope.style)));
       course = refl;
     })
@@ -180,7 +181,7 @@ loop_known scope place None (Some one) making known is fresh made e =
 -- the loops that were made for the token may stand in a certificate, where those may that are made
 abbrev pub KeepsMade : Make → Scope → Making → Making → Type 0
 KeepsMade make scope before after =
-    MakesStanding scope.style make → All (MayStand scope.style) before.made → All (MayStand scope.style) after.made
+    MakesStanding scope.style make → All (IsLoop scope.style) before.made → All (IsLoop scope.style) after.made
 
 -- what a `while$` keeps: a state is followed by what it leaves, and the loops that were made are loops of the style
 pub record Whiled (make : Make) (scope : Scope) (room : ℕ) (state : State) (before after : Making) : Type 0 where
@@ -235,11 +236,11 @@ making_none scope t unmade =
 
 -- those that were made for a token stand behind the others
 pub all_written : (make : Make) (scope : Scope) (making : Making) → scope.make ≡ Some make
-    → (MakesStanding scope.style make → All (MayStand scope.style) [] → All (MayStand scope.style) making.made)
-    → IfSome scope.make (MakesStanding scope.style) → All (MayStand scope.style) making.course.loops → All (MayStand scope.style) (all_made making).loops
+    → (MakesStanding scope.style make → All (IsLoop scope.style) [] → All (IsLoop scope.style) making.made)
+    → IfSome scope.make (MakesStanding scope.style) → All (IsLoop scope.style) making.course.loops → All (IsLoop scope.style) (all_made making).loops
 all_written make scope making by written makes all =
-    All-append (MayStand scope.style) making.course.loops making.made all
-    (written (subst (λ (o : Option Make). IfSome o (MakesStanding scope.style)) by makes) (All-nil (MayStand scope.style)))
+    All-append (IsLoop scope.style) making.course.loops making.made all
+    (written (subst (λ (o : Option Make). IfSome o (MakesStanding scope.style)) by makes) (All-nil (IsLoop scope.style)))
 
 -- in one state
 pub alone_moved : (make : Make) (scope : Scope) (place : Place) (state : State) (course after : Course) → Told scope → MakesLoops scope.style make

@@ -15,7 +15,7 @@ use Rattle.cert_format.specs.declared.cert.Cert.{Cert}
 use Rattle.cert_format.specs.declared.cert.Loop.{Loop}
 use Rattle.sym_state.specs.State.{State}
 use Rattle.sym_state.specs.Cases.{Labelled, above_of}
-use Rattle.sym_state.specs.Demands.{HasFewUses, One, one_of}
+use Rattle.sym_state.specs.Demands.{One, one_of}
 use Rattle.sym_state.specs.Starting.{started}
 use Rattle.sym_state.specs.WellMade.{HasBounds}
 use Rattle.sym_state.specs.declared.hint.Hint.{Hint}
@@ -202,11 +202,6 @@ no_loop style cert k found = ap (λ (o : Option Loop). option_map_or (loop_check
 pub loop_is : (style : Style) (cert : Cert) (k : ℕ) (one : Loop) → IsCertified style cert → Some one ≡ slice_get cert.loops k → IsLoopOf style one
 loop_is style cert k one certified found =
     subst (λ (o : Option Loop). IfSome o (IsLoopOf style)) (sym found) (found_one (IsLoopOf style) cert.loops k certified.loops)
-
-pub loop_few : (style : Style) (cert : Cert) (k : ℕ) (one : Loop) → IsCertified style cert → Some one ≡ slice_get cert.loops k → All HasFewUses one.hints
-loop_few style cert k one certified found =
-    let P = λ (loop : Loop). All HasFewUses loop.hints in
-    subst (λ (o : Option Loop). IfSome o P) (sym found) (found_one P cert.loops k certified.loop_hints)
 
 -- the check of a loop from its parts
 pub record AreLoopParts (scope : Scope) (one : Loop) (place : Place) (course : Course) : Type 0 where

@@ -6,11 +6,11 @@ use Rattle.std.specs.List.{All}
 use Rattle.std.specs.Option.{option_map_or}
 use Rattle.lin_facts.specs.declared.row.Row.{Row}
 use Rattle.lin_facts.specs.declared.row.Term.TheVariants.{Pos}
-use Rattle.name_table.specs.Sound.{Each, IsSound}
+use Rattle.name_table.specs.Sound.{IsSound}
 use Rattle.name_table.specs.declared.names.NameId.{NameId}
 use Rattle.name_table.specs.declared.style.Style.{Style}
 use Rattle.bst_meaning.specs.StyleParts.{kind_of}
-use Rattle.cert_format.specs.CertText.{IsHint, IsLoop, IsNameable}
+use Rattle.cert_format.specs.CertText.{IsLoop, IsNameable}
 use Rattle.cert_format.specs.CondText.{is_chain}
 use Rattle.cert_format.specs.declared.cert.Cert.{Cert}
 use Rattle.cert_format.specs.declared.cert.CommandPart.{CommandPart}
@@ -73,6 +73,7 @@ pub record IsLoopOf (style : Style) (loop : Loop) : Type 0 where
   pub some : 1 ≤ length loop.cases
   pub few : length loop.cases + length loop.exits ≤ 64
   pub writes : AreWritten style loop.entry loop.writes
+  pub hints : All HasFewUses loop.hints
 
 -- no row of a piece names the number of entries visited before
 abbrev pub HasNoPos : Piece → Type 0
@@ -100,7 +101,6 @@ pub record IsCertified (style : Style) (cert : Cert) : Type 0 where
   pub summaries : All (IsSummaryOf style) cert.summaries
   pub few_summaries : length cert.summaries ≤ 65536
   pub loops : All (IsLoopOf style) cert.loops
-  pub loop_hints : All (λ one. All HasFewUses one.hints) cert.loops
   pub commands : All (IsCommandOf style) cert.commands
   pub rise : is_chain (λ a b. nat_lt a.index b.index) cert.commands ≡ true
 
@@ -114,15 +114,11 @@ abbrev pub MakesLoops : Style → Make → Type 0
 MakesLoops style make =
     (test body : Target) (states : List State) → 1 ≤ length states → All (WellMade style) states → IfSome (make test body states) (IsLoopOf style)
 
--- a loop may stand in a certificate where its hints may
-abbrev pub MayStand : Style → Loop → Type 0
-MayStand style one = Each IsHint one.hints → IsLoop style one
-
--- loops that are made may, where their functions may be named
+-- they may stand in a certificate, where their functions may be named
 abbrev pub MakesStanding : Style → Make → Type 0
 MakesStanding style make =
     (test body : Target) (states : List State) → IsNameable style test → IsNameable style body → 1 ≤ length states → All (WellMade style) states
-    → IfSome (make test body states) (MayStand style)
+    → IfSome (make test body states) (IsLoop style)
 
 -- a walk may be taken: what it is over is sound, and the loops that are made for it are loops of its style
 pub record CanWalk (over : Over) (style : Style) (make : Option Make) : Type 0 where

@@ -2,7 +2,6 @@
 
 ghost use Rattle.std.specs.Prelude.{◌≡◌, ◌≤◌, [], ◌∷◌, Ok, Some, IfOk, MatchResult, OnOk};
 ghost use Rattle.std.specs.List.{All};
-ghost use Rattle.sym_state.specs.Demands.{HasFewUses};
 ghost use Rattle.sym_state.specs.Starting.{started};
 ghost use Rattle.cert_check.specs.Certified.{AreSound, CanWalk, IsLoopOf, IsPieceOf};
 ghost use Rattle.cert_check.specs.Given.{Takes};
@@ -30,7 +29,6 @@ use sym_state::state::State;
 pub(crate) fn loop_checked(scope: &Scope<'_>, alloc: Global, one: &Loop) -> Walk
     requires sound { AreSound scope.now.style scope.now.cert }
     requires one { IsLoopOf scope.now.style one.now }
-    requires hints { All HasFewUses one.now.hints }
     requires writes { scope.now.writes ≡ Some one.now.writes }
     ensures { Takes (rule.loop_checked scope.now.style scope.now.cert one.now) [] result }
 {

@@ -31,7 +31,7 @@ use Rattle.cert_check.specs.declared.checker.Calling.{Calling}
 use Rattle.cert_check.specs.declared.refusal.Reason.TheVariants.{NoInvariant}
 use Rattle.cert_check.specs.declared.refusal.Refusal.{Refusal}
 use Rattle.command_flow.specs.Between.{opened, piece_moved}
-use Rattle.command_flow.specs.Commands.{call_ends, given, started_between, started_visit}
+use Rattle.command_flow.specs.Commands.{given, started_between, started_visit}
 use Rattle.command_flow.specs.declared.between.Between.{Between}
 use Rattle.command_flow.specs.declared.leaving.Leaving.{Leaving}
 use Rattle.command_flow.specs.declared.templates.Lasting.{Lasting}
@@ -44,11 +44,9 @@ pub record Seeking : Type 0 where
   pub cert : Cert
   pub make : Option Make
 
--- a command's name is called from a state, behind so many loops that stay: each state at its end has an empty stack
-abbrev pub ended_in : Seeking → ℕ → NameId → Place → State → Result Calling Refusal
-ended_in seeking stay name place state =
-    then_do (call_made seeking.make seeking.style seeking.cert stay (state ∷ []) (Named name) place) (λ calling.
-    then_do (call_ends seeking.cert.cond place [] calling.given []) (λ hints. Ok calling))
+-- a command's name is called from a state, behind so many loops that stay. That the stack is empty at its end is left to the checker.
+abbrev pub called_in : Seeking → ℕ → NameId → Place → State → Result Calling Refusal
+called_in seeking stay name place state = call_made seeking.make seeking.style seeking.cert stay (state ∷ []) (Named name) place
 
 -- an EXECUTE leaves something of the global variables
 abbrev pub after_execute : Leaving
@@ -116,7 +114,7 @@ executed_by style admits index name lasting calling =
 -- EXECUTE: what its end states have in common of the global variables stands behind it
 abbrev pub executed_in : Seeking → ℕ → NameId → Place → Lasting → Result Made Refusal
 executed_in seeking index name place lasting =
-    then_do (ended_in seeking (length lasting.loops) name place (started_between seeking.style seeking.cert.cond lasting.between)) (λ calling.
+    then_do (called_in seeking (length lasting.loops) name place (started_between seeking.style seeking.cert.cond lasting.between)) (λ calling.
     Ok (executed_by seeking.style seeking.cert.cond index name lasting calling))
 
 -- what comes of a visit that was walked: it is the command's where no row is left out, and else the next one is walked
@@ -128,7 +126,7 @@ visits_by later visit next calling =
 abbrev pub visits_from : ℕ → Seeking → NameId → Place → Lasting → Piece → Result Visits Refusal
 visits_from zero seeking name place lasting visit = refuses place NoInvariant
 visits_from (suc n) seeking name place lasting visit =
-    then_do (ended_in seeking (length lasting.loops) name place (started_visit seeking.style seeking.cert.cond visit lasting.between.entry)) (λ calling.
+    then_do (called_in seeking (length lasting.loops) name place (started_visit seeking.style seeking.cert.cond visit lasting.between.entry)) (λ calling.
     visits_by (visits_from n seeking name place lasting) visit (left_by seeking.cert.cond calling.given visit) calling)
 
 -- the first one: what the state before all visits has of the global variables

@@ -28,7 +28,6 @@ bare_certified style admits is =
       summaries = All-nil _;
       few_summaries = omega arith;
       loops = All-nil _;
-      loop_hints = All-nil _;
       commands = All-nil _;
       rise = refl;
     }
@@ -107,7 +106,6 @@ found_certified style admits parts is are =
       summaries = begun.summaries;
       few_summaries = begun.few_summaries;
       loops = begun.loops;
-      loop_hints = begun.loop_hints;
       commands = each_all (IsRecord style) (IsCommandOf style) (record_certified style) parts are.each;
       rise = are.rise;
     }

@@ -36,19 +36,21 @@ use Rattle.loop_templates.proofs.Over.{sums_over_names}
 use Rattle.loop_templates.proofs.Seated.{ids_below}
 use Rattle.loop_templates.proofs.Standing.{MayExit, exits_are_cases, exits_made, first_has_cases, next_has_cases, each_kept}
 use Rattle.loop_templates.proofs.Written.{ids_hold, variables_are}
-use Rattle.cert_check.specs.Certified.{AreWritten, IsCertified, IsLoopOf, IsPieceOf, MakesLoops, MakesStanding, MayStand}
+use Rattle.cert_check.specs.Certified.{AreWritten, IsCertified, IsLoopOf, IsPieceOf, MakesLoops, MakesStanding}
 use Rattle.cert_check.specs.Tours.{Toured, setting_out, turns_of}
 use Rattle.cert_check.specs.Units.{everywhere}
 use Rattle.cert_check.specs.declared.tours.Ended.{Ended}
 use Rattle.cert_check.specs.declared.tours.Tour.{Tour}
 use Rattle.cert_check.specs.declared.tours.Turning.{Turning}
+use Rattle.cert_check.proofs.Certifying.{hints_few}
 use Rattle.cert_check.proofs.TourEnds.{HasMadeEnds, turns_keep}
-use Rattle.cert_format.specs.CertText.{AreWrites, IsNameable, IsPiece, IsVariable}
+use Rattle.cert_format.specs.CertText.{AreWrites, IsHint, IsLoop, IsNameable, IsPiece, IsVariable}
 use Rattle.cert_format.specs.CondText.{is_below, is_chain}
-use Rattle.infer_loops.specs.Invariants.{added_cases, cases_of, ended_states, found_in, frame_of, invariant_of, loop_of, loop_with, may_be_written, next_of, occurring_in, sequence, settled_by, toured, turning, walked_by, written_in}
+use Rattle.infer_loops.specs.Invariants.{added_cases, cases_of, ended_states, found_in, frame_of, hints_of, invariant_of, is_hint, loop_of, loop_with, may_be_written, next_of, occurring_in, sequence, settled_by, toured, turning, walked_by, written_in}
 use Rattle.infer_loops.specs.declared.limits.TheConstants.{MOST_CANDIDATES}
 use Rattle.infer_loops.proofs.CasePieces.{added_pieces, case_piece, first_pieces}
 use Rattle.infer_loops.proofs.EndStates.{made_states}
+use Rattle.infer_loops.proofs.HintsWritten.{hints_are}
 
 -- what is written are variables
 variable_takes : (entry : Bool) (k : Kind) → is_bound_variable (all_bound entry) k ≡ true → is_variable entry k ≡ true
@@ -210,14 +212,15 @@ module _ (cert : Cert) (frame : Frame) (one : Turning) (ready : IsFrame frame) (
         exits_written exits (All-tail (MayExit frame) exit exits may) (All-tail IsMade exit exits made) parts.1,
       )
 
-  -- what is found is a loop of the style, and may stand in a certificate where its hints may
+  -- what is found is a loop of the style, and may stand in a certificate
   record IsMadeLoop (found : Loop) : Type 0 where
     pub of_style : IsLoopOf frame.style found
-    pub stands : IsNameable frame.style one.test → IsNameable frame.style one.body → MayStand frame.style found
+    pub stands : IsNameable frame.style one.test → IsNameable frame.style one.body → IsLoop frame.style found
 
   made_there : (candidate : Candidate) (tour : Tour) (left : List State) (exits : List Added) → exits ≡ exits_of frame left → HasCases frame candidate
-      → All (WellMade frame.style) left → may_be_written candidate exits ≡ true → IsMadeLoop (loop_with frame one candidate tour exits)
-  made_there candidate tour left exits is has made may =
+      → All (WellMade frame.style) left → may_be_written candidate exits ≡ true → Each IsHint (hints_of frame candidate exits tour)
+      → IsMadeLoop (loop_with frame one candidate tour exits)
+  made_there candidate tour left exits is has made may hints =
       let short = (and_parts (nat_le ((length candidate.first + length candidate.added) + length exits) MOST_PIECES)
       (list_all (λ (added : Added). is_short added.case.stack) exits) may).1 in
       let some = some_there candidate has in
@@ -229,8 +232,9 @@ module _ (cert : Cert) (frame : Frame) (one : Turning) (ready : IsFrame frame) (
           some = some;
           few = few;
           writes = writes;
+          hints = hints_few (hints_of frame candidate exits tour) hints;
         };
-        stands = λ test body hints. record {
+        stands = λ test body. record {
           test = test;
           body = body;
           writes = written;
@@ -248,9 +252,12 @@ module _ (cert : Cert) (frame : Frame) (one : Turning) (ready : IsFrame frame) (
   loop_there candidate tour has ends =
       let left : List State = ended_states false tour.ends in
       let exits : List Added = exits_of frame left in
-      elim (may_be_written candidate exits) as (λ (b : Bool). may_be_written candidate exits ≡ b
-      → IfSome (cond b (Some (loop_with frame one candidate tour exits)) None) IsMadeLoop) [
-        | true ↦ λ may. made_there candidate tour left exits refl has (made_states frame.style false tour.ends ends) may
+      let test = may_be_written candidate exits && list_all is_hint (hints_of frame candidate exits tour) in
+      elim test as (λ (b : Bool). test ≡ b → IfSome (cond b (Some (loop_with frame one candidate tour exits)) None) IsMadeLoop) [
+        | true ↦ λ may.
+            let parts = and_parts (may_be_written candidate exits) (list_all is_hint (hints_of frame candidate exits tour)) may in
+            made_there candidate tour left exits refl has (made_states frame.style false tour.ends ends) parts.0
+            (hints_are (hints_of frame candidate exits tour) parts.1)
         | false ↦ λ _. tt
       ] refl
 

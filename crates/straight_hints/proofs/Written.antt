@@ -219,7 +219,7 @@ above_written finding c state s few =
     (All-map (LeavesVariables state) (λ (case : Bool × State). case.1) labelled.cases (above_left c state s both_kept labelled e))))
 
 -- those by which a state shows a piece
-rows_written : (finding : Finding) (c : Cond) (state : State) (named : Row → Row) (rows : List Row) → state.next ≤ 4294967296
+pub rows_written : (finding : Finding) (c : Cond) (state : State) (named : Row → Row) (rows : List Row) → state.next ≤ 4294967296
     → Each IsHint (map (λ row. step_found finding c state (named row)) rows)
 rows_written finding c state named [] few = tt
 rows_written finding c state named (row ∷ rows) few = ((every_written finding c state few).step (named row), rows_written finding c state named rows few)
