@@ -26,7 +26,7 @@ use Rattle.sym_state.specs.declared.symbol.Kinds.TheVariants.{Int}
 use Rattle.straight_hints.specs.declared.finding.Finding.{Finding}
 use Rattle.straight_hints.specs.declared.finding.Finding.TheVariants.{Straight}
 use Rattle.cert_check.specs.declared.limits.TheConstants.{MOST_DEPTH}
-use Rattle.cert_check.specs.declared.checker.Calling.{Calling}
+use Rattle.cert_check.specs.declared.checker.Called.{Called}
 use Rattle.cert_check.specs.declared.refusal.Reason.TheVariants.{HintsLeft}
 use Rattle.cert_check.specs.declared.refusal.Refusal.{Refusal}
 use Rattle.cert_check.specs.Courses.{Course, Walk, counts, placed, refuses}
@@ -190,12 +190,12 @@ abbrev pub call_found : Finding → Style → Cert → List State → Target →
 call_found finding style cert states target place = target_from (everywhere style cert) place target states (searching finding)
 
 -- what a course came to
-abbrev pub came_to : Course → Calling
+abbrev pub came_to : Course → Called
 came_to course = record { given = course.given; found = course.found; loops = course.loops }
 
 -- the call of a command whose hints are found and whose loops are made, behind so many that stay: its states, those hints and those loops,
 -- or the first rule that fails
-abbrev pub call_made : Option Make → Style → Cert → ℕ → List State → Target → Place → Result Calling Refusal
+abbrev pub call_made : Option Make → Style → Cert → ℕ → List State → Target → Place → Result Called Refusal
 call_made make style cert stay states target place =
     let scope : Scope = record { style = style; cert = cert; writes = None; make = make } in
     then_do (target_from scope place target states (record (searching Straight) { stay = stay })) (λ course. Ok (came_to course))

@@ -37,7 +37,7 @@ use sym_state::state::State;
 
 /// What a call came to whose hints are found and whose loops are made: the states at its end, those hints, and those loops.
 #[derive(Drop)]
-pub struct Calling {
+pub struct Called {
     pub given: Seq<State>,
     pub found: Seq<Hint>,
     pub loops: Seq<Loop>,
@@ -166,7 +166,7 @@ impl<'a> Checker<'a> {
         states: Vec<State>,
         target: Target,
         place: Place,
-    ) -> Result<Calling, Refusal>
+    ) -> Result<Called, Refusal>
         requires style { M.style maker.now ≡ self.now.style }
         requires stay { stay ≤ MOST_LOOPS }
         requires room { All (HasRoom self.now.style 64 0) states.items }
@@ -180,7 +180,7 @@ impl<'a> Checker<'a> {
         let scope = self.scope(None);
         let mut course = Course::making(self.alloc, stay);
         target_from(&scope, maker, place, target, states, &mut course)?;
-        Ok(Calling {
+        Ok(Called {
             given: Seq::from_vec(course.take_given()),
             found: Seq::from_vec(course.take_found()),
             loops: Seq::from_vec(course.take_loops()),

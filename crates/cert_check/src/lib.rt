@@ -23,7 +23,7 @@ mod uses;
 mod walk;
 mod whiles;
 
-pub use crate::checker::{Calling, Checker};
+pub use crate::checker::{Called, Checker};
 pub use crate::course::{held, placed, refuse};
 pub use crate::making::{Loops, Unmade};
 pub use crate::tours::{Ended, Tour, Turning};

@@ -27,7 +27,7 @@ use Rattle.loop_templates.specs.declared.limits.TheConstants.{MOST_ITEMS}
 use Rattle.cert_check.specs.Courses.{refuses}
 use Rattle.cert_check.specs.Units.{call_made}
 use Rattle.cert_check.specs.Walks.{Make, type_functions}
-use Rattle.cert_check.specs.declared.checker.Calling.{Calling}
+use Rattle.cert_check.specs.declared.checker.Called.{Called}
 use Rattle.cert_check.specs.declared.refusal.Reason.TheVariants.{NoInvariant}
 use Rattle.cert_check.specs.declared.refusal.Refusal.{Refusal}
 use Rattle.command_flow.specs.Between.{opened, piece_moved}
@@ -45,7 +45,7 @@ pub record Seeking : Type 0 where
   pub make : Option Make
 
 -- a command's name is called from a state, behind so many loops that stay. That the stack is empty at its end is left to the checker.
-abbrev pub called_in : Seeking → ℕ → NameId → Place → State → Result Calling Refusal
+abbrev pub called_in : Seeking → ℕ → NameId → Place → State → Result Called Refusal
 called_in seeking stay name place state = call_made seeking.make seeking.style seeking.cert stay (state ∷ []) (Named name) place
 
 -- an EXECUTE leaves something of the global variables
@@ -99,7 +99,7 @@ executed_parts index None [] = []
 executed_parts index after hints = record { index = index; after = after; visit = None; keeps = None; hints = hints } ∷ []
 
 -- EXECUTE, by what its call came to
-abbrev pub executed_by : Style → Cond → ℕ → NameId → Lasting → Calling → Made
+abbrev pub executed_by : Style → Cond → ℕ → NameId → Lasting → Called → Made
 executed_by style admits index name lasting calling =
     let start = started_between style admits lasting.between in
     let after = left_in (frame_left style admits name after_execute start) calling.given in
@@ -118,7 +118,7 @@ executed_in seeking index name place lasting =
     Ok (executed_by seeking.style seeking.cert.cond index name lasting calling))
 
 -- what comes of a visit that was walked: it is the command's where no row is left out, and else the next one is walked
-abbrev pub visits_by : (Piece → Result Visits Refusal) → Piece → Piece → Calling → Result Visits Refusal
+abbrev pub visits_by : (Piece → Result Visits Refusal) → Piece → Piece → Called → Result Visits Refusal
 visits_by later visit next calling =
     if nat_eq (length next.rows) (length visit.rows) then Ok (record { visit = visit; calling = calling }) else later next
 

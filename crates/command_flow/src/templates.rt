@@ -23,7 +23,7 @@ use bv_base::memory::NoMemory;
 use bv_base::place::Place;
 use bv_base::seq::Seq;
 use cert_check::refusal::{Reason, Refusal, Walk};
-use cert_check::{Calling, Checker, Loops, held, refuse};
+use cert_check::{Called, Checker, Loops, held, refuse};
 use cert_format::cert::{Cert, CommandPart, Loop};
 use loop_templates::limits::MOST_ITEMS;
 use name_table::names::NameId;
@@ -53,7 +53,7 @@ pub struct Made {
 #[derive(Drop)]
 pub struct Visits {
     pub visit: Piece,
-    pub calling: Calling,
+    pub calling: Called,
 }
 
 /// What is made for the commands of a style, or the first rule that fails, with its place. The certificate is the bare one of the condition
@@ -172,7 +172,7 @@ fn executed_by(
     index: u32,
     name: NameId,
     lasting: Lasting,
-    calling: Calling,
+    calling: Called,
 ) -> Result<Made, NoMemory>
     requires at { Agrees at.now }
     requires ready { AreReady at.now.style.now lasting.between }
@@ -182,7 +182,7 @@ fn executed_by(
 {
     let Lasting { between, loops } = lasting;
     let Between { globals, entry } = between;
-    let Calling {
+    let Called {
         given: states,
         found,
         loops: more,
@@ -284,7 +284,7 @@ fn visit_walked<M: Loops>(
     name: NameId,
     lasting: &Lasting,
     visit: &Piece,
-) -> Result<Calling, Refusal>
+) -> Result<Called, Refusal>
     requires at { Agrees at.now }
     requires same { M.style maker.now ≡ at.now.checker.now.style }
     requires ready { AreReady at.now.style.now lasting.now.between }
@@ -327,7 +327,7 @@ fn visited_by(
 {
     let Lasting { between, loops } = lasting;
     let Visits { visit, calling } = found;
-    let Calling {
+    let Called {
         given: states,
         found,
         loops: more,
@@ -380,7 +380,7 @@ fn ended<M: Loops>(
     stay: usize,
     name: NameId,
     start: State,
-) -> Result<Calling, Refusal>
+) -> Result<Called, Refusal>
     requires cond { at.now.cond.now ≡ at.now.checker.now.cert.cond }
     requires same { M.style maker.now ≡ at.now.checker.now.style }
     requires room { HasRoom at.now.checker.now.style 64 0 start }
