@@ -1,6 +1,8 @@
 -- What a state knows exactly may be named in a certificate.
-use Rattle.std.proofs.Common.{◌≡◌, ℕ, zero, suc, ◌+◌, ◌<◌, ◌≤◌, List, [], ◌∷◌, length, map, slice_get, Option, None, Some, is_some, refl, ap, subst, ◌∙◌, arith}
-use Rattle.std.specs.Option.{option_and_then, option_map}
+use Rattle.std.proofs.Common.{◌≡◌, ℕ, zero, suc, ◌+◌, ◌<◌, ◌≤◌, List, [], ◌∷◌, length, map, slice_get, Option, None, Some, is_some, Bool, true, false, cond, nat_eq, refl, ap, subst, ◌∙◌, arith}
+use Rattle.std.specs.List.{All}
+use Rattle.std.specs.Option.{option_and_then, option_map, option_or}
+use Rattle.std.proofs.lemmas.List.Elements.{All-head, All-tail}
 use Rattle.name_table.specs.Names.{kind_at}
 use Rattle.name_table.specs.Sound.{AreNumbered, IsSound, block_of}
 use Rattle.name_table.specs.declared.names.Kind.{Kind}
@@ -11,14 +13,14 @@ use Rattle.name_table.specs.declared.style.Style.{Style}
 use Rattle.bst_meaning.specs.declared.value.Target.{Target}
 use Rattle.bst_meaning.specs.declared.value.Target.TheVariants.{Named, Block}
 use Rattle.cert_format.specs.CertText.{IsNameable}
-use Rattle.sym_state.specs.Decided.{Function, ByName, ByNumber, exact_function, function_said}
+use Rattle.sym_state.specs.Decided.{Function, ByName, ByNumber, exact_function, first_said, function_said}
 use Rattle.sym_state.specs.Demands.{Two}
+use Rattle.sym_state.specs.Facts.{subject}
 use Rattle.sym_state.specs.State.{State}
 use Rattle.sym_state.specs.WellMade.{IsOfStyle, WellMade}
 use Rattle.sym_state.specs.declared.symbol.Fact.{Fact}
 use Rattle.sym_state.specs.declared.symbol.Fact.TheVariants as fact
 use Rattle.sym_state.specs.declared.symbol.Sym.{Sym}
-use Rattle.sym_state.proofs.Exact.{said_where}
 use Rattle.cert_check.specs.Walks.{Scope, While, block_body, exact_target, target_of, while_by, while_of}
 use Rattle.cert_check.proofs.Exactly.{block_is}
 
@@ -56,6 +58,21 @@ said_there style (ByName name) (fact.Call s other) of_style e =
 said_there style (ByName name) _ of_style e = absurd (cc)
 said_there style (ByNumber number) said of_style e = tt
 
+first_there : (style : Style) (f : Function) (s : ℕ) (facts : List Fact) → All (IsOfStyle style) facts → first_said function_said s facts ≡ Some f
+    → IsThere style f
+first_there style f s [] all e = absurd (cc)
+first_there style f s (said ∷ facts) all e =
+    let rest = first_there style f s facts (All-tail (IsOfStyle style) said facts all) in
+    elim (nat_eq (subject said) s)
+    as (λ (t : Bool). cond t (option_or (function_said said) (first_said function_said s facts)) (first_said function_said s facts) ≡ Some f → IsThere style f) [
+      | true ↦ λ found. elim (function_said said)
+      as (λ (o : Option Function). function_said said ≡ o → option_or o (first_said function_said s facts) ≡ Some f → IsThere style f) [
+        | Some other ↦ λ is some. said_there style f said (All-head (IsOfStyle style) said facts all) (is ∙ some)
+        | None ↦ λ is some. rest some
+      ] refl found
+      | false ↦ λ found. rest found
+    ] e
+
 -- what a symbol exactly is
 exact_named : (style : Style) (state : State) (s : Sym) (target : Target) → IsSound style → WellMade style state → exact_target style state s ≡ Some target
     → IsNameable style target
@@ -72,8 +89,7 @@ exact_named style state s target sound made e = by_function (exact_function stat
 
     by_function : (o : Option Function) → exact_function state.facts s.0 ≡ o → option_and_then (target_of style) o ≡ Some target → IsNameable style target
     by_function (Some (ByName name)) known e =
-        let there = said_where function_said (IsOfStyle style) (IsThere style) state.facts s.0 (ByName name)
-        (λ said of_style is. said_there style (ByName name) said of_style is) made.of_style known in
+        let there = first_there style (ByName name) s.0 state.facts made.of_style known in
         let same : Named name ≡ target = cc in
         subst (IsNameable style) same (kind_there style.names name.0 there)
     by_function (Some (ByNumber number)) known e = block_named number (block_body number 0 style.bodies) refl e

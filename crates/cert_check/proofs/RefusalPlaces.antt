@@ -46,7 +46,7 @@ use Rattle.cert_check.proofs.ReadPieces.{each_each}
 use Rattle.cert_check.specs.declared.limits.TheConstants.{MOST_DEPTH}
 use Rattle.cert_check.specs.declared.refusal.Reason.{Reason}
 use Rattle.cert_check.specs.declared.refusal.Refusal.{Refusal}
-use Rattle.cert_check.specs.Courses.{Course, Walk, behind, counts, gives, gives_all, placed, refuses}
+use Rattle.cert_check.specs.Courses.{Course, Walk, behind, counts, first_number, gives, gives_all, placed, refuses}
 use Rattle.cert_check.specs.Places.{IsOfBody, IsOfUnit}
 use Rattle.cert_check.specs.Units.{all_end, all_entail, all_tested, all_turned, beginning, body_of, call_walked, loop_checked, none_left, own_walked, place_of, summary_checked, target_entered, target_from, tested, turn, turn_state, turned, turned_from}
 use Rattle.cert_check.specs.Uses.{Passage, around, comes_by, left_state, passage}
@@ -232,7 +232,7 @@ module _ (P : Place → Type 0) where
       → Fails (while_made make scope place states earlier one making)
   around_made_fails make scope place states earlier None making at = at
   around_made_fails make scope place states earlier (Some one) making at =
-      let found = numbered one (length making.course.loops) making.made in
+      let found = numbered one (first_number making.course) making.made in
       let new = make one.test one.body (entering_with scope one states) in
       let k = length (entering_with scope one earlier) in
       then_faulty FailsAt (loop_made place found new making) _ (made_fails place found new making at) (λ known _.

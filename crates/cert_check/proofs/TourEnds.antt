@@ -119,10 +119,11 @@ module _ (scope : Scope) (one : Turning) (sound : IsSound scope.style) (cert : I
       let labelled = then_ok (placed place (above_of scope.cert.cond taken.0.rest taken.0.operand hints)) _ split.0 split.1 in
       let by_sign : Signed = record { cases = labelled.0.cases; course = behind hints labelled.0.hints tour.course } in
       let is = ok_is by_sign split.0 labelled.2 in
-      cases_keep place labelled.0.cases (record tour { course = by_sign.course }) after
+      let kept = cases_keep place labelled.0.cases (record tour { course = by_sign.course }) after
       (signs_room scope.style scope.cert.cond place state taken.0 hints labelled.0 tour.course.count room taken.1 labelled.1)
       none
-      (subst (λ (s : Signed). all_turned_or_left scope place one s.cases (record tour { course = s.course }) ≡ Ok after) is split.2)
+      (subst (λ (s : Signed). all_turned_or_left scope place one s.cases (record tour { course = s.course }) ≡ Ok after) is split.2) in
+      record { none = kept.none; count = kept.count; ends = kept.ends }
 
   -- each state at the test's end, in order
   tests_keep : (place : Place) (states : List State) (tour after : Tour) → All (HasRoom scope.style 65 tour.course.count) states → GivesNone tour

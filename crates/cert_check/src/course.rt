@@ -69,7 +69,7 @@ pub(crate) struct Course<'a> {
 }
 
 impl<'a> Model for Course<'a> {
-    ghost use Rattle.std.specs.Prelude.{◌≤◌, length};
+    ghost use Rattle.std.specs.Prelude.{◌≤◌, ◌+◌, length};
     ghost use Rattle.std.specs.List.{All};
     ghost use Rattle.name_table.specs.Sound.{Each};
     ghost use Rattle.cert_format.specs.CertText.{IsHint};
