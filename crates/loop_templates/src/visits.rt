@@ -1,7 +1,7 @@
 //! Cases of what commands leave (docs/ANALYSER.md, "Commands").
 
 ghost use Rattle.std.specs.Prelude.{◌≡◌, map, length, IfOk};
-ghost use Rattle.std.specs.List.{All, list_all};
+ghost use Rattle.std.specs.List.{All};
 ghost use Rattle.sym_state.specs.Positions.{AtNext, row_moved};
 ghost use Rattle.sym_state.specs.WellMade.{IsBounded, WellMade};
 ghost use Rattle.loop_templates.specs.Candidates.{CanMatch, IsCase};
