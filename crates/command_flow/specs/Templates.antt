@@ -109,7 +109,7 @@ executed_by style admits index name lasting calling =
     record {
       lasting = record {
         between = record { globals = given after; entry = lasting.between.entry };
-        loops = calling.loops;
+        loops = lasting.loops ++ calling.loops;
       };
       parts = executed_parts index after (calling.found ++ ends_hints admits (given after ∷ []) calling.given);
     }
@@ -148,7 +148,7 @@ visited_by style admits index name lasting found =
     record {
       lasting = record {
         between = record { globals = piece_moved AtEnd found.visit; entry = given keeps };
-        loops = found.calling.loops;
+        loops = lasting.loops ++ found.calling.loops;
       };
       parts = record { index = index; after = None; visit = Some found.visit; keeps = keeps; hints = hints } ∷ [];
     }
