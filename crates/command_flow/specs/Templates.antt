@@ -12,7 +12,6 @@ use Rattle.bst_meaning.specs.declared.condition.Cond.{Cond}
 use Rattle.bst_meaning.specs.declared.value.Target.TheVariants.{Named}
 use Rattle.cert_format.specs.declared.cert.Cert.{Cert}
 use Rattle.cert_format.specs.declared.cert.CommandPart.{CommandPart}
-use Rattle.cert_format.specs.declared.cert.Loop.{Loop}
 use Rattle.sym_state.specs.Positions.{AtStart, AtNext, AtEnd}
 use Rattle.sym_state.specs.State.{State}
 use Rattle.sym_state.specs.declared.hint.Hint.{Hint}
@@ -45,10 +44,10 @@ pub record Seeking : Type 0 where
   pub cert : Cert
   pub make : Option Make
 
--- a command's name is called from a state, behind the loops that stay: each state at its end has an empty stack
-abbrev pub ended_in : Seeking → List Loop → NameId → Place → State → Result Calling Refusal
-ended_in seeking loops name place state =
-    then_do (call_made seeking.make seeking.style seeking.cert loops (state ∷ []) (Named name) place) (λ calling.
+-- a command's name is called from a state, behind so many loops that stay: each state at its end has an empty stack
+abbrev pub ended_in : Seeking → ℕ → NameId → Place → State → Result Calling Refusal
+ended_in seeking stay name place state =
+    then_do (call_made seeking.make seeking.style seeking.cert stay (state ∷ []) (Named name) place) (λ calling.
     then_do (call_ends seeking.cert.cond place [] calling.given []) (λ hints. Ok calling))
 
 -- an EXECUTE leaves something of the global variables
@@ -117,7 +116,7 @@ executed_by style admits index name lasting calling =
 -- EXECUTE: what its end states have in common of the global variables stands behind it
 abbrev pub executed_in : Seeking → ℕ → NameId → Place → Lasting → Result Made Refusal
 executed_in seeking index name place lasting =
-    then_do (ended_in seeking lasting.loops name place (started_between seeking.style seeking.cert.cond lasting.between)) (λ calling.
+    then_do (ended_in seeking (length lasting.loops) name place (started_between seeking.style seeking.cert.cond lasting.between)) (λ calling.
     Ok (executed_by seeking.style seeking.cert.cond index name lasting calling))
 
 -- what comes of a visit that was walked: it is the command's where no row is left out, and else the next one is walked
@@ -129,7 +128,7 @@ visits_by later visit next calling =
 abbrev pub visits_from : ℕ → Seeking → NameId → Place → Lasting → Piece → Result Visits Refusal
 visits_from zero seeking name place lasting visit = refuses place NoInvariant
 visits_from (suc n) seeking name place lasting visit =
-    then_do (ended_in seeking lasting.loops name place (started_visit seeking.style seeking.cert.cond visit lasting.between.entry)) (λ calling.
+    then_do (ended_in seeking (length lasting.loops) name place (started_visit seeking.style seeking.cert.cond visit lasting.between.entry)) (λ calling.
     visits_by (visits_from n seeking name place lasting) visit (left_by seeking.cert.cond calling.given visit) calling)
 
 -- the first one: what the state before all visits has of the global variables

@@ -161,7 +161,8 @@ fn executed<M: Loops>(
     let place = at.command.place;
     let starts = from_ref(&lasting.between.globals);
     let start = held(place, state_of(at, starts, false))?;
-    let calling = ended(at, maker, lasting.loops.as_slice(), name, start)?;
+    let stay = lasting.loops.as_slice().len();
+    let calling = ended(at, maker, stay, name, start)?;
     held(place, executed_by(at, index, name, lasting, calling))
 }
 
@@ -289,12 +290,12 @@ fn visit_walked<M: Loops>(
     requires ready { AreReady at.now.style.now lasting.now.between }
     requires visit { rule.IsVisit at.now.style.now visit.now }
     ensures walks { Decides (rule.ended_in (record { style = at.now.checker.now.style; cert = at.now.checker.now.cert; make = M.made maker.now })
-        lasting.now.loops name at.now.command.place
+        (length lasting.now.loops) name at.now.command.place
         (commands.started_visit at.now.style.now at.now.cond.now visit.now lasting.now.between.entry)) result }
     ensures ends { IfOk result (λ calling. All (IsEnd at.now.style.now) calling.given) }
 {
     let start = held(at.command.place, visit_start(at, visit, &lasting.between.entry))?;
-    ended(at, maker, lasting.loops.as_slice(), name, start)
+    ended(at, maker, lasting.loops.as_slice().len(), name, start)
 }
 
 /// The state where a visit starts.
@@ -372,11 +373,11 @@ fn beginning_hints(at: &At<'_>, visit: &Piece, globals: &Piece) -> Result<Vec<Hi
     piece_hints(Finding::Straight, &before, at.cond, &begun)
 }
 
-/// A command's name is called from a state, behind the loops that stay: each state at its end has an empty stack.
+/// A command's name is called from a state, behind so many loops that stay: each state at its end has an empty stack.
 fn ended<M: Loops>(
     at: &At<'_>,
     maker: &M,
-    loops: &[Loop],
+    stay: usize,
     name: NameId,
     start: State,
 ) -> Result<Calling, Refusal>
@@ -384,14 +385,12 @@ fn ended<M: Loops>(
     requires same { M.style maker.now ≡ at.now.checker.now.style }
     requires room { HasRoom at.now.checker.now.style 64 0 start }
     ensures walks { Decides (rule.ended_in (record { style = at.now.checker.now.style; cert = at.now.checker.now.cert; make = M.made maker.now })
-        loops.now name at.now.command.place start) result }
+        stay name at.now.command.place start) result }
     ensures ends { IfOk result (λ calling. All (IsEnd at.now.checker.now.style) calling.given) }
 {
     let place = at.command.place;
     let states = held(place, one(at.alloc, start))?;
-    let calling = at
-        .checker
-        .make_call(maker, loops, states, Target::Named(name), place)?;
+    let calling = at.checker.make_call(maker, stay, states, Target::Named(name), place)?;
     call_ends(at, &[], calling.given.as_slice(), &mut Hints::new(&[]))?;
     Ok(calling)
 }
