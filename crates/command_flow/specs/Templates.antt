@@ -1,6 +1,7 @@
 -- The commands of a style whose hints, loops and pieces are found (docs/ANALYSER.md, "Commands"): what an EXECUTE leaves, and what visits
 -- leave one for the next.
-use Rattle.std.specs.Prelude.{ℕ, zero, suc, Bool, true, false, nat_eq, if◌then◌else◌, List, [], ◌∷◌, ◌++◌, length, flat_map, Option, None, Some, Result, Ok}
+use Rattle.std.specs.Prelude.{◌≡◌, ℕ, zero, suc, true, false, nat_eq, if◌then◌else◌, List, [], ◌∷◌, ◌++◌, length, flat_map, Option, None, Some, Result, Ok}
+use Rattle.std.specs.List.{All}
 use Rattle.bv_base.specs.Answers.{then_do}
 use Rattle.bv_base.specs.declared.place.Place.{Place}
 use Rattle.name_table.specs.declared.names.NameId.{NameId}
@@ -24,6 +25,7 @@ use Rattle.loop_templates.specs.Reaching.{Occurring, command_terms, occurring, o
 use Rattle.loop_templates.specs.Sums.{sums}
 use Rattle.loop_templates.specs.Visits.{common_case, left_by}
 use Rattle.loop_templates.specs.declared.limits.TheConstants.{MOST_ITEMS}
+use Rattle.cert_check.specs.Certified.{IsMovable}
 use Rattle.cert_check.specs.Courses.{refuses}
 use Rattle.cert_check.specs.Units.{call_made}
 use Rattle.cert_check.specs.Walks.{Make, type_functions}
@@ -31,7 +33,12 @@ use Rattle.cert_check.specs.declared.checker.Called.{Called}
 use Rattle.cert_check.specs.declared.refusal.Reason.TheVariants.{NoInvariant}
 use Rattle.cert_check.specs.declared.refusal.Refusal.{Refusal}
 use Rattle.command_flow.specs.Between.{opened, piece_moved}
+<<<<<<< HEAD
 use Rattle.command_flow.specs.Commands.{given, started_between, started_visit}
+=======
+use Rattle.command_flow.specs.Commands.{call_ends, given, started_between, started_visit}
+use Rattle.command_flow.specs.Ready.{IsReady}
+>>>>>>> 245b458
 use Rattle.command_flow.specs.declared.between.Between.{Between}
 use Rattle.command_flow.specs.declared.leaving.Leaving.{Leaving}
 use Rattle.command_flow.specs.declared.templates.Lasting.{Lasting}
@@ -141,7 +148,7 @@ visited_by style admits index name lasting found =
     let start = started_visit style admits found.visit lasting.between.entry in
     let keeps = left_in (frame_left style admits name after_visit start) found.calling.given in
     let hints = piece_hints Straight admits before (piece_moved AtStart found.visit)
-      ++ (found.calling.found ++ ends_hints admits (piece_moved AtNext found.visit ∷ (given keeps ∷ [])) found.calling.given) in
+    ++ (found.calling.found ++ ends_hints admits (piece_moved AtNext found.visit ∷ (given keeps ∷ [])) found.calling.given) in
     record {
       lasting = record {
         between = record { globals = piece_moved AtEnd found.visit; entry = given keeps };
@@ -173,3 +180,9 @@ commands_in seeking index lasting parts (at ∷ commands) =
 -- what is made for the commands of a style, or the first rule that fails
 abbrev pub made_in : Seeking → Result Made Refusal
 made_in seeking = commands_in seeking 0 (record { between = opened seeking.style; loops = [] }) [] seeking.style.commands
+
+-- a piece that may stand before visits: its rows may be moved to the next entry, and it has no stack
+pub record IsVisit (style : Style) (visit : Piece) : Type 0 where
+  pub ready : IsReady style visit
+  pub movable : All IsMovable visit.rows
+  pub bare : visit.stack ≡ []

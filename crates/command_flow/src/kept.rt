@@ -1,11 +1,10 @@
 //! The pieces that commands leave (docs/ANALYSER.md, "Commands").
 
-ghost use Rattle.std.specs.Prelude.{◌≡◌, [], ◌∷◌, Some, IfOk, IfSome};
+ghost use Rattle.std.specs.Prelude.{◌≡◌, true, IfOk, IfSome};
 ghost use Rattle.std.specs.List.{All};
-ghost use Rattle.sym_state.specs.Starting.{started};
 ghost use Rattle.sym_state.specs.WellMade.{WellMade};
 ghost use Rattle.cert_check.specs.Room.{IsEnd};
-ghost use Rattle.loop_templates.specs.Reaching as reaching;
+ghost use Rattle.loop_templates.specs.Candidates.{IsCase};
 ghost use Rattle.loop_templates.specs.Visits as visits;
 ghost use Rattle.command_flow.specs.Ready.{Agrees, IsReady};
 ghost use Rattle.command_flow.specs.Templates as rule;
@@ -21,7 +20,8 @@ use bv_base::memory::NoMemory;
 use cert_check::type_functions;
 use lin_facts::row::Row;
 use loop_templates::{
-    Bound, Frame, Occurrences, command_terms, common_case, occurring, occurring_anywhere, push_roots, quoted_variables, rows_left, sums,
+    Bound, Frame, Occurrences, command_terms, common_case, occurring, occurring_anywhere,
+    push_roots, quoted_variables, rows_left, sums,
 };
 use name_table::names::NameId;
 use name_table::style::Style;
@@ -72,7 +72,13 @@ fn case_left(
     };
     let writes = quoted_variables(at.alloc, at.style, &reached, all)?;
     let anywhere = occurring_anywhere(at.alloc, at.style)?;
-    let terms = command_terms(at.alloc, at.style, &anywhere, leaving.bound, leaving.has_pos)?;
+    let terms = command_terms(
+        at.alloc,
+        at.style,
+        &anywhere,
+        leaving.bound,
+        leaving.has_pos,
+    )?;
     let sums = sums(at.alloc, terms.as_slice())?;
     let entering = [start];
     let frame = Frame {
@@ -108,11 +114,21 @@ pub(crate) fn first_visit(at: &At<'_>, name: NameId, between: &Between) -> Resul
 {
     let starts = from_ref(&between.globals);
     let before = [state_of(at, starts, false)?];
-    case_left(at, name, BEFORE_VISITS, state_of(at, starts, false)?, &before)
+    case_left(
+        at,
+        name,
+        BEFORE_VISITS,
+        state_of(at, starts, false)?,
+        &before,
+    )
 }
 
 /// The rows of a visit's piece that each of some states at its end shows of the next entry.
-pub(crate) fn rows_left_by(at: &At<'_>, visit: &Piece, states: &[State]) -> Result<Vec<Row>, NoMemory>
+pub(crate) fn rows_left_by(
+    at: &At<'_>,
+    visit: &Piece,
+    states: &[State],
+) -> Result<Vec<Row>, NoMemory>
     requires visit { rule.IsVisit at.now.style.now visit.now }
     requires states { All (IsEnd at.now.style.now) states.now }
     ensures { IfOk result (λ rows. rows.items ≡ (visits.left_by at.now.cond.now states.now visit.now).rows) }

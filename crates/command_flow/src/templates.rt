@@ -1,11 +1,16 @@
 //! The commands of a style whose hints, loops and pieces are found (docs/ANALYSER.md, "Commands").
 
-ghost use Rattle.std.specs.Prelude.{◌≡◌, ◌++◌, [], Ok, IfOk, IfSome, OnOk, length, option_map};
+ghost use Rattle.std.specs.Prelude.{◌≡◌, ◌++◌, ◌∷◌, [], true, false, IfOk, OnOk, length};
 ghost use Rattle.std.specs.List.{All};
 ghost use Rattle.name_table.specs.Sound.{IsSound};
-ghost use Rattle.sym_state.specs.WellMade.{WellMade};
+ghost use Rattle.straight_hints.specs.Found.{piece_hints as piece_hints_found};
+ghost use Rattle.straight_hints.specs.declared.finding.Finding.TheVariants.{Straight};
+ghost use Rattle.sym_state.specs.Positions.{AtStart};
+ghost use Rattle.sym_state.specs.Starting.{started};
 ghost use Rattle.cert_check.specs.Certified.{IsCertified};
+ghost use Rattle.cert_check.specs.Given.{CanEnd};
 ghost use Rattle.cert_check.specs.Room.{HasRoom, IsEnd};
+ghost use Rattle.command_flow.specs.Between.{piece_moved as piece_moved_to};
 ghost use Rattle.command_flow.specs.Commands as commands;
 ghost use Rattle.command_flow.specs.Ready.{Agrees, AreReady, Decides, IsReady};
 ghost use Rattle.command_flow.specs.Templates as rule;
@@ -58,12 +63,7 @@ pub struct Visits {
 
 /// What is made for the commands of a style, or the first rule that fails, with its place. The certificate is the bare one of the condition
 /// under which the style is walked.
-pub fn make<M: Loops>(
-    alloc: Global,
-    style: &Style,
-    bare: &Cert,
-    maker: &M,
-) -> Result<Made, Refusal>
+pub fn make<M: Loops>(alloc: Global, style: &Style, bare: &Cert, maker: &M) -> Result<Made, Refusal>
     requires sound { IsSound style.now }
     requires certified { IsCertified style.now bare.now }
     requires same { M.style maker.now ≡ style.now }
@@ -294,7 +294,10 @@ fn visit_walked<M: Loops>(
         (commands.started_visit at.now.style.now at.now.cond.now visit.now lasting.now.between.entry)) result }
     ensures ends { IfOk result (λ calling. All (IsEnd at.now.style.now) calling.given) }
 {
-    let start = held(at.command.place, visit_start(at, visit, &lasting.between.entry))?;
+    let start = held(
+        at.command.place,
+        visit_start(at, visit, &lasting.between.entry),
+    )?;
     ended(at, maker, lasting.loops.as_slice().len(), name, start)
 }
 
@@ -336,7 +339,10 @@ fn visited_by(
     let keeps = left_in(at, name, AFTER_VISIT, start, states.as_slice())?;
     let known = given(at.alloc, keeps.as_ref())?;
     let begun = beginning_hints(at, &visit, &between.globals)?;
-    let ends = [piece_moved(at.alloc, Moment::Next, &visit)?, copied(at.alloc, &known)?];
+    let ends = [
+        piece_moved(at.alloc, Moment::Next, &visit)?,
+        copied(at.alloc, &known)?,
+    ];
     let hints = with_ends(at, found, &ends, states.as_slice())?;
     let hints = followed(begun, hints)?;
     let globals = piece_moved(at.alloc, Moment::End, &visit)?;
@@ -365,8 +371,8 @@ fn beginning_hints(at: &At<'_>, visit: &Piece, globals: &Piece) -> Result<Vec<Hi
     requires at { Agrees at.now }
     requires visit { rule.IsVisit at.now.style.now visit.now }
     requires globals { IsReady at.now.style.now globals.now }
-    ensures { IfOk result (λ hints. hints.items ≡ found.piece_hints Straight at.now.cond.now
-        (started at.now.style.now at.now.cond.now (globals.now ∷ []) true false) (between.piece_moved AtStart visit.now)) }
+    ensures { IfOk result (λ hints. hints.items ≡ piece_hints_found Straight at.now.cond.now
+        (started at.now.style.now at.now.cond.now (globals.now ∷ []) true false) (piece_moved_to AtStart visit.now)) }
 {
     let before = state_of(at, from_ref(globals), false)?;
     let begun = piece_moved(at.alloc, Moment::Start, visit)?;
@@ -390,7 +396,9 @@ fn ended<M: Loops>(
 {
     let place = at.command.place;
     let states = held(place, one(at.alloc, start))?;
-    let calling = at.checker.make_call(maker, stay, states, Target::Named(name), place)?;
+    let calling = at
+        .checker
+        .make_call(maker, stay, states, Target::Named(name), place)?;
     call_ends(at, &[], calling.given.as_slice(), &mut Hints::new(&[]))?;
     Ok(calling)
 }

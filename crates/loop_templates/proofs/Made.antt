@@ -28,6 +28,7 @@ use Rattle.loop_templates.specs.declared.candidates.Added.{Added}
 use Rattle.loop_templates.specs.declared.candidates.Candidate.{Candidate}
 use Rattle.loop_templates.specs.declared.places.Seats.{Seats}
 use Rattle.loop_templates.proofs.Fit.{skeleton_of_style}
+use Rattle.loop_templates.proofs.OneByOne.{fewer}
 use Rattle.loop_templates.proofs.Rowed.{rows_bounded}
 use Rattle.loop_templates.proofs.Seated.{seated_names}
 
@@ -53,15 +54,6 @@ states_long bones n (state ∷ states) is all =
           (All-head HasBounds state states all, (let long = as_long bones state has in omega (arith, is, long))) rest
       | false ↦ λ _. rest
     ] refl
-
-pub fewer : {X : Type 0} (p : X → Bool) (xs : List X) → length (filter p xs) ≤ length xs
-fewer p [] = omega arith
-fewer {X} p (x ∷ xs) =
-    let rest = fewer p xs in
-    elim (p x) as (λ (b : Bool). length (cond b (x ∷ filter p xs) (filter p xs)) ≤ suc (length xs)) [
-      | true ↦ omega (arith, rest)
-      | false ↦ omega (arith, rest)
-    ]
 
 -- an added case without some of its rows
 pub lowered_made : (admits : Cond) (turned : List State) (one : Added) → IsMade one → IsMade (lowered admits turned one)

@@ -1,6 +1,6 @@
 -- Lists that are taken item by item.
-use Rattle.std.proofs.Common.{◌≡◌, ℕ, zero, suc, ◌+◌, ◌<◌, ◌≤◌, Bool, true, false, ◌&&◌, ◌||◌, min, List, [], ◌∷◌, ◌++◌, length, map, take, drop, get_or, slice_get, Option, ap, sym, subst, ◌∙◌, refl, arith, inl, inr, append_assoc}
-use Rattle.std.specs.List.{All, list_all, list_any}
+use Rattle.std.proofs.Common.{◌≡◌, ℕ, zero, suc, ◌+◌, ◌<◌, ◌≤◌, Bool, true, false, ◌&&◌, ◌||◌, cond, min, List, [], ◌∷◌, ◌++◌, length, map, take, drop, get_or, slice_get, Option, ap, sym, subst, ◌∙◌, refl, arith, inl, inr, append_assoc}
+use Rattle.std.specs.List.{All, filter, list_all, list_any}
 use Rattle.std.specs.Option.{option_to_list}
 use Rattle.std.proofs.lemmas.Bool.{cases_lt}
 use Rattle.std.proofs.lemmas.List.{append-nil, drop_all, drop_more, drop-map, take_all}
@@ -50,9 +50,19 @@ one_added {X} {Y} f old new all y xs rest x is made grown before =
     ∙ before
 
 -- where none is left, what those before gave is all
-pub all_added : {X Y : Type 0} (f : X → Y) (old all : List Y) (k : ℕ) (xs : List X) → length xs ≤ k → old ++ map f (drop k xs) ≡ all → old ≡ all
-all_added {X} {Y} f old all k xs done before =
-    sym (append-nil old) ∙ ap (λ (left : List X). old ++ map f left) (sym (drop_all k xs done)) ∙ before
+pub all_added : {X Y : Type 0} (f : List X → List Y) (old all : List Y) (k : ℕ) (xs : List X) → f [] ≡ [] → length xs ≤ k → old ++ f (drop k xs) ≡ all → old ≡ all
+all_added {X} {Y} f old all k xs none done before =
+    sym (append-nil old) ∙ ap (λ (left : List Y). old ++ left) (sym none) ∙ ap (λ (left : List X). old ++ f left) (sym (drop_all k xs done)) ∙ before
+
+-- those that pass are no more than all
+pub fewer : {X : Type 0} (p : X → Bool) (xs : List X) → length (filter p xs) ≤ length xs
+fewer p [] = omega arith
+fewer {X} p (x ∷ xs) =
+    let rest = fewer p xs in
+    elim (p x) as (λ (b : Bool). length (cond b (x ∷ filter p xs) (filter p xs)) ≤ suc (length xs)) [
+      | true ↦ omega (arith, rest)
+      | false ↦ omega (arith, rest)
+    ]
 
 or_more : (a b d : Bool) → ((a || b) || d) ≡ (a || (b || d))
 or_more true b d = refl

@@ -19,6 +19,7 @@ use Rattle.sym_state.proofs.Started.{ids_from-length}
 use Rattle.sym_state.specs.Fitting.{FactFits}
 use Rattle.sym_state.specs.State.{State}
 use Rattle.sym_state.specs.WellMade.{WellMade}
+use Rattle.sym_state.specs.declared.piece.Piece.{Piece}
 use Rattle.sym_state.specs.declared.symbol.Bind.{Bind}
 use Rattle.sym_state.specs.declared.symbol.Fact.{Fact}
 use Rattle.sym_state.specs.declared.symbol.Sym.{Sym}
@@ -37,7 +38,8 @@ use Rattle.loop_templates.specs.declared.places.Seats.{Seats}
 use Rattle.loop_templates.proofs.Cased.{case_fit, entering_stands, later_stands, more_added}
 use Rattle.loop_templates.proofs.Fit.{facts_fit}
 use Rattle.loop_templates.proofs.Formed.{Binds, IsSumOf, rows_placed}
-use Rattle.loop_templates.proofs.Made.{all_lowered_made, case_stack, facts_few, fewer, made_of, new_of_style, rows_few}
+use Rattle.loop_templates.proofs.Made.{all_lowered_made, case_stack, facts_few, made_of, new_of_style, rows_few}
+use Rattle.loop_templates.proofs.OneByOne.{fewer}
 use Rattle.loop_templates.proofs.Seated.{AreSeated, all_seated, names_of, seated_names}
 use Rattle.loop_templates.proofs.Written.{SaysSome, all_taken, behind_least, binds_each, binds_rise, each_of_all, fields_are, is_fact, kept_says, names_rise, numbers_behind, numbers_placed, syms_of, variables_are}
 

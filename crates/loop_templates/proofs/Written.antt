@@ -31,8 +31,10 @@ use Rattle.sym_state.specs.declared.symbol.Fact.{Fact}
 use Rattle.sym_state.specs.declared.symbol.Fact.TheVariants as fact
 use Rattle.sym_state.specs.declared.symbol.Kinds.TheVariants as kinds
 use Rattle.sym_state.specs.declared.symbol.Sym.{Sym}
+use Rattle.loop_templates.specs.Bound.{is_bound_field, is_bound_variable}
 use Rattle.loop_templates.specs.Cases.{is_given, is_own, keep, numbered, same_fact, seat, seated, shared, stands_before, with_fact, with_own, with_place}
 use Rattle.loop_templates.specs.Rows.{symbol_in}
+use Rattle.loop_templates.specs.declared.cases.Bound.{Bound}
 use Rattle.loop_templates.specs.declared.places.Seats.{Seats}
 use Rattle.loop_templates.proofs.Seated.{AreSeated, names_of, seat_next, seat_seated, shared_below}
 
@@ -71,8 +73,8 @@ variable_of : (bound : Bound) (at_entry : Bool) (names : List (List ℕ × Kind)
     → kind_at name names ≡ Some k → is_bound_variable bound k ≡ true → IsVariable at_entry names name
 variable_of bound true names name kind.IntEntry there is passes = (rw is refl, rw is refl)
 variable_of bound true names name kind.StrEntry there is passes = (rw is refl, rw is refl)
-variable_of bound false names name kind.IntEntry there is passes = absurd (there passes)
-variable_of bound false names name kind.StrEntry there is passes = absurd (there passes)
+variable_of bound false names name kind.IntEntry there is passes = (let there_is : false ≡ true = there passes in absurd (cc))
+variable_of bound false names name kind.StrEntry there is passes = (let there_is : false ≡ true = there passes in absurd (cc))
 variable_of bound at_entry names name kind.IntGlobal there is passes = (rw is refl, rw is refl)
 variable_of bound at_entry names name kind.StrGlobal there is passes = (rw is refl, rw is refl)
 variable_of bound at_entry names name kind.Field there is passes = absurd (cc)

@@ -1,7 +1,7 @@
 //! Cases of what commands leave (docs/ANALYSER.md, "Commands").
 
 ghost use Rattle.std.specs.Prelude.{◌≡◌, map, length, IfOk};
-ghost use Rattle.std.specs.List.{All, list_all};
+ghost use Rattle.std.specs.List.{All};
 ghost use Rattle.sym_state.specs.Positions.{AtNext, row_moved};
 ghost use Rattle.sym_state.specs.WellMade.{IsBounded, WellMade};
 ghost use Rattle.loop_templates.specs.Candidates.{CanMatch, IsCase};
@@ -43,9 +43,25 @@ pub fn rows_left(
     ensures { IfOk result (λ rows. rows.items ≡ rule.rows_left cond.now case.now states.now case.now.rows) }
 {
     let those = each(alloc, states)?;
+    rows_shown(alloc, cond, case, moved, those.as_slice())
+}
+
+/// The same, by the states behind references.
+fn rows_shown(
+    alloc: Global,
+    cond: &Cond,
+    case: &Piece,
+    moved: &[Row],
+    states: &[&State],
+) -> Result<Vec<Row>, NoMemory>
+    requires states { All (CanMatch (length case.now.stack)) (map (λ state. state.now) states.now) }
+    requires rows { All IsBounded moved.now }
+    requires moved { moved.now ≡ map (row_moved AtNext) case.now.rows }
+    ensures { IfOk result (λ rows. rows.items ≡ rule.rows_left cond.now case.now (map (λ state. state.now) states.now) case.now.rows) }
+{
     let mut rows = Vec::new(alloc);
     for (k, row) in case.rows.as_slice().iter().enumerate() {
-        if is_proved_in_all(alloc, cond, case, &moved[k], those.as_slice())? {
+        if is_proved_in_all(alloc, cond, case, &moved[k], states)? {
             rows.push(row.copied(alloc)?)?;
         }
     }
