@@ -19,3 +19,4 @@ pub mod Opened
 pub mod Deciding
 pub mod FoundRecords
 pub mod CommandsFound
+pub mod LeftPieces

@@ -33,12 +33,8 @@ use Rattle.cert_check.specs.declared.checker.Called.{Called}
 use Rattle.cert_check.specs.declared.refusal.Reason.TheVariants.{NoInvariant}
 use Rattle.cert_check.specs.declared.refusal.Refusal.{Refusal}
 use Rattle.command_flow.specs.Between.{opened, piece_moved}
-<<<<<<< HEAD
 use Rattle.command_flow.specs.Commands.{given, started_between, started_visit}
-=======
-use Rattle.command_flow.specs.Commands.{call_ends, given, started_between, started_visit}
 use Rattle.command_flow.specs.Ready.{IsReady}
->>>>>>> 245b458
 use Rattle.command_flow.specs.declared.between.Between.{Between}
 use Rattle.command_flow.specs.declared.leaving.Leaving.{Leaving}
 use Rattle.command_flow.specs.declared.templates.Lasting.{Lasting}
