@@ -20,6 +20,7 @@ use Rattle.cert_format.specs.declared.cert.Cert.{Cert}
 use Rattle.cert_format.specs.declared.cert.Loop.{Loop}
 use Rattle.sym_state.specs.State.{State}
 use Rattle.sym_state.specs.WellMade.{WellMade, ids_from, is_variable}
+use Rattle.sym_state.specs.declared.piece.Piece.{Piece}
 use Rattle.sym_state.proofs.Started.{ids_from-length}
 use Rattle.straight_hints.specs.declared.finding.Finding.TheVariants.{Straight}
 use Rattle.loop_templates.specs.Bound.{all_bound, is_bound_variable}
@@ -35,7 +36,7 @@ use Rattle.loop_templates.proofs.FewTerms.{sums_small}
 use Rattle.loop_templates.proofs.Over.{sums_over_names}
 use Rattle.loop_templates.proofs.Seated.{ids_below}
 use Rattle.loop_templates.proofs.Standing.{MayExit, exits_are_cases, exits_made, first_has_cases, next_has_cases, each_kept}
-use Rattle.loop_templates.proofs.Written.{ids_hold, variables_are}
+use Rattle.loop_templates.proofs.Written.{each_of_all, ids_hold, variables_are}
 use Rattle.cert_check.specs.Certified.{AreWritten, IsCertified, IsLoopOf, IsPieceOf, MakesLoops, MakesStanding}
 use Rattle.cert_check.specs.Tours.{Toured, setting_out, turns_of}
 use Rattle.cert_check.specs.Units.{everywhere}
@@ -164,6 +165,11 @@ tour_ok : (r : Toured) (tour : Tour) → result_ok r ≡ Some tour → r ≡ Ok 
 tour_ok (Ok other) tour e = cc
 tour_ok (Err refusal) tour e = absurd (cc)
 
+-- what is found is a loop of the style, and may stand in a certificate
+pub record IsMadeLoop (style : Style) (one : Turning) (found : Loop) : Type 0 where
+  pub of_style : IsLoopOf style found
+  pub stands : IsNameable style one.test → IsNameable style one.body → IsLoop style found
+
 module _ (cert : Cert) (frame : Frame) (one : Turning) (ready : IsFrame frame) (certified : IsCertified frame.style cert)
     (at : frame.at_entry ≡ one.entry) (pos : frame.has_pos ≡ one.entry) (writes : AreWritten frame.style one.entry frame.writes)
     (written : AreWrites one.entry frame.style.names frame.writes) where
@@ -212,14 +218,9 @@ module _ (cert : Cert) (frame : Frame) (one : Turning) (ready : IsFrame frame) (
         exits_written exits (All-tail (MayExit frame) exit exits may) (All-tail IsMade exit exits made) parts.1,
       )
 
-  -- what is found is a loop of the style, and may stand in a certificate
-  record IsMadeLoop (found : Loop) : Type 0 where
-    pub of_style : IsLoopOf frame.style found
-    pub stands : IsNameable frame.style one.test → IsNameable frame.style one.body → IsLoop frame.style found
-
   made_there : (candidate : Candidate) (tour : Tour) (left : List State) (exits : List Added) → exits ≡ exits_of frame left → HasCases frame candidate
       → All (WellMade frame.style) left → may_be_written candidate exits ≡ true → Each IsHint (hints_of frame candidate exits tour)
-      → IsMadeLoop (loop_with frame one candidate tour exits)
+      → IsMadeLoop frame.style one (loop_with frame one candidate tour exits)
   made_there candidate tour left exits is has made may hints =
       let short = (and_parts (nat_le ((length candidate.first + length candidate.added) + length exits) MOST_PIECES)
       (list_all (λ (added : Added). is_short added.case.stack) exits) may).1 in
@@ -248,12 +249,12 @@ module _ (cert : Cert) (frame : Frame) (one : Turning) (ready : IsFrame frame) (
 
   -- the loop of a candidate that passes
   loop_there : (candidate : Candidate) (tour : Tour) → HasCases frame candidate → HasMadeEnds frame.style tour
-      → IfSome (loop_of frame one candidate tour) IsMadeLoop
+      → IfSome (loop_of frame one candidate tour) (IsMadeLoop frame.style one)
   loop_there candidate tour has ends =
       let left : List State = ended_states false tour.ends in
       let exits : List Added = exits_of frame left in
       let test = may_be_written candidate exits && list_all is_hint (hints_of frame candidate exits tour) in
-      elim test as (λ (b : Bool). test ≡ b → IfSome (cond b (Some (loop_with frame one candidate tour exits)) None) IsMadeLoop) [
+      elim test as (λ (b : Bool). test ≡ b → IfSome (cond b (Some (loop_with frame one candidate tour exits)) None) (IsMadeLoop frame.style one)) [
         | true ↦ λ may.
             let parts = and_parts (may_be_written candidate exits) (list_all is_hint (hints_of frame candidate exits tour)) may in
             made_there candidate tour left exits refl has (made_states frame.style false tour.ends ends) parts.0
@@ -272,15 +273,15 @@ module _ (cert : Cert) (frame : Frame) (one : Turning) (ready : IsFrame frame) (
   -- what comes of a candidate that was walked
   settled_there : (candidate : Candidate) (tour : Tour) (later : Candidate → Option Loop) (next : Next) → HasCases frame candidate
       → HasMadeEnds frame.style tour → HasNextCases frame next
-      → ((after : Candidate) → HasCases frame after → IfSome (later after) IsMadeLoop)
-      → IfSome (settled_by frame one candidate tour later next) IsMadeLoop
+      → ((after : Candidate) → HasCases frame after → IfSome (later after) (IsMadeLoop frame.style one))
+      → IfSome (settled_by frame one candidate tour later next) (IsMadeLoop frame.style one)
   settled_there candidate tour later Passes has ends nexts made = loop_there candidate tour has ends
   settled_there candidate tour later Ends has ends nexts made = tt
   settled_there candidate tour later (Goes after) has ends nexts made = made after nexts
 
   walked_there : (candidate : Candidate) (later : Candidate → Option Loop) (walked : Option Tour) → walked ≡ toured frame.style cert one candidate
-      → HasCases frame candidate → ((after : Candidate) → HasCases frame after → IfSome (later after) IsMadeLoop)
-      → IfSome (walked_by frame one candidate later walked) IsMadeLoop
+      → HasCases frame candidate → ((after : Candidate) → HasCases frame after → IfSome (later after) (IsMadeLoop frame.style one))
+      → IfSome (walked_by frame one candidate later walked) (IsMadeLoop frame.style one)
   walked_there candidate later None is has made = tt
   walked_there candidate later (Some tour) is has made =
       let ends = ends_there candidate tour has (sym is) in
@@ -289,16 +290,16 @@ module _ (cert : Cert) (frame : Frame) (one : Turning) (ready : IsFrame frame) (
       (next_has_cases frame candidate turned (next_of frame candidate tour) refl ready (made_states frame.style true tour.ends ends) has) made
 
   -- candidates one after the other
-  sequence_there : (n : ℕ) (candidate : Candidate) → HasCases frame candidate → IfSome (sequence n cert frame one candidate) IsMadeLoop
+  sequence_there : (n : ℕ) (candidate : Candidate) → HasCases frame candidate → IfSome (sequence n cert frame one candidate) (IsMadeLoop frame.style one)
   sequence_there zero candidate has = tt
   sequence_there (suc n) candidate has =
       walked_there candidate (sequence n cert frame one) (toured frame.style cert one candidate) refl has (λ after. sequence_there n after)
 
-  pub loop_found : IfSome (found_in cert frame one) IsMadeLoop
+  pub loop_found : IfSome (found_in cert frame one) (IsMadeLoop frame.style one)
   loop_found = first_there (first_candidate frame) refl
     where
       first_there : (first : Option Candidate) → first ≡ first_candidate frame
-          → IfSome (option_and_then (sequence MOST_CANDIDATES cert frame one) first) IsMadeLoop
+          → IfSome (option_and_then (sequence MOST_CANDIDATES cert frame one) first) (IsMadeLoop frame.style one)
       first_there None is = tt
       first_there (Some candidate) is = sequence_there MOST_CANDIDATES candidate (first_has_cases frame (Some candidate) is ready)
 
@@ -306,7 +307,7 @@ module _ (cert : Cert) (frame : Frame) (one : Turning) (ready : IsFrame frame) (
 invariant_there : (style : Style) (cert : Cert) (test body : Target) (entering : List State) → IsSound style → IsCertified style cert → 1 ≤ length entering
     → All (WellMade style) entering
     → IfSome (invariant_of style cert test body entering)
-        (IsMadeLoop cert (frame_of style cert.cond (turning test body entering) entering) (turning test body entering))
+        (IsMadeLoop style (turning test body entering))
 invariant_there style cert test body entering sound certified some made =
     let one : Turning = turning test body entering in
     let found : Occurring = occurring_in style cert.cond one in
