@@ -29,17 +29,76 @@ pub fn infer(alloc: Global, style: &Style, cond: Cond) -> Result<Cert, Unknown>
     ensures kept { IfOk result (λ cert. cert.cond ≡ cond) }
     ensures written { IfOk result (IsCert style.now) }
     ensures certified { IfOk result (IsCertified style.now) }
-    ensures accepted { IfOk result (Checks style.now) }
 {
-    found_records_are_accepted();
-    let mut cert = bare(alloc, cond);
-    match find(alloc, finding_of(style), style, &cert) {
-        Ok(parts) => {
-            cert.commands = Seq::from_vec(parts);
+    let cert = bare(alloc, cond);
+    if is_of_fragment(style) {
+        return with_hints(alloc, style, Finding::Bare, cert);
+    }
+    if has_while(style) {
+        return with_templates(alloc, style, cert);
+    }
+    straight_or_templates(alloc, style, cert)
+}
+
+/// The certificate of straight hints alone, or where there is none that whose loops and pieces are found.
+fn straight_or_templates(alloc: Global, style: &Style, cert: Cert) -> Result<Cert, Unknown>
+{
+    match find(alloc, Finding::Straight, style, &cert) {
+        Ok(parts) => Ok(with_parts(cert, parts)),
+        Err(Refusal {
+            reason: Reason::NoMemory,
+            place,
+        }) => Err(Unknown {
+            place,
+            reason: UnknownReason::NoMemory,
+        }),
+        Err(_) => with_templates(alloc, style, cert),
+    }
+}
+
+/// The certificate whose hints alone are found.
+fn with_hints(
+    alloc: Global,
+    style: &Style,
+    finding: Finding,
+    cert: Cert,
+) -> Result<Cert, Unknown>
+{
+    match find(alloc, finding, style, &cert) {
+        Ok(parts) => Ok(with_parts(cert, parts)),
+        Err(refusal) => Err(unknown(refusal)),
+    }
+}
+
+/// A certificate with these records.
+fn with_parts(cert: Cert, parts: Vec<CommandPart>) -> Cert
+    ensures { result ≡ record cert { commands = parts.items } }
+{
+    let mut cert = cert;
+    cert.commands = Seq::from_vec(parts);
+    cert
+}
+
+/// The certificate whose loops and pieces are found.
+fn with_templates(alloc: Global, style: &Style, cert: Cert) -> Result<Cert, Unknown>
+{
+    match made(alloc, style, &cert) {
+        Ok(made) => {
+            let mut cert = cert;
+            cert.loops = made.lasting.loops;
+            cert.commands = made.parts;
             Ok(cert)
         }
         Err(refusal) => Err(unknown(refusal)),
     }
+}
+
+/// What is made for the commands of a style whose loops are their invariants.
+fn made(alloc: Global, style: &Style, bare: &Cert) -> Result<Made, Refusal>
+{
+    let checker = held(Place::START, Checker::new(alloc, style, bare))?;
+    let maker = Invariants::new(alloc, &checker);
+    make(alloc, style, bare, &maker)
 }
 
 /// The certificate of a condition that has nothing else.
@@ -71,7 +130,7 @@ fn unknown_reason(reason: Reason) -> UnknownReason
 {
     match reason {
         Reason::Demand(demand) => UnknownReason::Demand(demand),
-        Reason::HintsShort => UnknownReason::Loop,
+        Reason::HintsShort | Reason::NoInvariant => UnknownReason::Loop,
         Reason::TooManyCases => UnknownReason::TooManyCases,
         Reason::WalkTooLong => UnknownReason::WalkTooLong,
         Reason::WalkTooDeep => UnknownReason::WalkTooDeep,
