@@ -58,4 +58,5 @@ pub mod FoundHints
 pub mod FoundWalks
 pub mod TourSteps
 pub mod TourEnds
+pub mod Standing
 pub mod WhileSteps

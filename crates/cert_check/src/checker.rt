@@ -3,7 +3,7 @@
 ghost use Rattle.std.specs.Prelude.{◌≡◌, [], Ok, IfOk, OnErr, OnOk, MatchResult, option_map, slice_get};
 ghost use Rattle.std.specs.List.{All};
 ghost use Rattle.name_table.specs.Sound.{Each, IsSound};
-ghost use Rattle.cert_format.specs.CertText.{IsHint};
+ghost use Rattle.cert_format.specs.CertText.{IsHint, IsLoop};
 ghost use Rattle.sym_state.specs.Demands.{HasFewUses};
 ghost use Rattle.cert_check.specs.Certified.{AreSound, IsCertified, IsPieceOf};
 ghost use Rattle.cert_check.specs.Given.{Finds, Leads, Refused, Takes};
@@ -171,10 +171,11 @@ impl<'a> Checker<'a> {
         requires stay { stay ≤ MOST_LOOPS }
         requires room { All (HasRoom self.now.style 64 0) states.items }
         ensures makes { MatchResult result
-            (λ calling. rule.call_made (M.made maker.now) self.now.style self.now.cert stay states.items target place ≡ Ok calling)
+            (λ called. rule.call_made (M.made maker.now) self.now.style self.now.cert stay states.items target place ≡ Ok called)
             (Refused (rule.call_made (M.made maker.now) self.now.style self.now.cert stay states.items target place)) }
-        ensures made { IfOk result (λ calling. All (IsEnd self.now.style) calling.given) }
-        ensures written { IfOk result (λ calling. Each IsHint calling.found) }
+        ensures made { IfOk result (λ called. All (IsEnd self.now.style) called.given) }
+        ensures written { IfOk result (λ called. Each IsHint called.found) }
+        ensures stand { IfOk result (λ called. All (IsLoop self.now.style) called.loops) }
     {
         maker.makes();
         let scope = self.scope(None);

@@ -4,7 +4,7 @@ ghost use Rattle.std.specs.Prelude.{◌≡◌, ◌≤◌, Option, None, IfOk, If
 ghost use Rattle.std.specs.List.{All};
 ghost use Rattle.name_table.specs.declared.style.Style.{Style as StyleValue};
 ghost use Rattle.sym_state.specs.WellMade.{WellMade};
-ghost use Rattle.cert_check.specs.Certified.{MakesLoops};
+ghost use Rattle.cert_check.specs.Certified.{MakesLoops, MakesStanding};
 ghost use Rattle.cert_check.specs.Walks.{Make, made_by};
 
 use bst_meaning::value::Target;
@@ -23,7 +23,8 @@ pub trait Loops {
     /// Whether loops are made.
     fn makes(&self) -> bool
         ensures makes { result ≡ is_some (made self.now) }
-        ensures sound { IfSome (made self.now) (MakesLoops (style self.now)) };
+        ensures sound { IfSome (made self.now) (MakesLoops (style self.now)) }
+        ensures stands { IfSome (made self.now) (MakesStanding (style self.now)) };
 
     /// The loop of two functions that these states enter, where there is one.
     fn make(&self, test: Target, body: Target, entering: &[State]) -> Result<Option<Loop>, NoMemory>
