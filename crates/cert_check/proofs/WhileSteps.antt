@@ -33,10 +33,9 @@ use Rattle.straight_hints.specs.Found.{piece_hints}
 use Rattle.straight_hints.specs.declared.finding.Finding.TheVariants.{Straight}
 use Rattle.cert_check.specs.Certified.{AreMade, CanWalk, IsLoopOf, MakesLoops}
 use Rattle.cert_check.specs.Courses.{Course, Walk, counts, gives_all, placed, refuses}
-use Rattle.cert_check.specs.Given.{GoesOn, Refused, Takes}
 use Rattle.cert_check.specs.Room.{HasRoom}
 use Rattle.cert_check.specs.Uses.{Passage, around, comes_by, fits, left_state}
-use Rattle.cert_check.specs.Walks.{Come, Enter, Make, Making, Numbered, Over, Scope, While, all_made, each_taken, entering_with, exact_target, is_target, leaves, made_by, loop_made, made_used, making_for, may_write, numbered, numbered_at, repeated, rest_of, scope_of, taken_by, taken_from, while_alone, while_by, while_by_make, while_in, while_made, while_of, while_taken, whiles_from, whiles_taken, comes_to, comes_by_case, coming_hints}
+use Rattle.cert_check.specs.Walks.{Come, Enter, Make, Making, Numbered, Over, Scope, While, all_made, comes_by_case, comes_to, coming_hints, each_taken, entering_with, exact_target, is_target, leaves, loop_made, made_by, made_used, making_for, may_write, numbered, numbered_at, repeated, rest_of, scope_of, taken_by, taken_from, while_alone, while_by, while_by_make, while_in, while_made, while_of, while_taken, whiles_from, whiles_taken}
 use Rattle.cert_check.specs.declared.limits.TheConstants.{MOST_LOOPS}
 use Rattle.cert_check.specs.declared.refusal.Reason.TheVariants.{NoInvariant, NoMemory as WantOfMemory, NotEntailed, UnknownFunction}
 use Rattle.cert_check.specs.declared.refusal.Refusal.{Refusal}
@@ -47,6 +46,7 @@ use Rattle.cert_check.proofs.Walked.{making_is}
 use Rattle.cert_check.proofs.Placing.{placed_leaves}
 use Rattle.cert_check.proofs.RoomLeft.{all_room}
 use Rattle.cert_check.proofs.WalkSteps.{item_at}
+use Rattle.cert_check.specs.Given.{GoesOn, Refused, Takes}
 
 -- a rule that comes to what another one does
 pub goes_same : {A T : Type 0} (wanted other : Result A Refusal) (next : T → Result A Refusal) (result : Result T Refusal) → wanted ≡ other
