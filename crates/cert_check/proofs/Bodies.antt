@@ -1,5 +1,4 @@
 -- The tokens of a body that is walked are safe where the calls of names are, for one step more.
-use Rattle.cert_check.proofs.Makings.{making_none}
 use Rattle.std.proofs.Common.{◌≡◌, ℕ, zero, suc, List, [], ◌∷◌, ◌++◌, Ok, refl, sym, subst, inl, inr, Option, None, ap, ◌∙◌}
 use Rattle.std.specs.List.{All, AllByRecursion}
 use Rattle.std.proofs.lemmas.List.Elements.{All-cons, All-nil, All-same, All-tail}
@@ -24,13 +23,14 @@ use Rattle.sym_state.proofs.Pushing.{stands_framed}
 use Rattle.refinements.specs.Covered.{IsAmong}
 use Rattle.refinements.proofs.Covering.{among_later}
 use Rattle.cert_check.specs.Courses.{Course, counts, gives_all}
-use Rattle.cert_check.specs.Walks.{Enter, Scope, body_walked, chosen_in, named, taken, taken_from, token_taken, walked, each_taken, Make, taken_by}
+use Rattle.cert_check.specs.Walks.{Enter, Make, Scope, body_walked, chosen_in, each_taken, named, taken, taken_by, taken_from, token_taken, walked}
 use Rattle.cert_check.proofs.Followed.{follows_self}
 use Rattle.cert_check.proofs.Inverted.{gives_all_ok}
 use Rattle.cert_check.proofs.Keeping.{Told}
 use Rattle.cert_check.proofs.Safety.{Framed, Reaches, SafeAfter, SafeFor, Start, among_sooner, emptied, formed_step, framed_fine, less, one_before, onward, remains_framed, safe_on}
 use Rattle.cert_check.proofs.Tokens.{token_safe}
 use Rattle.cert_check.proofs.Walked.{AreSound, Enters, body_moved, body_sound, come_made, each_taken_moved}
+use Rattle.cert_check.proofs.Makings.{making_none}
 
 -- the same state with other frames
 pub framed_reached : (scope : Scope) (list : EntryList) (s : Start scope list) (frames : List Frame)

@@ -40,7 +40,7 @@ use Rattle.refinements.proofs.Framing.{above_left}
 use Rattle.refinements.proofs.Kept.{above_made}
 use Rattle.refinements.proofs.Signs.{labelled_sign_found}
 use Rattle.cert_check.specs.Courses.{behind, placed}
-use Rattle.cert_check.specs.Walks.{Call, Enter, Onward, Scope, built_in, cases_entered, choice, hints_of_choice, if_else, name_entered, Make, while_by_make}
+use Rattle.cert_check.specs.Walks.{Call, Enter, Make, Onward, Scope, built_in, cases_entered, choice, hints_of_choice, if_else, name_entered, while_by_make}
 use Rattle.cert_check.proofs.Bodies.{returned, unframed}
 use Rattle.cert_check.proofs.Choosing.{case_entered, function_safe, name_safe}
 use Rattle.cert_check.proofs.Entering.{OnwardSafe, after_function}

@@ -1,5 +1,4 @@
 -- The call of a command that is walked is safe where all units are checked.
-use Rattle.cert_check.proofs.Makings.{target_self}
 use Rattle.std.proofs.Common.{◌≡◌, ℕ, suc, List, [], ◌∷◌, ◌++◌, slice_get, Option, None, Some, Ok, refl, sym, ap, subst, ◌∙◌, append_assoc, arith, inl, inr, IfSome}
 use Rattle.std.specs.List.{All}
 use Rattle.std.specs.Option.{option_map_or}
@@ -30,7 +29,7 @@ use Rattle.cert_check.specs.Certified.{IsCertified, MakesLoops}
 use Rattle.cert_check.specs.Courses.{Course}
 use Rattle.cert_check.specs.Safely.{EntersSafely, IsAllChecked, IsAt, IsLeft, RepeatsSafely, SafeFor, loop_step, target_step}
 use Rattle.cert_check.specs.Units.{beginning, call_walked, everywhere, loop_checked, summary_checked, target_entered, target_from}
-use Rattle.cert_check.specs.Walks.{Scope, body_walked, chosen_in, loop_used, summary_used, Make}
+use Rattle.cert_check.specs.Walks.{Make, Scope, body_walked, chosen_in, loop_used, summary_used}
 use Rattle.cert_check.specs.declared.limits.TheConstants.{MOST_DEPTH}
 use Rattle.cert_check.proofs.Bodies.{returned}
 use Rattle.cert_check.proofs.Choosing.{name_safe}
@@ -42,6 +41,7 @@ use Rattle.cert_check.proofs.Safety.{Laws, Reaches, SafeAfter, Start, safe_fewer
 use Rattle.cert_check.proofs.Using.{AllChecked, units_safe}
 use Rattle.cert_check.proofs.Walked.{Moves, body_entered, body_moved, chosen_moved, name_moved}
 use Rattle.cert_check.proofs.Walking.{chosen_safe, levels_below}
+use Rattle.cert_check.proofs.Makings.{target_self}
 
 -- what is safe where the use of every unit is
 all_levels : (scope : Scope) (list : EntryList) (n : ℕ) → Told scope → Fits scope.style list → ((m : ℕ) → UnitsSafe scope list m)

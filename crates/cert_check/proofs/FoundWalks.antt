@@ -1,5 +1,4 @@
 -- What a walk finds is what the walk reads, in the order of the walk: also where the certificate has other records of commands.
-use Rattle.cert_check.proofs.Makings.{making_none}
 use Rattle.std.proofs.Common.{◌≡◌, ℕ, zero, suc, Bool, true, false, cond, List, [], ◌∷◌, ◌++◌, reverse, Option, None, Some, Ok, Err, refl, sym, ap, subst, ◌∙◌}
 use Rattle.std.specs.Option.{option_map_or}
 use Rattle.bv_base.specs.Answers.{then_do}
@@ -40,6 +39,7 @@ use Rattle.cert_check.specs.Units.{call_found, call_walked, everywhere, target_e
 use Rattle.cert_check.specs.Walks.{Call, Enter, Make, Onward, Scope, body_walked, built_in, cases_entered, choice, chosen, chosen_in, confined, each_taken, entered, entered_by, entering, entering_nothing, exact_target, function_entered, has_summary, if_else, is_within, is_wizard, literal_state, loop_around, name_entered, named, plain, repeated, split, taken, taken_by, taken_from, test_of, token_taken, type_called, type_functions, type_walked, typed, types_called, variable, walked, while_by_make, written_by}
 use Rattle.cert_check.proofs.Inverted.{confined_ok}
 use Rattle.cert_check.proofs.FoundHints.{IsRead, Way, counts_read, gives_all_read, gives_read, placed_read, reads_as, self_read, takes_read, then_read, where_read}
+use Rattle.cert_check.proofs.Makings.{making_none}
 
 -- a scope whose certificate has these records of commands, which no walk looks at
 abbrev pub with_records : List CommandPart → Scope → Scope

@@ -1,35 +1,35 @@
 -- Loops that are made: a state that comes to one is followed by what it leaves.
-use Rattle.std.proofs.lemmas.Bool.Decides.{nat_tests}
-use Rattle.cert_check.specs.declared.limits.TheConstants.{MOST_LOOPS}
-use Rattle.sym_state.proofs.Resulting.{rest_made}
-use Rattle.sym_state.proofs.Leaving.{moved}
-use Rattle.sym_state.proofs.Frames.{all_reversed}
-use Rattle.sym_state.specs.declared.symbol.Sym.{Sym}
-use Rattle.name_table.specs.declared.style.Token.{Token}
-use Rattle.sym_state.specs.declared.demand.EffectFault.{EffectFault}
 use Rattle.std.proofs.Common.{◌≡◌, ℕ, ◌+◌, ◌≤◌, Bool, true, false, ◌&&◌, List, [], ◌∷◌, ◌++◌, length, Option, None, Some, IfSome, Result, Ok, Err, refl, sym, ap, ◌∙◌, subst, arith, inl, inr, reverse, cond, nat_eq, nat_lt, suc, ◌<◌}
 use Rattle.std.specs.List.{All, cons_option}
 use Rattle.std.specs.Option.{option_and_then, option_map_or}
 use Rattle.std.specs.Result.{result_ok}
+use Rattle.std.proofs.lemmas.Bool.Decides.{nat_tests}
 use Rattle.std.proofs.lemmas.List.Elements.{All-append, All-cons, All-head, All-nil, All-tail}
 use Rattle.bv_base.specs.declared.place.Place.{Place}
 use Rattle.bv_base.proofs.ThenLemmas.{ok_is, then_ok, where_ok}
+use Rattle.name_table.specs.declared.style.Token.{Token}
 use Rattle.bst_meaning.specs.declared.value.Target.{Target}
 use Rattle.bst_meaning.specs.declared.value.Target.TheVariants.{Named, Block}
 use Rattle.cert_format.specs.CertText.{IsLoop}
 use Rattle.cert_format.specs.declared.cert.Loop.{Loop}
+use Rattle.sym_state.specs.declared.symbol.Sym.{Sym}
+use Rattle.sym_state.specs.declared.demand.EffectFault.{EffectFault}
 use Rattle.sym_state.specs.State.{State}
 use Rattle.sym_state.specs.Demands.{Two, two_of}
 use Rattle.sym_state.specs.WellMade.{WellMade}
 use Rattle.sym_state.specs.declared.hint.Hint.{Hint}
 use Rattle.sym_state.specs.declared.hint.Hint.TheVariants as hint
 use Rattle.sym_state.specs.declared.symbol.Kinds.TheVariants.{Func}
+use Rattle.sym_state.proofs.Resulting.{rest_made}
+use Rattle.sym_state.proofs.Leaving.{moved}
+use Rattle.sym_state.proofs.Frames.{all_reversed}
 use Rattle.refinements.specs.Covered.{IsAmong}
 use Rattle.cert_check.specs.Certified.{HasMade, IsLoopOf, IsPieceOf, MakesLoops, MakesStanding}
 use Rattle.cert_check.specs.Courses.{Course, first_number, placed}
+use Rattle.cert_check.specs.declared.limits.TheConstants.{MOST_LOOPS}
 use Rattle.cert_check.specs.Uses.{around}
-use Rattle.cert_check.specs.Walks.{Make, Making, Numbered, Scope, While, all_made, coming_hints, comes_to, entering_with, exact_target, is_target, leaves, loop_made, made_used, next_number, none_made, numbered, rest_of, while_alone, while_by, while_in, while_made, while_of, while_taken, making_for, is_while_token}
-use Rattle.cert_check.proofs.Followed.{Follows, Moved, moved_from, refound, remade, left_follows}
+use Rattle.cert_check.specs.Walks.{Make, Making, Numbered, Scope, While, all_made, comes_to, coming_hints, entering_with, exact_target, is_target, is_while_token, leaves, loop_made, made_used, making_for, next_number, none_made, numbered, rest_of, while_alone, while_by, while_in, while_made, while_of, while_taken}
+use Rattle.cert_check.proofs.Followed.{Follows, Moved, left_follows, moved_from, refound, remade}
 use Rattle.cert_check.proofs.Inverted.{placed_ok}
 use Rattle.cert_check.proofs.Keeping.{Told, comes_to_ok, element, leaves_moved}
 use Rattle.cert_check.proofs.Nameable.{while_named}

@@ -50,7 +50,7 @@ use Rattle.cert_check.specs.Courses.{Course, Walk, behind, counts, first_number,
 use Rattle.cert_check.specs.Places.{IsOfBody, IsOfUnit}
 use Rattle.cert_check.specs.Units.{all_end, all_entail, all_tested, all_turned, beginning, body_of, call_walked, loop_checked, none_left, own_walked, place_of, summary_checked, target_entered, target_from, tested, turn, turn_state, turned, turned_from}
 use Rattle.cert_check.specs.Uses.{Passage, around, comes_by, left_state, passage}
-use Rattle.cert_check.specs.Walks.{Call, Enter, Make, Making, Numbered, Onward, Scope, While, all_made, body_walked, built_in, cases_entered, choice, chosen, chosen_in, comes_to, coming_hints, confined, each_taken, entered, entered_by, entering, entering_with, entering_nothing, exact_target, function_entered, has_summary, hints_at, hints_of_choice, hints_of_test, if_else, is_target, is_within, is_wizard, leaves, literal_state, loop_around, loop_by, loop_made, loop_of, loop_used, made_used, making_for, may_write, name_entered, named, next_number, none_made, numbered, plain, repeated, split, summary_used, taken, taken_by, taken_from, test_of, token_taken, type_called, type_functions, type_walked, types_called, use_of, variable, walked, while_alone, while_by_make, while_made, while_of, while_taken, whiles_taken, written_by}
+use Rattle.cert_check.specs.Walks.{Call, Enter, Make, Making, Numbered, Onward, Scope, While, all_made, body_walked, built_in, cases_entered, choice, chosen, chosen_in, comes_to, coming_hints, confined, each_taken, entered, entered_by, entering, entering_nothing, entering_with, exact_target, function_entered, has_summary, hints_at, hints_of_choice, hints_of_test, if_else, is_target, is_within, is_wizard, leaves, literal_state, loop_around, loop_by, loop_made, loop_of, loop_used, made_used, making_for, may_write, name_entered, named, next_number, none_made, numbered, plain, repeated, split, summary_used, taken, taken_by, taken_from, test_of, token_taken, type_called, type_functions, type_walked, types_called, use_of, variable, walked, while_alone, while_by_make, while_made, while_of, while_taken, whiles_taken, written_by}
 
 module _ (P : Place → Type 0) where
   -- such a place is that of the refusal, where there is one

@@ -30,7 +30,7 @@ use Rattle.sym_state.proofs.Keeping.{started_well_made}
 use Rattle.sym_state.proofs.Started.{ids_from-length}
 use Rattle.refinements.proofs.Framing.{above_left}
 use Rattle.refinements.proofs.Kept.{above_made}
-use Rattle.cert_check.specs.Certified.{IsCertified, MakesLoops, IsLoopOf}
+use Rattle.cert_check.specs.Certified.{IsCertified, IsLoopOf, MakesLoops}
 use Rattle.cert_check.specs.Courses.{Course}
 use Rattle.cert_check.specs.Room.{GivesRoom, HasRoom, KeepsRoom}
 use Rattle.cert_check.specs.Units.{target_entered}

@@ -32,7 +32,7 @@ use Rattle.cert_check.specs.Courses.{Course, Walk, placed}
 use Rattle.cert_check.specs.Given.{Refused, Takes}
 use Rattle.cert_check.specs.Room.{HasRoom}
 use Rattle.cert_check.specs.Units.{all_tested, all_turned, beginning, body_of, loop_checked, loop_checked_at, none_left, place_of, target_entered, tested, turn, turn_state, turned, turned_from}
-use Rattle.cert_check.specs.Walks.{Scope, Make}
+use Rattle.cert_check.specs.Walks.{Make, Scope}
 use Rattle.cert_check.proofs.Inverted.{placed_ok}
 use Rattle.cert_check.proofs.PieceUses.{turn_room as case_room}
 use Rattle.cert_check.proofs.RoomLeft.{cases_room, room_on, target_leaves, target_room}

@@ -30,7 +30,7 @@ use Rattle.cert_check.specs.Courses.{Course, Walk, placed}
 use Rattle.cert_check.specs.Given.{Finds, Leads, Refused}
 use Rattle.cert_check.specs.Room.{GivesRoom, HasRoom, KeepsRoom}
 use Rattle.cert_check.specs.Units.{all_end, beginning, body_of, call_found, call_walked, checked_at, everywhere, none_left, own_walked, place_of, searching, summary_checked, target_entered, target_from}
-use Rattle.cert_check.specs.Walks.{Scope, Make}
+use Rattle.cert_check.specs.Walks.{Make, Scope}
 use Rattle.cert_check.proofs.RoomLeft.{body_room, named_room, room_on, started_room, target_room}
 use Rattle.cert_check.proofs.WalkSteps.{then_goes}
 

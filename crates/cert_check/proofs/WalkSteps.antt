@@ -25,7 +25,7 @@ use Rattle.cert_check.specs.Certified.{IsCertified, MakesLoops}
 use Rattle.cert_check.specs.Courses.{Course, Walk, gives_all}
 use Rattle.cert_check.specs.Given.{Refused, Takes}
 use Rattle.cert_check.specs.Room.{GivesRoom, HasRoom, IsCaseWithin, KeepsRoom}
-use Rattle.cert_check.specs.Walks.{Enter, Onward, Scope, body_walked, built_in, cases_entered, chosen, chosen_in, entering_nothing, enters, exact_target, function_entered, named, taken, taken_from, test_of, walked, each_taken}
+use Rattle.cert_check.specs.Walks.{Enter, Onward, Scope, body_walked, built_in, cases_entered, chosen, chosen_in, each_taken, entering_nothing, enters, exact_target, function_entered, named, taken, taken_from, test_of, walked}
 use Rattle.cert_check.proofs.Keeping.{told_by}
 use Rattle.cert_check.proofs.OwnStacks.{by_own_stack, chosen_own, one_deeper}
 use Rattle.cert_check.proofs.RoomLeft.{all_room, entered_room, moved_room, room_on, taken_from_room, taken_room}

@@ -1,11 +1,11 @@
 -- What a walk that is Ok gives of a well-made state: states that follow it.
-use Rattle.bv_base.specs.Answers.{then_do}
 use Rattle.std.proofs.Common.{◌≡◌, ℕ, zero, suc, ◌+◌, ◌<◌, ◌≤◌, Bool, true, false, cond, List, [], ◌∷◌, ◌++◌, reverse, slice_get, Option, None, Some, IfSome, Ok, refl, sym, ap, ◌∙◌, subst, append_assoc, arith, inl, inr}
 use Rattle.std.specs.List.{All}
 use Rattle.std.specs.Option.{option_map_or}
 use Rattle.std.proofs.lemmas.List.{append-nil}
 use Rattle.std.proofs.lemmas.List.Elements.{All-append, All-cons, All-head, All-nil, All-same, All-tail, All-weaker}
 use Rattle.bv_base.specs.declared.place.Place.{Place}
+use Rattle.bv_base.specs.Answers.{then_do}
 use Rattle.bv_base.proofs.ThenLemmas.{ok_is, then_ok, where_ok}
 use Rattle.name_table.specs.Sound.{Each, IsSound, IsTokenSound}
 use Rattle.name_table.specs.declared.builtin.Builtin.{Builtin}
@@ -43,12 +43,12 @@ use Rattle.refinements.proofs.Kept.{above_made}
 use Rattle.straight_hints.specs.Found.{above_hints}
 use Rattle.cert_check.specs.Certified.{HasMade, IsLoopOf, IsSummaryOf, MakesLoops}
 use Rattle.cert_check.specs.Courses.{Course, behind, counts, gives, gives_all, placed}
-use Rattle.cert_check.specs.Walks.{Call, Enter, Make, Making, Onward, Scope, all_made, body_walked, built_in, cases_entered, choice, chosen, chosen_in, each_taken, entered, entered_by, entering, exact_target, function_entered, has_summary, hints_of_choice, if_else, is_target, is_wizard, literal_state, making_for, name_entered, named, none_made, repeated, summary_used, taken, taken_by, taken_from, test_of, token_taken, type_called, type_functions, type_walked, types_called, use_of, walked, while_by_make, while_taken, whiles_taken, is_while_token}
+use Rattle.cert_check.specs.Walks.{Call, Enter, Make, Making, Onward, Scope, all_made, body_walked, built_in, cases_entered, choice, chosen, chosen_in, each_taken, entered, entered_by, entering, exact_target, function_entered, has_summary, hints_of_choice, if_else, is_target, is_while_token, is_wizard, literal_state, making_for, name_entered, named, none_made, repeated, summary_used, taken, taken_by, taken_from, test_of, token_taken, type_called, type_functions, type_walked, types_called, use_of, walked, while_by_make, while_taken, whiles_taken}
 use Rattle.cert_check.proofs.Followed.{Follows, HasFewNew, KeepsLoops, Moved, among_all, behind_moved, counted_moved, follows_self, follows_twice, left_follows, moved_from, moved_self, moved_twice, moved_within, one_given, rehinted}
 use Rattle.cert_check.proofs.Inverted.{gives_all_ok, placed_ok}
 use Rattle.cert_check.proofs.Keeping.{Told, element, loop_moved, nothing_entered, token_few, token_follows, used_moved, variable_moved}
-use Rattle.cert_check.proofs.Makings.{KeepsMade, all_written, alone_moved, popped_follows, while_moved}
 use Rattle.cert_check.proofs.Repeating.{repeated_ok, without_two}
+use Rattle.cert_check.proofs.Makings.{KeepsMade, all_written, alone_moved, popped_follows, while_moved}
 
 -- a way on from a state gives states that follow it
 abbrev pub Moves : Scope → ℕ → Onward → State → Type 0

@@ -33,12 +33,11 @@ use Rattle.straight_hints.specs.Found.{piece_hints}
 use Rattle.straight_hints.specs.declared.finding.Finding.TheVariants.{Straight}
 use Rattle.cert_check.specs.Certified.{AreMade, CanWalk, IsLoopOf, MakesLoops}
 use Rattle.cert_check.specs.Courses.{Course, Walk, counts, first_number, gives_all, placed, refuses}
-use Rattle.cert_check.specs.Given.{GoesOn, Refused, Takes}
 use Rattle.cert_check.specs.Room.{HasRoom}
 use Rattle.cert_check.specs.Uses.{Passage, around, comes_by, fits, left_state}
-use Rattle.cert_check.specs.Walks.{Come, Enter, Make, Making, Numbered, Over, Scope, While, all_made, each_taken, entering_with, exact_target, is_target, leaves, made_by, loop_made, made_used, making_for, may_write, numbered, numbered_at, repeated, rest_of, scope_of, taken_by, taken_from, while_alone, while_by, while_by_make, while_in, while_made, while_of, while_taken, whiles_from, whiles_taken, comes_to, comes_by_case, coming_hints}
+use Rattle.cert_check.specs.Walks.{Come, Enter, Make, Making, Numbered, Over, Scope, While, all_made, comes_by_case, comes_to, coming_hints, each_taken, entering_with, exact_target, is_target, leaves, loop_made, made_by, made_used, making_for, may_write, numbered, numbered_at, repeated, rest_of, scope_of, taken_by, taken_from, while_alone, while_by, while_by_make, while_in, while_made, while_of, while_taken, whiles_from, whiles_taken}
 use Rattle.cert_check.specs.declared.limits.TheConstants.{MOST_LOOPS}
-use Rattle.cert_check.specs.declared.refusal.Reason.TheVariants.{NoInvariant, NoMemory as WantOfMemory, NotEntailed, UnknownFunction}
+use Rattle.cert_check.specs.declared.refusal.Reason.TheVariants.{NoMemory as WantOfMemory, NotEntailed}
 use Rattle.cert_check.specs.declared.refusal.Refusal.{Refusal}
 use Rattle.cert_check.proofs.Inverted.{counts_ok, gives_all_ok, placed_ok}
 use Rattle.cert_check.proofs.Keeping.{Told, element, told_by}
@@ -47,6 +46,7 @@ use Rattle.cert_check.proofs.Walked.{making_is}
 use Rattle.cert_check.proofs.Placing.{placed_leaves}
 use Rattle.cert_check.proofs.RoomLeft.{all_room}
 use Rattle.cert_check.proofs.WalkSteps.{item_at}
+use Rattle.cert_check.specs.Given.{GoesOn, Refused, Takes}
 
 -- a rule that comes to what another one does
 pub goes_same : {A T : Type 0} (wanted other : Result A Refusal) (next : T → Result A Refusal) (result : Result T Refusal) → wanted ≡ other
@@ -189,19 +189,7 @@ numbered_so number one = Some (record { number = number; one = one })
 abbrev placed_so : ℕ → ℕ → Loop → Numbered
 placed_so number k = λ one. record { number = number + k; one = one }
 
--- one that is known, beside those that were made
-abbrev known_so : ℕ → Loop → List Loop → Course → Result (Numbered × Making) Refusal
-known_so number one made course = Ok (record { number = number; one = one }, record { made = made; course = course })
-
 -- the loop of two functions among those that were made for the token
-pub not_here : (one : While) (number next : ℕ) (loops rest : List Loop) (found : Loop) (all : Option Numbered) → loops ≡ found ∷ rest → next ≡ suc number
-    → (is_target found.test one.test && is_target found.body one.body) ≡ false → numbered one number loops ≡ all → numbered one next rest ≡ all
-not_here one number next loops rest found all is later other left =
-    ap (λ (n : ℕ). numbered one n rest) later
-    ∙ sym (ap (numbered one number) is
-    ∙ ap (λ (b : Bool). cond b (numbered_so number found) (numbered one (suc number) rest)) other)
-    ∙ left
-
 pub is_here : (one : While) (number k : ℕ) (made loops rest : List Loop) (found : Loop) (all : Option Numbered) → loops ≡ found ∷ rest
     → slice_get made k ≡ Some found → (is_target found.test one.test && is_target found.body one.body) ≡ true
     → numbered one (number + k) loops ≡ all → all ≡ numbered_at number k made
@@ -217,10 +205,6 @@ element_at [] k inside = absurd (omega (arith, inside))
 element_at (x ∷ xs) zero inside = (x, refl)
 element_at (x ∷ xs) (suc k) inside = element_at xs k (omega (arith, inside))
 
-last_at : {X : Type 0} (xs : List X) (x : X) → slice_get (xs ++ x ∷ []) (length xs) ≡ Some x
-last_at [] x = refl
-last_at (y ∷ xs) x = last_at xs x
-
 -- a loop that is there is found again at its place
 pub known_at : (place : Place) (found : Option Numbered) (number k : ℕ) (new : Option Loop) (made : List Loop) (course : Course)
     → found ≡ numbered_at number k made → k < length made
@@ -233,31 +217,6 @@ known_at place found number k new made course is inside =
     ap (λ (o : Option Numbered). loop_made place o new m) (is ∙ at) ∙ sym (ap (λ (o : Option Numbered). loop_made place o None m) at)
 
 -- a new one comes behind the others
-pub put_at : (place : Place) (one : Loop) (made new : List Loop) (k : ℕ) (course : Course) → new ≡ made ++ one ∷ [] → k ≡ length made
-    → first_number course + k < MOST_LOOPS
-    → loop_made place None (Some one) (record { made = made; course = course })
-    ≡ loop_made place (numbered_at (first_number course) k new) None (record { made = new; course = course })
-put_at place one made new k course is last few =
-    let number = first_number course in
-    let within = below (number + length made) (omega (arith, last, few)) in
-    let there : slice_get new k ≡ Some one = ap (λ (l : List Loop). slice_get l k) is ∙ ap (slice_get (made ++ one ∷ [])) last ∙ last_at made one in
-    ap (λ (b : Bool). cond b (known_so (number + length made) one (made ++ one ∷ []) course) (refuses place NoInvariant)) within
-    ∙ ap (λ (l : List Loop). known_so (number + length made) one l course) (sym is)
-    ∙ ap (λ (n : ℕ). known_so (number + n) one new course) (sym last)
-    ∙ sym (ap (λ (o : Option Loop). loop_made place (option_map (placed_so number k) o) None (record { made = new; course = course })) there)
-  where
-    below : (n : ℕ) → n < MOST_LOOPS → nat_lt n MOST_LOOPS ≡ true
-    below n few = grind (arith, nat_tests)
-
-pub put_refused : (place : Place) (one : Loop) (made : List Loop) (course : Course) → MOST_LOOPS ≤ first_number course + length made
-    → loop_made place None (Some one) (record { made = made; course = course }) ≡ refuses place NoInvariant
-put_refused place one made course many =
-    ap (λ (b : Bool). cond b (known_so (first_number course + length made) one (made ++ one ∷ []) course) (refuses place NoInvariant))
-    (above (first_number course + length made) many)
-  where
-    above : (n : ℕ) → MOST_LOOPS ≤ n → nat_lt n MOST_LOOPS ≡ false
-    above n many = grind (arith, nat_tests)
-
 pub put_made : (style : Style) (one : Loop) (made new : List Loop) (course : Course) → new ≡ made ++ one ∷ [] → first_number course + length made < MOST_LOOPS
     → AreMade style (record { made = made; course = course }) → IsLoopOf style one → AreMade style (record { made = new; course = course })
 put_made style one made new course is few all fresh =
@@ -316,25 +275,6 @@ known_while {T} make scope place states earlier state rest lower upper test body
     (first_goes (placed place (two_of Func Func state)) next two e
     ∙ ap (λ (o : Option Target). while_made make scope place states earlier (while_by o (exact_target scope.style state upper) rest) making) (sym test_is)
     ∙ ap (λ (o : Option Target). while_made make scope place states earlier (while_by (Some test) o rest) making) (sym body_is)) takes
-
--- one of them isn't known
-pub unknown_while : (make : Make) (scope : Scope) (place : Place) (states earlier : List State) (state rest : State) (lower upper : Sym) (test body : Option Target)
-    (making : Making) → placed place (two_of Func Func state) ≡ Ok (record { lower = lower; upper = upper; rest = rest })
-    → test ≡ exact_target scope.style state lower → body ≡ exact_target scope.style state upper → (is_some test && is_some body) ≡ false
-    → while_taken make scope place states earlier state making ≡ refuses place UnknownFunction
-unknown_while make scope place states earlier state rest lower upper test body making e test_is body_is none =
-    let two : Two = record { lower = lower; upper = upper; rest = rest } in
-    let next : Two → Result Making Refusal = λ two. while_made make scope place states earlier (while_of scope state two) making in
-    first_goes (placed place (two_of Func Func state)) next two e
-    ∙ ap (λ (o : Option Target). while_made make scope place states earlier (while_by o (exact_target scope.style state upper) rest) making) (sym test_is)
-    ∙ ap (λ (o : Option Target). while_made make scope place states earlier (while_by test o rest) making) (sym body_is)
-    ∙ by_known test body none
-  where
-    by_known : (test body : Option Target) → (is_some test && is_some body) ≡ false
-        → while_made make scope place states earlier (while_by test body rest) making ≡ refuses place UnknownFunction
-    by_known (Some test) (Some body) none = absurd (cc)
-    by_known (Some test) None none = refl
-    by_known None body none = refl
 
 -- what a use of a loop leaves of the loops that were made
 leaves_loops : (scope : Scope) (place : Place) (unit : Passage) (pre : Piece) (posts : List Piece) (kept : ℕ) (state : State) (course after : Course)

@@ -1,6 +1,4 @@
 -- What a walk asks of a certificate (docs/CHECKER.md, "Certificates"): what every certificate that was read for the style has.
-use Rattle.sym_state.specs.State.{State}
-use Rattle.bst_meaning.specs.declared.value.Target.{Target}
 use Rattle.std.specs.Prelude.{◌≡◌, ◌≢◌, ℕ, ◌+◌, ◌<◌, ◌≤◌, ◌^◌, Bool, true, false, nat_lt, List, length, Option, IfSome}
 use Rattle.std.specs.List.{All}
 use Rattle.std.specs.Option.{option_map_or}
@@ -11,6 +9,7 @@ use Rattle.name_table.specs.declared.names.NameId.{NameId}
 use Rattle.name_table.specs.declared.style.Style.{Style}
 use Rattle.bst_meaning.specs.StyleParts.{kind_of}
 use Rattle.cert_format.specs.CertText.{IsLoop, IsNameable}
+use Rattle.bst_meaning.specs.declared.value.Target.{Target}
 use Rattle.cert_format.specs.CondText.{is_chain}
 use Rattle.cert_format.specs.declared.cert.Cert.{Cert}
 use Rattle.cert_format.specs.declared.cert.CommandPart.{CommandPart}
@@ -20,8 +19,9 @@ use Rattle.sym_state.specs.Demands.{HasFewUses}
 use Rattle.sym_state.specs.Entailing.{line_count}
 use Rattle.sym_state.specs.Positions.{position_sizes}
 use Rattle.sym_state.specs.Starting.{IsFit, IsNumbered, has_kind, symbols_of}
-use Rattle.sym_state.specs.WellMade.{HasSmallFields, HasSmallLimits, is_field, is_variable, size, WellMade}
+use Rattle.sym_state.specs.WellMade.{HasSmallFields, HasSmallLimits, WellMade, is_field, is_variable, size}
 use Rattle.sym_state.specs.declared.piece.Piece.{Piece}
+use Rattle.sym_state.specs.State.{State}
 use Rattle.cert_check.specs.Left.{AreUpwards, HasPlaces, IsPlaced, IsPost}
 use Rattle.cert_check.specs.Uses.{Passage, passage}
 use Rattle.cert_check.specs.Walks.{Make, Making, Over, next_number}

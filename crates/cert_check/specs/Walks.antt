@@ -1,6 +1,5 @@
 -- The walk over tokens (docs/CHECKER.md, "The walk"): each token is taken from each state in order, and what it gives takes the
 -- state's place. How a body is walked that a token enters is told to each rule.
-use Rattle.cert_check.specs.declared.refusal.Refusal.{Refusal}
 use Rattle.std.specs.Prelude.{ℕ, zero, suc, Bool, true, false, ◌&&◌, ◌||◌, nat_eq, nat_lt, ◌+◌, if◌then◌else◌, List, [], ◌∷◌, ◌++◌, length, reverse, map, codes, Option, None, Some, is_none, Result, Ok, Err, slice_get}
 use Rattle.std.specs.List.{filter_map, list_all, list_any}
 use Rattle.std.specs.Option.{option_and_then, option_map, option_map_or}
@@ -52,9 +51,10 @@ use Rattle.sym_state.specs.declared.test.Test.TheVariants as test
 use Rattle.cert_check.specs.declared.refusal.Reason.TheVariants as reason
 use Rattle.straight_hints.specs.Found.{above_hints, piece_hints, plain_hints, test_hints}
 use Rattle.straight_hints.specs.declared.finding.Finding.TheVariants.{Straight}
-use Rattle.cert_check.specs.declared.limits.TheConstants.{MOST_LOOPS}
 use Rattle.cert_check.specs.Courses.{Course, Walk, behind, counts, first_number, gives, gives_all, handed, placed, refuses}
 use Rattle.cert_check.specs.Uses.{Passage, around, comes_by, is_among, left_state, passage}
+use Rattle.cert_check.specs.declared.refusal.Refusal.{Refusal}
+use Rattle.cert_check.specs.declared.limits.TheConstants.{MOST_LOOPS}
 
 -- how the loop of two functions is made that these states enter: there may be none
 abbrev pub Make : Type 0

@@ -127,7 +127,7 @@ impl<'a> Checker<'a> {
     {
         let scope = self.scope(None);
         let mut course = Course::new(self.alloc, hints.rest());
-        let maker = Unmade { style: self.style };
+        let maker = Unmade::of(&scope);
         target_from(&scope, &maker, place, target, states, &mut course)?;
         *hints = Hints::new(course.rest());
         Ok(course.take_given())
@@ -151,7 +151,7 @@ impl<'a> Checker<'a> {
     {
         let scope = self.scope(None);
         let mut course = Course::searching(self.alloc, finding);
-        let maker = Unmade { style: self.style };
+        let maker = Unmade::of(&scope);
         target_from(&scope, &maker, place, target, states, &mut course)?;
         let found = course.take_found();
         Ok((course.take_given(), found))

@@ -4,9 +4,10 @@ ghost use Rattle.std.specs.Prelude.{◌≡◌, ◌≤◌, Option, None, IfOk, If
 ghost use Rattle.std.specs.List.{All};
 ghost use Rattle.name_table.specs.declared.style.Style.{Style as StyleValue};
 ghost use Rattle.sym_state.specs.WellMade.{WellMade};
-ghost use Rattle.cert_check.specs.Certified.{MakesLoops, MakesStanding};
+ghost use Rattle.cert_check.specs.Certified.{AreSound, CanWalk, MakesLoops, MakesStanding};
 ghost use Rattle.cert_check.specs.Walks.{Make, made_by};
 
+use crate::scope::Scope;
 use bst_meaning::value::Target;
 use bv_base::memory::NoMemory;
 use cert_format::cert::Loop;
@@ -37,6 +38,18 @@ pub trait Loops {
 #[derive(Clone, Copy)]
 pub struct Unmade<'a> {
     pub style: &'a Style,
+}
+
+impl<'a> Unmade<'a> {
+    /// The loops of a walk that reads them.
+    pub(crate) fn of(scope: &Scope<'a>) -> Unmade<'a>
+        requires sound { AreSound scope.now.style scope.now.cert }
+        ensures { CanWalk scope.now result.style.now None }
+    {
+        Unmade {
+            style: scope.style(),
+        }
+    }
 }
 
 impl<'a> Loops for Unmade<'a> {

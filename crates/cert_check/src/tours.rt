@@ -118,9 +118,7 @@ pub(crate) fn turn_of(
     ensures takes { Takes (rule.turn_of (walks.scope_of scope.now None) one case.now tour.old) tour.new result }
     ensures keeps { OnOk result (rule.KeepsTour scope.now.style tour.old tour.new) }
 {
-    let maker = Unmade {
-        style: scope.style(),
-    };
+    let maker = Unmade::of(scope);
     let at = At {
         scope,
         maker: &maker,

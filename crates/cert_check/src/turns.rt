@@ -35,9 +35,7 @@ pub(crate) fn loop_checked(scope: &Scope<'_>, alloc: Global, one: &Loop) -> Walk
     let body = body_of(scope.style(), one.body);
     let place = place_of(scope.style(), body);
     let mut course = Course::new(alloc, one.hints.as_slice());
-    let maker = Unmade {
-        style: scope.style(),
-    };
+    let maker = Unmade::of(scope);
     let at = At {
         scope,
         maker: &maker,

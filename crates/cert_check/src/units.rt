@@ -57,9 +57,7 @@ pub(crate) fn summary_checked(scope: &Scope<'_>, alloc: Global, summary: &Summar
         ),
     )?;
     let mut course = Course::new(alloc, summary.hints.as_slice());
-    let maker = Unmade {
-        style: scope.style(),
-    };
+    let maker = Unmade::of(scope);
     own_walked(scope, &maker, place, summary.body, body, state, &mut course)?;
     let kept = symbols_of(&summary.pre) as u32;
     course.ends(scope.cond(), place, kept, summary.posts.as_slice())

@@ -1,7 +1,4 @@
 -- The hints that are found can be written: their numbers have 32 bits.
-use Rattle.sym_state.specs.declared.piece.Piece.{Piece}
-use Rattle.sym_state.specs.Entailing.{match_of}
-use Rattle.sym_state.specs.Renaming.{row_renamed}
 use Rattle.std.proofs.Common.{◌≡◌, ℕ, zero, suc, ◌+◌, ◌≤◌, Bool, true, false, cond, List, [], ◌∷◌, ◌++◌, length, map, min, Option, None, Some, Result, Ok, Err, IfOk, refl, arith, sym, subst}
 use Rattle.std.specs.Prelude.{pos, int_lt}
 use Rattle.std.specs.Global.{Vec}
@@ -28,6 +25,9 @@ use Rattle.sym_state.specs.declared.proof.Reference.{Reference}
 use Rattle.sym_state.specs.declared.proof.Reference.TheVariants as ref
 use Rattle.sym_state.specs.declared.symbol.Sym.{Sym}
 use Rattle.sym_state.specs.declared.test.Test.{Test}
+use Rattle.sym_state.specs.declared.piece.Piece.{Piece}
+use Rattle.sym_state.specs.Entailing.{match_of}
+use Rattle.sym_state.specs.Renaming.{row_renamed}
 use Rattle.refinements.proofs.Framing.{above_left, split_left}
 use Rattle.straight_proofs.specs.Remainders.{lead}
 use Rattle.straight_proofs.specs.Straight.{drop_list, ended, first_list, kinds, left_behind, list_within, on_symbols, once, proof_of, references, rows_named}
@@ -35,7 +35,7 @@ use Rattle.straight_proofs.specs.declared.straight.TheConstants.{MOST_REFERENCES
 use Rattle.straight_proofs.proofs.Lists.{at_end, none_left, one_more}
 use Rattle.straight_hints.specs.declared.finding.Finding.{Finding}
 use Rattle.straight_hints.specs.declared.finding.Finding.TheVariants.{Bare, Straight}
-use Rattle.straight_hints.specs.Found.{above_hints, both_kept, case_hints, drop_found, no_proof, plain_hints, proof_found, test_hints, piece_hints, step_found}
+use Rattle.straight_hints.specs.Found.{above_hints, both_kept, case_hints, drop_found, no_proof, piece_hints, plain_hints, proof_found, step_found, test_hints}
 use Rattle.straight_hints.proofs.Every.{Has, above_has, cases_have, rule_has, test_has}
 use Rattle.straight_hints.proofs.Short.{HasShort, drop_short, proof_short}
 

@@ -8,16 +8,16 @@ use Rattle.bst_meaning.specs.declared.condition.Cond.{Cond}
 use Rattle.sym_state.specs.Cases.{above_of, split_of}
 use Rattle.sym_state.specs.Demands.{Rule, Gives, Refuses, Demands, OneOperand, TwoOperands, ThreeOperands, Steps, BothSteps, Chooses, one_of, two_of, three_of}
 use Rattle.sym_state.specs.Effects.{rule_of}
-use Rattle.sym_state.specs.Entailing.{match_of}
-use Rattle.sym_state.specs.Renaming.{row_renamed}
 use Rattle.sym_state.specs.State.{State}
 use Rattle.sym_state.specs.declared.demand.EffectFault.{EffectFault}
 use Rattle.sym_state.specs.declared.hint.Hint.{Hint}
 use Rattle.sym_state.specs.declared.hint.Hint.TheVariants.{Drop, Keep, Plain, Step}
-use Rattle.sym_state.specs.declared.piece.Piece.{Piece}
 use Rattle.sym_state.specs.declared.proof.Proof.{Proof}
 use Rattle.sym_state.specs.declared.symbol.Sym.{Sym}
 use Rattle.sym_state.specs.declared.test.Test.{Test}
+use Rattle.sym_state.specs.Entailing.{match_of}
+use Rattle.sym_state.specs.Renaming.{row_renamed}
+use Rattle.sym_state.specs.declared.piece.Piece.{Piece}
 use Rattle.straight_proofs.specs.Straight.{drop_proof, proof_of, straight_proof}
 use Rattle.straight_hints.specs.declared.finding.Finding.{Finding}
 use Rattle.straight_hints.specs.declared.finding.Finding.TheVariants.{Bare, Straight}

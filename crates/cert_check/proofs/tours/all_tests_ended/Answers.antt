@@ -1,6 +1,6 @@
 use Rattle.std.specs.Vec.Iter.{into_iter_items}
-use Rattle.cert_check.specs.Here.{here}
 use Rattle.cert_check.specs.Room.{HasRoom}
+use Rattle.cert_check.specs.Here.{here}
 use Rattle.cert_check.proofs.TourSteps.{kept_on, next_test}
 use Rattle.cert_check.proofs.TurnSteps.{first_of, rest_of}
 use Rattle.cert_check.proofs.tours.all_tests_ended.Goals as goal

@@ -1,9 +1,9 @@
 use Rattle.std.proofs.Common.{◌≡◌}
 use Rattle.std.specs.List.{All}
 use Rattle.std.specs.Vec.Iter.{into_iter_items}
-use Rattle.cert_check.specs.Here.{here}
 use Rattle.cert_check.specs.Room.{HasRoom}
 use Rattle.cert_check.specs.Tours as rule
+use Rattle.cert_check.specs.Here.{here}
 use Rattle.cert_check.proofs.tours.all_turned_or_left.Given as goal
 
 -- the cases that are left give what all of them do

@@ -1,7 +1,7 @@
 use Rattle.std.proofs.Common.{◌≡◌, ℕ, sym, subst, arith}
 use Rattle.sym_state.specs.Demands.{One}
-use Rattle.cert_check.specs.Here.{here}
 use Rattle.cert_check.specs.Room.{HasRoom}
+use Rattle.cert_check.specs.Here.{here}
 use Rattle.cert_check.proofs.TourSteps.{kept_from, split_room, test_takes}
 use Rattle.cert_check.proofs.tours.test_ended.Goals as goal
 

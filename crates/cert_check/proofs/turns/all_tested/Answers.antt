@@ -1,6 +1,6 @@
 use Rattle.std.specs.Vec.Iter.{into_iter_items}
-use Rattle.cert_check.specs.Here.{here}
 use Rattle.cert_check.specs.Room.{HasRoom}
+use Rattle.cert_check.specs.Here.{here}
 use Rattle.cert_check.proofs.TurnSteps.{first_of, next_tested, rest_of}
 use Rattle.cert_check.proofs.turns.all_tested.Goals as goal
 

@@ -1,5 +1,5 @@
-use Rattle.cert_check.specs.Here.{here}
 use Rattle.cert_check.specs.Room.{HasRoom}
+use Rattle.cert_check.specs.Here.{here}
 use Rattle.cert_check.proofs.TurnSteps.{held_room, held_same, turn_room}
 use Rattle.cert_check.proofs.UnitSteps.{started_is}
 use Rattle.cert_check.proofs.turns.case_state.Goals as goal

@@ -1,8 +1,8 @@
 use Rattle.std.proofs.Common.{◌≡◌, ap, ◌∙◌, None, refl}
-use Rattle.cert_check.specs.Walks.{scope_of}
 use Rattle.std.proofs.lemmas.Result.{err_from_is_err_and}
 use Rattle.name_table.specs.declared.style.Style.{Style}
 use Rattle.cert_check.specs.Units.{beginning, body_of, place_of}
+use Rattle.cert_check.specs.Walks.{scope_of}
 use Rattle.cert_check.proofs.TurnSteps.{loop_refused, loop_takes}
 use Rattle.cert_check.proofs.turns.loop_checked.Goals as goal
 

@@ -1,6 +1,6 @@
 use Rattle.std.proofs.Common.{◌≡◌, [], drop}
-use Rattle.cert_check.specs.Here.{here}
 use Rattle.cert_check.specs.Units as rule
+use Rattle.cert_check.specs.Here.{here}
 use Rattle.cert_check.proofs.turns.turned_from.Given as goal
 
 -- the turns from the cases that are left give what those from all of them do

@@ -1,5 +1,4 @@
 use Rattle.std.proofs.Common.{◌≡◌, List, [], ◌∷◌, Some, Ok, refl, sym, ap, subst, ◌∙◌, None}
-use Rattle.cert_check.specs.Walks.{scope_of}
 use Rattle.std.proofs.lemmas.Result.{err_from_is_err_and}
 use Rattle.name_table.specs.declared.style.Style.{Style}
 use Rattle.bst_meaning.specs.declared.condition.Cond.{Cond}
@@ -10,6 +9,7 @@ use Rattle.sym_state.specs.declared.hint.Hint.{Hint}
 use Rattle.sym_state.specs.declared.piece.Piece.{Piece}
 use Rattle.cert_check.specs.Courses.{Course}
 use Rattle.cert_check.specs.Units.{beginning, body_of, place_of}
+use Rattle.cert_check.specs.Walks.{scope_of}
 use Rattle.cert_check.proofs.UnitSteps.{AreParts, Checks, at_end, own_ends, own_room, started_is, unit_checks, unit_refused}
 use Rattle.cert_check.proofs.units.summary_checked.Goals as goal
 

@@ -1,9 +1,9 @@
 use Rattle.std.proofs.Common.{◌≡◌}
 use Rattle.std.specs.List.{All}
 use Rattle.std.specs.Vec.Iter.{into_iter_items}
-use Rattle.cert_check.specs.Walks.{scope_of}
 use Rattle.cert_check.specs.Room.{GivesRoom, HasRoom}
 use Rattle.cert_check.specs.Units as rule
+use Rattle.cert_check.specs.Walks.{scope_of}
 use Rattle.cert_check.proofs.units.target_from.Given as goal
 
 -- from the states that are left the target gives what it does from all of them

@@ -6,13 +6,13 @@ use Rattle.name_table.specs.declared.style.Style.{Style}
 use Rattle.name_table.specs.declared.style.TokenAt.{TokenAt}
 use Rattle.bst_meaning.specs.StyleParts.{kind_of, tokens_of}
 use Rattle.sym_state.specs.State.{State}
-use Rattle.cert_check.specs.Here.{here}
-use Rattle.cert_check.specs.Given.{Takes}
 use Rattle.cert_check.specs.Walks.{body_walked, chosen_in, made_by, whiles_from}
+use Rattle.cert_check.specs.Here.{here}
 use Rattle.cert_check.proofs.LoopSteps.{branch_is, called_refused, called_room, next_called}
 use Rattle.cert_check.proofs.OwnStacks.{by_own_stack}
 use Rattle.cert_check.proofs.WalkSteps.{begun_room, built_in_takes, each_at, first_room, item_at, body_refused, body_takes, case_within, chosen_refused, chosen_takes, next_entered, next_taken, next_walked, rest_room, rest_within, token_kept, tokens_sound}
 use Rattle.cert_check.proofs.WhileSteps.{each_takes, whiles_take}
+use Rattle.cert_check.specs.Given.{Takes}
 use Rattle.cert_check.proofs.walk.+walk.Goals as goal
 
 -- a body

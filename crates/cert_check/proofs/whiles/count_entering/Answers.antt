@@ -4,7 +4,7 @@ use Rattle.sym_state.specs.Demands.{without}
 use Rattle.cert_check.specs.Walks.{entering_with, scope_of}
 use Rattle.cert_check.proofs.WhileSteps.{counts_none, counts_one, next_at}
 use Rattle.cert_check.proofs.whiles.count_entering.Goals as goal
-use Rattle.cert_check.proofs.whiles.count_entering.Goals.{then-holds, else-holds}
+use Rattle.cert_check.proofs.whiles.count_entering.Goals.{else-holds, then-holds}
 
 pub loop-state-preserved : goal.loop-state-preserved
 loop-state-preserved c =

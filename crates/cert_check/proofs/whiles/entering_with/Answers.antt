@@ -5,7 +5,7 @@ use Rattle.sym_state.specs.State.{State}
 use Rattle.cert_check.specs.Walks.{entering_with, scope_of}
 use Rattle.cert_check.proofs.WhileSteps.{enters_none, enters_one, next_at}
 use Rattle.cert_check.proofs.whiles.entering_with.Goals as goal
-use Rattle.cert_check.proofs.whiles.entering_with.Goals.{then-holds+in_ok-push_rest, else-holds}
+use Rattle.cert_check.proofs.whiles.entering_with.Goals.{else-holds, then-holds+in_ok-push_rest}
 
 pub loop-state-preserved : goal.loop-state-preserved
 loop-state-preserved c =

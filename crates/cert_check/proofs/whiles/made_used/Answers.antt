@@ -7,12 +7,12 @@ use Rattle.sym_state.specs.declared.hint.Hint.TheVariants as hint
 use Rattle.sym_state.specs.declared.piece.Piece.{Piece}
 use Rattle.cert_check.specs.Certified.{IsPieceOf}
 use Rattle.cert_check.specs.Courses.{placed}
-use Rattle.cert_check.specs.Given.{Refused}
 use Rattle.cert_check.specs.Here.{here}
 use Rattle.cert_check.specs.Uses.{around}
 use Rattle.cert_check.specs.Walks.{comes_to}
 use Rattle.cert_check.proofs.Keeping.{element}
 use Rattle.cert_check.proofs.WhileSteps.{came_ok, came_refused, case_refused, steps_refused, used_takes}
+use Rattle.cert_check.specs.Given.{Refused}
 use Rattle.cert_check.proofs.whiles.made_used.Goals as goal
 
 pub piece_hints-requires-clause-rows : goal.piece_hints-requires-clause-rows

@@ -4,7 +4,7 @@ use Rattle.cert_check.specs.Certified.{AreMade}
 use Rattle.cert_check.specs.declared.refusal.Refusal.{Refusal}
 use Rattle.cert_check.proofs.WhileSteps.{put_made}
 use Rattle.cert_check.proofs.whiles.put_loop.Goals as goal
-use Rattle.cert_check.proofs.whiles.put_loop.Goals.{in-Ok, in-Err}
+use Rattle.cert_check.proofs.whiles.put_loop.Goals.{in-Err, in-Ok}
 
 pub returns-clause-made : goal.returns-clause-made
 returns-clause-made c = λ style made sound.

@@ -1,9 +1,9 @@
 -- The loop that is known is used.
 use Rattle.std.proofs.Common.{◌+◌, rules, subst, take}
-use Rattle.cert_check.specs.Given.{Takes}
 use Rattle.cert_check.specs.Here.{here}
 use Rattle.cert_check.specs.Walks.{While, made_by, made_used}
 use Rattle.cert_check.proofs.WhileSteps.{known_takes, loop_there}
+use Rattle.cert_check.specs.Given.{Takes}
 use Rattle.cert_check.proofs.whiles.while_made.Goals as goal
 
 pub made_used-requires-clause-one : goal.made_used-requires-clause-one

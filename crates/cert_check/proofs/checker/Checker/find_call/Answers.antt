@@ -1,6 +1,6 @@
 use Rattle.std.proofs.Common.{◌≡◌, ap, ◌∙◌, None}
-use Rattle.cert_check.specs.Walks.{Over, scope_of}
 use Rattle.cert_check.specs.Courses.{Course}
+use Rattle.cert_check.specs.Walks.{Over, scope_of}
 use Rattle.cert_check.proofs.UnitSteps.{called_finding}
 use Rattle.cert_check.proofs.checker.Checker.find_call.Goals as goal
 

@@ -1,6 +1,6 @@
 use Rattle.std.proofs.Common.{◌≡◌, ap, ◌∙◌, None}
-use Rattle.cert_check.specs.Walks.{Over, scope_of}
 use Rattle.cert_check.specs.Units.{beginning}
+use Rattle.cert_check.specs.Walks.{Over, scope_of}
 use Rattle.cert_check.proofs.UnitSteps.{called}
 use Rattle.cert_check.proofs.checker.Checker.walk_call.Goals as goal
 

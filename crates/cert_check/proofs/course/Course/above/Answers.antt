@@ -1,8 +1,8 @@
 use Rattle.std.proofs.Common.{◌≡◌, subst}
 use Rattle.sym_state.specs.Demands.{Three}
-use Rattle.cert_check.specs.Here.{here}
 use Rattle.cert_check.specs.Given.{GoesOn}
 use Rattle.cert_check.specs.Walks.{cases_entered, choice}
+use Rattle.cert_check.specs.Here.{here}
 use Rattle.cert_check.proofs.TourSteps.{choice_goes}
 use Rattle.cert_check.proofs.course.Course.above.Goals as goal
 
