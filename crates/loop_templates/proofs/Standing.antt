@@ -340,6 +340,7 @@ exits_made frame left exits is ready = subst (λ (them : List Added). All IsMade
 -- the case that states have in common
 pub common_is_case : (frame : Frame) (states : List State) (case : Piece) → case ≡ common_case frame states → IsFrame frame → IsCase frame case
 common_is_case frame states case is ready =
+    let none : Skeleton = [] in
     subst (IsCase frame) (sym is)
-    (case_stands frame [] frame.entering None states ready (later_stands frame [] frame.entering refl (All-nil (IsBoneOf frame.style)) ready.entering)
-    (short_is [] refl))
+    (case_stands frame none frame.entering None states ready (later_stands frame none frame.entering refl (All-nil (IsBoneOf frame.style)) ready.entering)
+    (short_is none refl))

@@ -1,6 +1,6 @@
 -- Cases of what commands leave (docs/ANALYSER.md, "Commands"): all that the states at the end of a call have in common, and the rows that a
 -- visit leaves for the next one.
-use Rattle.std.specs.Prelude.{Bool, List, []}
+use Rattle.std.specs.Prelude.{Bool, List, [], None}
 use Rattle.std.specs.List.{filter, list_all}
 use Rattle.lin_facts.specs.declared.row.Row.{Row}
 use Rattle.bst_meaning.specs.declared.condition.Cond.{Cond}
