@@ -19,4 +19,5 @@ pub mod Opened
 pub mod Deciding
 pub mod FoundRecords
 pub mod CommandsFound
+pub mod CommandsMade
 pub mod LeftPieces

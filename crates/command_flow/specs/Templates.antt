@@ -1,9 +1,10 @@
 -- The commands of a style whose hints, loops and pieces are found (docs/ANALYSER.md, "Commands"): what an EXECUTE leaves, and what visits
 -- leave one for the next.
-use Rattle.std.specs.Prelude.{◌≡◌, ℕ, zero, suc, true, false, nat_eq, if◌then◌else◌, List, [], ◌∷◌, ◌++◌, length, flat_map, Option, None, Some, Result, Ok}
+use Rattle.std.specs.Prelude.{◌≡◌, ◌<◌, ◌≤◌, ℕ, zero, suc, true, false, nat_eq, nat_lt, if◌then◌else◌, List, [], ◌∷◌, ◌++◌, length, flat_map, Option, None, Some, Result, Ok}
 use Rattle.std.specs.List.{All}
 use Rattle.bv_base.specs.Answers.{then_do}
 use Rattle.bv_base.specs.declared.place.Place.{Place}
+use Rattle.name_table.specs.Sound.{Each}
 use Rattle.name_table.specs.declared.names.NameId.{NameId}
 use Rattle.name_table.specs.declared.style.Command.{Command}
 use Rattle.name_table.specs.declared.style.Command.TheVariants.{Execute, Iterate, Reverse}
@@ -11,6 +12,8 @@ use Rattle.name_table.specs.declared.style.CommandAt.{CommandAt}
 use Rattle.name_table.specs.declared.style.Style.{Style}
 use Rattle.bst_meaning.specs.declared.condition.Cond.{Cond}
 use Rattle.bst_meaning.specs.declared.value.Target.TheVariants.{Named}
+use Rattle.cert_format.specs.CertText.{IsCommandPart, IsLoop}
+use Rattle.cert_format.specs.CondText.{is_chain}
 use Rattle.cert_format.specs.declared.cert.Cert.{Cert}
 use Rattle.cert_format.specs.declared.cert.CommandPart.{CommandPart}
 use Rattle.sym_state.specs.Positions.{AtStart, AtNext, AtEnd}
@@ -25,7 +28,7 @@ use Rattle.loop_templates.specs.Reaching.{Occurring, command_terms, occurring, o
 use Rattle.loop_templates.specs.Sums.{sums}
 use Rattle.loop_templates.specs.Visits.{common_case, left_by}
 use Rattle.loop_templates.specs.declared.limits.TheConstants.{MOST_ITEMS}
-use Rattle.cert_check.specs.Certified.{IsMovable}
+use Rattle.cert_check.specs.Certified.{IsCommandOf, IsMovable}
 use Rattle.cert_check.specs.Courses.{refuses}
 use Rattle.cert_check.specs.Units.{call_made}
 use Rattle.cert_check.specs.Walks.{Make, type_functions}
@@ -34,7 +37,7 @@ use Rattle.cert_check.specs.declared.refusal.Reason.TheVariants.{NoInvariant}
 use Rattle.cert_check.specs.declared.refusal.Refusal.{Refusal}
 use Rattle.command_flow.specs.Between.{opened, piece_moved}
 use Rattle.command_flow.specs.Commands.{given, started_between, started_visit}
-use Rattle.command_flow.specs.Ready.{IsReady}
+use Rattle.command_flow.specs.Ready.{AreReady, IsReady}
 use Rattle.command_flow.specs.declared.between.Between.{Between}
 use Rattle.command_flow.specs.declared.leaving.Leaving.{Leaving}
 use Rattle.command_flow.specs.declared.templates.Lasting.{Lasting}
@@ -182,3 +185,22 @@ pub record IsVisit (style : Style) (visit : Piece) : Type 0 where
   pub ready : IsReady style visit
   pub movable : All IsMovable visit.rows
   pub bare : visit.stack ≡ []
+
+-- records that are made stand in a certificate, upwards by their numbers, of which none is this one or a higher one
+pub record AreMadeBefore (style : Style) (index : ℕ) (parts : List CommandPart) : Type 0 where
+  pub each : Each (IsCommandPart style) parts
+  pub of_style : All (IsCommandOf style) parts
+  pub rise : is_chain (λ a b. nat_lt a.index b.index) parts ≡ true
+  pub before : Each (λ part. part.index < index) parts
+
+-- what is made for a command of a number: at most one record of that number, which stands in a certificate
+pub record AreMadeAt (style : Style) (index : ℕ) (parts : List CommandPart) : Type 0 where
+  pub each : Each (IsCommandPart style) parts
+  pub of_style : All (IsCommandOf style) parts
+  pub at : Each (λ part. part.index ≡ index) parts
+  pub few : length parts ≤ 1
+
+-- what stands behind commands: pieces from which the next may start, and loops that may stand in a certificate
+pub record CanLast (style : Style) (lasting : Lasting) : Type 0 where
+  pub ready : AreReady style lasting.between
+  pub loops : All (IsLoop style) lasting.loops
