@@ -1,6 +1,6 @@
 -- The commands of a style whose hints, loops and pieces are found (docs/ANALYSER.md, "Commands"): what an EXECUTE leaves, and what visits
 -- leave one for the next.
-use Rattle.std.specs.Prelude.{◌≡◌, ◌<◌, ◌≤◌, ℕ, zero, suc, true, false, nat_eq, nat_lt, if◌then◌else◌, List, [], ◌∷◌, ◌++◌, length, flat_map, Option, None, Some, Result, Ok}
+use Rattle.std.specs.Prelude.{◌≡◌, ◌<◌, ◌≤◌, ℕ, zero, suc, Bool, true, false, nat_eq, nat_lt, if◌then◌else◌, List, [], ◌∷◌, ◌++◌, length, flat_map, Option, None, Some, Result, Ok}
 use Rattle.std.specs.List.{All}
 use Rattle.bv_base.specs.Answers.{then_do}
 use Rattle.bv_base.specs.declared.place.Place.{Place}
@@ -12,12 +12,13 @@ use Rattle.name_table.specs.declared.style.CommandAt.{CommandAt}
 use Rattle.name_table.specs.declared.style.Style.{Style}
 use Rattle.bst_meaning.specs.declared.condition.Cond.{Cond}
 use Rattle.bst_meaning.specs.declared.value.Target.TheVariants.{Named}
-use Rattle.cert_format.specs.CertText.{IsCommandPart, IsLoop}
+use Rattle.cert_format.specs.CertText.{IsCommandPart, IsLoop, IsPiece}
 use Rattle.cert_format.specs.CondText.{is_chain}
 use Rattle.cert_format.specs.declared.cert.Cert.{Cert}
 use Rattle.cert_format.specs.declared.cert.CommandPart.{CommandPart}
 use Rattle.sym_state.specs.Positions.{AtStart, AtNext, AtEnd}
 use Rattle.sym_state.specs.State.{State}
+use Rattle.sym_state.specs.WellMade.{HasShortText}
 use Rattle.sym_state.specs.declared.hint.Hint.{Hint}
 use Rattle.sym_state.specs.declared.piece.Piece.{Piece}
 use Rattle.straight_hints.specs.Found.{piece_hints}
@@ -180,8 +181,15 @@ commands_in seeking index lasting parts (at ∷ commands) =
 abbrev pub made_in : Seeking → Result Made Refusal
 made_in seeking = commands_in seeking 0 (record { between = opened seeking.style; loops = [] }) [] seeking.style.commands
 
--- a piece that may stand before visits: its rows may be moved to the next entry, and it has no stack
+-- a piece that a certificate may have for a command, with texts that states may have and without a stack
+pub record IsLeft (style : Style) (has_pos : Bool) (piece : Piece) : Type 0 where
+  pub stands : IsPiece style true has_pos 0 piece
+  pub texts : All HasShortText piece.facts
+  pub bare : piece.stack ≡ []
+
+-- such a piece stands before each visit: states may start from it, and another number of visited entries may stand in its rows
 pub record IsVisit (style : Style) (visit : Piece) : Type 0 where
+  pub left : IsLeft style true visit
   pub ready : IsReady style visit
   pub movable : All IsMovable visit.rows
   pub bare : visit.stack ≡ []
