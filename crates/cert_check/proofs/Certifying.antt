@@ -123,7 +123,7 @@ maybe_movable : (style : Style) (piece : Option Piece) → IfSome piece (IsPiece
 maybe_movable style None is = tt
 maybe_movable style (Some piece) is = read_movable style true true 0 piece is
 
-command_read : (style : Style) (command : CommandPart) → IsSound style → IsCommandPart style command → HasShortParts command → IsCommandOf style command
+pub command_read : (style : Style) (command : CommandPart) → IsSound style → IsCommandPart style command → HasShortParts command → IsCommandOf style command
 command_read style command sound is short = record {
   there = is.there;
   after = maybe_read style false command.after sound is.after short.after;

@@ -21,3 +21,4 @@ pub mod FoundRecords
 pub mod CommandsFound
 pub mod CommandsMade
 pub mod LeftPieces
+pub mod MadeParts

@@ -12,7 +12,7 @@ use Rattle.name_table.specs.declared.style.CommandAt.{CommandAt}
 use Rattle.name_table.specs.declared.style.Style.{Style}
 use Rattle.bst_meaning.specs.declared.condition.Cond.{Cond}
 use Rattle.bst_meaning.specs.declared.value.Target.TheVariants.{Named}
-use Rattle.cert_format.specs.CertText.{IsCommandPart, IsLoop, IsPiece}
+use Rattle.cert_format.specs.CertText.{IsCommandPart, IsHint, IsLoop, IsPiece}
 use Rattle.cert_format.specs.CondText.{is_chain}
 use Rattle.cert_format.specs.declared.cert.Cert.{Cert}
 use Rattle.cert_format.specs.declared.cert.CommandPart.{CommandPart}
@@ -31,6 +31,7 @@ use Rattle.loop_templates.specs.Visits.{common_case, left_by}
 use Rattle.loop_templates.specs.declared.limits.TheConstants.{MOST_ITEMS}
 use Rattle.cert_check.specs.Certified.{IsCommandOf, IsMovable}
 use Rattle.cert_check.specs.Courses.{refuses}
+use Rattle.cert_check.specs.Room.{IsEnd}
 use Rattle.cert_check.specs.Units.{call_made}
 use Rattle.cert_check.specs.Walks.{Make, type_functions}
 use Rattle.cert_check.specs.declared.checker.Called.{Called}
@@ -212,3 +213,14 @@ pub record AreMadeAt (style : Style) (index : ℕ) (parts : List CommandPart) : 
 pub record CanLast (style : Style) (lasting : Lasting) : Type 0 where
   pub ready : AreReady style lasting.between
   pub loops : All (IsLoop style) lasting.loops
+
+-- what a call came to: states at its end that are well made, hints that may be written, and loops that may stand in a certificate
+pub record HasCalled (style : Style) (called : Called) : Type 0 where
+  pub given : All (IsEnd style) called.given
+  pub found : Each IsHint called.found
+  pub loops : All (IsLoop style) called.loops
+
+-- what is made for a command of a number
+pub record HasMade (style : Style) (index : ℕ) (made : Made) : Type 0 where
+  pub parts : AreMadeAt style index made.parts
+  pub lasting : CanLast style made.lasting
