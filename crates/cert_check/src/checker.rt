@@ -176,6 +176,7 @@ impl<'a> Checker<'a> {
         ensures made { IfOk result (λ called. All (IsEnd self.now.style) called.given) }
         ensures written { IfOk result (λ called. Each IsHint called.found) }
         ensures stand { IfOk result (λ called. All (IsLoop self.now.style) called.loops) }
+        ensures few { IfOk result (λ called. stay + length called.loops ≤ MOST_LOOPS) }
     {
         maker.makes();
         let scope = self.scope(None);

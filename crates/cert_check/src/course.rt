@@ -250,6 +250,7 @@ impl<'a> Course<'a> {
     /// The loops that were made, which are taken.
     pub(crate) fn take_loops(&mut self) -> Vec<Loop>
         ensures loops { result.items ≡ self.old.loops }
+        ensures few { self.old.stay + length self.old.loops ≤ MOST_LOOPS }
         ensures rest { self.new ≡ record self.old { loops = [] } }
     {
         mem::replace(&mut self.loops, Vec::new(self.alloc))

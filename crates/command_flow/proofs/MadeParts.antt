@@ -1,6 +1,7 @@
 -- What is made for a command stands in a certificate, and what stands behind it may last.
 use Rattle.std.proofs.Common.{◌≡◌, ℕ, ◌+◌, ◌<◌, ◌≤◌, Bool, true, false, List, [], ◌∷◌, ◌++◌, length, Option, None, Some, IfSome, refl, arith}
 use Rattle.std.specs.List.{All}
+use Rattle.std.proofs.lemmas.List.{length-append}
 use Rattle.std.proofs.lemmas.List.Elements.{All-append, All-cons, All-nil}
 use Rattle.name_table.specs.Sound.{Each, IsSound}
 use Rattle.name_table.specs.declared.names.NameId.{NameId}
@@ -84,7 +85,7 @@ execute_parts style index (Some piece) hints sound there is written = one_part s
 
 -- EXECUTE
 pub executed_made : (style : Style) (admits : Cond) (index : ℕ) (name : NameId) (lasting : Lasting) (called : Called) → IsSound style → HasSmallFields admits
-    → index < length style.commands → CanLast style lasting → HasCalled style called → HasMade style index (executed_by style admits index name lasting called)
+    → index < length style.commands → CanLast style lasting → HasCalled style (length lasting.loops) called → HasMade style index (executed_by style admits index name lasting called)
 executed_made style admits index name lasting called sound small there last has =
     let start = started_between style admits lasting.between in
     let room = pieces_room style admits (lasting.between.globals ∷ []) true false sound small
@@ -99,12 +100,13 @@ executed_made style admits index name lasting called sound small there last has 
       lasting = record {
         ready = record { globals = given_left style false after sound left; entry = last.ready.entry };
         loops = All-append (IsLoop style) lasting.loops called.loops last.loops has.loops;
+        few = let all = length-append lasting.loops called.loops in let most = has.few in omega (arith, all, most);
       };
     }
 
 -- ITERATE and REVERSE
 pub visited_made : (style : Style) (admits : Cond) (index : ℕ) (name : NameId) (lasting : Lasting) (found : Visits) → IsSound style → HasSmallFields admits
-    → index < length style.commands → CanLast style lasting → IsVisit style found.visit → HasCalled style found.calling
+    → index < length style.commands → CanLast style lasting → IsVisit style found.visit → HasCalled style (length lasting.loops) found.calling
     → HasMade style index (visited_by style admits index name lasting found)
 visited_made style admits index name lasting found sound small there last visit has =
     let before = started_between style admits lasting.between in
@@ -133,5 +135,6 @@ visited_made style admits index name lasting found sound small there last visit 
           entry = given_left style false keeps sound left;
         };
         loops = All-append (IsLoop style) lasting.loops found.calling.loops last.loops has.loops;
+        few = let all = length-append lasting.loops found.calling.loops in let most = has.few in omega (arith, all, most);
       };
     }

@@ -1,6 +1,6 @@
 -- The commands of a style whose hints, loops and pieces are found (docs/ANALYSER.md, "Commands"): what an EXECUTE leaves, and what visits
 -- leave one for the next.
-use Rattle.std.specs.Prelude.{◌≡◌, ◌<◌, ◌≤◌, ℕ, zero, suc, Bool, true, false, nat_eq, nat_lt, if◌then◌else◌, List, [], ◌∷◌, ◌++◌, length, flat_map, Option, None, Some, Result, Ok}
+use Rattle.std.specs.Prelude.{◌≡◌, ◌+◌, ◌<◌, ◌≤◌, ℕ, zero, suc, Bool, true, false, nat_eq, nat_lt, if◌then◌else◌, List, [], ◌∷◌, ◌++◌, length, flat_map, Option, None, Some, Result, Ok}
 use Rattle.std.specs.List.{All}
 use Rattle.bv_base.specs.Answers.{then_do}
 use Rattle.bv_base.specs.declared.place.Place.{Place}
@@ -35,6 +35,7 @@ use Rattle.cert_check.specs.Room.{IsEnd}
 use Rattle.cert_check.specs.Units.{call_made}
 use Rattle.cert_check.specs.Walks.{Make, type_functions}
 use Rattle.cert_check.specs.declared.checker.Called.{Called}
+use Rattle.cert_check.specs.declared.limits.TheConstants.{MOST_LOOPS}
 use Rattle.cert_check.specs.declared.refusal.Reason.TheVariants.{NoInvariant}
 use Rattle.cert_check.specs.declared.refusal.Refusal.{Refusal}
 use Rattle.command_flow.specs.Between.{opened, piece_moved}
@@ -209,16 +210,19 @@ pub record AreMadeAt (style : Style) (index : ℕ) (parts : List CommandPart) : 
   pub at : Each (λ part. part.index ≡ index) parts
   pub few : length parts ≤ 1
 
--- what stands behind commands: pieces from which the next may start, and loops that may stand in a certificate
+-- what stands behind commands: pieces from which the next may start, and loops that may stand in a certificate, no more than it may have
 pub record CanLast (style : Style) (lasting : Lasting) : Type 0 where
   pub ready : AreReady style lasting.between
   pub loops : All (IsLoop style) lasting.loops
+  pub few : length lasting.loops ≤ MOST_LOOPS
 
--- what a call came to: states at its end that are well made, hints that may be written, and loops that may stand in a certificate
-pub record HasCalled (style : Style) (called : Called) : Type 0 where
+-- what a call came to behind so many loops: states at its end that are well made, hints that may be written, and loops that may stand in a
+-- certificate
+pub record HasCalled (style : Style) (stay : ℕ) (called : Called) : Type 0 where
   pub given : All (IsEnd style) called.given
   pub found : Each IsHint called.found
   pub loops : All (IsLoop style) called.loops
+  pub few : stay + length called.loops ≤ MOST_LOOPS
 
 -- what is made for a command of a number
 pub record HasMade (style : Style) (index : ℕ) (made : Made) : Type 0 where
