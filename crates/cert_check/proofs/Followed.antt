@@ -95,6 +95,7 @@ pub record Moved (scope : Scope) (room : ℕ) (start : State) (before after : Co
   pub count : before.count ≤ after.count
   pub short : All HasFewUses before.hints → All HasFewUses after.hints
   pub loops : KeepsLoops scope before after
+  pub stay : after.stay ≡ before.stay
 
 -- each of these states has more room where more was counted
 counted_on : (room low middle high : ℕ) (start : State) (states : List State) → low ≤ middle → All (HasFewNew room middle high start) states
@@ -116,6 +117,7 @@ moved_self scope room start course = record {
   count = omega arith;
   short = λ short. short;
   loops = λ makes all. all;
+  stay = refl;
 }
 
 pub moved_twice : (scope : Scope) (room : ℕ) (start : State) (first second third : Course) → Moved scope room start first second
@@ -130,6 +132,7 @@ moved_twice scope room start first second third one other = record {
   count = let low = one.count in let high = other.count in omega (arith, low, high);
   short = λ short. other.short (one.short short);
   loops = λ makes all. other.loops makes (one.loops makes all);
+  stay = other.stay ∙ one.stay;
 }
 
 -- the states follow an earlier one, that has no fewer symbols but for so many
@@ -144,6 +147,7 @@ moved_from scope room more start middle before after follows few moved = record 
   count = moved.count;
   short = moved.short;
   loops = moved.loops;
+  stay = moved.stay;
 }
 
 -- there may be more room
@@ -158,6 +162,7 @@ moved_within scope room more start before after less moved = record {
   count = moved.count;
   short = moved.short;
   loops = moved.loops;
+  stay = moved.stay;
 }
 
 -- hints that are taken don't matter
@@ -166,6 +171,7 @@ pub rehinted : (scope : Scope) (room : ℕ) (start : State) (before after : Cour
 rehinted scope room start before after hints short moved = record {
   short = λ all. moved.short (short all);
   loops = moved.loops;
+  stay = moved.stay;
   count = moved.count;
   more = moved.more;
   given = moved.given;
@@ -179,6 +185,7 @@ pub refound : (scope : Scope) (room : ℕ) (start : State) (before after : Cours
 refound scope room start before after found moved = record {
   short = moved.short;
   loops = moved.loops;
+  stay = moved.stay;
   count = moved.count;
   more = moved.more;
   given = moved.given;
@@ -193,6 +200,7 @@ pub remade : (scope : Scope) (room : ℕ) (start : State) (before after : Course
 remade scope room start before after loops keeps moved = record {
   short = moved.short;
   loops = λ makes all. keeps makes (moved.loops makes all);
+  stay = moved.stay;
   count = moved.count;
   more = moved.more;
   given = moved.given;
@@ -213,6 +221,7 @@ pub behind_moved : (scope : Scope) (room : ℕ) (start : State) (before after : 
 behind_moved scope room start before after find hints short moved = record {
   short = λ all. moved.short (left_short before.finding before.hints hints find short all);
   loops = moved.loops;
+  stay = moved.stay;
   count = moved.count;
   more = moved.more;
   given = moved.given;
@@ -235,6 +244,7 @@ counted_moved scope n room start place course middle after e moved =
       count = let high = moved.count in omega (arith, high, count);
       short = λ short. moved.short (subst (λ (c : Course). All HasFewUses c.hints) (sym is) short);
       loops = λ makes all. moved.loops makes (subst (λ (c : Course). All (IsLoop scope.style) c.loops) (sym is) all);
+      stay = moved.stay ∙ ap (λ (c : Course). c.stay) is;
     }
 
 pub all_given : (scope : Scope) (room : ℕ) (start : State) (place : Place) (states : List State) (course after : Course) → All (Follows scope start) states
@@ -249,6 +259,7 @@ all_given scope room start place states course after follow few e =
       count = omega arith;
       short = λ short. short;
       loops = λ makes all. all;
+      stay = refl;
     })
 
 pub one_given : (scope : Scope) (room : ℕ) (start state : State) (place : Place) (course after : Course) → Follows scope start state
@@ -263,4 +274,5 @@ one_given scope room start state place course after follow few e =
       count = omega arith;
       short = λ short. short;
       loops = λ makes all. all;
+      stay = refl;
     })

@@ -1,5 +1,5 @@
--- The loops that a call makes may stand in a certificate.
-use Rattle.std.proofs.Common.{◌≡◌, ℕ, List, [], ◌∷◌, Option, None, IfSome, Ok, subst, sym}
+-- The loops that a call makes may stand in a certificate, behind those that stay.
+use Rattle.std.proofs.Common.{◌≡◌, ℕ, List, [], ◌∷◌, Option, None, IfSome, Ok, subst, sym, ap, ◌∙◌}
 use Rattle.std.specs.List.{All}
 use Rattle.std.proofs.lemmas.List.Elements.{All-head, All-nil, All-tail}
 use Rattle.bv_base.specs.declared.place.Place.{Place}
@@ -29,6 +29,23 @@ targets_keep scope place target (state ∷ states) course after told made e =
     let moved = target_moved scope target place state told (All-head (WellMade scope.style) state states made) course first.0 first.1 in
     let rest = targets_keep scope place target states first.0 after told (All-tail (WellMade scope.style) state states made) first.2 in
     λ makes all. rest makes (moved.loops makes all)
+
+targets_stay : (scope : Scope) (place : Place) (target : Target) (states : List State) (course after : Course) → Told scope
+    → All (WellMade scope.style) states → target_from scope place target states course ≡ Ok after → after.stay ≡ course.stay
+targets_stay scope place target [] course after told made e = ap (λ (c : Course). c.stay) (ok_is course after e)
+targets_stay scope place target (state ∷ states) course after told made e =
+    let first = then_ok (target_entered scope place target state course) (target_from scope place target states) after e in
+    targets_stay scope place target states first.0 after told (All-tail (WellMade scope.style) state states made) first.2
+    ∙ (target_moved scope target place state told (All-head (WellMade scope.style) state states made) course first.0 first.1).stay
+
+-- so many stay as did before
+pub call_stays : (make : Option Make) (style : Style) (cert : Cert) (stay : ℕ) (states : List State) (target : Target) (place : Place) (after : Course)
+    → IsSound style → IsCertified style cert → IfSome make (MakesLoops style) → All (WellMade style) states
+    → target_from (record { style = style; cert = cert; writes = None; make = make }) place target states (record (searching Straight) { stay = stay }) ≡ Ok after
+    → after.stay ≡ stay
+call_stays make style cert stay states target place after sound certified makes made e =
+    let scope : Scope = record { style = style; cert = cert; writes = None; make = make } in
+    targets_stay scope place target states (record (searching Straight) { stay = stay }) after (told_by scope sound certified makes) made e
 
 pub call_stands : (make : Option Make) (style : Style) (cert : Cert) (stay : ℕ) (states : List State) (target : Target) (place : Place) (called : Called)
     → IsSound style → IsCertified style cert → IfSome make (MakesLoops style) → IfSome make (MakesStanding style) → All (WellMade style) states

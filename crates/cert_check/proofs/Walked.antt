@@ -411,6 +411,7 @@ pub record MovedFrom (scope : Scope) (starts : List State) (before after : Cours
   pub count : before.count ≤ after.count
   pub short : All HasFewUses before.hints → All HasFewUses after.hints
   pub loops : KeepsLoops scope before after
+  pub stay : after.stay ≡ before.stay
 
 -- what a rule gives of the first state, and what it gives of the others
 pub from_twice : (scope : Scope) (state : State) (states : List State) (before middle after : Course) → Moved scope 0 state before middle
@@ -429,6 +430,7 @@ from_twice scope state states before middle after one rest =
       count = omega (arith, low, high);
       short = λ short. rest.short (one.short short);
       loops = λ makes all. rest.loops makes (one.loops makes all);
+      stay = rest.stay ∙ one.stay;
     }
   where
     only_first : (x : State) → IsAmong x (state ∷ []) → IsAmong x (state ∷ states)
@@ -444,6 +446,7 @@ from_none scope course = record {
   count = omega arith;
   short = λ short. short;
   loops = λ makes all. all;
+  stay = refl;
 }
 
 pub each_taken_moved : (scope : Scope) (enter : Enter) (t : TokenAt) (states : List State) (course after : Course) → Told scope → Enters scope enter
@@ -515,6 +518,7 @@ taken_from_moved scope enter t states course after told enters sound made e = by
           short = come.short;
           loops = λ writes loops.
               all_written make scope all.0 (making_is scope t.token make is) moved.written writes (come.loops writes loops);
+          stay = come.stay;
         })
 
 -- the states at a walk's end come from those at its start
@@ -523,6 +527,7 @@ pub record Ended (scope : Scope) (starts : List State) (before after : Course) :
   pub count : before.count ≤ after.count
   pub short : All HasFewUses before.hints → All HasFewUses after.hints
   pub loops : KeepsLoops scope before after
+  pub stay : after.stay ≡ before.stay
 
 pub walked_ends : (scope : Scope) (enter : Enter) (tokens : List TokenAt) (course after : Course) → Told scope → Enters scope enter
     → AreSound scope tokens → All (WellMade scope.style) course.given → walked scope enter tokens course ≡ Ok after → Ended scope course.given course after
@@ -532,6 +537,7 @@ walked_ends scope enter [] course after told enters sound made e =
       count = omega arith;
       short = λ short. short;
       loops = λ makes all. all;
+      stay = refl;
     })
 walked_ends scope enter (t ∷ tokens) course after told enters sound made e =
     let fresh = record course { given = [] } in
@@ -546,6 +552,7 @@ walked_ends scope enter (t ∷ tokens) course after told enters sound made e =
       count = omega (arith, low, high);
       short = λ short. rest.short (one.short short);
       loops = λ makes all. rest.loops makes (one.loops makes all);
+      stay = rest.stay ∙ one.stay;
     }
 
 -- the tokens of a body of the style
@@ -576,4 +583,5 @@ body_moved scope (suc more) told place body state made course after e =
       count = ended.count;
       short = ended.short;
       loops = ended.loops;
+      stay = ended.stay;
     })

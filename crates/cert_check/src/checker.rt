@@ -1,6 +1,6 @@
 //! The units of a certificate, and the calls of commands (docs/CHECKER.md, "Units").
 
-ghost use Rattle.std.specs.Prelude.{◌≡◌, [], Ok, IfOk, OnErr, OnOk, MatchResult, option_map, slice_get};
+ghost use Rattle.std.specs.Prelude.{◌≡◌, ◌≤◌, ◌+◌, [], length, Ok, IfOk, OnErr, OnOk, MatchResult, option_map, slice_get};
 ghost use Rattle.std.specs.List.{All};
 ghost use Rattle.name_table.specs.Sound.{Each, IsSound};
 ghost use Rattle.cert_format.specs.CertText.{IsHint, IsLoop};
