@@ -5,7 +5,6 @@ use Rattle.std.proofs.lemmas.List.{append-nil}
 use Rattle.std.proofs.lemmas.List.Elements.{All-append, All-cons, All-head, All-nil, All-tail, All-weaker}
 use Rattle.bv_base.specs.declared.place.Place.{Place}
 use Rattle.lin_facts.specs.declared.row.Row.{Row}
-use Rattle.cert_format.specs.CertText.{IsLoop}
 use Rattle.cert_format.specs.declared.cert.Loop.{Loop}
 use Rattle.sym_state.specs.State.{State}
 use Rattle.sym_state.specs.Changes.{symbol_at}
@@ -16,7 +15,7 @@ use Rattle.sym_state.specs.declared.hint.Hint.{Hint}
 use Rattle.sym_state.specs.declared.symbol.Fact.{Fact}
 use Rattle.refinements.specs.Covered.{IsAmong}
 use Rattle.straight_hints.specs.declared.finding.Finding.{Finding}
-use Rattle.cert_check.specs.Certified.{MakesStanding}
+use Rattle.cert_check.specs.Certified.{IsStanding, MakesStanding}
 use Rattle.cert_check.specs.Courses.{Course, behind, counts, gives, gives_all, handed, left_behind}
 use Rattle.cert_check.specs.Walks.{Scope}
 pub use Rattle.cert_check.specs.Safely.{Follows, Grows}
@@ -83,7 +82,7 @@ among_all P x (first ∷ xs) (inr later) all = among_all P x xs later (All-tail 
 -- loops that were made may stand in a certificate, where those may that are made
 abbrev pub KeepsLoops : Scope → Course → Course → Type 0
 KeepsLoops scope before after =
-    IfSome scope.make (MakesStanding scope.style) → All (IsLoop scope.style) before.loops → All (IsLoop scope.style) after.loops
+    IfSome scope.make (MakesStanding scope.style) → All (IsStanding scope.style) before.loops → All (IsStanding scope.style) after.loops
 
 -- what a rule gives of a state: further states, each of which follows it; what is counted doesn't fall, each new symbol is one of
 -- those for which there is room beside what counts, proofs stay short, and loops may be written
@@ -195,7 +194,7 @@ refound scope room start before after found moved = record {
 
 -- and loops that were made
 pub remade : (scope : Scope) (room : ℕ) (start : State) (before after : Course) (loops : List Loop)
-    → (IfSome scope.make (MakesStanding scope.style) → All (IsLoop scope.style) after.loops → All (IsLoop scope.style) loops)
+    → (IfSome scope.make (MakesStanding scope.style) → All (IsStanding scope.style) after.loops → All (IsStanding scope.style) loops)
     → Moved scope room start before after → Moved scope room start before (record after { loops = loops })
 remade scope room start before after loops keeps moved = record {
   short = moved.short;
@@ -243,7 +242,7 @@ counted_moved scope n room start place course middle after e moved =
           (λ state h. omega (arith, h, count)) moved.more moved.few;
       count = let high = moved.count in omega (arith, high, count);
       short = λ short. moved.short (subst (λ (c : Course). All HasFewUses c.hints) (sym is) short);
-      loops = λ makes all. moved.loops makes (subst (λ (c : Course). All (IsLoop scope.style) c.loops) (sym is) all);
+      loops = λ makes all. moved.loops makes (subst (λ (c : Course). All (IsStanding scope.style) c.loops) (sym is) all);
       stay = moved.stay ∙ ap (λ (c : Course). c.stay) is;
     }
 

@@ -24,7 +24,7 @@ use Rattle.sym_state.proofs.Resulting.{rest_made}
 use Rattle.sym_state.proofs.Leaving.{moved}
 use Rattle.sym_state.proofs.Frames.{all_reversed}
 use Rattle.refinements.specs.Covered.{IsAmong}
-use Rattle.cert_check.specs.Certified.{HasMade, IsLoopOf, IsPieceOf, MakesLoops, MakesStanding}
+use Rattle.cert_check.specs.Certified.{HasMade, IsLoopOf, IsPieceOf, IsStanding, MakesLoops, MakesStanding}
 use Rattle.cert_check.specs.Courses.{Course, first_number, placed}
 use Rattle.cert_check.specs.declared.limits.TheConstants.{MOST_LOOPS}
 use Rattle.cert_check.specs.Uses.{around}
@@ -157,7 +157,7 @@ numbered_one scope one number (loop ∷ made) all =
 -- the loop of a `while$`, and what was made with it, where this is the one that may be new
 record Known (scope : Scope) (new : Option Loop) (known : Numbered × Making) (before : Making) : Type 0 where
   pub one : IsLoopOf scope.style known.0.one
-  pub written : IfSome new (IsLoop scope.style) → All (IsLoop scope.style) before.made → All (IsLoop scope.style) known.1.made
+  pub written : IfSome new (IsLoop scope.style) → All (IsStanding scope.style) before.made → All (IsStanding scope.style) known.1.made
   pub made : HasMade scope.style known.1
   pub course : known.1.course ≡ before.course
 
@@ -173,7 +173,8 @@ loop_known scope place None (Some one) making known is fresh made e =
     subst (λ (k : Numbered × Making). Known scope (Some one) k making) (sym (ok_is _ known there.1)) (record {
       one = fresh;
       written = λ new all.
-          All-append (IsLoop scope.style) making.made (one ∷ []) all (All-cons (IsLoop scope.style) one [] new (All-nil (IsLoop scope.style)));
+          All-append (IsStanding scope.style) making.made (one ∷ []) all
+          (All-cons (IsStanding scope.style) one [] (record { of_style = fresh; stands = new }) (All-nil (IsStanding scope.style)));
       made = All-append (IsLoopOf scope.style) making.made (one ∷ []) made (All-cons (IsLoopOf scope.style) one [] fresh (All-nil (IsLoopOf scope.style)));
       course = refl;
     })
@@ -181,7 +182,7 @@ loop_known scope place None (Some one) making known is fresh made e =
 -- the loops that were made for the token may stand in a certificate, where those may that are made
 abbrev pub KeepsMade : Make → Scope → Making → Making → Type 0
 KeepsMade make scope before after =
-    MakesStanding scope.style make → All (IsLoop scope.style) before.made → All (IsLoop scope.style) after.made
+    MakesStanding scope.style make → All (IsStanding scope.style) before.made → All (IsStanding scope.style) after.made
 
 -- what a `while$` keeps: a state is followed by what it leaves, and the loops that were made are loops of the style
 pub record Whiled (make : Make) (scope : Scope) (room : ℕ) (state : State) (before after : Making) : Type 0 where
@@ -236,11 +237,11 @@ making_none scope t unmade =
 
 -- those that were made for a token stand behind the others
 pub all_written : (make : Make) (scope : Scope) (making : Making) → scope.make ≡ Some make
-    → (MakesStanding scope.style make → All (IsLoop scope.style) [] → All (IsLoop scope.style) making.made)
-    → IfSome scope.make (MakesStanding scope.style) → All (IsLoop scope.style) making.course.loops → All (IsLoop scope.style) (all_made making).loops
+    → (MakesStanding scope.style make → All (IsStanding scope.style) [] → All (IsStanding scope.style) making.made)
+    → IfSome scope.make (MakesStanding scope.style) → All (IsStanding scope.style) making.course.loops → All (IsStanding scope.style) (all_made making).loops
 all_written make scope making by written makes all =
-    All-append (IsLoop scope.style) making.course.loops making.made all
-    (written (subst (λ (o : Option Make). IfSome o (MakesStanding scope.style)) by makes) (All-nil (IsLoop scope.style)))
+    All-append (IsStanding scope.style) making.course.loops making.made all
+    (written (subst (λ (o : Option Make). IfSome o (MakesStanding scope.style)) by makes) (All-nil (IsStanding scope.style)))
 
 -- in one state
 pub alone_moved : (make : Make) (scope : Scope) (place : Place) (state : State) (course after : Course) → Told scope → MakesLoops scope.style make

@@ -41,7 +41,7 @@ use Rattle.refinements.proofs.Framing.{above_left}
 use Rattle.refinements.proofs.HintsTaken.{labelled_hints_keep}
 use Rattle.refinements.proofs.Kept.{above_made}
 use Rattle.straight_hints.specs.Found.{above_hints}
-use Rattle.cert_check.specs.Certified.{HasMade, IsLoopOf, IsSummaryOf, MakesLoops}
+use Rattle.cert_check.specs.Certified.{HasMade, IsLoopOf, IsStanding, IsSummaryOf, MakesLoops}
 use Rattle.cert_check.specs.Courses.{Course, behind, counts, gives, gives_all, placed}
 use Rattle.cert_check.specs.Walks.{Call, Enter, Make, Making, Onward, Scope, all_made, body_walked, built_in, cases_entered, choice, chosen, chosen_in, each_taken, entered, entered_by, entering, exact_target, function_entered, has_summary, hints_of_choice, if_else, is_target, is_while_token, is_wizard, literal_state, making_for, name_entered, named, none_made, repeated, summary_used, taken, taken_by, taken_from, test_of, token_taken, type_called, type_functions, type_walked, types_called, use_of, walked, while_by_make, while_taken, whiles_taken}
 use Rattle.cert_check.proofs.Followed.{Follows, HasFewNew, KeepsLoops, Moved, among_all, behind_moved, counted_moved, follows_self, follows_twice, left_follows, moved_from, moved_self, moved_twice, moved_within, one_given, rehinted}

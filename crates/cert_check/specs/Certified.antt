@@ -114,7 +114,12 @@ abbrev pub MakesLoops : Style → Make → Type 0
 MakesLoops style make =
     (test body : Target) (states : List State) → 1 ≤ length states → All (WellMade style) states → IfSome (make test body states) (IsLoopOf style)
 
--- they may stand in a certificate, where their functions may be named
+-- a loop of a style that may stand in a certificate
+pub record IsStanding (style : Style) (one : Loop) : Type 0 where
+  pub of_style : IsLoopOf style one
+  pub stands : IsLoop style one
+
+-- loops that are made may stand in one, where their functions may be named
 abbrev pub MakesStanding : Style → Make → Type 0
 MakesStanding style make =
     (test body : Target) (states : List State) → IsNameable style test → IsNameable style body → 1 ≤ length states → All (WellMade style) states

@@ -3,9 +3,9 @@
 ghost use Rattle.std.specs.Prelude.{◌≡◌, ◌≤◌, ◌+◌, [], length, Ok, IfOk, OnErr, OnOk, MatchResult, option_map, slice_get};
 ghost use Rattle.std.specs.List.{All};
 ghost use Rattle.name_table.specs.Sound.{Each, IsSound};
-ghost use Rattle.cert_format.specs.CertText.{IsHint, IsLoop};
+ghost use Rattle.cert_format.specs.CertText.{IsHint};
 ghost use Rattle.sym_state.specs.Demands.{HasFewUses};
-ghost use Rattle.cert_check.specs.Certified.{AreSound, IsCertified, IsPieceOf};
+ghost use Rattle.cert_check.specs.Certified.{AreSound, IsCertified, IsPieceOf, IsStanding};
 ghost use Rattle.cert_check.specs.Given.{Finds, Leads, Refused, Takes};
 ghost use Rattle.cert_check.specs.Room.{HasRoom, IsEnd};
 ghost use Rattle.cert_check.specs.Tours as tours;
@@ -175,7 +175,7 @@ impl<'a> Checker<'a> {
             (Refused (rule.call_made (M.made maker.now) self.now.style self.now.cert stay states.items target place)) }
         ensures made { IfOk result (λ called. All (IsEnd self.now.style) called.given) }
         ensures written { IfOk result (λ called. Each IsHint called.found) }
-        ensures stand { IfOk result (λ called. All (IsLoop self.now.style) called.loops) }
+        ensures stand { IfOk result (λ called. All (IsStanding self.now.style) called.loops) }
         ensures few { IfOk result (λ called. stay + length called.loops ≤ MOST_LOOPS) }
     {
         maker.makes();

@@ -7,7 +7,7 @@ use Rattle.name_table.specs.Sound.{Each, IsSound}
 use Rattle.name_table.specs.declared.names.NameId.{NameId}
 use Rattle.name_table.specs.declared.style.Style.{Style}
 use Rattle.bst_meaning.specs.declared.condition.Cond.{Cond}
-use Rattle.cert_format.specs.CertText.{IsCommandPart, IsHint, IsLoop, IsPiece}
+use Rattle.cert_format.specs.CertText.{IsCommandPart, IsHint, IsPiece}
 use Rattle.cert_format.specs.declared.cert.CommandPart.{CommandPart}
 use Rattle.cert_format.proofs.Plain.{each_append}
 use Rattle.sym_state.specs.Positions.{AtEnd, AtNext, AtStart}
@@ -19,7 +19,7 @@ use Rattle.straight_hints.specs.Found.{piece_hints}
 use Rattle.straight_hints.specs.declared.finding.Finding.TheVariants.{Straight}
 use Rattle.straight_hints.proofs.Written.{piece_written}
 use Rattle.loop_templates.specs.Cases.{Frame}
-use Rattle.cert_check.specs.Certified.{IsCommandOf}
+use Rattle.cert_check.specs.Certified.{IsCommandOf, IsStanding}
 use Rattle.cert_check.specs.Room.{HasRoom}
 use Rattle.cert_check.proofs.Certifying.{command_read}
 use Rattle.cert_check.proofs.ReadTexts.{HasShortParts, HasShortTexts}
@@ -99,7 +99,7 @@ executed_made style admits index name lasting called sound small there last has 
           (ends_written style admits (given after ∷ []) called.given has.given));
       lasting = record {
         ready = record { globals = given_left style false after sound left; entry = last.ready.entry };
-        loops = All-append (IsLoop style) lasting.loops called.loops last.loops has.loops;
+        loops = All-append (IsStanding style) lasting.loops called.loops last.loops has.loops;
         few = let all = length-append lasting.loops called.loops in let most = has.few in omega (arith, all, most);
       };
     }
@@ -134,7 +134,7 @@ visited_made style admits index name lasting found sound small there last visit 
           globals = ready_moved style AtEnd found.visit visit.ready visit.movable;
           entry = given_left style false keeps sound left;
         };
-        loops = All-append (IsLoop style) lasting.loops found.calling.loops last.loops has.loops;
+        loops = All-append (IsStanding style) lasting.loops found.calling.loops last.loops has.loops;
         few = let all = length-append lasting.loops found.calling.loops in let most = has.few in omega (arith, all, most);
       };
     }

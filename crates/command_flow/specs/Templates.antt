@@ -12,7 +12,7 @@ use Rattle.name_table.specs.declared.style.CommandAt.{CommandAt}
 use Rattle.name_table.specs.declared.style.Style.{Style}
 use Rattle.bst_meaning.specs.declared.condition.Cond.{Cond}
 use Rattle.bst_meaning.specs.declared.value.Target.TheVariants.{Named}
-use Rattle.cert_format.specs.CertText.{IsCommandPart, IsHint, IsLoop, IsPiece}
+use Rattle.cert_format.specs.CertText.{IsCommandPart, IsHint, IsPiece}
 use Rattle.cert_format.specs.CondText.{is_chain}
 use Rattle.cert_format.specs.declared.cert.Cert.{Cert}
 use Rattle.cert_format.specs.declared.cert.CommandPart.{CommandPart}
@@ -29,7 +29,7 @@ use Rattle.loop_templates.specs.Reaching.{Occurring, command_terms, occurring, o
 use Rattle.loop_templates.specs.Sums.{sums}
 use Rattle.loop_templates.specs.Visits.{common_case, left_by}
 use Rattle.loop_templates.specs.declared.limits.TheConstants.{MOST_ITEMS}
-use Rattle.cert_check.specs.Certified.{IsCommandOf, IsMovable}
+use Rattle.cert_check.specs.Certified.{IsCommandOf, IsMovable, IsStanding}
 use Rattle.cert_check.specs.Courses.{refuses}
 use Rattle.cert_check.specs.Room.{IsEnd}
 use Rattle.cert_check.specs.Units.{call_made}
@@ -213,7 +213,7 @@ pub record AreMadeAt (style : Style) (index : ℕ) (parts : List CommandPart) : 
 -- what stands behind commands: pieces from which the next may start, and loops that may stand in a certificate, no more than it may have
 pub record CanLast (style : Style) (lasting : Lasting) : Type 0 where
   pub ready : AreReady style lasting.between
-  pub loops : All (IsLoop style) lasting.loops
+  pub loops : All (IsStanding style) lasting.loops
   pub few : length lasting.loops ≤ MOST_LOOPS
 
 -- what a call came to behind so many loops: states at its end that are well made, hints that may be written, and loops that may stand in a
@@ -221,7 +221,7 @@ pub record CanLast (style : Style) (lasting : Lasting) : Type 0 where
 pub record HasCalled (style : Style) (stay : ℕ) (called : Called) : Type 0 where
   pub given : All (IsEnd style) called.given
   pub found : Each IsHint called.found
-  pub loops : All (IsLoop style) called.loops
+  pub loops : All (IsStanding style) called.loops
   pub few : stay + length called.loops ≤ MOST_LOOPS
 
 -- what is made for a command of a number
