@@ -32,7 +32,7 @@ use Rattle.loop_templates.specs.declared.limits.TheConstants.{MOST_ITEMS}
 use Rattle.cert_check.specs.Certified.{IsCommandOf, IsMovable, IsStanding}
 use Rattle.cert_check.specs.Courses.{refuses}
 use Rattle.cert_check.specs.Room.{IsEnd}
-use Rattle.cert_check.specs.Units.{call_made}
+use Rattle.cert_check.specs.Units.{Checked, call_made}
 use Rattle.cert_check.specs.Walks.{Make, type_functions}
 use Rattle.cert_check.specs.declared.checker.Called.{Called}
 use Rattle.cert_check.specs.declared.limits.TheConstants.{MOST_LOOPS}
@@ -52,6 +52,10 @@ pub record Seeking : Type 0 where
   pub style : Style
   pub cert : Cert
   pub make : Option Make
+
+-- that of a checker, with how its loops are made
+abbrev pub seeking_by : Checked → Option Make → Seeking
+seeking_by checked make = record { style = checked.style; cert = checked.cert; make = make }
 
 -- a command's name is called from a state, behind so many loops that stay. That the stack is empty at its end is left to the checker.
 abbrev pub called_in : Seeking → ℕ → NameId → Place → State → Result Called Refusal

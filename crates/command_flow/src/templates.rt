@@ -1,15 +1,15 @@
 //! The commands of a style whose hints, loops and pieces are found (docs/ANALYSER.md, "Commands").
 
-ghost use Rattle.std.specs.Prelude.{◌≡◌, ◌++◌, ◌∷◌, [], true, false, IfOk, OnOk, length};
+ghost use Rattle.std.specs.Prelude.{◌≡◌, ◌≤◌, ◌<◌, ◌++◌, ◌∷◌, [], true, false, IfOk, OnOk, length};
 ghost use Rattle.std.specs.List.{All};
 ghost use Rattle.name_table.specs.Sound.{IsSound};
 ghost use Rattle.straight_hints.specs.Found.{piece_hints as piece_hints_found};
 ghost use Rattle.straight_hints.specs.declared.finding.Finding.TheVariants.{Straight};
 ghost use Rattle.sym_state.specs.Positions.{AtStart};
 ghost use Rattle.sym_state.specs.Starting.{started};
-ghost use Rattle.cert_check.specs.Certified.{IsCertified};
 ghost use Rattle.cert_check.specs.Given.{CanEnd};
 ghost use Rattle.cert_check.specs.Room.{HasRoom, IsEnd};
+ghost use Rattle.command_flow.specs.Between as between;
 ghost use Rattle.command_flow.specs.Between.{piece_moved as piece_moved_to};
 ghost use Rattle.command_flow.specs.Commands as commands;
 ghost use Rattle.command_flow.specs.Ready.{Agrees, AreReady, Decides, IsReady};
@@ -17,7 +17,6 @@ ghost use Rattle.command_flow.specs.Templates as rule;
 
 use crate::at::At;
 use crate::between::{Between, given, opened};
-use crate::ends::call_ends;
 use crate::flow::{one, state_of};
 use crate::kept::{first_visit, left_in, rows_left_by};
 use crate::leaving::{AFTER_EXECUTE, AFTER_VISIT};
@@ -27,16 +26,17 @@ use bst_meaning::value::Target;
 use bv_base::memory::NoMemory;
 use bv_base::place::Place;
 use bv_base::seq::Seq;
-use cert_check::refusal::{Reason, Refusal, Walk};
+use cert_check::limits::MOST_LOOPS;
+use cert_check::refusal::{Reason, Refusal};
 use cert_check::{Called, Checker, Loops, held, refuse};
-use cert_format::cert::{Cert, CommandPart, Loop};
+use cert_format::cert::{CommandPart, Loop};
 use loop_templates::limits::MOST_ITEMS;
 use name_table::names::NameId;
 use name_table::style::{Command, Style};
 use std::alloc::Global;
 use std::slice::from_ref;
 use straight_hints::{Finding, piece_hints};
-use sym_state::hint::{Hint, Hints};
+use sym_state::hint::Hint;
 use sym_state::piece::Piece;
 use sym_state::state::State;
 
@@ -61,17 +61,23 @@ pub struct Visits {
     pub calling: Called,
 }
 
-/// What is made for the commands of a style, or the first rule that fails, with its place. The certificate is the bare one of the condition
-/// under which the style is walked.
-pub fn make<M: Loops>(alloc: Global, style: &Style, bare: &Cert, maker: &M) -> Result<Made, Refusal>
+/// What is made for the commands of a style, or the first rule that fails, with its place. The checker is that of the bare certificate of
+/// the condition under which the style is walked.
+pub fn make<M: Loops>(
+    checker: &Checker<'_>,
+    alloc: Global,
+    style: &Style,
+    maker: &M,
+) -> Result<Made, Refusal>
     requires sound { IsSound style.now }
-    requires certified { IsCertified style.now bare.now }
-    requires same { M.style maker.now ≡ style.now }
-    ensures { Decides (rule.made_in (record { style = style.now; cert = bare.now; make = M.made maker.now })) result }
+    requires style { style.now ≡ checker.now.style }
+    requires same { M.style maker.now ≡ checker.now.style }
+    ensures makes { Decides (rule.made_in (rule.seeking_by checker.now (M.made maker.now))) result }
+    ensures records { IfOk result (λ made. rule.AreMadeBefore style.now (length style.now.commands) made.parts) }
+    ensures lasts { IfOk result (λ made. rule.CanLast style.now made.lasting) }
 {
     runs_are_well_formed();
-    let checker = held(Place::START, Checker::new(alloc, style, bare))?;
-    commands_made(&checker, alloc, style, maker)
+    commands_made(checker, alloc, style, maker)
 }
 
 /// The commands in the style's order.
@@ -84,7 +90,10 @@ fn commands_made<M: Loops>(
     requires sound { IsSound style.now }
     requires style { style.now ≡ checker.now.style }
     requires same { M.style maker.now ≡ checker.now.style }
-    ensures { Decides (rule.made_in (record { style = checker.now.style; cert = checker.now.cert; make = M.made maker.now })) result }
+    requires opened { AreReady style.now (between.opened style.now) }
+    ensures makes { Decides (rule.made_in (rule.seeking_by checker.now (M.made maker.now))) result }
+    ensures records { IfOk result (λ made. rule.AreMadeBefore style.now (length style.now.commands) made.parts) }
+    ensures lasts { IfOk result (λ made. rule.CanLast style.now made.lasting) }
 {
     let mut parts = Vec::new(alloc);
     let mut lasting = Lasting {
@@ -128,10 +137,11 @@ fn command_made<M: Loops>(
 ) -> Result<Made, Refusal>
     requires at { Agrees at.now }
     requires same { M.style maker.now ≡ at.now.checker.now.style }
-    requires ready { AreReady at.now.style.now lasting.between }
-    ensures makes { Decides (rule.command_in (record { style = at.now.checker.now.style; cert = at.now.checker.now.cert; make = M.made maker.now })
+    requires there { index < length at.now.style.now.commands }
+    requires lasts { rule.CanLast at.now.style.now lasting }
+    ensures makes { Decides (rule.command_in (rule.seeking_by at.now.checker.now (M.made maker.now))
         index at.now.command.command at.now.command.place lasting) result }
-    ensures ready { IfOk result (λ made. AreReady at.now.style.now made.lasting.between) }
+    ensures made { IfOk result (rule.HasMade at.now.style.now index) }
 {
     match at.command.command {
         Command::Execute(name) => executed(at, maker, index, name, lasting),
@@ -153,16 +163,17 @@ fn executed<M: Loops>(
 ) -> Result<Made, Refusal>
     requires at { Agrees at.now }
     requires same { M.style maker.now ≡ at.now.checker.now.style }
-    requires ready { AreReady at.now.style.now lasting.between }
-    ensures makes { Decides (rule.executed_in (record { style = at.now.checker.now.style; cert = at.now.checker.now.cert; make = M.made maker.now })
+    requires there { index < length at.now.style.now.commands }
+    requires lasts { rule.CanLast at.now.style.now lasting }
+    ensures makes { Decides (rule.executed_in (rule.seeking_by at.now.checker.now (M.made maker.now))
         index name at.now.command.place lasting) result }
-    ensures ready { IfOk result (λ made. AreReady at.now.style.now made.lasting.between) }
+    ensures made { IfOk result (rule.HasMade at.now.style.now index) }
 {
     let place = at.command.place;
     let starts = from_ref(&lasting.between.globals);
     let start = held(place, state_of(at, starts, false))?;
     let stay = lasting.loops.as_slice().len();
-    let calling = ended(at, maker, stay, name, start)?;
+    let calling = called(at, maker, stay, name, start)?;
     held(place, executed_by(at, index, name, lasting, calling))
 }
 
@@ -175,10 +186,9 @@ fn executed_by(
     calling: Called,
 ) -> Result<Made, NoMemory>
     requires at { Agrees at.now }
-    requires ready { AreReady at.now.style.now lasting.between }
-    requires ends { All (IsEnd at.now.style.now) calling.given }
-    ensures made { IfOk result (λ made. made ≡ rule.executed_by at.now.style.now at.now.cond.now index name lasting calling) }
-    ensures ready { IfOk result (λ made. AreReady at.now.style.now made.lasting.between) }
+    requires lasts { rule.CanLast at.now.style.now lasting }
+    requires called { rule.HasCalled at.now.style.now (length lasting.loops) calling }
+    ensures { IfOk result (λ made. made ≡ rule.executed_by at.now.style.now at.now.cond.now index name lasting calling) }
 {
     let Lasting { between, loops } = lasting;
     let Between { globals, entry } = between;
@@ -235,10 +245,11 @@ fn visited<M: Loops>(
 ) -> Result<Made, Refusal>
     requires at { Agrees at.now }
     requires same { M.style maker.now ≡ at.now.checker.now.style }
-    requires ready { AreReady at.now.style.now lasting.between }
-    ensures makes { Decides (rule.visited_in (record { style = at.now.checker.now.style; cert = at.now.checker.now.cert; make = M.made maker.now })
+    requires there { index < length at.now.style.now.commands }
+    requires lasts { rule.CanLast at.now.style.now lasting }
+    ensures makes { Decides (rule.visited_in (rule.seeking_by at.now.checker.now (M.made maker.now))
         index name at.now.command.place lasting) result }
-    ensures ready { IfOk result (λ made. AreReady at.now.style.now made.lasting.between) }
+    ensures made { IfOk result (rule.HasMade at.now.style.now index) }
 {
     let place = at.command.place;
     let first = held(place, first_visit(at, name, &lasting.between))?;
@@ -257,12 +268,12 @@ fn visits<M: Loops>(
 ) -> Result<Visits, Refusal>
     requires at { Agrees at.now }
     requires same { M.style maker.now ≡ at.now.checker.now.style }
-    requires ready { AreReady at.now.style.now lasting.now.between }
+    requires lasts { rule.CanLast at.now.style.now lasting.now }
     requires first { rule.IsVisit at.now.style.now first }
-    ensures finds { Decides (rule.visits_from 65 (record { style = at.now.checker.now.style; cert = at.now.checker.now.cert; make = M.made maker.now })
+    ensures finds { Decides (rule.visits_from 65 (rule.seeking_by at.now.checker.now (M.made maker.now))
         name at.now.command.place lasting.now first) result }
     ensures visit { IfOk result (λ found. rule.IsVisit at.now.style.now found.visit) }
-    ensures ends { IfOk result (λ found. All (IsEnd at.now.style.now) found.calling.given) }
+    ensures called { IfOk result (λ found. rule.HasCalled at.now.style.now (length lasting.now.loops) found.calling) }
 {
     let place = at.command.place;
     let mut visit = first;
@@ -287,18 +298,18 @@ fn visit_walked<M: Loops>(
 ) -> Result<Called, Refusal>
     requires at { Agrees at.now }
     requires same { M.style maker.now ≡ at.now.checker.now.style }
-    requires ready { AreReady at.now.style.now lasting.now.between }
+    requires lasts { rule.CanLast at.now.style.now lasting.now }
     requires visit { rule.IsVisit at.now.style.now visit.now }
-    ensures walks { Decides (rule.ended_in (record { style = at.now.checker.now.style; cert = at.now.checker.now.cert; make = M.made maker.now })
+    ensures walks { Decides (rule.called_in (rule.seeking_by at.now.checker.now (M.made maker.now))
         (length lasting.now.loops) name at.now.command.place
         (commands.started_visit at.now.style.now at.now.cond.now visit.now lasting.now.between.entry)) result }
-    ensures ends { IfOk result (λ calling. All (IsEnd at.now.style.now) calling.given) }
+    ensures called { IfOk result (rule.HasCalled at.now.style.now (length lasting.now.loops)) }
 {
     let start = held(
         at.command.place,
         visit_start(at, visit, &lasting.between.entry),
     )?;
-    ended(at, maker, lasting.loops.as_slice().len(), name, start)
+    called(at, maker, lasting.loops.as_slice().len(), name, start)
 }
 
 /// The state where a visit starts.
@@ -322,11 +333,10 @@ fn visited_by(
     found: Visits,
 ) -> Result<Made, NoMemory>
     requires at { Agrees at.now }
-    requires ready { AreReady at.now.style.now lasting.between }
+    requires lasts { rule.CanLast at.now.style.now lasting }
     requires visit { rule.IsVisit at.now.style.now found.visit }
-    requires ends { All (IsEnd at.now.style.now) found.calling.given }
-    ensures made { IfOk result (λ made. made ≡ rule.visited_by at.now.style.now at.now.cond.now index name lasting found) }
-    ensures ready { IfOk result (λ made. AreReady at.now.style.now made.lasting.between) }
+    requires called { rule.HasCalled at.now.style.now (length lasting.loops) found.calling }
+    ensures { IfOk result (λ made. made ≡ rule.visited_by at.now.style.now at.now.cond.now index name lasting found) }
 {
     let Lasting { between, loops } = lasting;
     let Visits { visit, calling } = found;
@@ -379,43 +389,39 @@ fn beginning_hints(at: &At<'_>, visit: &Piece, globals: &Piece) -> Result<Vec<Hi
     piece_hints(Finding::Straight, &before, at.cond, &begun)
 }
 
-/// A command's name is called from a state, behind so many loops that stay: each state at its end has an empty stack.
-fn ended<M: Loops>(
+/// A command's name is called from a state, behind so many loops that stay. That the stack is empty at its end is left to the checker.
+fn called<M: Loops>(
     at: &At<'_>,
     maker: &M,
     stay: usize,
     name: NameId,
     start: State,
 ) -> Result<Called, Refusal>
-    requires cond { at.now.cond.now ≡ at.now.checker.now.cert.cond }
     requires same { M.style maker.now ≡ at.now.checker.now.style }
+    requires stay { stay ≤ MOST_LOOPS }
     requires room { HasRoom at.now.checker.now.style 64 0 start }
-    ensures walks { Decides (rule.ended_in (record { style = at.now.checker.now.style; cert = at.now.checker.now.cert; make = M.made maker.now })
-        stay name at.now.command.place start) result }
-    ensures ends { IfOk result (λ calling. All (IsEnd at.now.checker.now.style) calling.given) }
+    ensures walks { Decides (rule.called_in (rule.seeking_by at.now.checker.now (M.made maker.now)) stay name at.now.command.place start) result }
+    ensures called { IfOk result (rule.HasCalled at.now.checker.now.style stay) }
 {
     let place = at.command.place;
     let states = held(place, one(at.alloc, start))?;
-    let calling = at
-        .checker
-        .make_call(maker, stay, states, Target::Named(name), place)?;
-    call_ends(at, &[], calling.given.as_slice(), &mut Hints::new(&[]))?;
-    Ok(calling)
+    at.checker
+        .make_call(maker, stay, states, Target::Named(name), place)
 }
 
 /// Hints, and behind them the steps by which each of some states shows pieces.
 fn with_ends(
     at: &At<'_>,
-    found: Vec<Hint>,
+    found: Seq<Hint>,
     pieces: &[Piece],
     states: &[State],
 ) -> Result<Vec<Hint>, NoMemory>
     requires pieces { All CanEnd pieces.now }
     requires bare { All (λ piece. piece.stack ≡ []) pieces.now }
     requires states { All (IsEnd at.now.style.now) states.now }
-    ensures { IfOk result (λ hints. hints.items ≡ found.items ++ rule.ends_hints at.now.cond.now pieces.now states.now) }
+    ensures { IfOk result (λ hints. hints.items ≡ found ++ rule.ends_hints at.now.cond.now pieces.now states.now) }
 {
-    let mut hints = found;
+    let mut hints = found.into_vec();
     for state in states {
         push_pieces(at, &mut hints, pieces, state)?;
     }

@@ -1,9 +1,12 @@
 -- The certificate that is found for a style under a condition (docs/ANALYSER.md).
-use Rattle.std.specs.Prelude.{if◌then◌else◌, List, [], Some, Result, Ok, Err}
+use Rattle.std.specs.Prelude.{◌≡◌, ◌≢◌, if◌then◌else◌, List, [], Some, Result, Ok, Err}
+use Rattle.std.specs.Result.{MatchResult}
 use Rattle.name_table.specs.declared.style.Style.{Style}
 use Rattle.bst_meaning.specs.declared.condition.Cond.{Cond}
+use Rattle.cert_format.specs.CertText.{IsCert}
 use Rattle.cert_format.specs.declared.cert.Cert.{Cert}
 use Rattle.cert_format.specs.declared.cert.CommandPart.{CommandPart}
+use Rattle.cert_check.specs.Certified.{IsCertified}
 use Rattle.cert_check.specs.declared.refusal.Reason.{Reason}
 use Rattle.cert_check.specs.declared.refusal.Reason.TheVariants as rule
 use Rattle.cert_check.specs.declared.refusal.Refusal.{Refusal}
@@ -66,3 +69,13 @@ beyond_fragment style admits =
 abbrev pub infer_of : Style → Cond → Result Cert Unknown
 infer_of style admits =
     if is_of_fragment style then certified admits (records_found Bare style (bare admits)) else beyond_fragment style admits
+
+-- a call gives the certificate that is wanted, or says where and why there is none, but for want of memory, which is free
+abbrev pub Infers : Result Cert Unknown → Result Cert Unknown → Type 0
+Infers wanted result = MatchResult result (λ cert. wanted ≡ Ok cert) (λ unknown. unknown.reason ≢ NoMemory → wanted ≡ Err unknown)
+
+-- a certificate keeps a condition, has a text and is one of the style
+pub record Keeps (style : Style) (admits : Cond) (cert : Cert) : Type 0 where
+  pub kept : cert.cond ≡ admits
+  pub written : IsCert style cert
+  pub certified : IsCertified style cert
