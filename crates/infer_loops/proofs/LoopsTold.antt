@@ -1,7 +1,7 @@
 -- The loop of a candidate whose hints may be written is what its definition gives.
 use Rattle.std.proofs.Common.{◌≡◌, Bool, true, false, cond, ◌&&◌, List, Option, None, Some, Result, Ok, Err, IfOk, sym, ap, ◌∙◌, subst}
 use Rattle.std.specs.List.{list_all}
-use Rattle.std.specs.Vec.{Vec}
+use Rattle.std.specs.Global.{Vec}
 use Rattle.std.specs.Cmp.Derive.{both_true}
 use Rattle.name_table.specs.Sound.{Each}
 use Rattle.cert_format.specs.CertText.{IsHint}
