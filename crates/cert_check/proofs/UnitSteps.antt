@@ -19,18 +19,20 @@ use Rattle.cert_format.specs.declared.cert.Cert.{Cert}
 use Rattle.cert_format.specs.declared.cert.Summary.{Summary}
 use Rattle.sym_state.specs.State.{State}
 use Rattle.sym_state.specs.Starting.{IsFit, IsNumbered, started, symbols_of}
-use Rattle.sym_state.specs.WellMade.{HasBounds}
+use Rattle.sym_state.specs.WellMade.{HasBounds, WellMade}
 use Rattle.sym_state.specs.declared.hint.Hint.{Hint}
 use Rattle.sym_state.specs.declared.piece.Piece.{Piece}
 use Rattle.straight_hints.specs.declared.finding.Finding.{Finding}
-use Rattle.cert_check.specs.declared.limits.TheConstants.{MOST_DEPTH}
+use Rattle.straight_hints.specs.declared.finding.Finding.TheVariants.{Straight}
+use Rattle.cert_check.specs.declared.checker.Called.{Called}
+use Rattle.cert_check.specs.declared.limits.TheConstants.{MOST_COUNT, MOST_DEPTH}
 use Rattle.cert_check.specs.declared.refusal.Refusal.{Refusal}
-use Rattle.cert_check.specs.Certified.{IsCertified, IsSummaryOf, MakesLoops}
+use Rattle.cert_check.specs.Certified.{AreSound, CanWalk, IsCertified, IsSummaryOf, MakesLoops}
 use Rattle.cert_check.specs.Courses.{Course, Walk, placed}
 use Rattle.cert_check.specs.Given.{Finds, Leads, Refused}
-use Rattle.cert_check.specs.Room.{GivesRoom, HasRoom, KeepsRoom}
-use Rattle.cert_check.specs.Units.{all_end, beginning, body_of, call_found, call_walked, checked_at, everywhere, none_left, own_walked, place_of, searching, summary_checked, target_entered, target_from}
-use Rattle.cert_check.specs.Walks.{Make, Scope}
+use Rattle.cert_check.specs.Room.{GivesRoom, HasRoom, IsEnd, KeepsRoom}
+use Rattle.cert_check.specs.Units.{all_end, beginning, body_of, call_found, call_made, call_walked, came_to, checked_at, everywhere, none_left, own_walked, place_of, searching, summary_checked, target_entered, target_from}
+use Rattle.cert_check.specs.Walks.{Make, Over, Scope}
 use Rattle.cert_check.proofs.RoomLeft.{body_room, named_room, room_on, started_room, target_room}
 use Rattle.cert_check.proofs.WalkSteps.{then_goes}
 
@@ -171,10 +173,9 @@ pub none_checks : (style : Style) (cert : Cert) (k : ℕ) → None ≡ slice_get
 none_checks style cert k found = ap (λ (o : Option Summary). option_map_or (summary_checked style cert) o (Ok [])) (sym found)
 
 -- a call from its parts
-call_is : (style : Style) (cert : Cert) (states : List State) (target : Target) (place : Place) (begun : Course) (scope : Scope) (course : Course)
-    → scope ≡ everywhere style cert → course ≡ begun
-    → target_from (everywhere style cert) place target states begun ≡ target_from scope place target states course
-call_is style cert states target place begun scope course scope_is course_is =
+call_is : (wanted : Scope) (states : List State) (target : Target) (place : Place) (begun : Course) (scope : Scope) (course : Course)
+    → scope ≡ wanted → course ≡ begun → target_from wanted place target states begun ≡ target_from scope place target states course
+call_is wanted states target place begun scope course scope_is course_is =
     sym (ap (λ (s : Scope). target_from s place target states begun) scope_is) ∙ sym (ap (λ (c : Course). target_from scope place target states c) course_is)
 
 pub called : (style : Style) (cert : Cert) (states : List State) (target : Target) (place : Place) (hints : List Hint) (scope : Scope) (course after : Course)
@@ -182,7 +183,7 @@ pub called : (style : Style) (cert : Cert) (states : List State) (target : Targe
     → given ≡ after.given → left ≡ after.hints → Leads (call_walked style cert states target place hints) given left
 called style cert states target place hints scope course after given left scope_is course_is e given_is left_is = record {
   course = after;
-  is = call_is style cert states target place (beginning hints) scope course scope_is course_is ∙ e;
+  is = call_is (everywhere style cert) states target place (beginning hints) scope course scope_is course_is ∙ e;
   given = sym given_is;
   left = sym left_is;
 }
@@ -193,7 +194,61 @@ pub called_finding : (finding : Finding) (style : Style) (cert : Cert) (states :
     → target_from scope place target states course ≡ Ok after → given ≡ after.given → found ≡ after.found → Finds (call_found finding style cert states target place) given found
 called_finding finding style cert states target place scope course after given found scope_is course_is e given_is found_is = record {
   course = after;
-  is = call_is style cert states target place (searching finding) scope course scope_is course_is ∙ e;
+  is = call_is (everywhere style cert) states target place (searching finding) scope course scope_is course_is ∙ e;
   given = sym given_is;
   found = sym found_is;
 }
+
+-- a walk of a checker that makes its loops, and where it begins
+abbrev scope_making : Option Make → Style → Cert → Scope
+scope_making make style cert = record { style = style; cert = cert; writes = None; make = make }
+
+abbrev begun_behind : ℕ → Course
+begun_behind stay = record (searching Straight) { stay = stay }
+
+-- a call whose hints are found and whose loops are made
+pub called_making : (make : Option Make) (style : Style) (cert : Cert) (stay : ℕ) (states : List State) (target : Target) (place : Place) (scope : Scope)
+    (course after : Course) (called : Called) → scope ≡ scope_making make style cert → course ≡ begun_behind stay
+    → target_from scope place target states course ≡ Ok after → called ≡ came_to after
+    → call_made make style cert stay states target place ≡ Ok called
+called_making make style cert stay states target place scope course after called scope_is course_is e called_is =
+    ap (λ (w : Walk). then_do w (λ course. Ok (came_to course)))
+    (call_is (scope_making make style cert) states target place (begun_behind stay) scope course scope_is course_is ∙ e)
+    ∙ ap (λ (c : Called). let found : Result Called Refusal = Ok c in found) (sym called_is)
+
+pub making_refused : (make : Option Make) (style : Style) (cert : Cert) (stay : ℕ) (states : List State) (target : Target) (place : Place) (scope : Scope)
+    (course : Course) (refusal : Refusal) → scope ≡ scope_making make style cert → course ≡ begun_behind stay
+    → Refused (target_from scope place target states course) refusal → Refused (call_made make style cert stay states target place) refusal
+making_refused make style cert stay states target place scope course refusal scope_is course_is refused differs =
+    ap (λ (w : Walk). then_do w (λ course. Ok (came_to course)))
+    (call_is (scope_making make style cert) states target place (begun_behind stay) scope course scope_is course_is ∙ refused differs)
+
+-- it may be walked where the loops that are made are loops of the checker's style
+pub making_walks : (make : Option Make) (style own : Style) (cert : Cert) (over : Over) → over ≡ record { style = style; cert = cert; writes = None }
+    → AreSound style cert → own ≡ style → IfSome make (MakesLoops own) → CanWalk over own make
+making_walks make style own cert over is sound same makes =
+    subst (λ (o : Over). CanWalk o own make) (sym is) (record {
+      sound = sound.sound;
+      certified = sound.certified;
+      same = same;
+      makes = subst (λ (s : Style). IfSome make (MakesLoops s)) same makes;
+    })
+
+-- the states at its end
+pub making_ends : (style own : Style) (stay : ℕ) (begun after : Course) (called : Called) → own ≡ style → begun ≡ begun_behind stay
+    → (GivesRoom own begun → GivesRoom own after) → after.count ≤ MOST_COUNT → called ≡ came_to after → All (IsEnd style) called.given
+making_ends style own stay begun after called same is keeps most came =
+    let none : begun.given ≡ [] = ap (λ (c : Course). c.given) is in
+    let given = keeps (subst (λ (l : List State). All (HasRoom own 0 begun.count) l) (sym none) (All-nil (HasRoom own 0 begun.count))) in
+    subst (λ (l : List State). All (IsEnd style) l) (sym (ap (λ (c : Called). c.given) came))
+    (subst (λ (s : Style). All (IsEnd s) after.given) same
+    (All-weaker (HasRoom own 0 after.count) (IsEnd own) (λ state room. let few = room.few in record { made = room.made; few = omega (arith, few, most) })
+    after.given given))
+
+-- the states that are called are well made
+pub called_made : (style : Style) (states : List State) → All (HasRoom style 64 0) states → All (WellMade style) states
+called_made style states room = All-weaker (HasRoom style 64 0) (WellMade style) (λ state there. there.made) states room
+
+-- what is told of how loops are made holds of the checker's style
+pub told_of : (P : Style → Make → Type 0) (make : Option Make) (style own : Style) → own ≡ style → IfSome make (P own) → IfSome make (P style)
+told_of P make style own same told = subst (λ (s : Style). IfSome make (P s)) same told

@@ -12,7 +12,7 @@ ghost use Rattle.cert_check.specs.Tours as tours;
 ghost use Rattle.cert_check.specs.Units as rule;
 
 use crate::course::Course;
-use crate::limits::MOST_LOOPS;
+use crate::limits::{MOST_COUNT, MOST_LOOPS};
 use crate::making::{Loops, Unmade};
 use crate::refusal::{Refusal, Walk};
 use crate::scope::Scope;
@@ -182,11 +182,7 @@ impl<'a> Checker<'a> {
         let scope = self.scope(None);
         let mut course = Course::making(self.alloc, stay);
         target_from(&scope, maker, place, target, states, &mut course)?;
-        Ok(Called {
-            given: Seq::from_vec(course.take_given()),
-            found: Seq::from_vec(course.take_found()),
-            loops: Seq::from_vec(course.take_loops()),
-        })
+        Ok(came_to(&mut course))
     }
 
     /// A turn from a case of a loop, by a certificate that has no such loop: the states that come to its ends, with the hints that are
@@ -237,5 +233,18 @@ impl<'a> Checker<'a> {
         ensures { option_map (λ one. one.now) result ≡ slice_get self.now.cert.loops index }
     {
         self.cert.loops.as_slice().get(index)
+    }
+}
+
+/// What a course came to, which is taken from it.
+fn came_to(course: &mut Course<'_>) -> Called
+    ensures came { result ≡ rule.came_to course.old }
+    ensures written { Each IsHint result.found }
+    ensures counted { course.old.count ≤ MOST_COUNT }
+{
+    Called {
+        given: Seq::from_vec(course.take_given()),
+        found: Seq::from_vec(course.take_found()),
+        loops: Seq::from_vec(course.take_loops()),
     }
 }

@@ -4,5 +4,6 @@ pub mod FewCases
 pub mod FoundFrames
 pub mod HintsWritten
 pub mod LoopsMade
+pub mod LoopsTold
 pub mod NextTurns
 pub mod Sequences

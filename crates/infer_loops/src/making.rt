@@ -10,6 +10,7 @@ use bv_base::memory::NoMemory;
 use cert_check::{Checker, Loops};
 use cert_format::cert::Loop;
 use std::alloc::Global;
+use std::marker::Model;
 use sym_state::state::State;
 
 /// A loop is made as its invariant, by the checker of a certificate that has the condition and no unit.
@@ -21,7 +22,9 @@ pub struct Invariants<'a> {
 
 impl<'a> Invariants<'a> {
     /// The invariants that a checker shows.
-    pub fn new(alloc: Global, checker: &'a Checker<'a>) -> Invariants<'a> {
+    pub fn new(alloc: Global, checker: &'a Checker<'a>) -> Invariants<'a>
+        ensures { result.checker.now ≡ checker.now }
+    {
         Invariants { alloc, checker }
     }
 }
@@ -33,6 +36,8 @@ impl<'a> Loops for Invariants<'a> {
 
     fn makes(&self) -> bool {
         invariants_are_loops();
+        let _sound = self.checker.style();
+        let _certified = self.checker.cond();
         true
     }
 
