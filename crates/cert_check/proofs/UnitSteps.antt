@@ -200,11 +200,18 @@ called_finding finding style cert states target place scope course after given f
 }
 
 -- a walk of a checker that makes its loops, and where it begins
-abbrev scope_making : Option Make → Style → Cert → Scope
+abbrev pub scope_making : Option Make → Style → Cert → Scope
 scope_making make style cert = record { style = style; cert = cert; writes = None; make = make }
 
-abbrev begun_behind : ℕ → Course
+abbrev pub begun_behind : ℕ → Course
 begun_behind stay = record (searching Straight) { stay = stay }
+
+-- what it comes to is what the walk of the checker's scope does
+pub making_taken : (make : Option Make) (style : Style) (cert : Cert) (stay : ℕ) (states : List State) (target : Target) (place : Place) (scope : Scope)
+    (course after : Course) → scope ≡ scope_making make style cert → course ≡ begun_behind stay → target_from scope place target states course ≡ Ok after
+    → target_from (scope_making make style cert) place target states (begun_behind stay) ≡ Ok after
+making_taken make style cert stay states target place scope course after scope_is course_is e =
+    call_is (scope_making make style cert) states target place (begun_behind stay) scope course scope_is course_is ∙ e
 
 -- a call whose hints are found and whose loops are made
 pub called_making : (make : Option Make) (style : Style) (cert : Cert) (stay : ℕ) (states : List State) (target : Target) (place : Place) (scope : Scope)
@@ -213,7 +220,7 @@ pub called_making : (make : Option Make) (style : Style) (cert : Cert) (stay : �
     → call_made make style cert stay states target place ≡ Ok called
 called_making make style cert stay states target place scope course after called scope_is course_is e called_is =
     ap (λ (w : Walk). then_do w (λ course. Ok (came_to course)))
-    (call_is (scope_making make style cert) states target place (begun_behind stay) scope course scope_is course_is ∙ e)
+    (making_taken make style cert stay states target place scope course after scope_is course_is e)
     ∙ ap (λ (c : Called). let found : Result Called Refusal = Ok c in found) (sym called_is)
 
 pub making_refused : (make : Option Make) (style : Style) (cert : Cert) (stay : ℕ) (states : List State) (target : Target) (place : Place) (scope : Scope)

@@ -240,6 +240,7 @@ impl<'a> Checker<'a> {
 fn came_to(course: &mut Course<'_>) -> Called
     ensures came { result ≡ rule.came_to course.old }
     ensures written { Each IsHint result.found }
+    ensures few { course.old.stay + length result.loops ≤ MOST_LOOPS }
     ensures counted { course.old.count ≤ MOST_COUNT }
 {
     Called {

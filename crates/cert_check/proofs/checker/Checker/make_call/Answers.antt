@@ -1,9 +1,10 @@
-use Rattle.std.proofs.Common.{ap}
+use Rattle.std.proofs.Common.{◌+◌, ◌≤◌, ℕ, ap, length, subst}
 use Rattle.std.proofs.lemmas.Result.{err_from_is_err_and}
 use Rattle.cert_check.specs.Certified.{MakesLoops, MakesStanding}
 use Rattle.cert_check.specs.Walks.{Over, scope_of}
-use Rattle.cert_check.proofs.Standing.{call_stands}
-use Rattle.cert_check.proofs.UnitSteps.{called_made, called_making, making_ends, making_refused, making_walks, told_of}
+use Rattle.cert_check.specs.declared.limits.TheConstants.{MOST_LOOPS}
+use Rattle.cert_check.proofs.Standing.{call_stands, call_stays}
+use Rattle.cert_check.proofs.UnitSteps.{called_made, called_making, making_ends, making_refused, making_taken, making_walks, told_of}
 use Rattle.cert_check.proofs.checker.Checker.make_call.Goals as goal
 
 -- the walk
@@ -47,3 +48,17 @@ returns-clause-stand g c =
     (called_making make style c.args.self.now.cert c.args.stay c.args.states.items c.args.target c.args.place (scope_of c.scope-scope.result make)
     c.making-course.result c.target_from.new.course c.came_to.result (ap (λ (over : Over). scope_of over make) c.scope-scope.ensures.scope)
     c.making-course.ensures c.in_ok-target_from.ensures.takes c.came_to.ensures.came)
+
+pub returns-clause-few : goal.returns-clause-few
+returns-clause-few g c =
+    let make = g.M.Loops.made c.args.maker.now in
+    let style = c.args.self.now.style in
+    let own = g.M.Loops.style c.args.maker.now in
+    subst (λ (n : ℕ). n + length c.came_to.result.loops ≤ MOST_LOOPS)
+    (call_stays make style c.args.self.now.cert c.args.stay c.args.states.items c.args.target c.args.place c.target_from.new.course
+    c.scope-scope.ensures.sound.sound c.scope-scope.ensures.sound.certified (told_of MakesLoops make style own c.requires.style c.makes.ensures.sound)
+    (called_made style c.args.states.items c.requires.room)
+    (making_taken make style c.args.self.now.cert c.args.stay c.args.states.items c.args.target c.args.place (scope_of c.scope-scope.result make)
+    c.making-course.result c.target_from.new.course (ap (λ (over : Over). scope_of over make) c.scope-scope.ensures.scope) c.making-course.ensures
+    c.in_ok-target_from.ensures.takes))
+    c.came_to.ensures.few
