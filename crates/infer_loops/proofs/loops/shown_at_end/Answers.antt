@@ -1,7 +1,5 @@
--- There are few exits, and the hints may be written.
+-- There are few exits.
 use Rattle.std.proofs.Common.{arith}
-use Rattle.infer_loops.proofs.HintsWritten.{entailing_written}
-use Rattle.infer_loops.proofs.LoopsTold.{answer_written}
 use Rattle.infer_loops.proofs.loops.shown_at_end.Goals as goal
 
 pub entailing_one-requires-else-end-clause-few : goal.entailing_one-requires-else-end-clause-few
