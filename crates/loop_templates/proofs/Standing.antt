@@ -200,6 +200,7 @@ first_has_cases frame found is ready =
     (elim (may_enter frame.entering) as (λ (b : Bool). may_enter frame.entering ≡ b
     → IfSome (cond b (Some (record { first = map (entering_case frame) frame.entering; added = [] })) None) (HasCases frame)) [
       | true ↦ λ may. record {
+        some = let mapped = length-map frame.entering (entering_case frame) in let enter = ready.some in omega (arith, mapped, enter);
         first = all_entering frame frame.entering ready ready.entering
             ((and_parts (nat_le (length frame.entering) 64) (list_all (λ (s : State). is_short s.stack) frame.entering) may).1);
         added = All-nil (λ (one : Added). IsCase frame one.case);
@@ -230,7 +231,7 @@ added_made frame states (bones ∷ new) ready =
     (made_of frame bones frame.entering None (states_of bones states) (case_of frame states bones) refl ready) (added_made frame states new ready)
 
 -- a case without some of its rows
-each_kept : {X : Type 0} (P : X → Type 0) (test : X → Bool) (xs : List X) → Each P xs → Each P (filter test xs)
+pub each_kept : {X : Type 0} (P : X → Type 0) (test : X → Bool) (xs : List X) → Each P xs → Each P (filter test xs)
 each_kept P test [] each = tt
 each_kept {X} P test (x ∷ xs) each =
     elim (test x) as (λ (b : Bool). Each P (cond b (x ∷ filter test xs) (filter test xs))) [
@@ -279,6 +280,7 @@ settled_cases frame candidate turned has =
     elim (list_any (is_lower frame.admits turned) candidate.added) as (λ (b : Bool). HasNextCases frame
     (cond b (goes candidate added) (passes frame.admits added turned))) [
       | true ↦ record {
+        some = has.some;
         first = has.first;
         added = all_lowered frame turned candidate.added has.added;
         made = all_lowered_made frame.admits turned candidate.added has.made;
@@ -293,6 +295,7 @@ grown_cases frame candidate turned new ready boned has =
     elim (may_grow candidate new) as (λ (b : Bool). may_grow candidate new ≡ b → HasNextCases frame
     (cond b (goes candidate (candidate.added ++ map (added_for frame turned) new)) next.Ends)) [
       | true ↦ λ may. record {
+        some = has.some;
         first = has.first;
         added = All-append P candidate.added (map (added_for frame turned) new) has.added
             (all_added frame turned new ready boned ((and_parts (has_room candidate (length new)) (list_all is_short new) may).1));
