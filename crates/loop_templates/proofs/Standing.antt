@@ -337,7 +337,10 @@ exits_are_cases frame left exits is ready made =
 pub exits_made : (frame : Frame) (left : List State) (exits : List Added) → exits ≡ exits_of frame left → IsFrame frame → All IsMade exits
 exits_made frame left exits is ready = subst (λ (them : List Added). All IsMade them) (sym is) (added_made frame left (new_skeletons [] left) ready)
 
--- the case that states with empty stacks have in common
+-- the case that states have in common
 pub common_is_case : (frame : Frame) (states : List State) (case : Piece) → case ≡ common_case frame states → IsFrame frame → IsCase frame case
 common_is_case frame states case is ready =
-    subst (IsCase frame) (sym is) (added_is_case frame states [] ready (All-nil (IsBoneOf frame.style)) refl)
+    let none : Skeleton = [] in
+    subst (IsCase frame) (sym is)
+    (case_stands frame none frame.entering None states ready (later_stands frame none frame.entering refl (All-nil (IsBoneOf frame.style)) ready.entering)
+    (short_is none refl))

@@ -1,6 +1,6 @@
 -- Cases of what commands leave (docs/ANALYSER.md, "Commands"): all that the states at the end of a call have in common, and the rows that a
 -- visit leaves for the next one.
-use Rattle.std.specs.Prelude.{Bool, List, []}
+use Rattle.std.specs.Prelude.{Bool, List, [], None}
 use Rattle.std.specs.List.{filter, list_all}
 use Rattle.lin_facts.specs.declared.row.Row.{Row}
 use Rattle.bst_meaning.specs.declared.condition.Cond.{Cond}
@@ -8,11 +8,11 @@ use Rattle.sym_state.specs.Positions.{AtNext, row_moved}
 use Rattle.sym_state.specs.State.{State}
 use Rattle.sym_state.specs.declared.piece.Piece.{Piece}
 use Rattle.loop_templates.specs.Candidates.{is_proved}
-use Rattle.loop_templates.specs.Cases.{Frame, case_of}
+use Rattle.loop_templates.specs.Cases.{Frame, bare_case, with_rows}
 
--- the case that states with empty stacks have in common
+-- the case that states have in common, whatever stands on their stacks
 abbrev pub common_case : Frame → List State → Piece
-common_case frame states = case_of frame states []
+common_case frame states = with_rows frame states (bare_case frame [] frame.entering None)
 
 -- a row of a visit's case has a straight proof in a state at the visit's end, where one entry more was visited
 abbrev pub is_left : Cond → Piece → Row → State → Bool

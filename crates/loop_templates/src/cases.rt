@@ -125,7 +125,7 @@ pub(crate) fn each<'a>(alloc: Global, states: &'a [State]) -> Result<Vec<&'a Sta
 }
 
 /// A case with the rows of a list of states.
-fn with_rows(
+pub(crate) fn with_rows(
     alloc: Global,
     frame: &Frame<'_>,
     states: &[&State],
@@ -155,7 +155,7 @@ fn with_rows(
 
 /// A case without rows, which may start a state. A stack that can't be numbered is want of memory.
 #[tactic(auto, using(crate::proofs::Cased::has_few, crate::proofs::Cased::is_fit, crate::proofs::Cased::is_numbered))]
-fn bare_case(
+pub(crate) fn bare_case(
     alloc: Global,
     frame: &Frame<'_>,
     bones: &[Bone],

@@ -8,7 +8,7 @@ ghost use Rattle.loop_templates.specs.Candidates.{CanMatch, IsCase};
 ghost use Rattle.loop_templates.specs.Cases.{IsFrame};
 ghost use Rattle.loop_templates.specs.Visits as rule;
 
-use crate::cases::{Frame, case_of, each};
+use crate::cases::{Frame, bare_case, each, with_rows};
 use crate::lowering::is_proved_in_all;
 use bst_meaning::condition::Cond;
 use bv_base::copied::Copied;
@@ -18,14 +18,18 @@ use std::alloc::Global;
 use sym_state::piece::Piece;
 use sym_state::state::State;
 
-/// The case that states with empty stacks have in common.
+/// The case that states have in common, whatever stands on their stacks.
+#[tactic(auto, using(crate::proofs::Cased::later_stands, crate::proofs::Made::all_bounded))]
 pub fn common_case(alloc: Global, frame: &Frame<'_>, states: &[State]) -> Result<Piece, NoMemory>
     requires frame { IsFrame frame.now }
     requires states { All (WellMade frame.now.style) states.now }
     ensures case { IfOk result (λ case. case ≡ rule.common_case frame.now states.now) }
     ensures stands { IfOk result (IsCase frame.now) }
 {
-    case_of(alloc, frame, states, &[])
+    let entering = each(alloc, frame.entering)?;
+    let piece = bare_case(alloc, frame, &[], entering.as_slice(), None)?;
+    let those = each(alloc, states)?;
+    with_rows(alloc, frame, those.as_slice(), piece)
 }
 
 /// The rows of a visit's case that have a straight proof in each of some states at the visit's end, where one entry more was visited. The

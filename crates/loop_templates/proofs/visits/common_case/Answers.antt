@@ -8,5 +8,5 @@ use Rattle.loop_templates.proofs.visits.common_case.Goals as goal
 
 pub returns-clause-stands : goal.returns-clause-stands
 returns-clause-stands c =
-    IfOk-weaker c.case_of.result (λ case. case ≡ common_case c.args.frame.now c.args.states.now) (IsCase c.args.frame.now)
-    (λ case is. common_is_case c.args.frame.now c.args.states.now case is c.requires.frame) c.case_of.ensures
+    IfOk-weaker c.with_rows.result (λ case. case ≡ common_case c.args.frame.now c.args.states.now) (IsCase c.args.frame.now)
+    (λ case is. common_is_case c.args.frame.now c.args.states.now case is c.requires.frame) c.with_rows.ensures
