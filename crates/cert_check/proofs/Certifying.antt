@@ -40,7 +40,7 @@ hint_few hint.Walk is = tt
 hint_few hint.Keep is = tt
 hint_few hint.Plain is = tt
 
-hints_few : (hints : List Hint) → Each IsHint hints → All HasFewUses hints
+pub hints_few : (hints : List Hint) → Each IsHint hints → All HasFewUses hints
 hints_few hints is = each_all IsHint HasFewUses hint_few hints is
 
 -- what a unit writes
@@ -123,7 +123,7 @@ maybe_movable : (style : Style) (piece : Option Piece) → IfSome piece (IsPiece
 maybe_movable style None is = tt
 maybe_movable style (Some piece) is = read_movable style true true 0 piece is
 
-command_read : (style : Style) (command : CommandPart) → IsSound style → IsCommandPart style command → HasShortParts command → IsCommandOf style command
+pub command_read : (style : Style) (command : CommandPart) → IsSound style → IsCommandPart style command → HasShortParts command → IsCommandOf style command
 command_read style command sound is short = record {
   there = is.there;
   after = maybe_read style false command.after sound is.after short.after;

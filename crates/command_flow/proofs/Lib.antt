@@ -19,3 +19,6 @@ pub mod Opened
 pub mod Deciding
 pub mod FoundRecords
 pub mod CommandsFound
+pub mod CommandsMade
+pub mod LeftPieces
+pub mod MadeParts

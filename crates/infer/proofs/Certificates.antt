@@ -5,16 +5,13 @@ use Rattle.bv_base.specs.declared.limits.TheConstants.{STYLE_BYTES}
 use Rattle.name_table.specs.Sound.{Each, IsSound}
 use Rattle.name_table.specs.declared.style.Style.{Style}
 use Rattle.bst_meaning.specs.declared.condition.Cond.{Cond}
-use Rattle.cert_format.specs.CertText.{IsCert, IsCommandPart, IsHint}
+use Rattle.cert_format.specs.CertText.{IsCert, IsCommandPart}
 use Rattle.cert_format.specs.CondText.{IsCond}
 use Rattle.cert_format.specs.declared.cert.Cert.{Cert}
 use Rattle.cert_format.specs.declared.cert.CommandPart.{CommandPart}
-use Rattle.sym_state.specs.Demands.{HasFewUses}
-use Rattle.sym_state.specs.declared.hint.Hint.{Hint}
-use Rattle.sym_state.specs.declared.hint.Hint.TheVariants as hint
 use Rattle.sym_state.specs.declared.piece.Piece.{Piece}
 use Rattle.cert_check.specs.Certified.{IsCertified, IsCommandOf}
-use Rattle.cert_check.proofs.Certifying.{cond_limits}
+use Rattle.cert_check.proofs.Certifying.{cond_limits, hints_few}
 use Rattle.cert_check.proofs.ReadPieces.{each_all}
 use Rattle.command_flow.specs.Finding.{AreRecords, IsRecord}
 use Rattle.infer.specs.Infer.{bare}
@@ -73,17 +70,7 @@ written_as style admits begun parts commands sound is one two are =
     (sym (ap (λ (c : Cert). record c { commands = commands }) one ∙ ap (λ (l : List CommandPart). record (bare admits) { commands = l }) two))
     (found_written style admits parts sound is are)
 
--- a hint that has a text is short
-hint_few : (h : Hint) → IsHint h → HasFewUses h
-hint_few (hint.Step proof) is = is.few
-hint_few (hint.Drop proof) is = is.few
-hint_few (hint.Apply n) is = tt
-hint_few (hint.Loop n) is = tt
-hint_few (hint.Case n) is = tt
-hint_few hint.Walk is = tt
-hint_few hint.Keep is = tt
-hint_few hint.Plain is = tt
-
+-- the record of a command is one of the style
 record_certified : (style : Style) (part : CommandPart) → IsRecord style part → IsCommandOf style part
 record_certified style part is = record {
   there = is.there;
@@ -93,7 +80,7 @@ record_certified style part is = record {
   moves = no_piece _ part.visit is.visit;
   keeps = no_piece _ part.keeps is.keeps;
   keeps_pos = no_piece _ part.keeps is.keeps;
-  hints = each_all IsHint HasFewUses hint_few part.hints is.hints;
+  hints = hints_few part.hints is.hints;
 }
 
 found_certified : (style : Style) (admits : Cond) (parts : List CommandPart) → IsCond style.names admits → AreRecords style parts

@@ -1,3 +1,4 @@
 pub mod Chains
 pub mod Conditions
 pub mod Certificates
+pub mod MadeCertificates

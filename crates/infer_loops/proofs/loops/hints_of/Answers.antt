@@ -8,7 +8,8 @@ pub loop-end-preserved : goal.loop-end-preserved
 loop-end-preserved c = record {
   hints = hints_more (hints_at_end c.args.frame.now c.args.candidate.now c.args.exits.now) (into_iter_items c.loop-end.end-iterator)
       (into_iter_items c.next.new.self) c.in-Some.end c.loop-end.hints.items c.push_hints.new.hints.items _ c.in-Some.ensures.steps.0
-      c.loop-end.invariant.hints c.in_ok-push_hints.ensures;
+      c.loop-end.invariant.hints c.in_ok-push_hints.ensures.hints;
+  written = c.in_ok-push_hints.ensures.written;
   ends = ends_left c.args.frame.now.style (into_iter_items c.loop-end.end-iterator) (into_iter_items c.next.new.self) c.in-Some.end
       c.in-Some.ensures.steps.0 c.loop-end.invariant.ends;
 }
