@@ -1,7 +1,7 @@
 -- What commands leave stands in a certificate, and is ready for what comes after them.
-use Rattle.std.proofs.Common.{◌≡◌, ℕ, ◌+◌, ◌≤◌, Bool, true, false, ◌&&◌, List, [], ◌∷◌, ◌++◌, length, Option, None, Some, IfSome, refl, sym, subst, arith}
+use Rattle.std.proofs.Common.{◌≡◌, ◌≢◌, ℕ, ◌+◌, ◌≤◌, Bool, true, false, ◌&&◌, List, [], ◌∷◌, ◌++◌, length, Option, None, Some, IfSome, ap, refl, sym, subst, arith}
 use Rattle.std.specs.List.{All, filter, list_all}
-use Rattle.std.proofs.lemmas.List.Elements.{All-cons, All-head, All-nil, All-tail}
+use Rattle.std.proofs.lemmas.List.Elements.{All-cons, All-head, All-nil, All-tail, All-weaker}
 use Rattle.name_table.specs.Sound.{Each, IsSound}
 use Rattle.name_table.specs.declared.names.NameId.{NameId}
 use Rattle.name_table.specs.declared.names.Kind.{Kind}
@@ -15,8 +15,10 @@ use Rattle.sym_state.specs.State.{State}
 use Rattle.sym_state.specs.WellMade.{WellMade}
 use Rattle.sym_state.specs.declared.piece.Piece.{Piece}
 use Rattle.sym_state.specs.declared.symbol.Bind.{Bind}
+use Rattle.sym_state.specs.declared.symbol.Sym.{Sym}
 use Rattle.straight_hints.specs.declared.finding.Finding.TheVariants.{Straight}
 use Rattle.straight_hints.proofs.Written.{piece_written}
+use Rattle.loop_templates.specs.Candidates.{CanMatch}
 use Rattle.loop_templates.specs.Cases.{Frame, IsFrame}
 use Rattle.loop_templates.specs.Reaching.{command_terms, occurring_anywhere}
 use Rattle.loop_templates.specs.Visits.{common_case, is_left, left_by}
@@ -141,3 +143,28 @@ ends_written style admits pieces (state ∷ states) ends =
     let few = (All-head (IsEnd style) state states ends).few in
     each_append IsHint _ _ (pieces_written admits pieces state (omega (arith, few)))
     (ends_written style admits pieces states (All-tail (IsEnd style) state states ends))
+
+-- it is ready for what comes after
+pub left_in_ready : (frame : Frame) (states : List State) (left : Option Piece) → left ≡ left_in frame states → IsFrame frame → IfSome left (IsReady frame.style)
+left_in_ready frame states left is ready =
+    subst (λ (it : Option Piece). IfSome it (IsReady frame.style)) (sym is) (there states)
+  where
+    there : (all : List State) → IfSome (left_in frame all) (IsReady frame.style)
+    there [] = tt
+    there (state ∷ all) =
+        left_ready frame.style frame.has_pos (common_case frame (state ∷ all)) ready.sound (case_left frame (state ∷ all) (common_case frame (state ∷ all)) refl ready)
+
+-- where no state comes to an end nothing is left, and else what they have in common
+pub none_left : (frame : Frame) (states : List State) → length states ≡ 0 → None ≡ left_in frame states
+none_left frame [] none = refl
+none_left frame (state ∷ states) none = absurd (omega (arith, none))
+
+pub some_is_left : (frame : Frame) (states : List State) (case : Piece) → length states ≢ 0 → case ≡ common_case frame states → Some case ≡ left_in frame states
+some_is_left frame [] case some is = absurd (some refl)
+some_is_left frame (state ∷ states) case some is = ap (λ (it : Piece). Some it) is
+
+-- states at the end of a call may show a piece without a stack
+pub ends_match : (style : Style) (piece : Piece) (states : List State) → piece.stack ≡ [] → All (IsEnd style) states → All (CanMatch (length piece.stack)) states
+ends_match style piece states bare ends =
+    let none : length piece.stack ≡ 0 = ap (λ (stack : List Sym). length stack) bare in
+    All-weaker (IsEnd style) (CanMatch (length piece.stack)) (λ state end. (end.made.bounds, omega (arith, none))) states ends

@@ -44,10 +44,10 @@ pub(crate) fn left_in(
     ensures left { IfOk result (λ left. left ≡ rule.left_in (rule.frame_left at.now.style.now at.now.cond.now name leaving start) states.now) }
     ensures ready { IfOk result (λ left. IfSome left (IsReady at.now.style.now)) }
 {
-    if states.is_empty() {
-        return Ok(None);
+    match states {
+        [] => Ok(None),
+        [_, ..] => Ok(Some(case_left(at, name, leaving, start, states)?)),
     }
-    Ok(Some(case_left(at, name, leaving, start, states)?))
 }
 
 /// What it leaves that these have in common.
@@ -113,14 +113,9 @@ pub(crate) fn first_visit(at: &At<'_>, name: NameId, between: &Between) -> Resul
     ensures visit { IfOk result (rule.IsVisit at.now.style.now) }
 {
     let starts = from_ref(&between.globals);
+    let start = state_of(at, starts, false)?;
     let before = [state_of(at, starts, false)?];
-    case_left(
-        at,
-        name,
-        BEFORE_VISITS,
-        state_of(at, starts, false)?,
-        &before,
-    )
+    case_left(at, name, BEFORE_VISITS, start, &before)
 }
 
 /// The rows of a visit's piece that each of some states at its end shows of the next entry.
