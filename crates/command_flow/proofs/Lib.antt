@@ -11,6 +11,7 @@ pub mod FramesLeft
 pub mod InPlay
 pub mod Known
 pub mod LeftPieces
+pub mod MadeCalls
 pub mod MadeParts
 pub mod MovedRows
 pub mod Opened
