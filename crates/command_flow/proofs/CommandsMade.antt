@@ -5,7 +5,11 @@ use Rattle.std.proofs.lemmas.List.{append-nil}
 use Rattle.std.proofs.lemmas.List.Elements.{All-append, All-nil}
 use Rattle.std.proofs.lemmas.Option.{slice_get-get_or}
 use Rattle.bv_base.specs.Answers.{then_do}
+use Rattle.bv_base.specs.declared.place.Place.{Place}
 use Rattle.name_table.specs.Sound.{Each}
+use Rattle.name_table.specs.declared.names.NameId.{NameId}
+use Rattle.name_table.specs.declared.style.Command.{Command}
+use Rattle.name_table.specs.declared.style.Command.TheVariants.{Execute, Iterate, Reverse}
 use Rattle.name_table.specs.declared.style.CommandAt.{CommandAt}
 use Rattle.name_table.specs.declared.style.Style.{Style}
 use Rattle.cert_format.specs.CertText.{IsCommandPart}
@@ -86,3 +90,13 @@ pub made_before_next : (style : Style) (index : ℕ) (parts made more : List Com
 made_before_next style index parts made more are at put =
     subst (λ (n : ℕ). AreMadeBefore style n more) (sym (add-one index))
     (subst (AreMadeBefore style (suc index)) (sym put) (more_made style index parts made are at))
+
+-- another command makes nothing
+pub nothing_made : (seeking : Seeking) (index : ℕ) (k : Command) (place : Place) (lasting : Lasting) (parts : List CommandPart)
+    → ((name : NameId) → k ≡ Execute name → ⊥) → ((name : NameId) → k ≡ Iterate name → ⊥) → ((name : NameId) → k ≡ Reverse name → ⊥) → parts ≡ []
+    → command_in seeking index k place lasting ≡ Ok (record { lasting = lasting; parts = parts })
+nothing_made seeking index (Execute name) place lasting parts execute iterate reverse none = absurd (execute name refl)
+nothing_made seeking index (Iterate name) place lasting parts execute iterate reverse none = absurd (iterate name refl)
+nothing_made seeking index (Reverse name) place lasting parts execute iterate reverse none = absurd (reverse name refl)
+nothing_made seeking index _ place lasting parts execute iterate reverse none =
+    ap (λ (all : List CommandPart). let made : Result Made Refusal = Ok (record { lasting = lasting; parts = all }) in made) (sym none)

@@ -74,7 +74,7 @@ one_part style index after visit keeps hints sound there is_after is_visit is_ke
       few = omega arith;
     }
 
-no_part : (style : Style) (index : ℕ) → AreMadeAt style index []
+pub no_part : (style : Style) (index : ℕ) → AreMadeAt style index []
 no_part style index = record { each = tt; of_style = All-nil (IsCommandOf style); at = tt; few = omega arith }
 
 execute_parts : (style : Style) (index : ℕ) (after : Option Piece) (hints : List Hint) → IsSound style → index < length style.commands
