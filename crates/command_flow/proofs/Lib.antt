@@ -24,3 +24,4 @@ pub mod Shaped
 pub mod Starting
 pub mod Steps
 pub mod Visiting
+pub mod VisitsMade

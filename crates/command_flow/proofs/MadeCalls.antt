@@ -1,5 +1,5 @@
 -- What is made for a command, by what its calls come to.
-use Rattle.std.proofs.Common.{◌≡◌, ◌≢◌, ℕ, zero, suc, ◌+◌, ◌≤◌, Bool, true, false, cond, nat_eq, List, [], ◌∷◌, ◌++◌, length, Result, Ok, Err, IfOk, ap, refl, sym, subst, ◌∙◌, arith}
+use Rattle.std.proofs.Common.{◌≡◌, ℕ, true, false, List, [], ◌∷◌, length, Result, Ok, Err, IfOk, ap, refl, sym, ◌∙◌}
 use Rattle.std.specs.Result.{MatchResult}
 use Rattle.bv_base.specs.Answers.{then_do}
 use Rattle.bv_base.specs.declared.place.Place.{Place}
@@ -15,7 +15,7 @@ use Rattle.cert_check.specs.declared.refusal.Reason.TheVariants.{NoMemory}
 use Rattle.cert_check.specs.declared.refusal.Refusal.{Refusal}
 use Rattle.command_flow.specs.Commands.{started_between, started_visit}
 use Rattle.command_flow.specs.Ready.{Decides}
-use Rattle.command_flow.specs.Templates.{Seeking, called_in, executed_by, executed_in, first_visit, visited_by, visited_in, visits_by, visits_from}
+use Rattle.command_flow.specs.Templates.{Seeking, called_in, executed_by, executed_in, first_visit, visited_by, visited_in, visits_from}
 use Rattle.command_flow.specs.declared.between.Between.{Between}
 use Rattle.command_flow.specs.declared.templates.Lasting.{Lasting}
 use Rattle.command_flow.specs.declared.templates.Made.{Made}
@@ -80,15 +80,6 @@ execute_makes seeking style admits index name place lasting stay start calling s
     (same_call seeking stay (length lasting.loops) name place start from one two ∙ is)
     ∙ ap (λ (s : Style). next s seeking.cert.cond calling) (sym same_style)
     ∙ ap (λ (a : Cond). next style a calling) (sym same_cond)
-
--- one visit fails, or comes to its end
-pub visit_refused : (n : ℕ) (seeking : Seeking) (name : NameId) (place : Place) (lasting : Lasting) (visit : Piece) (all : Result Visits Refusal) (refusal : Refusal)
-    → visits_from (suc n) seeking name place lasting visit ≡ all
-    → Refused (called_in seeking (length lasting.loops) name place (started_visit seeking.style seeking.cert.cond visit lasting.between.entry)) refusal
-    → Refused all refusal
-visit_refused n seeking name place lasting visit all refusal so_far refused =
-    let rule = called_in seeking (length lasting.loops) name place (started_visit seeking.style seeking.cert.cond visit lasting.between.entry) in
-    λ memory. sym so_far ∙ then_fails rule _ (visits_from (suc n) seeking name place lasting visit) refusal refl refused memory
 
 -- ITERATE and REVERSE, by what was found of their visits
 pub visited_refused : (seeking : Seeking) (index : ℕ) (name : NameId) (place : Place) (lasting : Lasting) (first : Piece) (n : ℕ) (refusal : Refusal)

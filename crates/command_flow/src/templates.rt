@@ -30,7 +30,6 @@ use cert_check::limits::MOST_LOOPS;
 use cert_check::refusal::{Reason, Refusal};
 use cert_check::{Called, Checker, Loops, held, refuse};
 use cert_format::cert::{CommandPart, Loop};
-use loop_templates::limits::MOST_ITEMS;
 use name_table::names::NameId;
 use name_table::style::{Command, Style};
 use std::alloc::Global;
@@ -39,6 +38,9 @@ use straight_hints::{Finding, piece_hints};
 use sym_state::hint::Hint;
 use sym_state::piece::Piece;
 use sym_state::state::State;
+
+/// The most visits of a command that are walked: each but the last leaves out one of at most 64 rows.
+const MOST_VISITS: u32 = 65;
 
 /// What stands between commands: what is known there, and the loops that stay.
 #[derive(Drop)]
@@ -277,7 +279,7 @@ fn visits<M: Loops>(
 {
     let place = at.command.place;
     let mut visit = first;
-    for _ in 0..=MOST_ITEMS {
+    for _ in 0..MOST_VISITS {
         let calling = visit_walked(at, maker, name, lasting, &visit)?;
         let rows = held(place, rows_left_by(at, &visit, calling.given.as_slice()))?;
         if rows.len() == visit.rows.as_slice().len() {
