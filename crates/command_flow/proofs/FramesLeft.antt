@@ -1,5 +1,5 @@
 -- The frame of what a command leaves, by its parts, and the piece that stands before its first visit.
-use Rattle.std.proofs.Common.{◌≡◌, List, [], ◌∷◌, true, false, ap, refl, sym, subst, ◌∙◌, arith}
+use Rattle.std.proofs.Common.{◌≡◌, List, [], ◌∷◌, true, false, ap, refl, ◌∙◌, arith}
 use Rattle.std.specs.List.{All}
 use Rattle.std.proofs.lemmas.List.Elements.{All-cons, All-nil}
 use Rattle.lin_facts.specs.declared.row.Part.{Part}
@@ -9,7 +9,7 @@ use Rattle.name_table.specs.declared.names.NameId.{NameId}
 use Rattle.name_table.specs.declared.style.Style.{Style}
 use Rattle.bst_meaning.specs.declared.condition.Cond.{Cond}
 use Rattle.sym_state.specs.State.{State}
-use Rattle.sym_state.specs.WellMade.{HasSmallFields, WellMade}
+use Rattle.sym_state.specs.WellMade.{HasSmallFields}
 use Rattle.sym_state.specs.declared.piece.Piece.{Piece}
 use Rattle.loop_templates.specs.Bound.{all_bound, is_bound_variable}
 use Rattle.loop_templates.specs.Cases.{Frame}

@@ -1,10 +1,11 @@
 -- Visits, one after the other.
-use Rattle.std.proofs.Common.{◌≡◌, ◌≢◌, ℕ, zero, suc, ◌+◌, ◌-◌, ◌<◌, Bool, true, false, cond, nat_eq, List, length, Result, Ok, ap, refl, sym, subst, ◌∙◌, arith}
+use Rattle.std.proofs.Common.{◌≡◌, ◌≢◌, ℕ, suc, ◌+◌, ◌-◌, ◌<◌, Bool, true, false, cond, nat_eq, List, length, Result, Ok, ap, sym, ◌∙◌, arith}
 use Rattle.std.proofs.lemmas.Bool.Decides.{nat_tests}
 use Rattle.bv_base.specs.Answers.{then_do}
 use Rattle.bv_base.specs.declared.place.Place.{Place}
 use Rattle.lin_facts.specs.declared.row.Row.{Row}
 use Rattle.name_table.specs.declared.names.NameId.{NameId}
+use Rattle.name_table.specs.declared.style.Style.{Style}
 use Rattle.bst_meaning.specs.declared.condition.Cond.{Cond}
 use Rattle.sym_state.specs.declared.piece.Piece.{Piece}
 use Rattle.loop_templates.specs.Visits.{left_by}
@@ -75,3 +76,12 @@ visit_goes_on seeking name place lasting done visit next whole calling rows come
 pub no_visit_left : (seeking : Seeking) (name : NameId) (place : Place) (lasting : Lasting) (done : ℕ) (visit : Piece) (whole : Result Visits Refusal) → done ≡ 65
     → VisitsTo seeking name place lasting done visit whole → refuses place NoInvariant ≡ whole
 no_visit_left seeking name place lasting done visit whole is comes = comes 0 (omega (arith, is))
+
+-- a visit by a style and a condition that are the same
+pub as_visit : (seeking : Seeking) (style : Style) (admits : Cond) (name : NameId) (place : Place) (lasting : Lasting) (visit : Piece) → style ≡ seeking.style
+    → admits ≡ seeking.cert.cond → visit_of seeking name place lasting visit
+    ≡ called_in seeking (length lasting.loops) name place (started_visit style admits visit lasting.between.entry)
+as_visit seeking style admits name place lasting visit one two =
+    let entry = lasting.between.entry in
+    ap (λ (s : Style). called_in seeking (length lasting.loops) name place (started_visit s seeking.cert.cond visit entry)) (sym one)
+    ∙ ap (λ (a : Cond). called_in seeking (length lasting.loops) name place (started_visit style a visit entry)) (sym two)
