@@ -69,7 +69,7 @@ one_part style index after visit keeps hints sound there is_after is_visit is_ke
         visit = left_texts style true visit is_visit;
         keeps = left_texts style false keeps is_keeps;
       }))
-      (All-nil (IsCommandOf style));
+          (All-nil (IsCommandOf style));
       at = (refl, tt);
       few = omega arith;
     }
