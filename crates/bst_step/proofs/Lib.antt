@@ -4,9 +4,17 @@ pub mod PlaceLookups
 pub mod PlacesMade
 pub mod FieldSteps
 pub mod EntrySteps
+pub mod CutValues
+pub mod HeldSteps
+pub mod ValueSteps
+pub mod ViewSteps
+pub mod RenewSteps
+pub mod AssignSteps
+pub mod FoundSteps
 pub mod StableOrder
 pub mod SortSteps
 pub mod OpeningSteps
+pub mod OpenedSteps
 pub mod RestSteps
 pub mod BrokenLines
 pub mod LateBreaks

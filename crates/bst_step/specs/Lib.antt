@@ -1,7 +1,11 @@
+pub mod Held
+pub mod Stack
 pub mod Outcome
 pub mod Operands
 pub mod Surroundings
 pub mod Variables
+pub mod EntryStates
+pub mod Values
 pub mod Places
 pub mod State
 pub mod Moves

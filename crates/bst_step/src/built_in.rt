@@ -7,54 +7,57 @@ ghost use Rattle.bst_step.specs.Surroundings.{context_in};
 
 use crate::assign::assign;
 use crate::outcome::Outcome;
-use crate::stack::Stack;
 use crate::stop::Stop;
 use crate::surroundings::Surroundings;
+use crate::values::Values;
 use crate::{entries, flow, logs, moves, names, numbers, texts};
-use bst_meaning::value::Value;
 use name_table::builtin::Builtin;
 
 /// What a built-in function comes to on a stack, which it leaves as it is: the effect is made afterwards, where there is
 /// one.
-pub fn outcome_of(op: Builtin, around: Surroundings, stack: &Stack<Value>) -> Result<Outcome, Stop>
-    ensures { Gives result stack.now (rule.built_in op (context_in around.entry) stack.now) }
+pub fn outcome_of<'a>(
+    op: Builtin,
+    around: Surroundings<'a>,
+    values: &Values<'a>,
+) -> Result<Outcome<'a>, Stop>
+    ensures { Gives result values.now.stack (rule.built_in op (context_in around.entry) values.now.stack) }
 {
     match op {
-        Builtin::Equal => numbers::equal(stack),
-        Builtin::Greater => numbers::greater(stack),
-        Builtin::Less => numbers::less(stack),
-        Builtin::Plus => numbers::plus(stack),
-        Builtin::Minus => numbers::minus(stack),
-        Builtin::Join => texts::join(around.alloc, stack),
-        Builtin::Assign => assign(around, stack),
-        Builtin::AddPeriod => texts::add_period(around.alloc, stack),
-        Builtin::CallType => flow::call_type(around.style, around.entry, stack),
-        Builtin::ChangeCase => texts::change_case(around.alloc, stack),
-        Builtin::ChrToInt => numbers::chr_to_int(stack),
-        Builtin::Cite => entries::cite(around.alloc, around.entry, stack),
-        Builtin::Duplicate => moves::duplicate(around.alloc, stack),
-        Builtin::Empty => texts::empty(stack),
-        Builtin::FormatName => names::format_name(around.alloc, stack),
-        Builtin::IfElse => flow::if_else(stack),
-        Builtin::IntToChr => numbers::int_to_chr(around.alloc, stack),
-        Builtin::IntToStr => numbers::int_to_str_of(around.alloc, stack),
-        Builtin::Missing => texts::missing(stack),
+        Builtin::Equal => numbers::equal(values),
+        Builtin::Greater => numbers::greater(values),
+        Builtin::Less => numbers::less(values),
+        Builtin::Plus => numbers::plus(values),
+        Builtin::Minus => numbers::minus(values),
+        Builtin::Join => texts::join(values),
+        Builtin::Assign => assign(around, values),
+        Builtin::AddPeriod => texts::add_period(around.alloc, values),
+        Builtin::CallType => flow::call_type(around.style, around.entry, values),
+        Builtin::ChangeCase => texts::change_case(around.alloc, values),
+        Builtin::ChrToInt => numbers::chr_to_int(values),
+        Builtin::Cite => entries::cite(around.entry, values),
+        Builtin::Duplicate => moves::duplicate(values),
+        Builtin::Empty => texts::empty(values),
+        Builtin::FormatName => names::format_name(around.alloc, values),
+        Builtin::IfElse => flow::if_else(values),
+        Builtin::IntToChr => numbers::int_to_chr(around.alloc, values),
+        Builtin::IntToStr => numbers::int_to_str_of(around.alloc, values),
+        Builtin::Missing => texts::missing(values),
         Builtin::Newline | Builtin::Skip => Ok(moves::same(op)),
-        Builtin::NumNames => names::num_names(stack),
-        Builtin::Pop => moves::pop(stack),
-        Builtin::Preamble => texts::constant(around.alloc, around.preamble, stack),
-        Builtin::Purify => texts::purify(around.alloc, stack),
-        Builtin::Quote => texts::constant(around.alloc, b"\"", stack),
-        Builtin::Stack => logs::all(around.alloc, around.style, stack),
-        Builtin::Substring => texts::substring(around.alloc, stack),
-        Builtin::Swap => moves::swap(stack),
-        Builtin::TextLength => texts::text_length(stack),
-        Builtin::TextPrefix => texts::text_prefix(around.alloc, stack),
-        Builtin::Top => logs::top(around.alloc, around.style, stack),
-        Builtin::TypeName => entries::type_of(around.alloc, around.style, around.entry, stack),
-        Builtin::Warning => logs::warning(around.alloc, stack),
-        Builtin::WhileDo => flow::while_do(stack),
-        Builtin::Width => texts::width(stack),
-        Builtin::Write => moves::write(stack),
+        Builtin::NumNames => names::num_names(values),
+        Builtin::Pop => moves::pop(values),
+        Builtin::Preamble => texts::constant(around.preamble, values),
+        Builtin::Purify => texts::purify(around.alloc, values),
+        Builtin::Quote => texts::constant(b"\"", values),
+        Builtin::Stack => logs::all(around.alloc, around.style, values),
+        Builtin::Substring => texts::substring(values),
+        Builtin::Swap => moves::swap(values),
+        Builtin::TextLength => texts::text_length(values),
+        Builtin::TextPrefix => texts::text_prefix(around.alloc, values),
+        Builtin::Top => logs::top(around.alloc, around.style, values),
+        Builtin::TypeName => entries::type_of(around.style, around.entry, values),
+        Builtin::Warning => logs::warning(around.alloc, values),
+        Builtin::WhileDo => flow::while_do(values),
+        Builtin::Width => texts::width(values),
+        Builtin::Write => moves::write(values),
     }
 }

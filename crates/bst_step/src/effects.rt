@@ -1,19 +1,18 @@
 //! The effects of the built-in functions on the machine.
 
-ghost use Rattle.std.specs.Prelude.{◌≡◌, ◌∷◌, [], map, OnErr, OnOk};
+ghost use Rattle.std.specs.Prelude.{◌≡◌, ◌∷◌, [], drop, OnErr, OnOk};
 ghost use Rattle.bst_meaning.specs.StyleParts as parts;
 ghost use Rattle.bst_meaning.specs.Machine as rule;
-ghost use Rattle.bst_step.specs.Outcome.{effect_of, swapped};
-ghost use Rattle.bst_step.specs.State.{config_of, event_of, state_of, tokens_left};
-ghost use Rattle.bst_step.specs.Moves.{with_stack, with_log, with_event, with_top_written, with_second_assigned, with_new, assigned_in_entry};
-ghost use Rattle.bst_step.specs.Variables.{variable_of};
+ghost use Rattle.bst_step.specs.Outcome.{effect_of};
+ghost use Rattle.bst_step.specs.State.{config_of, event_of, tokens_left};
+ghost use Rattle.bst_step.specs.Values.{cut};
+ghost use Rattle.bst_step.specs.Moves.{with_stack, with_log, with_event, with_top_written, with_second_assigned, with_second_cut, with_top_assigned};
 
+use crate::held::Operand;
 use crate::outcome::Outcome;
-use crate::stack::Stack;
-use crate::state::{EntryState, Event, Rest, State};
-use crate::variables::Variable;
+use crate::state::{Event, Rest, State};
 use bst_meaning::style_parts::{kind_of, tokens_of};
-use bst_meaning::value::{Target, Value};
+use bst_meaning::value::Target;
 use bv_base::memory::NoMemory;
 use bv_base::place::Place;
 use bv_base::text::Text;
@@ -35,47 +34,66 @@ impl<'a> State<'a> {
     pub fn apply(
         &mut self,
         style: &'a Style,
-        outcome: Outcome,
+        outcome: Outcome<'a>,
         place: Place,
     ) -> Result<(), NoMemory>
-        ensures moved { OnOk result (config_of self.new ≡ rule.with_effect style.now (effect_of outcome self.old.stack) place (config_of self.old)) }
-        ensures entries { OnErr result (self.new.entries.items ≡ self.old.entries.items) }
+        ensures moved { OnOk result (config_of self.new ≡ rule.with_effect style.now (effect_of outcome.entry self.old.values.stack) place (config_of self.old)) }
+        ensures entries { OnErr result (self.new.values.entries ≡ self.old.values.entries) }
     {
         match outcome {
             Outcome::Push(taken, value) => {
-                self.stack.drop_top(taken);
-                self.stack.push(value)
+                self.values.drop_top(taken);
+                self.values.push(value)
             }
+            Outcome::Make(taken, bytes) => {
+                self.values.drop_top(taken);
+                self.values.make(bytes.as_slice())
+            }
+            Outcome::Double => self.values.double(),
+            Outcome::Join => self.values.join(),
+            Outcome::Cut(taken, from, count) => self.leave_part(taken, from, count),
             Outcome::Enter(taken, target, part) => {
-                self.stack.drop_top(taken);
+                self.values.drop_top(taken);
                 self.enter(entered_at(style, target, place), place, part)
             }
             Outcome::Log(taken, line) => {
-                self.stack.drop_top(taken);
+                self.values.drop_top(taken);
                 self.log_line(line)
             }
             Outcome::LogAll(lines) => self.log_all(lines),
             Outcome::Leave(taken) => {
-                self.stack.drop_top(taken);
+                self.values.drop_top(taken);
                 Ok(())
             }
             Outcome::EndLine => self.write(Event::EndedLine),
             Outcome::Write => self.write_top(),
-            Outcome::Swap => self.swap_top(),
-            Outcome::Assign(name) => self.assign_second(style, name),
-            Outcome::AssignCut(name, text, line) => {
-                self.stack.drop_top(2);
+            Outcome::Swap => self.values.swap(),
+            Outcome::Assign(name) => {
+                self.assign_second(style, name);
+                Ok(())
+            }
+            Outcome::AssignCut(name, size, line) => {
                 self.log_line(line)?;
-                self.assign(style, name, Value::Str(text));
+                self.assign_cut(style, name, size);
                 Ok(())
             }
         }
     }
 
+    /// Takes values away, and leaves of the string below them so many bytes from a place on.
+    fn leave_part(&mut self, taken: usize, from: usize, count: usize) -> Result<(), NoMemory>
+        ensures moved { OnOk result (config_of self.new ≡ with_stack (cut from count (drop taken self.old.values.stack)) (config_of self.old)) }
+        ensures entries { OnErr result (self.new.values.entries ≡ self.old.values.entries) }
+    {
+        self.values.drop_top(taken);
+        self.values.cut_top(from, count);
+        Ok(())
+    }
+
     /// Logs a line.
     fn log_line(&mut self, line: Text) -> Result<(), NoMemory>
         ensures moved { OnOk result (config_of self.new ≡ with_log (line ∷ []) (config_of self.old)) }
-        ensures entries { OnErr result (self.new.entries.items ≡ self.old.entries.items) }
+        ensures entries { OnErr result (self.new.values.entries ≡ self.old.values.entries) }
     {
         self.log.push(line)?;
         Ok(())
@@ -84,18 +102,18 @@ impl<'a> State<'a> {
     /// Logs lines, and takes all values from the stack.
     fn log_all(&mut self, lines: Vec<Text>) -> Result<(), NoMemory>
         ensures moved { OnOk result (config_of self.new ≡ with_stack [] (with_log lines.items (config_of self.old))) }
-        ensures entries { OnErr result (self.new.entries.items ≡ self.old.entries.items) }
+        ensures entries { OnErr result (self.new.values.entries ≡ self.old.values.entries) }
     {
         let mut lines = lines;
         self.log.append(&mut lines)?;
-        self.stack = Stack::new(self.alloc);
+        self.values.clear();
         Ok(())
     }
 
     /// Writes a text or a line's end.
-    fn write(&mut self, event: Event) -> Result<(), NoMemory>
-        ensures moved { OnOk result (config_of self.new ≡ with_event (event_of event) (config_of self.old)) }
-        ensures entries { OnErr result (self.new.entries.items ≡ self.old.entries.items) }
+    fn write(&mut self, event: Event<'a>) -> Result<(), NoMemory>
+        ensures moved { OnOk result (config_of self.new ≡ with_event (event_of event.entry) (config_of self.old)) }
+        ensures entries { OnErr result (self.new.values.entries ≡ self.old.values.entries) }
     {
         self.events.push(event)?;
         Ok(())
@@ -103,78 +121,59 @@ impl<'a> State<'a> {
 
     /// Writes the string on top of the stack.
     fn write_top(&mut self) -> Result<(), NoMemory>
-        ensures moved { OnOk result (config_of self.new ≡ with_top_written self.old.stack (config_of self.old)) }
-        ensures entries { OnErr result (self.new.entries.items ≡ self.old.entries.items) }
+        ensures moved { OnOk result (config_of self.new ≡ with_top_written self.old.values.stack (config_of self.old)) }
+        ensures entries { OnErr result (self.new.values.entries ≡ self.old.values.entries) }
     {
-        match self.stack.pop() {
-            Some(Value::Str(text)) => self.write(Event::Wrote(text)),
-            Some(other) => self.stack.push(other),
-            None => Ok(()),
+        if let Some(bytes) = self.values.lent_top() {
+            return self.write_taken(Event::WroteLent(bytes));
+        }
+        match self.values.top() {
+            Some(Operand::Str(bytes)) => {
+                let text = Text::from_slice(self.alloc, bytes)?;
+                self.write_taken(Event::Wrote(text))
+            }
+            _ => Ok(()),
         }
     }
 
-    /// Exchanges the two topmost values.
-    fn swap_top(&mut self) -> Result<(), NoMemory>
-        ensures moved { OnOk result (config_of self.new ≡ with_stack (swapped self.old.stack) (config_of self.old)) }
-        ensures entries { OnErr result (self.new.entries.items ≡ self.old.entries.items) }
+    /// Takes the top off, and writes a text.
+    fn write_taken(&mut self, event: Event<'a>) -> Result<(), NoMemory>
+        ensures moved { OnOk result (config_of self.new ≡ with_event (event_of event.entry) (with_stack (drop 1 self.old.values.stack) (config_of self.old))) }
+        ensures entries { OnErr result (self.new.values.entries ≡ self.old.values.entries) }
     {
-        let Some(b) = self.stack.pop() else {
-            return Ok(());
-        };
-        let Some(a) = self.stack.pop() else {
-            return self.stack.push(b);
-        };
-        self.stack.push(b)?;
-        self.stack.push(a)
+        self.values.drop_top(1);
+        self.write(event)
     }
 
     /// Assigns the second value from the top, and takes both away.
-    fn assign_second(&mut self, style: &Style, name: NameId) -> Result<(), NoMemory>
-        ensures moved { OnOk result (config_of self.new ≡ with_second_assigned style.now name self.old.stack (config_of self.old)) }
-        ensures entries { OnErr result (self.new.entries.items ≡ self.old.entries.items) }
+    #[tactic(auto, using(crate::proofs::AssignSteps::second_assigned))]
+    fn assign_second(&mut self, style: &Style, name: NameId)
+        ensures { config_of self.new ≡ with_second_assigned style.now name self.old.values.stack (config_of self.old) }
     {
-        self.stack.drop_top(1);
-        if let Some(value) = self.stack.pop() {
-            self.assign(style, name, value);
-        }
-        Ok(())
+        self.values.drop_top(1);
+        self.assign_top(style, name);
     }
 
-    /// Gives a variable its value.
-    fn assign(&mut self, style: &Style, name: NameId, value: Value)
-        ensures { config_of self.new ≡ rule.assigned_by (parts.kind_of style.now name) (record { name = name; value = value }) (config_of self.old) }
+    /// Assigns so many bytes of the string that is second from the top, and takes both away.
+    #[tactic(auto, using(crate::proofs::AssignSteps::second_cut))]
+    fn assign_cut(&mut self, style: &Style, name: NameId, size: usize)
+        ensures { config_of self.new ≡ with_second_cut style.now name size self.old.values.stack (config_of self.old) }
     {
-        let new = Variable { name, value };
+        self.values.drop_top(1);
+        self.values.cut_top(0, size);
+        self.assign_top(style, name);
+    }
+
+    /// Takes the top off, and gives it to a variable.
+    fn assign_top(&mut self, style: &Style, name: NameId)
+        ensures { config_of self.new ≡ with_top_assigned (parts.kind_of style.now name) name self.old.values.stack (config_of self.old) }
+    {
         match kind_of(style, name) {
-            Some(Kind::IntEntry | Kind::StrEntry) => self.assign_in_entry(new),
-            _ => self.globals.set(new),
+            Some(Kind::IntEntry | Kind::StrEntry) => match self.visited_index() {
+                Some(at) => self.values.give_in_entry(at, name),
+                None => self.values.drop_top(1),
+            },
+            _ => self.values.give_globally(name),
         }
     }
-
-    /// Gives a variable of the visited entry its value.
-    fn assign_in_entry(&mut self, new: Variable)
-        ensures { config_of self.new ≡ assigned_in_entry (variable_of new) (config_of self.old) }
-    {
-        let at = self.visited_index();
-        set_in_entry(self.entries.as_mut_slice(), at, new);
-    }
-}
-
-/// Gives a variable of the entry at a place in the list, where there is one, its value.
-fn set_in_entry(entries: &mut [EntryState], at: Option<usize>, new: Variable)
-    ensures { map state_of entries.new ≡ rule.with_entry_variable (variable_of new) at (map state_of entries.old) }
-{
-    let Some(at) = at else {
-        return;
-    };
-    if at < entries.len() {
-        set_in(&mut entries[at], new);
-    }
-}
-
-/// Gives a variable of an entry its value.
-fn set_in(entry: &mut EntryState, new: Variable)
-    ensures { state_of entry.new ≡ with_new (variable_of new) (state_of entry.old) }
-{
-    entry.variables.set(new);
 }

@@ -6,25 +6,23 @@ ghost use Rattle.bst_meaning.specs.Effect.{pushed};
 ghost use Rattle.bst_meaning.specs.Builtins.{at_entry, type_name};
 ghost use Rattle.bst_step.specs.Outcome.{Gives};
 
+use crate::held::Operand;
 use crate::outcome::Outcome;
-use crate::stack::Stack;
 use crate::stop::Stop;
+use crate::values::Values;
 use bst_meaning::entry::Entry;
 use bst_meaning::fault::Fault;
-use bst_meaning::value::Value;
-use bv_base::text::Text;
 use name_table::style::{Style, TypeTarget};
-use std::alloc::Global;
 
 /// `cite$`
-pub fn cite(alloc: Global, entry: Option<&Entry>, stack: &Stack<Value>) -> Result<Outcome, Stop>
-    ensures { Gives result stack.now (at_entry (option_map (λ e. e.now) entry.entry) (λ e. pushed (Str e.key) stack.now)) }
+pub fn cite<'a>(entry: Option<&'a Entry>, values: &Values<'a>) -> Result<Outcome<'a>, Stop>
+    ensures { Gives result values.now.stack (at_entry (option_map (λ e. e.now) entry.entry) (λ e. pushed (Str e.key) values.now.stack)) }
 {
-    let Some(entry) = entry else {
-        return Err(Stop::Fault(Fault::NoEntry));
-    };
-    let key = Text::from_slice(alloc, entry.key.as_slice())?;
-    Ok(Outcome::Push(0, Value::Str(key)))
+    let _ = values;
+    match entry {
+        Some(entry) => Ok(Outcome::Push(0, Operand::Str(entry.key.as_slice()))),
+        None => Err(Stop::Fault(Fault::NoEntry)),
+    }
 }
 
 /// The type, where the style defines it, and else no bytes.
@@ -38,18 +36,20 @@ fn defined_type<'a>(style: &Style, entry_type: &'a [u8]) -> &'a [u8]
 }
 
 /// `type$`
-pub fn type_of(
-    alloc: Global,
+pub fn type_of<'a>(
     style: &Style,
-    entry: Option<&Entry>,
-    stack: &Stack<Value>,
-) -> Result<Outcome, Stop>
-    ensures { Gives result stack.now
-        (at_entry (option_map (λ e. e.now) entry.entry) (λ e. pushed (Str (type_name style.now e.entry_type)) stack.now)) }
+    entry: Option<&'a Entry>,
+    values: &Values<'a>,
+) -> Result<Outcome<'a>, Stop>
+    ensures { Gives result values.now.stack
+        (at_entry (option_map (λ e. e.now) entry.entry) (λ e. pushed (Str (type_name style.now e.entry_type)) values.now.stack)) }
 {
-    let Some(entry) = entry else {
-        return Err(Stop::Fault(Fault::NoEntry));
-    };
-    let name = Text::from_slice(alloc, defined_type(style, entry.entry_type.as_slice()))?;
-    Ok(Outcome::Push(0, Value::Str(name)))
+    let _ = values;
+    match entry {
+        Some(entry) => {
+            let name = defined_type(style, entry.entry_type.as_slice());
+            Ok(Outcome::Push(0, Operand::Str(name)))
+        }
+        None => Err(Stop::Fault(Fault::NoEntry)),
+    }
 }

@@ -8,23 +8,24 @@ ghost use Rattle.bst_meaning.specs.Effect.{with_entered};
 ghost use Rattle.bst_meaning.specs.Builtins as rule;
 ghost use Rattle.bst_step.specs.Outcome.{Gives};
 
+use crate::held::Operand;
 use crate::operands::{three, two};
 use crate::outcome::{Outcome, Part};
-use crate::stack::Stack;
 use crate::stop::Stop;
+use crate::values::Values;
 use bst_meaning::entry::Entry;
 use bst_meaning::fault::Fault;
-use bst_meaning::value::{Target, Value};
+use bst_meaning::value::Target;
 use name_table::opening::SKIP;
 use name_table::style::{Style, TypeTarget};
 
 /// `if$`
-pub fn if_else(stack: &Stack<Value>) -> Result<Outcome, Stop>
-    ensures { Gives result stack.now (rule.if_else stack.now) }
+pub fn if_else<'a>(values: &Values<'a>) -> Result<Outcome<'a>, Stop>
+    ensures { Gives result values.now.stack (rule.if_else values.now.stack) }
 {
-    match three(stack)? {
-        (Value::Int(n), Value::Func(first), Value::Func(other)) => {
-            let entered = if *n > 0 { *first } else { *other };
+    match three(values)? {
+        (Operand::Int(n), Operand::Func(first), Operand::Func(other)) => {
+            let entered = if n > 0 { first } else { other };
             Ok(Outcome::Enter(3, entered, Part::Whole))
         }
         _ => Err(Stop::Fault(Fault::WrongKind)),
@@ -32,26 +33,27 @@ pub fn if_else(stack: &Stack<Value>) -> Result<Outcome, Stop>
 }
 
 /// `while$`
-pub fn while_do(stack: &Stack<Value>) -> Result<Outcome, Stop>
-    ensures { Gives result stack.now (rule.while_do stack.now) }
+pub fn while_do<'a>(values: &Values<'a>) -> Result<Outcome<'a>, Stop>
+    ensures { Gives result values.now.stack (rule.while_do values.now.stack) }
 {
-    match two(stack)? {
-        (Value::Func(test), Value::Func(body)) => {
-            Ok(Outcome::Enter(2, *test, Part::Testing(*test, *body)))
+    match two(values)? {
+        (Operand::Func(test), Operand::Func(body)) => {
+            Ok(Outcome::Enter(2, test, Part::Testing(test, body)))
         }
         _ => Err(Stop::Fault(Fault::WrongKind)),
     }
 }
 
 /// `call.type$`, for the visited entry.
-pub fn call_type(
+pub fn call_type<'a>(
     style: &Style,
     entry: Option<&Entry>,
-    stack: &Stack<Value>,
-) -> Result<Outcome, Stop>
-    ensures { Gives result stack.now (rule.at_entry (option_map (λ e. e.now) entry.entry)
-        (λ e. with_entered (Named (rule.type_entered (target_of e.entry_type style.now))) config.Whole stack.now)) }
+    values: &Values<'a>,
+) -> Result<Outcome<'a>, Stop>
+    ensures { Gives result values.now.stack (rule.at_entry (option_map (λ e. e.now) entry.entry)
+        (λ e. with_entered (Named (rule.type_entered (target_of e.entry_type style.now))) config.Whole values.now.stack)) }
 {
+    let _ = values;
     let Some(entry) = entry else {
         return Err(Stop::Fault(Fault::NoEntry));
     };

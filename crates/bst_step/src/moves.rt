@@ -7,24 +7,22 @@ ghost use Rattle.bst_meaning.specs.Operands.{one_operand, two_operands};
 ghost use Rattle.bst_meaning.specs.Builtins.{string};
 ghost use Rattle.bst_step.specs.Outcome.{Gives};
 
-use crate::operands::{copied, one, one_string, two};
+use crate::operands::{one, one_string, two};
 use crate::outcome::Outcome;
-use crate::stack::Stack;
 use crate::stop::Stop;
-use bst_meaning::value::Value;
+use crate::values::Values;
 use name_table::builtin::Builtin;
-use std::alloc::Global;
 
 /// `duplicate$`
-pub fn duplicate(alloc: Global, stack: &Stack<Value>) -> Result<Outcome, Stop>
-    ensures { Gives result stack.now (one_operand stack.now (λ a rest. pushed a (a ∷ rest))) }
+pub fn duplicate<'a>(values: &Values<'a>) -> Result<Outcome<'a>, Stop>
+    ensures { Gives result values.now.stack (one_operand values.now.stack (λ a rest. pushed a (a ∷ rest))) }
 {
-    let copy = copied(alloc, one(stack)?)?;
-    Ok(Outcome::Push(0, copy))
+    let _ = one(values)?;
+    Ok(Outcome::Double)
 }
 
 /// `newline$` and `skip$`, which leave the stack the same
-pub fn same(op: Builtin) -> Outcome
+pub fn same<'a>(op: Builtin) -> Outcome<'a>
     ensures newline { op ≡ Builtin.Newline → result ≡ Outcome.EndLine }
     ensures skip { op ≡ Builtin.Skip → result ≡ Outcome.Leave 0 }
 {
@@ -35,25 +33,25 @@ pub fn same(op: Builtin) -> Outcome
 }
 
 /// `pop$`
-pub fn pop(stack: &Stack<Value>) -> Result<Outcome, Stop>
-    ensures { Gives result stack.now (one_operand stack.now (λ a rest. Ok (left rest))) }
+pub fn pop<'a>(values: &Values<'a>) -> Result<Outcome<'a>, Stop>
+    ensures { Gives result values.now.stack (one_operand values.now.stack (λ a rest. Ok (left rest))) }
 {
-    let _ = one(stack)?;
+    let _ = one(values)?;
     Ok(Outcome::Leave(1))
 }
 
 /// `swap$`
-pub fn swap(stack: &Stack<Value>) -> Result<Outcome, Stop>
-    ensures { Gives result stack.now (two_operands stack.now (λ a b rest. Ok (left (a ∷ b ∷ rest)))) }
+pub fn swap<'a>(values: &Values<'a>) -> Result<Outcome<'a>, Stop>
+    ensures { Gives result values.now.stack (two_operands values.now.stack (λ a b rest. Ok (left (a ∷ b ∷ rest)))) }
 {
-    let _ = two(stack)?;
+    let _ = two(values)?;
     Ok(Outcome::Swap)
 }
 
 /// `write$`
-pub fn write(stack: &Stack<Value>) -> Result<Outcome, Stop>
-    ensures { Gives result stack.now (string (λ a rest. with_written (config.Wrote a) rest) stack.now) }
+pub fn write<'a>(values: &Values<'a>) -> Result<Outcome<'a>, Stop>
+    ensures { Gives result values.now.stack (string (λ a rest. with_written (config.Wrote a) rest) values.now.stack) }
 {
-    let _ = one_string(stack)?;
+    let _ = one_string(values)?;
     Ok(Outcome::Write)
 }

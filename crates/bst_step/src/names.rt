@@ -7,33 +7,32 @@ ghost use Rattle.bst_meaning.specs.Builtins as rule;
 ghost use Rattle.bst_meaning.specs.Builtins.{string};
 ghost use Rattle.bst_step.specs.Outcome.{Gives};
 
+use crate::held::Operand;
 use crate::numbers::count;
 use crate::operands::{one_string, three};
 use crate::outcome::Outcome;
-use crate::stack::Stack;
 use crate::stop::Stop;
+use crate::values::Values;
 use bst_meaning::fault::Fault;
-use bst_meaning::value::Value;
-use bv_base::text::Text;
 use name_format::format::{FormatFault, format};
 use std::alloc::Global;
 
 /// `num.names$`
-pub fn num_names(stack: &Stack<Value>) -> Result<Outcome, Stop>
-    ensures { Gives result stack.now (string (λ a rest. ranged (pos (length (names_of a))) rest) stack.now) }
+pub fn num_names<'a>(values: &Values<'a>) -> Result<Outcome<'a>, Stop>
+    ensures { Gives result values.now.stack (string (λ a rest. ranged (pos (length (names_of a))) rest) values.now.stack) }
 {
-    let text = one_string(stack)?;
-    count(name_split::names::count(text) as u128, stack)
+    let text = one_string(values)?;
+    count(name_split::names::count(text) as u128, values)
 }
 
 /// `format.name$`
-pub fn format_name(alloc: Global, stack: &Stack<Value>) -> Result<Outcome, Stop>
-    ensures { Gives result stack.now (rule.format_name stack.now) }
+pub fn format_name<'a>(alloc: Global, values: &Values<'a>) -> Result<Outcome<'a>, Stop>
+    ensures { Gives result values.now.stack (rule.format_name values.now.stack) }
 {
-    match three(stack)? {
-        (Value::Str(text), Value::Int(index), Value::Str(pattern)) => {
-            match format(alloc, text.as_slice(), *index, pattern.as_slice()) {
-                Ok(name) => Ok(Outcome::Push(3, Value::Str(Text::from_vec(name)))),
+    match three(values)? {
+        (Operand::Str(text), Operand::Int(index), Operand::Str(pattern)) => {
+            match format(alloc, text, index, pattern) {
+                Ok(name) => Ok(Outcome::Make(3, name)),
                 Err(FormatFault::BadNameIndex) => Err(Stop::Fault(Fault::BadNameIndex)),
                 Err(FormatFault::BadName) => Err(Stop::Fault(Fault::BadName)),
                 Err(FormatFault::BadPattern) => Err(Stop::Fault(Fault::BadPattern)),

@@ -10,102 +10,101 @@ ghost use Rattle.bst_meaning.specs.Builtins.{integers, string, byte_number, byte
 ghost use Rattle.bst_step.specs.Operands.{integer};
 ghost use Rattle.bst_step.specs.Outcome.{Gives};
 
+use crate::held::Operand;
 use crate::operands::{one_integer, one_string, truth, two, two_integers};
 use crate::outcome::Outcome;
-use crate::stack::Stack;
 use crate::stop::Stop;
+use crate::values::Values;
 use bst_meaning::fault::Fault;
-use bst_meaning::value::Value;
 use bv_base::limits::GREATEST_INTEGER;
-use bv_base::text::Text;
 use std::alloc::Global;
 use text_ops::int_to_str::int_to_str;
 
 /// `=`
-pub fn equal(stack: &Stack<Value>) -> Result<Outcome, Stop>
-    ensures { Gives result stack.now (two_operands stack.now rule.equal) }
+pub fn equal<'a>(values: &Values<'a>) -> Result<Outcome<'a>, Stop>
+    ensures { Gives result values.now.stack (two_operands values.now.stack rule.equal) }
 {
-    match two(stack)? {
-        (Value::Int(a), Value::Int(b)) => Ok(Outcome::Push(2, truth(a == b))),
-        (Value::Str(a), Value::Str(b)) => Ok(Outcome::Push(2, truth(a.as_slice() == b.as_slice()))),
+    match two(values)? {
+        (Operand::Int(a), Operand::Int(b)) => Ok(Outcome::Push(2, truth(a == b))),
+        (Operand::Str(a), Operand::Str(b)) => Ok(Outcome::Push(2, truth(a == b))),
         _ => Err(Stop::Fault(Fault::WrongKind)),
     }
 }
 
 /// `>`
-pub fn greater(stack: &Stack<Value>) -> Result<Outcome, Stop>
-    ensures { Gives result stack.now (integers (λ a b rest. pushed (truth (is_positive (a -ℤ b))) rest) stack.now) }
+pub fn greater<'a>(values: &Values<'a>) -> Result<Outcome<'a>, Stop>
+    ensures { Gives result values.now.stack (integers (λ a b rest. pushed (truth (is_positive (a -ℤ b))) rest) values.now.stack) }
 {
-    let (a, b) = two_integers(stack)?;
+    let (a, b) = two_integers(values)?;
     Ok(Outcome::Push(2, truth(a > b)))
 }
 
 /// `<`
-pub fn less(stack: &Stack<Value>) -> Result<Outcome, Stop>
-    ensures { Gives result stack.now (integers (λ a b rest. pushed (truth (is_positive (b -ℤ a))) rest) stack.now) }
+pub fn less<'a>(values: &Values<'a>) -> Result<Outcome<'a>, Stop>
+    ensures { Gives result values.now.stack (integers (λ a b rest. pushed (truth (is_positive (b -ℤ a))) rest) values.now.stack) }
 {
-    let (a, b) = two_integers(stack)?;
+    let (a, b) = two_integers(values)?;
     Ok(Outcome::Push(2, truth(a < b)))
 }
 
 /// `+`
-pub fn plus(stack: &Stack<Value>) -> Result<Outcome, Stop>
-    ensures { Gives result stack.now (integers (λ a b rest. ranged (a +ℤ b) rest) stack.now) }
+pub fn plus<'a>(values: &Values<'a>) -> Result<Outcome<'a>, Stop>
+    ensures { Gives result values.now.stack (integers (λ a b rest. ranged (a +ℤ b) rest) values.now.stack) }
 {
-    let (a, b) = two_integers(stack)?;
+    let (a, b) = two_integers(values)?;
     match a.checked_add(b) {
-        Some(sum) => Ok(Outcome::Push(2, Value::Int(sum))),
+        Some(sum) => Ok(Outcome::Push(2, Operand::Int(sum))),
         None => Err(Stop::Fault(Fault::IntRange)),
     }
 }
 
 /// `-`
-pub fn minus(stack: &Stack<Value>) -> Result<Outcome, Stop>
-    ensures { Gives result stack.now (integers (λ a b rest. ranged (a -ℤ b) rest) stack.now) }
+pub fn minus<'a>(values: &Values<'a>) -> Result<Outcome<'a>, Stop>
+    ensures { Gives result values.now.stack (integers (λ a b rest. ranged (a -ℤ b) rest) values.now.stack) }
 {
-    let (a, b) = two_integers(stack)?;
+    let (a, b) = two_integers(values)?;
     match a.checked_sub(b) {
-        Some(difference) => Ok(Outcome::Push(2, Value::Int(difference))),
+        Some(difference) => Ok(Outcome::Push(2, Operand::Int(difference))),
         None => Err(Stop::Fault(Fault::IntRange)),
     }
 }
 
 /// `chr.to.int$`
-pub fn chr_to_int(stack: &Stack<Value>) -> Result<Outcome, Stop>
-    ensures { Gives result stack.now (string byte_number stack.now) }
+pub fn chr_to_int<'a>(values: &Values<'a>) -> Result<Outcome<'a>, Stop>
+    ensures { Gives result values.now.stack (string byte_number values.now.stack) }
 {
-    match one_string(stack)? {
-        [b] => Ok(Outcome::Push(1, Value::Int(*b as i32))),
+    match one_string(values)? {
+        [b] => Ok(Outcome::Push(1, Operand::Int(*b as i32))),
         _ => Err(Stop::Fault(Fault::NotOneByte)),
     }
 }
 
 /// `int.to.chr$`
-pub fn int_to_chr(alloc: Global, stack: &Stack<Value>) -> Result<Outcome, Stop>
-    ensures { Gives result stack.now (integer byte_string stack.now) }
+pub fn int_to_chr<'a>(alloc: Global, values: &Values<'a>) -> Result<Outcome<'a>, Stop>
+    ensures { Gives result values.now.stack (integer byte_string values.now.stack) }
 {
-    let n = one_integer(stack)?;
+    let n = one_integer(values)?;
     if 0 <= n && n < 128 {
-        let bytes = Text::from_slice(alloc, &[n as u8])?;
-        return Ok(Outcome::Push(1, Value::Str(bytes)));
+        let byte = n as u8;
+        return Ok(Outcome::Make(1, [byte].to_vec(alloc)?));
     }
     Err(Stop::Fault(Fault::NotAscii))
 }
 
 /// `int.to.str$`
-pub fn int_to_str_of(alloc: Global, stack: &Stack<Value>) -> Result<Outcome, Stop>
-    ensures { Gives result stack.now (integer (λ n rest. pushed (Str (numeral n)) rest) stack.now) }
+pub fn int_to_str_of<'a>(alloc: Global, values: &Values<'a>) -> Result<Outcome<'a>, Stop>
+    ensures { Gives result values.now.stack (integer (λ n rest. pushed (Str (numeral n)) rest) values.now.stack) }
 {
-    let digits = int_to_str(alloc, one_integer(stack)?)?;
-    Ok(Outcome::Push(1, Value::Str(Text::from_vec(digits))))
+    Ok(Outcome::Make(1, int_to_str(alloc, one_integer(values)?)?))
 }
 
 /// Pushes a count in the place of one operand, where it has 32 bits.
-pub fn count(n: u128, stack: &Stack<Value>) -> Result<Outcome, Stop>
-    ensures { Gives result stack.now (ranged (pos n) (drop 1 stack.now)) }
+pub fn count<'a>(n: u128, values: &Values<'a>) -> Result<Outcome<'a>, Stop>
+    ensures { Gives result values.now.stack (ranged (pos n) (drop 1 values.now.stack)) }
 {
+    let _ = values;
     if n <= GREATEST_INTEGER as u128 {
-        Ok(Outcome::Push(1, Value::Int(n as i32)))
+        Ok(Outcome::Push(1, Operand::Int(n as i32)))
     } else {
         Err(Stop::Fault(Fault::IntRange))
     }

@@ -1,6 +1,7 @@
 //! What a built-in function comes to.
 
-use bst_meaning::value::{Target, Value};
+use crate::held::Operand;
+use bst_meaning::value::Target;
 use bv_base::text::Text;
 use name_table::names::NameId;
 
@@ -17,9 +18,17 @@ pub enum Part {
 
 /// What a built-in function comes to where it has no fault: how many operands it takes, and what it does then.
 #[derive(Drop)]
-pub enum Outcome {
-    /// Pushes a value.
-    Push(usize, Value),
+pub enum Outcome<'a> {
+    /// Pushes a value whose bytes are lent.
+    Push(usize, Operand<'a>),
+    /// Pushes a string that was made.
+    Make(usize, Vec<u8>),
+    /// Pushes the top once more.
+    Double,
+    /// Joins the two topmost strings.
+    Join,
+    /// Takes its operands but for the string below them, and leaves of that so many bytes from a place on.
+    Cut(usize, usize, usize),
     /// Enters a function.
     Enter(usize, Target, Part),
     /// Logs a line.
@@ -30,12 +39,12 @@ pub enum Outcome {
     Leave(usize),
     /// Ends a line of what is written.
     EndLine,
-    /// Writes the string on top, which is moved.
+    /// Writes the string on top.
     Write,
     /// Exchanges the two topmost values.
     Swap,
-    /// Assigns the second value from the top, which is moved, to a variable.
+    /// Assigns the second value from the top to a variable.
     Assign(NameId),
-    /// Assigns a string that is cut to the variable's size, and logs a warning.
-    AssignCut(NameId, Text, Text),
+    /// Assigns as many bytes of the string that is second from the top as the variable's size, and logs a warning.
+    AssignCut(NameId, usize, Text),
 }

@@ -1,8 +1,9 @@
 //! The built-in functions on strings.
 
-ghost use Rattle.std.specs.Prelude.{◌≡◌, ◌++◌, ℕ, pos, drop, is_none, IfOk};
+ghost use Rattle.std.specs.Prelude.{◌≡◌, ◌++◌, ℕ, pos, drop, is_none, take, IfOk};
 ghost use Rattle.text_ops.specs.AddPeriod.{with_period};
 ghost use Rattle.text_ops.specs.Purify.{purified};
+ghost use Rattle.text_ops.specs.Substring.{substring_of};
 ghost use Rattle.text_ops.specs.TextLength.{text_length_of};
 ghost use Rattle.text_ops.specs.Width.{width_of};
 ghost use Rattle.bst_meaning.specs.declared.value.Value.TheVariants.{Str};
@@ -13,15 +14,14 @@ ghost use Rattle.bst_meaning.specs.Builtins.{string, is_empty, case_of, change_c
 ghost use Rattle.bst_step.specs.Operands.{field, strings};
 ghost use Rattle.bst_step.specs.Outcome.{Gives};
 
+use crate::held::Operand;
 use crate::numbers::count;
 use crate::operands::{one_field, one_string, three, truth, two, two_strings};
 use crate::outcome::Outcome;
-use crate::stack::Stack;
 use crate::stop::Stop;
+use crate::values::Values;
 use bst_meaning::fault::Fault;
-use bst_meaning::value::Value;
 use bv_base::memory::NoMemory;
-use bv_base::text::Text;
 use std::alloc::Global;
 use text_ops::change_case::Case;
 
@@ -35,27 +35,27 @@ pub fn joined(alloc: Global, a: &[u8], b: &[u8]) -> Result<Vec<u8>, NoMemory>
 }
 
 /// Pushes these bytes.
-pub fn constant(alloc: Global, bytes: &[u8], stack: &Stack<Value>) -> Result<Outcome, Stop>
-    ensures { Gives result stack.now (pushed (Str bytes.now) stack.now) }
+pub fn constant<'a>(bytes: &'a [u8], values: &Values<'a>) -> Result<Outcome<'a>, Stop>
+    ensures { Gives result values.now.stack (pushed (Str bytes.now) values.now.stack) }
 {
-    Ok(Outcome::Push(0, Value::Str(Text::from_slice(alloc, bytes)?)))
+    let _ = values;
+    Ok(Outcome::Push(0, Operand::Str(bytes)))
 }
 
 /// `*`
-pub fn join(alloc: Global, stack: &Stack<Value>) -> Result<Outcome, Stop>
-    ensures { Gives result stack.now (strings (λ a b rest. pushed (Str (a ++ b)) rest) stack.now) }
+pub fn join<'a>(values: &Values<'a>) -> Result<Outcome<'a>, Stop>
+    ensures { Gives result values.now.stack (strings (λ a b rest. pushed (Str (a ++ b)) rest) values.now.stack) }
 {
-    let (a, b) = two_strings(stack)?;
-    let text = joined(alloc, a, b)?;
-    Ok(Outcome::Push(2, Value::Str(Text::from_vec(text))))
+    let _ = two_strings(values)?;
+    Ok(Outcome::Join)
 }
 
 /// `add.period$`
-pub fn add_period(alloc: Global, stack: &Stack<Value>) -> Result<Outcome, Stop>
-    ensures { Gives result stack.now (string (λ a rest. pushed (Str (with_period a)) rest) stack.now) }
+pub fn add_period<'a>(alloc: Global, values: &Values<'a>) -> Result<Outcome<'a>, Stop>
+    ensures { Gives result values.now.stack (string (λ a rest. pushed (Str (with_period a)) rest) values.now.stack) }
 {
-    let text = text_ops::add_period::add_period(alloc, one_string(stack)?)?;
-    Ok(Outcome::Push(1, Value::Str(Text::from_vec(text))))
+    let text = text_ops::add_period::add_period(alloc, one_string(values)?)?;
+    Ok(Outcome::Make(1, text))
 }
 
 /// The case that a text names by its one byte.
@@ -71,85 +71,102 @@ fn case_named(text: &[u8]) -> Option<Case>
 }
 
 /// `change.case$`
-pub fn change_case(alloc: Global, stack: &Stack<Value>) -> Result<Outcome, Stop>
-    ensures { Gives result stack.now (strings (λ a mode rest. change_case_in (case_of mode) a rest) stack.now) }
+pub fn change_case<'a>(alloc: Global, values: &Values<'a>) -> Result<Outcome<'a>, Stop>
+    ensures { Gives result values.now.stack (strings (λ a mode rest. change_case_in (case_of mode) a rest) values.now.stack) }
 {
-    let (text, mode) = two_strings(stack)?;
+    let (text, mode) = two_strings(values)?;
     match case_named(mode) {
         Some(case) => {
             let changed = text_ops::change_case::change_case(alloc, text, case)?;
-            Ok(Outcome::Push(2, Value::Str(Text::from_vec(changed))))
+            Ok(Outcome::Make(2, changed))
         }
         None => Err(Stop::Fault(Fault::BadCase)),
     }
 }
 
 /// `empty$`
-pub fn empty(stack: &Stack<Value>) -> Result<Outcome, Stop>
-    ensures { Gives result stack.now (field (λ bytes rest. pushed (truth (is_empty bytes)) rest) stack.now) }
+pub fn empty<'a>(values: &Values<'a>) -> Result<Outcome<'a>, Stop>
+    ensures { Gives result values.now.stack (field (λ bytes rest. pushed (truth (is_empty bytes)) rest) values.now.stack) }
 {
-    match one_field(stack)? {
+    match one_field(values)? {
         Some(bytes) => Ok(Outcome::Push(1, truth(text_ops::is_blank::is_blank(bytes)))),
         None => Ok(Outcome::Push(1, truth(true))),
     }
 }
 
 /// `missing$`
-pub fn missing(stack: &Stack<Value>) -> Result<Outcome, Stop>
-    ensures { Gives result stack.now (field (λ bytes rest. pushed (truth (is_none bytes)) rest) stack.now) }
+pub fn missing<'a>(values: &Values<'a>) -> Result<Outcome<'a>, Stop>
+    ensures { Gives result values.now.stack (field (λ bytes rest. pushed (truth (is_none bytes)) rest) values.now.stack) }
 {
-    match one_field(stack)? {
+    match one_field(values)? {
         Some(_) => Ok(Outcome::Push(1, truth(false))),
         None => Ok(Outcome::Push(1, truth(true))),
     }
 }
 
 /// `purify$`
-pub fn purify(alloc: Global, stack: &Stack<Value>) -> Result<Outcome, Stop>
-    ensures { Gives result stack.now (string (λ a rest. pushed (Str (purified a)) rest) stack.now) }
+pub fn purify<'a>(alloc: Global, values: &Values<'a>) -> Result<Outcome<'a>, Stop>
+    ensures { Gives result values.now.stack (string (λ a rest. pushed (Str (purified a)) rest) values.now.stack) }
 {
-    let text = text_ops::purify::purify(alloc, one_string(stack)?)?;
-    Ok(Outcome::Push(1, Value::Str(Text::from_vec(text))))
+    let text = text_ops::purify::purify(alloc, one_string(values)?)?;
+    Ok(Outcome::Make(1, text))
+}
+
+/// Where the part of a text by its place and its length begins, and how many bytes it has.
+fn substring_place(text: &[u8], start: i32, length: i32) -> (usize, usize)
+    ensures { take result.1 (drop result.0 text.now) ≡ substring_of text.now start length }
+{
+    let place = start.unsigned_abs() as usize;
+    if length <= 0 || place == 0 || place > text.len() {
+        return (0, 0);
+    }
+    let count = length as usize;
+    if start > 0 {
+        return (place - 1, count);
+    }
+    let end = text.len() - (place - 1);
+    let from = end.saturating_sub(count);
+    (from, end - from)
 }
 
 /// `substring$`
-pub fn substring(alloc: Global, stack: &Stack<Value>) -> Result<Outcome, Stop>
-    ensures { Gives result stack.now (rule.substring stack.now) }
+pub fn substring<'a>(values: &Values<'a>) -> Result<Outcome<'a>, Stop>
+    ensures { Gives result values.now.stack (rule.substring values.now.stack) }
 {
-    match three(stack)? {
-        (Value::Str(text), Value::Int(start), Value::Int(length)) => {
-            let part = text_ops::substring::substring(alloc, text.as_slice(), *start, *length)?;
-            Ok(Outcome::Push(3, Value::Str(Text::from_vec(part))))
+    match three(values)? {
+        (Operand::Str(text), Operand::Int(start), Operand::Int(length)) => {
+            let (from, count) = substring_place(text, start, length);
+            Ok(Outcome::Cut(2, from, count))
         }
         _ => Err(Stop::Fault(Fault::WrongKind)),
     }
 }
 
 /// `text.length$`
-pub fn text_length(stack: &Stack<Value>) -> Result<Outcome, Stop>
-    ensures { Gives result stack.now (string (λ a rest. ranged (pos (text_length_of a)) rest) stack.now) }
+pub fn text_length<'a>(values: &Values<'a>) -> Result<Outcome<'a>, Stop>
+    ensures { Gives result values.now.stack (string (λ a rest. ranged (pos (text_length_of a)) rest) values.now.stack) }
 {
-    let text = one_string(stack)?;
-    count(text_ops::text_length::text_length(text) as u128, stack)
+    let text = one_string(values)?;
+    count(text_ops::text_length::text_length(text) as u128, values)
 }
 
 /// `text.prefix$`
-pub fn text_prefix(alloc: Global, stack: &Stack<Value>) -> Result<Outcome, Stop>
-    ensures { Gives result stack.now (rule.text_prefix stack.now) }
+pub fn text_prefix<'a>(alloc: Global, values: &Values<'a>) -> Result<Outcome<'a>, Stop>
+    ensures { Gives result values.now.stack (rule.text_prefix values.now.stack) }
 {
-    match two(stack)? {
-        (Value::Str(text), Value::Int(count)) => {
-            let prefix = text_ops::text_prefix::text_prefix(alloc, text.as_slice(), *count)?;
-            Ok(Outcome::Push(2, Value::Str(Text::from_vec(prefix))))
+    match two(values)? {
+        (Operand::Str(text), Operand::Int(count)) => {
+            let prefix = text_ops::text_prefix::text_prefix(alloc, text, count)?;
+            Ok(Outcome::Make(2, prefix))
         }
         _ => Err(Stop::Fault(Fault::WrongKind)),
     }
 }
 
 /// `width$`
-pub fn width(stack: &Stack<Value>) -> Result<Outcome, Stop>
-    ensures { Gives result stack.now (string (λ a rest. ranged (pos (width_of a)) rest) stack.now) }
+pub fn width<'a>(values: &Values<'a>) -> Result<Outcome<'a>, Stop>
+    ensures { Gives result values.now.stack (string (λ a rest. ranged (pos (width_of a)) rest) values.now.stack) }
 {
-    let text = one_string(stack)?;
-    count(text_ops::width::width(text), stack)
+    let text = one_string(values)?;
+    count(text_ops::width::width(text), values)
 }

@@ -1,0 +1,23 @@
+-- The top is taken off, and the variable holds it.
+use Rattle.std.proofs.Common.{◌∙◌, List, ap, map, max, slice_get}
+use Rattle.bst_step.specs.declared.held.Held.{Held}
+use Rattle.bst_step.specs.declared.variables.Variable.{Variable}
+use Rattle.bst_step.specs.Values.{Holding, given_globally}
+use Rattle.bst_step.specs.Variables.{variable_in}
+use Rattle.bst_step.proofs.HeldSteps.{held_given}
+use Rattle.bst_step.proofs.ViewSteps.{given_view}
+use Rattle.bst_step.proofs.values.Values.give_globally.Goals as goal
+
+pub invariant_of-self : goal.invariant_of-self
+invariant_of-self c =
+    held_given c.self.inside.pool.items c.self.inside.kept c.max.result c.in-Some.value c.args.name c.self.inside.stack.items
+    c.drop_top.new.self.items c.self.inside.globals c.set.new.self c.self.inside.entries.items
+    (ap (λ (l : List Held). slice_get l 0) c.in-Some.ensures) c.drop_top.ensures.moved
+    (c.max.ensures ∙ ap (λ n. max c.self.inside.kept n) c.end.ensures) c.set.ensures c.self.invariant
+
+pub returns-in-Some-clause-globals : goal.returns-in-Some-clause-globals
+returns-in-Some-clause-globals c =
+    ap (λ (vs : List Variable). map (variable_in c.self.inside.pool.items) vs) c.set.ensures
+    ∙ given_view c.self.inside.pool.items c.self.inside.stack.items c.self.inside.globals c.args.name c.in-Some.value
+    (ap (λ (l : List Held). slice_get l 0) c.in-Some.ensures)
+    ∙ ap (λ (h : Holding). given_globally c.args.name h.stack h.globals) c.self.view_is
