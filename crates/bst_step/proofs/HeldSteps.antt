@@ -1,7 +1,8 @@
 -- What is held over a pool stays what it is where the pool grows behind it, or loses what stands behind it.
 use Rattle.std.proofs.Common.{◌≡◌, ℕ, zero, suc, ◌+◌, ◌≤◌, le_refl, refl, sym, ap, subst, ◌∙◌, List, [], ◌∷◌, ◌++◌, drop, length, map, slice_get, take, max, Option, Some, None, nat_eq, Bool, true, false, cond, arith}
 use Rattle.std.specs.Option.{option_and_then, option_map_or}
-use Rattle.std.proofs.lemmas.List.{drop-take, length-take, take-take, take_all}
+use Rattle.std.proofs.Math.Seq.{take-append_seam}
+use Rattle.std.proofs.lemmas.List.{drop-take, length-set, length-take, take-take, take_all}
 use Rattle.name_table.specs.declared.names.NameId.{NameId}
 use Rattle.std.proofs.Math.ListN.{set}
 use Rattle.bst_meaning.specs.declared.value.Value.TheVariants.{Str}
@@ -183,6 +184,25 @@ with_held_in_within end at new es here within = by (slice_get es at) refl
     by (Some e) is =
         set_within end at (record e { variables = with_held new e.variables }) es
         (with_held_within end new e.variables here (entry_within end at es e within is)) within
+
+-- entries that were written in a slice of them
+as_many : (new : Variable) (at : ℕ) (es : List EntryState) → length (with_held_in new at es) ≡ length es
+as_many new at es = by (slice_get es at)
+  where
+    by : (o : Option EntryState)
+        → length (option_map_or (λ (e : EntryState). set es at (record e { variables = with_held new e.variables })) o es) ≡ length es
+    by None = refl
+    by (Some e) = length-set es at (record e { variables = with_held new e.variables })
+
+pub written_back : (new : Variable) (at : ℕ) (lent es later more : List EntryState) (n : ℕ) → lent ≡ es → length lent ≡ n
+    → later ≡ with_held_in new at lent → take n (later ++ more) ≡ with_held_in new at es
+written_back new at lent es later more n is count written =
+    let all : n ≡ length later =
+    sym count ∙ sym (as_many new at lent) ∙ ap (λ (l : List EntryState). length l) (sym written) in
+    ap (λ (k : ℕ). take k (later ++ more)) all
+    ∙ take-append_seam later more
+    ∙ written
+    ∙ ap (λ (l : List EntryState). with_held_in new at l) is
 
 pub held_given : (pool : List ℕ) (kept more : ℕ) (h : Held) (name : NameId) (hs fewer : List Held) (gs later : List Variable) (es : List EntryState)
     → slice_get hs 0 ≡ Some h → fewer ≡ drop 1 hs → more ≡ max kept (end_of h) → later ≡ with_held (record { name = name; value = h }) gs

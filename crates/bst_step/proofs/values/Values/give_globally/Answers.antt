@@ -10,10 +10,10 @@ use Rattle.bst_step.proofs.values.Values.give_globally.Goals as goal
 
 pub invariant_of-self : goal.invariant_of-self
 invariant_of-self c =
-    held_given c.self.inside.pool.items c.self.inside.kept c.max.result c.in-Some.value c.args.name c.self.inside.stack.items
+    held_given c.self.inside.pool.items c.self.inside.kept c.max-self-inside.result c.in-Some.value c.args.name c.self.inside.stack.items
     c.drop_top.new.self.items c.self.inside.globals c.set.new.self c.self.inside.entries.items
     (ap (λ (l : List Held). slice_get l 0) c.in-Some.ensures) c.drop_top.ensures.moved
-    (c.max.ensures ∙ ap (λ n. max c.self.inside.kept n) c.end.ensures) c.set.ensures c.self.invariant
+    (c.max-self-inside.ensures ∙ ap (λ n. max c.self.inside.kept n) c.end.ensures) c.set.ensures c.self.invariant
 
 pub returns-in-Some-clause-globals : goal.returns-in-Some-clause-globals
 returns-in-Some-clause-globals c =

@@ -18,7 +18,7 @@ invariant_of-self-in-Some c =
     let there : option_and_then (λ (e : EntryState). held_at c.args.name.0 e.variables) (slice_get c.self.inside.entries.items c.args.at) ≡ Some c.in-Some.held =
     sym (c.in-Some.ensures ∙ ap (λ (es : List EntryState). option_and_then (λ (e : EntryState). held_at c.args.name.0 e.variables) (slice_get es c.args.at)) c.as_slice.ensures.value) in
     held_pushed c.self.inside.pool.items c.self.inside.kept c.in-Some.held c.self.inside.stack.items c.push.new.self.items c.self.inside.globals
-    c.self.inside.entries.items c.in_ok-push.ensures.moved
+    c.self.inside.entries.items c.in_ok-push-in-Some.ensures.moved
     (entry_end c.self.inside.pool.items c.self.inside.kept c.self.inside.stack.items c.self.inside.globals c.self.inside.entries.items c.args.at
     c.args.name.0 c.in-Some.held c.self.invariant there)
     c.self.invariant
@@ -27,7 +27,7 @@ pub returns-in_ok-push-in-Some-clause-stack : goal.returns-in_ok-push-in-Some-cl
 returns-in_ok-push-in-Some-clause-stack c =
     let there : option_and_then (λ (e : EntryState). held_at c.args.name.0 e.variables) (slice_get c.self.inside.entries.items c.args.at) ≡ Some c.in-Some.held =
     sym (c.in-Some.ensures ∙ ap (λ (es : List EntryState). option_and_then (λ (e : EntryState). held_at c.args.name.0 e.variables) (slice_get es c.args.at)) c.as_slice.ensures.value) in
-    ap (λ (l : List Held). map (value_in c.self.inside.pool.items) l) c.in_ok-push.ensures.moved
+    ap (λ (l : List Held). map (value_in c.self.inside.pool.items) l) c.in_ok-push-in-Some.ensures.moved
     ∙ ap (λ (o : Option Value). with_pushed o (map (value_in c.self.inside.pool.items) c.self.inside.stack.items))
     (sym (entry_value_held c.self.inside.pool.items c.args.name.0 c.args.at c.self.inside.entries.items
     ∙ ap (λ (o : Option Held). option_map (value_in c.self.inside.pool.items) o) there))
