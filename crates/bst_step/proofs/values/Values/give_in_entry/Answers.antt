@@ -1,5 +1,5 @@
 -- The top is taken off, and the entry's variable holds it.
-use Rattle.std.proofs.Common.{◌∙◌, List, Some, ap, map, max, slice_get}
+use Rattle.std.proofs.Common.{◌∙◌, List, Some, ap, drop, length, map, max, slice_get}
 use Rattle.bst_step.specs.declared.entry_states.EntryState.{EntryState}
 use Rattle.bst_step.specs.declared.held.Held.{Held}
 use Rattle.bst_step.specs.EntryStates.{state_in}
@@ -15,14 +15,16 @@ invariant_of-self c =
     (ap (λ (l : List Held). slice_get l 0) c.in-Some.ensures) c.drop_top.ensures.moved
     (c.max-self-inside.ensures ∙ ap (λ n. max c.self.inside.kept n) c.end.ensures)
     (written_back (record { name = c.args.name; value = c.in-Some.value }) c.args.at c.as_mut_slice.result.now c.self.inside.entries.items
-    c.set_in_entry.new.entries _ c.self.inside.entries.len c.as_mut_slice.ensures.value c.as_mut_slice.ensures.len c.set_in_entry.ensures)
+    c.set_in_entry.new.entries (drop (length c.set_in_entry.new.entries) c.self.inside.entries.items) c.self.inside.entries.len
+    c.as_mut_slice.ensures.value c.as_mut_slice.ensures.len c.set_in_entry.ensures)
     c.self.invariant
 
 pub returns-in-Some-clause-entries : goal.returns-in-Some-clause-entries
 returns-in-Some-clause-entries c =
     ap (λ (es : List EntryState). map (state_in c.self.inside.pool.items) es)
     (written_back (record { name = c.args.name; value = c.in-Some.value }) c.args.at c.as_mut_slice.result.now c.self.inside.entries.items
-    c.set_in_entry.new.entries _ c.self.inside.entries.len c.as_mut_slice.ensures.value c.as_mut_slice.ensures.len c.set_in_entry.ensures)
+    c.set_in_entry.new.entries (drop (length c.set_in_entry.new.entries) c.self.inside.entries.items) c.self.inside.entries.len
+    c.as_mut_slice.ensures.value c.as_mut_slice.ensures.len c.set_in_entry.ensures)
     ∙ given_in_view c.self.inside.pool.items c.self.inside.stack.items c.self.inside.entries.items c.args.name c.args.at c.in-Some.value
     (ap (λ (l : List Held). slice_get l 0) c.in-Some.ensures)
     ∙ ap (λ (h : Holding). given_in_entry c.args.name (Some c.args.at) h.stack h.entries) c.self.view_is
