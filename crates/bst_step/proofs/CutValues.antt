@@ -2,6 +2,7 @@
 use Rattle.std.proofs.Common.{◌≡◌, ℕ, zero, suc, ◌+◌, ◌-◌, ◌≤◌, inl, inr, le_refl, refl, sym, ap, ◌∙◌, List, [], ◌∷◌, drop, length, take, min, arith}
 use Rattle.std.proofs.lemmas.Bool.{cases_lt}
 use Rattle.std.proofs.lemmas.List.{drop-drop, drop-take, drop_all, length-take, take-take, take_all}
+use Rattle.text_ops.specs.Substring.{last_bytes}
 
 -- the first so many of the first so many
 taken : {A : Type 0} (count r : ℕ) (zs : List A) → take (min count r) zs ≡ take count (take r zs)
@@ -45,9 +46,12 @@ part_made pool start size from count =
           ap (λ n. take n (drop (start + min from size) pool)) z ∙ sym (none count (drop from (take size (drop start pool))) past ∙ past)
     ]
 
--- up to a place, the last so many
-pub last_part : (text : List ℕ) (end from : ℕ) → from ≤ end → take (end - from) (drop from text) ≡ drop from (take end text)
-last_part text end from h = shorter from end text h
+-- up to an end, the last so many
+pub last_part : (text : List ℕ) (end count : ℕ) → end ≤ length text
+    → take (end - (end - count)) (drop (end - count) text) ≡ last_bytes count (take end text)
+last_part text end count within =
+    let all : end ≡ length (take end text) = omega (arith, within, length-take end text) in
+    shorter (end - count) end text (omega arith) ∙ ap (λ (n : ℕ). drop (n - count) (take end text)) all
 
 -- so many from a place on, of what there is
 pub part_within : (bytes : List ℕ) (from count : ℕ)

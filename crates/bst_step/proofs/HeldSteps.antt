@@ -88,6 +88,22 @@ with_held_within end new (v ∷ vs) here within = by (nat_eq v.name.0 new.name.0
     by true = (here, within.1)
     by false = (within.0, with_held_within end new vs here within.1)
 
+-- one of the values is another
+stack_set : (end : ℕ) (hs : List Held) (n : ℕ) (h : Held) → end_of h ≤ end → StackWithin end hs → StackWithin end (set hs n h)
+stack_set end [] n h here within = within
+stack_set end (first ∷ hs) zero h here within = (here, within.1)
+stack_set end (first ∷ hs) (suc n) h here within = (within.0, stack_set end hs n h here within.1)
+
+-- an empty stack, and variables that hold nothing that was made
+pub held_new : (pool : List ℕ) (hs : List Held) (gs : List Variable) (es : List EntryState) → hs ≡ [] → VariablesWithin 0 gs → EntriesWithin 0 es
+    → IsHeld pool 0 hs gs es
+held_new pool hs gs es none globals entries = record {
+  on_stack = subst (StackWithin (length pool)) (sym none) tt;
+  in_globals = globals;
+  in_entries = entries;
+  in_front = omega arith;
+}
+
 -- the pool has grown
 longer : (pool later : List ℕ) → take (length pool) later ≡ pool → length pool ≤ length later
 longer pool later front =
@@ -140,6 +156,32 @@ held_dropped pool kept n hs fewer gs es is held = record {
   on_stack = subst (StackWithin (length pool)) (sym is) (stack_dropped (length pool) hs n held.on_stack);
   in_globals = held.in_globals;
   in_entries = held.in_entries;
+  in_front = held.in_front;
+}
+
+-- so many of the topmost values are replaced by one
+pub held_replaced : (pool : List ℕ) (kept n : ℕ) (h : Held) (hs more : List Held) (gs : List Variable) (es : List EntryState) → more ≡ h ∷ drop n hs
+    → end_of h ≤ length pool → IsHeld pool kept hs gs es → IsHeld pool kept more gs es
+held_replaced pool kept n h hs more gs es is within held =
+    held_pushed pool kept h (drop n hs) more gs es is within (held_dropped pool kept n hs (drop n hs) gs es refl held)
+
+-- one of the values is another
+pub held_set : (pool : List ℕ) (kept n : ℕ) (h : Held) (hs more : List Held) (gs : List Variable) (es : List EntryState) → more ≡ set hs n h
+    → end_of h ≤ length pool → IsHeld pool kept hs gs es → IsHeld pool kept more gs es
+held_set pool kept n h hs more gs es is within held = record {
+  on_stack = subst (StackWithin (length pool)) (sym is) (stack_set (length pool) hs n h within held.on_stack);
+  in_globals = held.in_globals;
+  in_entries = held.in_entries;
+  in_front = held.in_front;
+}
+
+-- the entries are others, which hold as little
+pub held_sorted : (pool : List ℕ) (kept : ℕ) (hs : List Held) (gs : List Variable) (es later : List EntryState)
+    → (EntriesWithin kept es → EntriesWithin kept later) → IsHeld pool kept hs gs es → IsHeld pool kept hs gs later
+held_sorted pool kept hs gs es later moved held = record {
+  on_stack = held.on_stack;
+  in_globals = held.in_globals;
+  in_entries = moved held.in_entries;
   in_front = held.in_front;
 }
 
@@ -236,11 +278,16 @@ held_given_in pool kept more at h name hs fewer gs es later top is end given hel
       in_front = omega (arith, held.in_front, here, end);
     }
 
+-- an empty stack holds nothing
+pub none_within : (end : ℕ) (hs : List Held) → length hs ≤ 0 → StackWithin end hs
+none_within end [] none = tt
+none_within end (h ∷ hs) none = absurd (omega (arith, none))
+
 -- all but what variables may hold is let go, where the stack is empty
-pub held_trimmed : (pool front : List ℕ) (kept : ℕ) (hs : List Held) (gs : List Variable) (es : List EntryState) → front ≡ take kept pool → hs ≡ []
-    → IsHeld pool kept hs gs es → IsHeld front kept hs gs es
+pub held_trimmed : (pool front : List ℕ) (kept : ℕ) (hs : List Held) (gs : List Variable) (es : List EntryState) → front ≡ take kept pool
+    → length hs ≤ 0 → IsHeld pool kept hs gs es → IsHeld front kept hs gs es
 held_trimmed pool front kept hs gs es is none held = record {
-  on_stack = subst (StackWithin (length front)) (sym none) tt;
+  on_stack = none_within (length front) hs none;
   in_globals = held.in_globals;
   in_entries = held.in_entries;
   in_front = omega (arith, held.in_front, ap (λ (l : List ℕ). length l) is, length-take kept pool);

@@ -5,7 +5,16 @@ use Rattle.bst_meaning.specs.declared.entry.Entry.{Entry}
 use Rattle.bst_meaning.specs.Config as config
 use Rattle.bst_step.specs.declared.entry_states.EntryState.{EntryState}
 use Rattle.bst_step.specs.EntryStates.{EntriesWithin, state_in}
-use Rattle.bst_step.specs.Variables.{VariablesWithin}
+use Rattle.bst_step.specs.declared.variables.Variable.{Variable}
+use Rattle.bst_step.specs.Variables.{VariablesWithin, variable_in}
+
+-- an entry as a run opens
+pub state_opened : (e : EntryState) (entry : Entry) (vs : List Variable) (n : ℕ) → e.entry ≡ entry → e.variables ≡ vs → e.position ≡ n
+    → state_in [] e ≡ record { entry = entry; variables = map (variable_in []) vs; position = n }
+state_opened e entry vs n here variables position =
+    ap (λ (x : Entry). let s : config.EntryState = record { entry = x; variables = map (variable_in []) e.variables; position = e.position } in s) here
+    ∙ ap (λ (ws : List Variable). let s : config.EntryState = record { entry = entry; variables = map (variable_in []) ws; position = e.position } in s) variables
+    ∙ ap (λ (k : ℕ). let s : config.EntryState = record { entry = entry; variables = map (variable_in []) vs; position = k } in s) position
 
 -- one entry more
 pub entry_opened : (vs : List config.Variable) (states more : List EntryState) (e : EntryState) (entries : List Entry) (i : ℕ) (d : Entry)

@@ -8,9 +8,10 @@ use Rattle.bst_step.specs.declared.held.Held.{Held}
 use Rattle.bst_step.specs.declared.variables.Variable.{Variable}
 use Rattle.bst_step.specs.EntryStates.{EntriesWithin, state_in}
 use Rattle.bst_step.specs.Held.{end_of, value_in}
-use Rattle.bst_step.specs.Values.{IsHeld, StackWithin}
+use Rattle.bst_step.specs.Values.{Holding, IsHeld, holding_in}
 use Rattle.bst_step.specs.Variables.{VariablesWithin, names_in, variable_in}
-use Rattle.bst_step.proofs.HeldSteps.{entries_later, same_entries, same_variables, variables_later}
+use Rattle.bst_meaning.specs.declared.value.Value.{Value}
+use Rattle.bst_step.proofs.HeldSteps.{entries_later, entries_trimmed, globals_trimmed, none_within, same_entries, same_variables, variables_later}
 
 -- a pool that grows twice
 pub grown_twice : (first fresh later : List ℕ) → take (length first) fresh ≡ first → take (length fresh) later ≡ fresh → take (length first) later ≡ first
@@ -94,23 +95,32 @@ entry_more_within fresh later done more e is front here ends =
     (one_entry_within (length later) done e (entries_later (length fresh) (length later) (not_shorter fresh later front) done ends) here)
 
 -- what is held once the pool was made anew
-pub held_renewed : (fresh later : List ℕ) (hs : List Held) (gs : List Variable) (es : List EntryState) → length hs ≤ 0
-    → take (length fresh) later ≡ fresh → VariablesWithin (length fresh) gs → EntriesWithin (length later) es → IsHeld later (length later) hs gs es
-held_renewed fresh later hs gs es none front globals entries = record {
+pub held_renewed : (fresh later : List ℕ) (kept : ℕ) (hs : List Held) (gs : List Variable) (es : List EntryState) → length hs ≤ 0
+    → take (length fresh) later ≡ fresh → VariablesWithin (length fresh) gs → EntriesWithin (length later) es → kept ≡ length later
+    → IsHeld later kept hs gs es
+held_renewed fresh later kept hs gs es none front globals entries end = record {
   on_stack = none_within (length later) hs none;
-  in_globals = variables_later (length fresh) (length later) (not_shorter fresh later front) gs globals;
-  in_entries = entries;
-  in_front = le_refl (length later);
+  in_globals = subst (λ (n : ℕ). VariablesWithin n gs) (sym end) (variables_later (length fresh) (length later) (not_shorter fresh later front) gs globals);
+  in_entries = subst (λ (n : ℕ). EntriesWithin n es) (sym end) entries;
+  in_front = omega (arith, end);
 }
-  where
-    none_within : (end : ℕ) (hs : List Held) → length hs ≤ 0 → StackWithin end hs
-    none_within end [] none = tt
-    none_within end (h ∷ hs) none = absurd (omega (arith, none))
 
 pub globals_renewed : (pool fresh later : List ℕ) (old gs : List Variable) → take (length fresh) later ≡ fresh → VariablesWithin (length fresh) gs
     → map (variable_in fresh) gs ≡ map (variable_in pool) old → map (variable_in later) gs ≡ map (variable_in pool) old
 globals_renewed pool fresh later old gs front within same = same_variables (length fresh) later fresh (front_same fresh later front) gs within ∙ same
 
+-- an empty stack is seen as the same over any pool
 pub none_renewed : (pool later : List ℕ) (hs : List Held) → length hs ≤ 0 → map (value_in later) hs ≡ map (value_in pool) hs
 none_renewed pool later [] none = refl
 none_renewed pool later (h ∷ hs) none = absurd (omega (arith, none))
+
+-- what is seen stays where all but what variables may hold is let go
+pub same_holding : (pool front : List ℕ) (kept room : ℕ) (hs : List Held) (gs : List Variable) (es : List EntryState) → front ≡ take kept pool
+    → length hs ≤ 0 → IsHeld pool kept hs gs es → holding_in front hs room gs es ≡ holding_in pool hs room gs es
+same_holding pool front kept room hs gs es is none held =
+    ap (λ (stack : List Value). let h : Holding = record { stack = stack; room = room; globals = map (variable_in front) gs; entries = map (state_in front) es } in h)
+    (none_renewed pool front hs none)
+    ∙ ap (λ (globals : List config.Variable). let h : Holding = record { stack = map (value_in pool) hs; room = room; globals = globals; entries = map (state_in front) es } in h)
+    (globals_trimmed pool front kept hs gs es is held)
+    ∙ ap (λ (entries : List config.EntryState). let h : Holding = record { stack = map (value_in pool) hs; room = room; globals = map (variable_in pool) gs; entries = entries } in h)
+    (entries_trimmed pool front kept hs gs es is held)

@@ -1,8 +1,8 @@
 -- The items of a stack below its topmost ones.
-use Rattle.std.proofs.Common.{◌≡◌, ℕ, ◌+◌, ◌-◌, ◌<◌, ◌≤◌, ◌∙◌, le_refl, sym, ap, subst, refl, List, [], ◌∷◌, ◌++◌, length, take, drop, reverse, slice_get, None, arith, inl, inr}
+use Rattle.std.proofs.Common.{◌≡◌, ℕ, zero, suc, ◌+◌, ◌-◌, ◌<◌, ◌≤◌, ◌∙◌, le_refl, sym, ap, subst, refl, List, [], ◌∷◌, ◌++◌, length, take, drop, reverse, slice_get, None, arith, inl, inr}
 use Rattle.std.proofs.lemmas.Bool.{cases_lt}
 use Rattle.std.proofs.Math.ListN.{set}
-use Rattle.std.proofs.lemmas.List.{reverse-append, reverse-reverse, set-append_right, take-append-drop, length-reverse, length-drop, drop_at, drop_all}
+use Rattle.std.proofs.lemmas.List.{reverse-append, reverse-reverse, set-append_left, set-append_right, take-append-drop, length-reverse, length-drop, drop_at, drop_all}
 
 without_end : {A : Type 0} (a b : List A) (n : ℕ) → length b ≡ n → reverse a ≡ drop n (reverse (a ++ b))
 without_end a b n e = rw (reverse-append a b) (sym (drop_at (reverse b) (reverse a) n (length-reverse b ∙ e)))
@@ -26,9 +26,10 @@ pub no_first : {A : Type 0} (xs : List A) → slice_get xs 0 ≡ None → xs ≡
 no_first [] e = refl
 no_first (x ∷ xs) e = absurd (cc)
 
-last_replaced : {A : Type 0} (zs : List A) (i : ℕ) (y : A) → i + 1 ≡ length zs → reverse (set (reverse zs) i y) ≡ y ∷ drop 1 zs
-last_replaced [] i y at = absurd (omega (arith, at))
-last_replaced {A} (z ∷ zs) i y at =
+-- an item is replaced, which stands as far from the other end
+replaced : {A : Type 0} (zs : List A) (i depth : ℕ) (y : A) → i + 1 + depth ≡ length zs → reverse (set (reverse zs) i y) ≡ set zs depth y
+replaced [] i depth y at = absurd (omega (arith, at))
+replaced {A} (z ∷ zs) i zero y at =
     let long : length (reverse zs) ≡ i = omega (arith, at, length-reverse zs) in
     let here : i - i ≡ 0 = omega arith in
     ap (λ (l : List A). reverse (set l i y)) (reverse-append (z ∷ []) zs)
@@ -36,9 +37,21 @@ last_replaced {A} (z ∷ zs) i y at =
     ∙ ap (λ (k : ℕ). reverse (reverse zs ++ set (z ∷ []) k y)) here
     ∙ reverse-append (reverse zs) (y ∷ [])
     ∙ ap (λ (l : List A). y ∷ l) (reverse-reverse zs)
+replaced {A} (z ∷ zs) i (suc depth) y at =
+    let there : i < length (reverse zs) = omega (arith, at, length-reverse zs) in
+    ap (λ (l : List A). reverse (set l i y)) (reverse-append (z ∷ []) zs)
+    ∙ ap (λ (l : List A). reverse l) (set-append_left (reverse zs) (z ∷ []) i y there)
+    ∙ reverse-append (set (reverse zs) i y) (z ∷ [])
+    ∙ ap (λ (l : List A). z ∷ l) (replaced zs i depth y (omega (arith, at)))
 
--- the last item of a list is replaced, which is the first one from the other end
-pub reverse-set : {A : Type 0} (xs : List A) (y : A) → 0 < length xs → reverse (set xs (length xs - 1) y) ≡ y ∷ drop 1 (reverse xs)
-reverse-set {A} xs y some =
-    let at : (length xs - 1) + 1 ≡ length (reverse xs) = omega (arith, some, length-reverse xs) in
-    ap (λ (l : List A). reverse (set l (length xs - 1) y)) (sym (reverse-reverse xs)) ∙ last_replaced (reverse xs) (length xs - 1) y at
+pub reverse-set : {A : Type 0} (xs : List A) (depth : ℕ) (y : A) → depth < length xs
+    → reverse (set xs (length xs - 1 - depth) y) ≡ set (reverse xs) depth y
+reverse-set {A} xs depth y some =
+    let at : (length xs - 1 - depth) + 1 + depth ≡ length (reverse xs) = omega (arith, some, length-reverse xs) in
+    ap (λ (l : List A). reverse (set l (length xs - 1 - depth) y)) (sym (reverse-reverse xs))
+    ∙ replaced (reverse xs) (length xs - 1 - depth) depth y at
+
+-- the first item is replaced
+pub first_replaced : {A : Type 0} (xs : List A) (y : A) → 0 < length xs → set xs 0 y ≡ y ∷ drop 1 xs
+first_replaced [] y some = absurd (omega (arith, some))
+first_replaced (x ∷ xs) y some = refl

@@ -1,5 +1,9 @@
 -- What is done with values as they are held, as it is seen.
-use Rattle.std.proofs.Common.{◌≡◌, ℕ, zero, suc, ◌+◌, ◌-◌, ◌≤◌, le_refl, refl, sym, ap, ◌∙◌, List, [], ◌∷◌, ◌++◌, drop, length, map, slice_get, take, Option, Some, None, arith}
+use Rattle.std.proofs.Common.{◌≡◌, ℕ, zero, suc, ◌+◌, ◌-◌, ◌<◌, ◌≤◌, le_refl, refl, sym, ap, ◌∙◌, List, [], ◌∷◌, ◌++◌, drop, get_or, length, map, slice_get, take, Option, Some, None, arith}
+use Rattle.std.specs.Borrow.{Bor}
+use Rattle.std.specs.Option.{option_map, IfSome}
+use Rattle.std.proofs.Math.ListN.{get_or-map, set}
+use Rattle.std.proofs.lemmas.Option.{slice_get-map}
 use Rattle.std.proofs.Math.Seq.{drop-append_seam, take-append_seam}
 use Rattle.std.proofs.lemmas.List.{drop-append-le, length-drop, take_all, take_rest}
 use Rattle.name_table.specs.declared.names.NameId.{NameId}
@@ -10,10 +14,11 @@ use Rattle.bst_meaning.specs.Machine.{with_entry_variable, with_variable}
 use Rattle.bst_meaning.specs.Sorting.{string_of}
 use Rattle.bst_step.specs.declared.entry_states.EntryState.{EntryState}
 use Rattle.bst_step.specs.declared.held.Held.{Held}
-use Rattle.bst_step.specs.declared.held.Held.TheVariants.{Made}
+use Rattle.bst_step.specs.declared.held.Held.TheVariants.{Lent, Made}
+use Rattle.bst_step.specs.declared.held.Operand.TheVariants as operand
 use Rattle.bst_step.specs.declared.variables.Variable.{Variable}
 use Rattle.bst_step.specs.EntryStates.{state_in, with_held_in}
-use Rattle.bst_step.specs.Held.{end_of, part_from, value_in}
+use Rattle.bst_step.specs.Held.{end_of, lent_of, part_from, value_in}
 use Rattle.bst_step.specs.Values.{cut, doubled, given_globally, given_in_entry, joined, swapped}
 use Rattle.bst_step.specs.Variables.{variable_in, with_held}
 use Rattle.bst_step.proofs.HeldSteps.{same_value}
@@ -56,6 +61,67 @@ two_are (x ∷ y ∷ hs) b a top below =
     let second : y ≡ a = cc in
     ap (λ (k : Held). k ∷ y ∷ hs) first ∙ ap (λ (k : Held). b ∷ k ∷ hs) second
 
+-- what is dropped
+pub dropped_view : (pool : List ℕ) (n : ℕ) (hs : List Held) → map (value_in pool) (drop n hs) ≡ drop n (map (value_in pool) hs)
+dropped_view pool zero hs = refl
+dropped_view pool (suc n) [] = refl
+dropped_view pool (suc n) (h ∷ hs) = dropped_view pool n hs
+
+-- the top, whose value is seen
+pub top_view : (pool : List ℕ) (hs : List Held) (h : Held) (v : Value) → hs ≡ h ∷ drop 1 hs → v ≡ value_in pool h
+    → map (value_in pool) hs ≡ v ∷ drop 1 (map (value_in pool) hs)
+top_view pool hs h v is value =
+    ap (λ (l : List Held). map (value_in pool) l) is
+    ∙ ap (λ (w : Value). w ∷ map (value_in pool) (drop 1 hs)) (sym value)
+    ∙ ap (λ (l : List Value). v ∷ l) (dropped_view pool 1 hs)
+
+-- the top, whose bytes are lent
+lent_value : (pool : List ℕ) (h : Held) (bytes : List ℕ) → lent_of h ≡ Some bytes → Str bytes ≡ value_in pool h
+lent_value pool (Lent (operand.Str lent)) bytes is = let same : bytes ≡ lent.now = cc in ap Str same
+lent_value pool (Lent (operand.Int n)) bytes is = absurd (cc)
+lent_value pool (Lent (operand.Missing name)) bytes is = absurd (cc)
+lent_value pool (Lent (operand.Func target)) bytes is = absurd (cc)
+lent_value pool (Made start count) bytes is = absurd (cc)
+
+pub lent_view : (pool : List ℕ) (hs : List Held) (h : Held) (o : Option (Bor (List ℕ))) → hs ≡ h ∷ drop 1 hs
+    → option_map (λ (bytes : Bor (List ℕ)). bytes.now) o ≡ lent_of h
+    → IfSome o (λ bytes. map (value_in pool) hs ≡ Str bytes.now ∷ drop 1 (map (value_in pool) hs))
+lent_view pool hs h None is lent = tt
+lent_view pool hs h (Some bytes) is lent = top_view pool hs h (Str bytes.now) is (lent_value pool h bytes.now (sym lent))
+
+-- the value at a depth
+pub value_below : (pool : List ℕ) (hs : List Held) (i : ℕ) (h : Held) (v : Value) → h ≡ get_or hs i h → v ≡ value_in pool h
+    → v ≡ get_or (map (value_in pool) hs) i v
+value_below pool hs i h v here is =
+    is
+    ∙ ap (λ (k : Held). value_in pool k) here
+    ∙ sym (get_or-map (value_in pool) hs i h)
+    ∙ ap (λ (d : Value). get_or (map (value_in pool) hs) i d) (sym is)
+
+-- there are as many as the depth of a value
+pub is_there : (hs : List Held) (n : ℕ) (h : Held) → slice_get hs n ≡ Some h → n < length hs
+is_there [] n h is = absurd (cc)
+is_there (x ∷ hs) zero h is = omega arith
+is_there (x ∷ hs) (suc n) h is = omega (arith, is_there hs n h is)
+
+pub second_left : (hs fewer : List Held) (h : Held) → slice_get hs 1 ≡ Some h → fewer ≡ drop 1 hs → 0 < length fewer
+second_left [] fewer h is left = absurd (cc)
+second_left (x ∷ []) fewer h is left = absurd (cc)
+second_left (x ∷ y ∷ hs) fewer h is left = omega (arith, ap (λ (l : List Held). length l) left)
+
+-- an entry as it is seen
+pub seen_at : {A : Type 0} (pool : List ℕ) (es : List EntryState) (at : ℕ) (e : EntryState) (f : config.EntryState → A) → slice_get es at ≡ Some e
+    → option_map f (slice_get (map (state_in pool) es) at) ≡ Some (f (state_in pool e))
+seen_at {A} pool es at e f here =
+    ap (λ (o : Option config.EntryState). option_map f o)
+    (slice_get-map (state_in pool) es at ∙ ap (λ (o : Option EntryState). option_map (state_in pool) o) here)
+
+pub none_seen : {A : Type 0} (pool : List ℕ) (es : List EntryState) (at : ℕ) (f : config.EntryState → A) → slice_get es at ≡ None
+    → option_map f (slice_get (map (state_in pool) es) at) ≡ None
+none_seen {A} pool es at f here =
+    ap (λ (o : Option config.EntryState). option_map f o)
+    (slice_get-map (state_in pool) es at ∙ ap (λ (o : Option EntryState). option_map (state_in pool) o) here)
+
 -- the top once more
 pub doubled_view : (pool : List ℕ) (hs : List Held) (h : Held) → slice_get hs 0 ≡ Some h
     → map (value_in pool) (h ∷ hs) ≡ doubled (map (value_in pool) hs)
@@ -64,16 +130,16 @@ doubled_view pool (x ∷ hs) h is =
     let same : h ≡ x = cc in ap (λ (k : Held). value_in pool k ∷ value_in pool x ∷ map (value_in pool) hs) same
 
 -- the two topmost are exchanged
-pub swapped_view : (pool : List ℕ) (hs more : List Held) (b a : Held) → slice_get hs 0 ≡ Some b → slice_get hs 1 ≡ Some a
-    → more ≡ a ∷ b ∷ drop 1 (drop 1 hs) → map (value_in pool) more ≡ swapped (map (value_in pool) hs)
-swapped_view pool [] more b a top below is = absurd (cc)
-swapped_view pool (x ∷ []) more b a top below is = absurd (cc)
-swapped_view pool (x ∷ y ∷ hs) more b a top below is =
-    let first : b ≡ x = cc in
-    let second : a ≡ y = cc in
-    ap (λ (l : List Held). map (value_in pool) l) is
-    ∙ ap (λ (k : Held). value_in pool k ∷ value_in pool b ∷ map (value_in pool) hs) second
-    ∙ ap (λ (k : Held). value_in pool y ∷ value_in pool k ∷ map (value_in pool) hs) first
+pub swapped_view : (pool : List ℕ) (hs middle more : List Held) (b a : Held) → slice_get hs 0 ≡ Some b → slice_get hs 1 ≡ Some a
+    → middle ≡ set hs 0 a → more ≡ set middle 1 b → map (value_in pool) more ≡ swapped (map (value_in pool) hs)
+swapped_view pool [] middle more b a top below first second = absurd (cc)
+swapped_view pool (x ∷ []) middle more b a top below first second = absurd (cc)
+swapped_view pool (x ∷ y ∷ hs) middle more b a top below first second =
+    let same : b ≡ x = cc in
+    let other : a ≡ y = cc in
+    ap (λ (l : List Held). map (value_in pool) l) (second ∙ ap (λ (l : List Held). set l 1 b) first)
+    ∙ ap (λ (k : Held). value_in pool k ∷ value_in pool b ∷ map (value_in pool) hs) other
+    ∙ ap (λ (k : Held). value_in pool y ∷ value_in pool k ∷ map (value_in pool) hs) same
 
 -- the two topmost strings are joined
 pub joined_view : (pool later : List ℕ) (hs more : List Held) (b a h : Held) → slice_get hs 0 ≡ Some b → slice_get hs 1 ≡ Some a
@@ -117,12 +183,6 @@ given_in_view pool (x ∷ hs) es name at h is =
     let same : h ≡ x = cc in
     with_entry_held pool (record { name = name; value = h }) at es
     ∙ ap (λ (k : Held). with_entry_variable (record { name = name; value = value_in pool k }) (Some at) (map (state_in pool) es)) same
-
--- what is dropped
-pub dropped_view : (pool : List ℕ) (n : ℕ) (hs : List Held) → map (value_in pool) (drop n hs) ≡ drop n (map (value_in pool) hs)
-dropped_view pool zero hs = refl
-dropped_view pool (suc n) [] = refl
-dropped_view pool (suc n) (h ∷ hs) = dropped_view pool n hs
 
 -- where there is no top, nothing is done
 pub no_top : (hs : List Held) → slice_get hs 0 ≡ None → hs ≡ []

@@ -1,5 +1,5 @@
 -- Values as the machine holds them (docs/MACHINE.md, "How it is run").
-use Rattle.std.specs.Prelude.{ℕ, ◌+◌, List, drop, take}
+use Rattle.std.specs.Prelude.{ℕ, ◌+◌, List, Option, None, Some, drop, take}
 use Rattle.bst_meaning.specs.declared.value.Value.{Value}
 use Rattle.bst_meaning.specs.declared.value.Value.TheVariants.{Int, Str, Missing, Func}
 use Rattle.bst_step.specs.declared.held.Operand.{Operand}
@@ -18,6 +18,11 @@ value_of (operand.Func target) = Func target
 abbrev pub value_in : List ℕ → Held → Value
 value_in pool (Lent value) = value_of value
 value_in pool (Made start count) = Str (take count (drop start pool))
+
+-- the bytes of a string that are lent
+abbrev pub lent_of : Held → Option (List ℕ)
+lent_of (Lent (operand.Str bytes)) = Some bytes.now
+lent_of _ = None
 
 -- where its bytes end in the pool
 abbrev pub end_of : Held → ℕ

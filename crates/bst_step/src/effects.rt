@@ -67,16 +67,15 @@ impl<'a> State<'a> {
             }
             Outcome::EndLine => self.write(Event::EndedLine),
             Outcome::Write => self.write_top(),
-            Outcome::Swap => self.values.swap(),
+            Outcome::Swap => {
+                self.values.swap();
+                Ok(())
+            }
             Outcome::Assign(name) => {
                 self.assign_second(style, name);
                 Ok(())
             }
-            Outcome::AssignCut(name, size, line) => {
-                self.log_line(line)?;
-                self.assign_cut(style, name, size);
-                Ok(())
-            }
+            Outcome::AssignCut(name, size, line) => self.assign_cut(style, name, size, line),
         }
     }
 
@@ -154,14 +153,24 @@ impl<'a> State<'a> {
         self.assign_top(style, name);
     }
 
-    /// Assigns so many bytes of the string that is second from the top, and takes both away.
+    /// Logs a line, assigns so many bytes of the string that is second from the top, and takes both values away.
     #[tactic(auto, using(crate::proofs::AssignSteps::second_cut))]
-    fn assign_cut(&mut self, style: &Style, name: NameId, size: usize)
-        ensures { config_of self.new ≡ with_second_cut style.now name size self.old.values.stack (config_of self.old) }
+    fn assign_cut(
+        &mut self,
+        style: &Style,
+        name: NameId,
+        size: usize,
+        line: Text,
+    ) -> Result<(), NoMemory>
+        ensures moved { OnOk result (config_of self.new ≡
+            with_second_cut style.now name size self.old.values.stack (with_log (line ∷ []) (config_of self.old))) }
+        ensures entries { OnErr result (self.new.values.entries ≡ self.old.values.entries) }
     {
+        self.log_line(line)?;
         self.values.drop_top(1);
         self.values.cut_top(0, size);
         self.assign_top(style, name);
+        Ok(())
     }
 
     /// Takes the top off, and gives it to a variable.

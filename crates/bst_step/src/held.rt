@@ -1,9 +1,9 @@
 //! Values as the machine holds them: the bytes of a string are lent, or were made and stand in a pool.
 
-ghost use Rattle.std.specs.Prelude.{◌≡◌, ◌≤◌, ◌++◌, drop, length, take, IfOk, OnErr, OnOk};
+ghost use Rattle.std.specs.Prelude.{◌≡◌, ◌≤◌, ◌++◌, drop, length, option_map, take, IfOk, OnErr, OnOk};
 ghost use Rattle.bst_meaning.specs.declared.value.Value.TheVariants.{Str};
 ghost use Rattle.bst_meaning.specs.Sorting.{string_of};
-ghost use Rattle.bst_step.specs.Held.{end_of, part_from, value_in, value_of};
+ghost use Rattle.bst_step.specs.Held.{end_of, lent_of, part_from, value_in, value_of};
 
 use bst_meaning::value::Target;
 use bv_base::memory::NoMemory;
@@ -45,6 +45,16 @@ impl<'a> Held<'a> {
         match self {
             Held::Lent(value) => value,
             Held::Made(start, count) => Operand::Str(bytes_at(pool, start, count)),
+        }
+    }
+
+    /// The bytes of a string that are lent.
+    pub fn lent(self) -> Option<&'a [u8]>
+        ensures { option_map (λ bytes. bytes.now) result ≡ lent_of self.entry }
+    {
+        match self {
+            Held::Lent(Operand::Str(bytes)) => Some(bytes),
+            _ => None,
         }
     }
 

@@ -170,8 +170,9 @@ fn entry_states<'a>(
     for entry in entries {
         let position = states.as_slice().len() as u64;
         let variables = variables.copied(alloc)?;
+        let entry = PlacedEntry::new(places, entry)?;
         states.push(EntryState {
-            entry: PlacedEntry::new(places, entry)?,
+            entry,
             variables,
             position,
         })?;

@@ -44,7 +44,8 @@ pub fn two<'b>(values: &'b Values<'_>) -> Result<(Operand<'b>, Operand<'b>), Fau
 
 /// The three topmost values, the lowest one first.
 pub fn three<'b>(values: &'b Values<'_>) -> Result<(Operand<'b>, Operand<'b>, Operand<'b>), Fault>
-    ensures { MatchResult result
+    ensures lowest { IfOk result (λ p. slice_get values.now.stack 2 ≡ Some (value_of p.0)) }
+    ensures taken { MatchResult result
         (λ p. (rule : Value → Value → Value → List Value → Result Effect Fault) → three_operands values.now.stack rule ≡ rule (value_of p.0) (value_of p.1) (value_of p.2) (drop 3 values.now.stack))
         (λ fault. (rule : Value → Value → Value → List Value → Result Effect Fault) → three_operands values.now.stack rule ≡ Err fault) }
 {

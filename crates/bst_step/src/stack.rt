@@ -1,6 +1,6 @@
 //! A list that grows and shrinks at its front.
 
-ghost use Rattle.std.specs.Prelude.{◌≡◌, ◌+◌, ◌<◌, ◌≤◌, ◌∷◌, [], drop, slice_get, slice_index_or, length, IsOk, MatchOption, OnErr, OnOk};
+ghost use Rattle.std.specs.Prelude.{◌≡◌, ◌+◌, ◌<◌, ◌≤◌, ◌∷◌, [], drop, slice_get, slice_index_or, slice_set, length, IsOk, MatchOption, OnErr, OnOk};
 
 use bv_base::memory::NoMemory;
 use smallvec::SmallVec;
@@ -52,9 +52,18 @@ impl<T: Copy + Default> Stack<T> {
         ensures moved { self.new.items ≡ item ∷ drop 1 self.old.items }
         ensures room { self.new.room ≡ self.old.room }
     {
-        let last = self.inner.len() - 1;
-        if let Some(top) = self.inner.get_mut(last) {
-            *top = item;
+        self.replace(0, item);
+    }
+
+    /// Puts an item in the place of the one so far below the top.
+    pub fn replace(&mut self, depth: usize, item: T)
+        requires { depth < length self.old.items }
+        ensures moved { self.new.items ≡ slice_set self.old.items depth item }
+        ensures room { self.new.room ≡ self.old.room }
+    {
+        let place = self.inner.len() - 1 - depth;
+        if let Some(old) = self.inner.get_mut(place) {
+            *old = item;
         }
     }
 

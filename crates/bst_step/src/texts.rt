@@ -1,9 +1,9 @@
 //! The built-in functions on strings.
 
-ghost use Rattle.std.specs.Prelude.{◌≡◌, ◌++◌, ℕ, pos, drop, is_none, take, IfOk};
+ghost use Rattle.std.specs.Prelude.{◌≡◌, ◌++◌, ◌≤◌, ℕ, pos, drop, is_none, length, take, IfOk};
 ghost use Rattle.text_ops.specs.AddPeriod.{with_period};
 ghost use Rattle.text_ops.specs.Purify.{purified};
-ghost use Rattle.text_ops.specs.Substring.{substring_of};
+ghost use Rattle.text_ops.specs.Substring.{last_bytes, substring_of};
 ghost use Rattle.text_ops.specs.TextLength.{text_length_of};
 ghost use Rattle.text_ops.specs.Width.{width_of};
 ghost use Rattle.bst_meaning.specs.declared.value.Value.TheVariants.{Str};
@@ -113,18 +113,25 @@ pub fn purify<'a>(alloc: Global, values: &Values<'a>) -> Result<Outcome<'a>, Sto
 }
 
 /// Where the part of a text by its place and its length begins, and how many bytes it has.
-fn substring_place(text: &[u8], start: i32, length: i32) -> (usize, usize)
-    ensures { take result.1 (drop result.0 text.now) ≡ substring_of text.now start length }
+fn substring_place(text: &[u8], start: i32, size: i32) -> (usize, usize)
+    ensures { take result.1 (drop result.0 text.now) ≡ substring_of text.now start size }
 {
     let place = start.unsigned_abs() as usize;
-    if length <= 0 || place == 0 || place > text.len() {
+    if size <= 0 || place == 0 || place > text.len() {
         return (0, 0);
     }
-    let count = length as usize;
+    let count = size as usize;
     if start > 0 {
         return (place - 1, count);
     }
-    let end = text.len() - (place - 1);
+    last_place(text, text.len() - (place - 1), count)
+}
+
+/// Where the last so many bytes of a text begin up to an end in it, and how many there are.
+fn last_place(text: &[u8], end: usize, count: usize) -> (usize, usize)
+    requires { end ≤ length text.now }
+    ensures { take result.1 (drop result.0 text.now) ≡ last_bytes count (take end text.now) }
+{
     let from = end.saturating_sub(count);
     (from, end - from)
 }

@@ -108,8 +108,8 @@ impl<'a> Values<'a> {
         ensures { IfSome result (λ bytes. self.now.stack ≡ Str bytes.now ∷ drop 1 self.now.stack) }
     {
         match self.stack.top() {
-            Some(Held::Lent(Operand::Str(bytes))) => Some(bytes),
-            _ => None,
+            Some(top) => top.lent(),
+            None => None,
         }
     }
 
@@ -158,30 +158,27 @@ impl<'a> Values<'a> {
         ensures globals { self.new.globals ≡ self.old.globals }
         ensures entries { self.new.entries ≡ self.old.entries }
     {
-        match self.stack.top() {
-            Some(top) => {
-                self.stack.push(top)?;
-                Ok(())
-            }
-            None => Ok(()),
-        }
+        let Some(top) = self.stack.top() else {
+            return Ok(());
+        };
+        self.stack.push(top)?;
+        Ok(())
     }
 
     /// Exchanges the two topmost values.
-    pub fn swap(&mut self) -> Result<(), NoMemory>
-        ensures stack { OnOk result (self.new.stack ≡ swapped self.old.stack) }
+    pub fn swap(&mut self)
+        ensures stack { self.new.stack ≡ swapped self.old.stack }
         ensures globals { self.new.globals ≡ self.old.globals }
         ensures entries { self.new.entries ≡ self.old.entries }
     {
-        match (self.stack.below(0), self.stack.below(1)) {
-            (Some(b), Some(a)) => {
-                self.stack.drop_top(1);
-                self.stack.replace_top(b);
-                self.stack.push(a)?;
-                Ok(())
-            }
-            _ => Ok(()),
-        }
+        let Some(b) = self.stack.below(0) else {
+            return;
+        };
+        let Some(a) = self.stack.below(1) else {
+            return;
+        };
+        self.stack.replace(0, a);
+        self.stack.replace(1, b);
     }
 
     /// Joins the two topmost strings, the lower one first.
@@ -190,15 +187,16 @@ impl<'a> Values<'a> {
         ensures globals { self.new.globals ≡ self.old.globals }
         ensures entries { self.new.entries ≡ self.old.entries }
     {
-        match (self.stack.below(0), self.stack.below(1)) {
-            (Some(b), Some(a)) => {
-                let joined = joined_in(a, b, &mut self.pool)?;
-                self.stack.drop_top(1);
-                self.stack.replace_top(joined);
-                Ok(())
-            }
-            _ => Ok(()),
-        }
+        let Some(b) = self.stack.below(0) else {
+            return Ok(());
+        };
+        let Some(a) = self.stack.below(1) else {
+            return Ok(());
+        };
+        let joined = joined_in(a, b, &mut self.pool)?;
+        self.stack.drop_top(1);
+        self.stack.replace_top(joined);
+        Ok(())
     }
 
     /// Leaves of a string on top so many bytes from a place on.
@@ -207,10 +205,10 @@ impl<'a> Values<'a> {
         ensures globals { self.new.globals ≡ self.old.globals }
         ensures entries { self.new.entries ≡ self.old.entries }
     {
-        if let Some(top) = self.stack.top() {
-            let part = top.part(self.pool.as_slice(), from, count);
-            self.stack.replace_top(part);
-        }
+        let Some(top) = self.stack.top() else {
+            return;
+        };
+        self.stack.replace_top(top.part(self.pool.as_slice(), from, count));
     }
 
     /// Pushes the value of a variable of the whole style, and tells whether there is one.
@@ -332,9 +330,10 @@ impl<'a> Values<'a> {
     pub fn trim(&mut self)
         ensures { self.new ≡ self.old }
     {
-        if self.stack.len() == 0 {
-            self.pool.truncate(self.kept);
+        if self.stack.len() > 0 {
+            return;
         }
+        self.pool.truncate(self.kept);
     }
 
     /// Makes the pool anew of what variables hold, where the stack is empty and overwritten variables may have left more
@@ -344,7 +343,10 @@ impl<'a> Values<'a> {
         ensures globals { OnOk result (self.new.globals ≡ self.old.globals) }
         ensures entries { self.new.entries ≡ self.old.entries }
     {
-        if self.stack.len() > 0 || self.kept <= self.limit {
+        if self.stack.len() > 0 {
+            return Ok(());
+        }
+        if self.kept <= self.limit {
             return Ok(());
         }
         let mut fresh = Vec::new(*self.pool.allocator());

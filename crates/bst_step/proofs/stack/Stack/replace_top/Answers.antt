@@ -1,21 +1,7 @@
--- The last item of the vector is replaced, which is the top.
-use Rattle.std.proofs.Common.{ap, ◌∙◌, ◌∷◌, ◌-◌, ◌<◌, ℕ, length, drop, reverse, arith}
-use Rattle.std.proofs.Math.ListN.{set}
-use Rattle.std.proofs.lemmas.List.{length-reverse}
-use Rattle.bst_step.specs.Stack.{Pile}
-use Rattle.bst_step.proofs.StackSteps.{reverse-set}
+-- The first item is replaced.
+use Rattle.std.proofs.Common.{◌∙◌}
+use Rattle.bst_step.proofs.StackSteps.{first_replaced}
 use Rattle.bst_step.proofs.stack.Stack.replace_top.Goals as goal
-use Rattle.bst_step.proofs.stack.Stack.replace_top.Goals.{in-Some, in_default}
 
 pub returns-clause-moved : goal.returns-clause-moved
-returns-clause-moved g c =
-    let some : 0 < length c.self.inside.inner.items =
-    omega (arith, c.requires, ap (λ (p : Pile g.row.T.Denot). length p.items) c.self.view_is, length-reverse c.self.inside.inner.items) in
-    elim c.match-get_mut.branch [
-      | in-Some w ↦
-          ap (λ s. reverse s.inner.items) w.self-inside-is
-          ∙ ap (λ (k : ℕ). reverse (set c.self.inside.inner.items (k - 1) c.args.item)) c.len-last.ensures.value
-          ∙ reverse-set c.self.inside.inner.items c.args.item some
-          ∙ ap (λ (p : Pile g.row.T.Denot). c.args.item ∷ drop 1 p.items) c.self.view_is
-      | in_default w ↦ absurd (w.in_default.ensures.variant.1 (omega (arith, some, c.len-last.ensures.value)))
-    ]
+returns-clause-moved g c = c.replace.ensures.moved ∙ first_replaced c.args.self.now.items c.args.item c.requires

@@ -13,14 +13,14 @@ use Rattle.bst_step.proofs.values.Values.push_global.Goals as goal
 pub invariant_of-self-in-Some : goal.invariant_of-self-in-Some
 invariant_of-self-in-Some c =
     held_pushed c.self.inside.pool.items c.self.inside.kept c.in-Some.held c.self.inside.stack.items c.push.new.self.items c.self.inside.globals
-    c.self.inside.entries.items c.in_ok-push.ensures.moved
+    c.self.inside.entries.items c.in_ok-push-in-Some.ensures.moved
     (global_end c.self.inside.pool.items c.self.inside.kept c.self.inside.stack.items c.self.inside.globals c.self.inside.entries.items
     c.args.name.0 c.in-Some.held c.self.invariant (sym c.in-Some.ensures))
     c.self.invariant
 
 pub returns-in_ok-push-in-Some-clause-stack : goal.returns-in_ok-push-in-Some-clause-stack
 returns-in_ok-push-in-Some-clause-stack c =
-    ap (λ (l : List Held). map (value_in c.self.inside.pool.items) l) c.in_ok-push.ensures.moved
+    ap (λ (l : List Held). map (value_in c.self.inside.pool.items) l) c.in_ok-push-in-Some.ensures.moved
     ∙ ap (λ (o : Option Value). with_pushed o (map (value_in c.self.inside.pool.items) c.self.inside.stack.items))
     (sym (value_held c.self.inside.pool.items c.args.name.0 c.self.inside.globals
     ∙ ap (λ (o : Option Held). option_map (value_in c.self.inside.pool.items) o) (sym c.in-Some.ensures)))
