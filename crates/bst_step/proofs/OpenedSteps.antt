@@ -8,6 +8,14 @@ use Rattle.bst_step.specs.EntryStates.{EntriesWithin, state_in}
 use Rattle.bst_step.specs.declared.variables.Variable.{Variable}
 use Rattle.bst_step.specs.Variables.{VariablesWithin, variable_in}
 
+-- one variable more
+pub variable_opened : (vs more : List Variable) (v : Variable) (later : List config.Variable) → more ≡ vs ++ v ∷ []
+    → map (variable_in []) more ++ later ≡ map (variable_in []) vs ++ variable_in [] v ∷ later
+variable_opened vs more v later is =
+    ap (λ (l : List Variable). map (variable_in []) l ++ later) is
+    ∙ ap (λ (l : List config.Variable). l ++ later) (map-append (variable_in []) vs (v ∷ []))
+    ∙ append_assoc (map (variable_in []) vs) (variable_in [] v ∷ []) later
+
 -- an entry as a run opens
 pub state_opened : (e : EntryState) (entry : Entry) (vs : List Variable) (n : ℕ) → e.entry ≡ entry → e.variables ≡ vs → e.position ≡ n
     → state_in [] e ≡ record { entry = entry; variables = map (variable_in []) vs; position = n }

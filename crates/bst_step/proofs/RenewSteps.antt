@@ -25,7 +25,8 @@ not_shorter fresh later front = omega (arith, ap (λ (l : List ℕ). length l) f
 front_same : (fresh later : List ℕ) → take (length fresh) later ≡ fresh → take (length fresh) later ≡ take (length fresh) fresh
 front_same fresh later front = front ∙ sym (take_all (length fresh) fresh (le_refl (length fresh)))
 
-one_within : (end : ℕ) (vs : List Variable) (v : Variable) → VariablesWithin end vs → end_of v.value ≤ end → VariablesWithin end (vs ++ v ∷ [])
+-- one variable more, and one entry
+pub one_within : (end : ℕ) (vs : List Variable) (v : Variable) → VariablesWithin end vs → end_of v.value ≤ end → VariablesWithin end (vs ++ v ∷ [])
 one_within end [] v within here = (here, tt)
 one_within end (first ∷ vs) v within here = (within.0, one_within end vs v within.1 here)
 

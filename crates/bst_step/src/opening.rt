@@ -1,9 +1,10 @@
 //! The state in which a run opens.
 
-ghost use Rattle.std.specs.Prelude.{◌≡◌, ◌≤◌, ℕ, List, [], ◌++◌, length, map, OnOk, IfOk};
+ghost use Rattle.std.specs.Prelude.{◌≡◌, ◌≤◌, ℕ, List, [], ◌∷◌, ◌++◌, length, map, OnOk, IfOk};
 ghost use Rattle.bst_meaning.specs.Config as config;
 ghost use Rattle.bst_meaning.specs.Entries.{field_ids_at, field_ids_from};
 ghost use Rattle.bst_step.specs.EntryStates.{EntriesWithin, state_in};
+ghost use Rattle.bst_step.specs.Held.{value_of};
 ghost use Rattle.bst_step.specs.Places.{StandAt};
 ghost use Rattle.bst_step.specs.State.{config_of};
 ghost use Rattle.bst_step.specs.Variables.{VariablesWithin, variable_in};
@@ -83,16 +84,11 @@ fn push_global(variables: &mut Vec<Variable<'_>>, name: NameId, kind: Kind) -> R
     ensures opened { OnOk result ((later : List config.Variable) →
         map (variable_in []) variables.new.items ++ later ≡ map (variable_in []) variables.old.items ++ config.opening_global name.0 kind later) }
 {
-    let value = match kind {
-        Kind::IntGlobal => Operand::Int(opening_integer(name.0)),
-        Kind::StrGlobal => Operand::Str(&[]),
-        _ => return Ok(()),
-    };
-    variables.push(Variable {
-        name,
-        value: Held::Lent(value),
-    })?;
-    Ok(())
+    match kind {
+        Kind::IntGlobal => push_variable(variables, name, Operand::Int(opening_integer(name.0))),
+        Kind::StrGlobal => push_variable(variables, name, Operand::Str(&[])),
+        _ => Ok(()),
+    }
 }
 
 /// The variables of an entry, as a run opens.
@@ -119,15 +115,25 @@ fn push_entry_variable(
     ensures opened { OnOk result ((later : List config.Variable) →
         map (variable_in []) variables.new.items ++ later ≡ map (variable_in []) variables.old.items ++ config.opening_entry_variable name.0 kind later) }
 {
-    let value = match kind {
-        Kind::IntEntry => Operand::Int(0),
-        Kind::StrEntry => Operand::Str(&[]),
-        _ => return Ok(()),
-    };
-    variables.push(Variable {
-        name,
-        value: Held::Lent(value),
-    })?;
+    match kind {
+        Kind::IntEntry => push_variable(variables, name, Operand::Int(0)),
+        Kind::StrEntry => push_variable(variables, name, Operand::Str(&[])),
+        _ => Ok(()),
+    }
+}
+
+/// Appends a variable whose value is lent.
+fn push_variable<'a>(
+    variables: &mut Vec<Variable<'a>>,
+    name: NameId,
+    value: Operand<'a>,
+) -> Result<(), NoMemory>
+    ensures within { OnOk result (VariablesWithin 0 variables.old.items → VariablesWithin 0 variables.new.items) }
+    ensures opened { OnOk result ((later : List config.Variable) →
+        map (variable_in []) variables.new.items ++ later ≡ map (variable_in []) variables.old.items ++ record { name = name; value = value_of value.entry } ∷ later) }
+{
+    let value = Held::Lent(value);
+    variables.push(Variable { name, value })?;
     Ok(())
 }
 
