@@ -208,7 +208,8 @@ impl<'a> Values<'a> {
         let Some(top) = self.stack.top() else {
             return;
         };
-        self.stack.replace_top(top.part(self.pool.as_slice(), from, count));
+        self.stack
+            .replace_top(top.part(self.pool.as_slice(), from, count));
     }
 
     /// Pushes the value of a variable of the whole style, and tells whether there is one.

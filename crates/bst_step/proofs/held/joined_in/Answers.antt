@@ -16,9 +16,13 @@ returns-clause-value c =
 
 pub returns-clause-within : goal.returns-clause-within
 returns-clause-within c =
-    omega (arith, c.in_ok-start.ensures.within, ap (λ (l : List ℕ). length l) c.as_slice.ensures.value,
-    not_shorter c.brought_to_end.new.pool.items c.append_to.new.pool.items
-    (front_stays c.brought_to_end.new.pool.items c.append_to.new.pool.items _ c.in_ok-append_to.ensures.appended))
+    omega (
+      arith,
+      c.in_ok-start.ensures.within,
+      ap (λ (l : List ℕ). length l) c.as_slice.ensures.value,
+      not_shorter c.brought_to_end.new.pool.items c.append_to.new.pool.items
+          (front_stays c.brought_to_end.new.pool.items c.append_to.new.pool.items _ c.in_ok-append_to.ensures.appended),
+    )
 
 pub returns-clause-grown : goal.returns-clause-grown
 returns-clause-grown c =

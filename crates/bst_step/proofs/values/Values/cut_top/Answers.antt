@@ -9,10 +9,12 @@ use Rattle.bst_step.proofs.values.Values.cut_top.Goals as goal
 
 pub part-requires : goal.part-requires
 part-requires c =
-    omega (arith,
-    stack_end c.self.inside.pool.items c.self.inside.kept c.self.inside.stack.items c.self.inside.globals c.self.inside.entries.items 0 c.in-Some.top
-    c.self.invariant (ap (λ (l : List Held). slice_get l 0) c.in-Some.ensures),
-    ap (λ (pool : List ℕ). length pool) c.as_slice.ensures.value)
+    omega (
+      arith,
+      stack_end c.self.inside.pool.items c.self.inside.kept c.self.inside.stack.items c.self.inside.globals c.self.inside.entries.items 0 c.in-Some.top
+          c.self.invariant (ap (λ (l : List Held). slice_get l 0) c.in-Some.ensures),
+      ap (λ (pool : List ℕ). length pool) c.as_slice.ensures.value,
+    )
 
 pub replace_top-requires : goal.replace_top-requires
 replace_top-requires c = omega (arith, ap (λ (l : List Held). length l) c.in-Some.ensures)

@@ -1,12 +1,21 @@
 -- The top is taken off, and the entry's variable holds it.
-use Rattle.std.proofs.Common.{◌∙◌, List, Some, ap, drop, length, map, max, slice_get}
+use Rattle.std.proofs.Common.{◌∙◌, List, ℕ, Some, ap, arith, drop, length, map, max, slice_get}
 use Rattle.bst_step.specs.declared.entry_states.EntryState.{EntryState}
 use Rattle.bst_step.specs.declared.held.Held.{Held}
 use Rattle.bst_step.specs.EntryStates.{state_in}
 use Rattle.bst_step.specs.Values.{Holding, given_in_entry}
-use Rattle.bst_step.proofs.HeldSteps.{held_given_in, written_back}
+use Rattle.bst_step.proofs.HeldSteps.{held_given_in, stack_end, written_back}
 use Rattle.bst_step.proofs.ViewSteps.{given_in_view}
 use Rattle.bst_step.proofs.values.Values.give_in_entry.Goals as goal
+
+pub end-requires : goal.end-requires
+end-requires c =
+    omega (
+      arith,
+      stack_end c.self.inside.pool.items c.self.inside.kept c.self.inside.stack.items c.self.inside.globals c.self.inside.entries.items 0 c.in-Some.value
+          c.self.invariant (ap (λ (l : List Held). slice_get l 0) c.in-Some.ensures),
+      ap (λ (pool : List ℕ). length pool) c.as_slice.ensures.value,
+    )
 
 pub invariant_of-self : goal.invariant_of-self
 invariant_of-self c =

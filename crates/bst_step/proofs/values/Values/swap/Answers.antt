@@ -14,8 +14,12 @@ replace-requires c = is_there c.self.inside.stack.items 0 c.in-Some.b (sym c.in-
 
 pub replace-requires-2 : goal.replace-requires-2
 replace-requires-2 c =
-    omega (arith, is_there c.self.inside.stack.items 1 c.in-Some-below.a (sym c.in-Some-below.ensures),
-    ap (λ (l : List Held). length l) c.replace.ensures.moved, length-set c.self.inside.stack.items 0 c.in-Some-below.a)
+    omega (
+      arith,
+      is_there c.self.inside.stack.items 1 c.in-Some-below.a (sym c.in-Some-below.ensures),
+      ap (λ (l : List Held). length l) c.replace.ensures.moved,
+      length-set c.self.inside.stack.items 0 c.in-Some-below.a,
+    )
 
 pub invariant_of-self : goal.invariant_of-self
 invariant_of-self c =
