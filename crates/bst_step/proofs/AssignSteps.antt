@@ -1,23 +1,62 @@
--- The value that is second from the top is assigned.
-use Rattle.std.proofs.Common.{◌≡◌, ℕ, List, [], ◌∷◌, drop, refl}
+-- What the machine holds is moved, and the value that is second from the top is assigned.
+use Rattle.std.proofs.Common.{◌≡◌, ℕ, List, [], ◌∷◌, drop, refl, ap, ◌∙◌, Result, Ok, Err}
+use Rattle.std.specs.Result.{OnOk}
 use Rattle.name_table.specs.declared.names.NameId.{NameId}
 use Rattle.name_table.specs.declared.style.Style.{Style}
 use Rattle.bst_meaning.specs.declared.value.Value.{Value}
+use Rattle.bst_meaning.specs.Config as config
 use Rattle.bst_meaning.specs.Config.{Config}
 use Rattle.bst_meaning.specs.StyleParts.{kind_of}
+use Rattle.bst_step.specs.declared.state.State.{State}
 use Rattle.bst_step.specs.Moves.{with_second_assigned, with_second_cut, with_stack, with_top_assigned}
-use Rattle.bst_step.specs.Values.{cut}
+use Rattle.bst_step.specs.State.{config_of}
+use Rattle.bst_step.specs.Values.{Holding, cut}
+
+-- the stack alone is another
+pub values_moved : (s : State) (v : Holding) (stack : List Value) → v.stack ≡ stack → v.globals ≡ s.values.globals → v.entries ≡ s.values.entries
+    → config_of (record s { values = v }) ≡ with_stack stack (config_of s)
+values_moved s v stack is globals entries =
+    ap (λ (vs : List Value). let c : Config = record (config_of s) { stack = vs; globals = v.globals; entries = v.entries } in c) is
+    ∙ ap (λ (gs : List config.Variable). let c : Config = record (config_of s) { stack = stack; globals = gs; entries = v.entries } in c) globals
+    ∙ ap (λ (es : List config.EntryState). let c : Config = record (config_of s) { stack = stack; globals = s.values.globals; entries = es } in c) entries
+
+pub moved_where_ok : {A E : Type 0} (s : State) (v : Holding) (stack : List Value) (r : Result A E) → OnOk r (v.stack ≡ stack)
+    → v.globals ≡ s.values.globals → v.entries ≡ s.values.entries → OnOk r (config_of (record s { values = v }) ≡ with_stack stack (config_of s))
+moved_where_ok s v stack (Ok a) is globals entries = values_moved s v stack is globals entries
+moved_where_ok s v stack (Err e) is globals entries = tt
 
 -- once the name is taken off, the value is on top
-pub second_assigned : (style : Style) (name : NameId) (stack : List Value) (c : Config)
+second_assigned : (style : Style) (name : NameId) (stack : List Value) (c : Config)
     → with_top_assigned (kind_of style name) name (drop 1 stack) (with_stack (drop 1 stack) c) ≡ with_second_assigned style name stack c
 second_assigned style name [] c = refl
 second_assigned style name (b ∷ []) c = refl
 second_assigned style name (b ∷ a ∷ stack) c = refl
 
 -- the same of so many bytes of a string
-pub second_cut : (style : Style) (name : NameId) (size : ℕ) (stack : List Value) (c : Config)
+second_cut : (style : Style) (name : NameId) (size : ℕ) (stack : List Value) (c : Config)
     → with_top_assigned (kind_of style name) name (cut 0 size (drop 1 stack)) (with_stack (cut 0 size (drop 1 stack)) c) ≡ with_second_cut style name size stack c
 second_cut style name size [] c = refl
 second_cut style name size (b ∷ []) c = refl
 second_cut style name size (b ∷ a ∷ stack) c = refl
+
+pub assigned_from_top : (style : Style) (name : NameId) (s : State) (v : Holding) (after : Config) → v.stack ≡ drop 1 s.values.stack
+    → v.globals ≡ s.values.globals → v.entries ≡ s.values.entries
+    → after ≡ with_top_assigned (kind_of style name) name v.stack (config_of (record s { values = v }))
+    → after ≡ with_second_assigned style name s.values.stack (config_of s)
+assigned_from_top style name s v after is globals entries assigned =
+    assigned
+    ∙ ap (λ (vs : List Value). with_top_assigned (kind_of style name) name vs (config_of (record s { values = v }))) is
+    ∙ ap (λ (c : Config). with_top_assigned (kind_of style name) name (drop 1 s.values.stack) c) (values_moved s v (drop 1 s.values.stack) is globals entries)
+    ∙ second_assigned style name s.values.stack (config_of s)
+
+pub cut_from_top : (style : Style) (name : NameId) (size : ℕ) (s : State) (v : Holding) (before after : Config)
+    → v.stack ≡ cut 0 size (drop 1 s.values.stack) → v.globals ≡ s.values.globals → v.entries ≡ s.values.entries → config_of s ≡ before
+    → after ≡ with_top_assigned (kind_of style name) name v.stack (config_of (record s { values = v }))
+    → after ≡ with_second_cut style name size before.stack before
+cut_from_top style name size s v before after is globals entries first assigned =
+    assigned
+    ∙ ap (λ (vs : List Value). with_top_assigned (kind_of style name) name vs (config_of (record s { values = v }))) is
+    ∙ ap (λ (c : Config). with_top_assigned (kind_of style name) name (cut 0 size (drop 1 s.values.stack)) c)
+    (values_moved s v (cut 0 size (drop 1 s.values.stack)) is globals entries)
+    ∙ second_cut style name size s.values.stack (config_of s)
+    ∙ ap (λ (c : Config). with_second_cut style name size c.stack c) first

@@ -145,7 +145,6 @@ impl<'a> State<'a> {
     }
 
     /// Assigns the second value from the top, and takes both away.
-    #[tactic(auto, using(crate::proofs::AssignSteps::second_assigned))]
     fn assign_second(&mut self, style: &Style, name: NameId)
         ensures { config_of self.new ≡ with_second_assigned style.now name self.old.values.stack (config_of self.old) }
     {
@@ -154,7 +153,6 @@ impl<'a> State<'a> {
     }
 
     /// Logs a line, assigns so many bytes of the string that is second from the top, and takes both values away.
-    #[tactic(auto, using(crate::proofs::AssignSteps::second_cut))]
     fn assign_cut(
         &mut self,
         style: &Style,
