@@ -1,5 +1,5 @@
 -- What the machine holds is moved, and the value that is second from the top is assigned.
-use Rattle.std.proofs.Common.{◌≡◌, ℕ, List, [], ◌∷◌, drop, refl, ap, ◌∙◌, Result, Ok, Err}
+use Rattle.std.proofs.Common.{◌≡◌, ℕ, Bool, List, [], ◌∷◌, drop, refl, ap, ◌∙◌, Result, Ok, Err}
 use Rattle.std.specs.Result.{OnOk}
 use Rattle.name_table.specs.declared.names.NameId.{NameId}
 use Rattle.name_table.specs.declared.style.Style.{Style}
@@ -24,6 +24,14 @@ pub moved_where_ok : {A E : Type 0} (s : State) (v : Holding) (stack : List Valu
     → v.globals ≡ s.values.globals → v.entries ≡ s.values.entries → OnOk r (config_of (record s { values = v }) ≡ with_stack stack (config_of s))
 moved_where_ok s v stack (Ok a) is globals entries = values_moved s v stack is globals entries
 moved_where_ok s v stack (Err e) is globals entries = tt
+
+-- nothing that is seen of the values is another, and a call runs
+pub call_begun : (s : State) (v : Holding) (running : Bool) → v.stack ≡ s.values.stack → v.globals ≡ s.values.globals → v.entries ≡ s.values.entries
+    → config_of (record s { values = v; running = running }) ≡ record (config_of s) { running = running }
+call_begun s v running stack globals entries =
+    ap (λ (vs : List Value). let c : Config = record (config_of s) { running = running; stack = vs; globals = v.globals; entries = v.entries } in c) stack
+    ∙ ap (λ (gs : List config.Variable). let c : Config = record (config_of s) { running = running; globals = gs; entries = v.entries } in c) globals
+    ∙ ap (λ (es : List config.EntryState). let c : Config = record (config_of s) { running = running; entries = es } in c) entries
 
 -- once the name is taken off, the value is on top
 second_assigned : (style : Style) (name : NameId) (stack : List Value) (c : Config)

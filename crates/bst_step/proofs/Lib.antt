@@ -15,6 +15,7 @@ pub mod StableOrder
 pub mod SortSteps
 pub mod OpeningSteps
 pub mod OpenedSteps
+pub mod CommandSteps
 pub mod RestSteps
 pub mod BrokenLines
 pub mod LateBreaks
