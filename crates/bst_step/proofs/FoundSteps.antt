@@ -1,5 +1,5 @@
 -- A value that may not be there is pushed, or its absence is a fault.
-use Rattle.std.proofs.Common.{◌≡◌, Bool, true, false, List, ◌∷◌, Option, None, Some, is_some, refl, ap, ◌∙◌}
+use Rattle.std.proofs.Common.{◌≡◌, true, false, Option, None, Some, is_some, refl}
 use Rattle.bv_base.specs.declared.place.Place.{Place}
 use Rattle.bst_meaning.specs.declared.fault.Fault.TheVariants.{NoEntry}
 use Rattle.bst_meaning.specs.declared.value.Value.{Value}

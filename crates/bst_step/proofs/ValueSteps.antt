@@ -5,7 +5,6 @@ use Rattle.std.proofs.Math.ListN.{set}
 use Rattle.std.proofs.lemmas.List.{map-set}
 use Rattle.std.proofs.lemmas.Option.{slice_get-map}
 use Rattle.name_table.specs.declared.names.NameId.{NameId}
-use Rattle.bst_meaning.specs.declared.value.Value.{Value}
 use Rattle.bst_meaning.specs.Config as config
 use Rattle.bst_meaning.specs.Invariant.{names_of}
 use Rattle.bst_meaning.specs.Machine.{value_at, with_entry_variable, with_variable}

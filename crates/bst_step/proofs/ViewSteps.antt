@@ -5,7 +5,7 @@ use Rattle.std.specs.Option.{option_map, IfSome}
 use Rattle.std.proofs.Math.ListN.{get_or-map, set}
 use Rattle.std.proofs.lemmas.Option.{slice_get-map}
 use Rattle.std.proofs.Math.Seq.{drop-append_seam, take-append_seam}
-use Rattle.std.proofs.lemmas.List.{drop-append-le, length-drop, take_all, take_rest}
+use Rattle.std.proofs.lemmas.List.{drop-append-le, take_all, take_rest}
 use Rattle.name_table.specs.declared.names.NameId.{NameId}
 use Rattle.bst_meaning.specs.declared.value.Value.{Value}
 use Rattle.bst_meaning.specs.declared.value.Value.TheVariants.{Str}
@@ -42,24 +42,6 @@ joined_made pool later a b start within last is =
     ∙ ap (λ (l : List ℕ). drop start l) is
     ∙ drop-append-le start pool b within
     ∙ ap (λ (l : List ℕ). l ++ b) last
-
--- what stands at the end of a pool is all that is there from its place on
-pub at_end : (pool : List ℕ) (start count : ℕ) → start + count ≡ length pool → drop start pool ≡ take count (drop start pool)
-at_end pool start count e =
-    sym (take_all count (drop start pool) (omega (arith, e, length-drop start pool)))
-
--- the top, and the values below it
-pub top_is : (hs : List Held) (h : Held) → slice_get hs 0 ≡ Some h → hs ≡ h ∷ drop 1 hs
-top_is [] h is = absurd (cc)
-top_is (x ∷ hs) h is = let same : x ≡ h = cc in ap (λ (k : Held). k ∷ hs) same
-
-pub two_are : (hs : List Held) (b a : Held) → slice_get hs 0 ≡ Some b → slice_get hs 1 ≡ Some a → hs ≡ b ∷ a ∷ drop 2 hs
-two_are [] b a top below = absurd (cc)
-two_are (x ∷ []) b a top below = absurd (cc)
-two_are (x ∷ y ∷ hs) b a top below =
-    let first : x ≡ b = cc in
-    let second : y ≡ a = cc in
-    ap (λ (k : Held). k ∷ y ∷ hs) first ∙ ap (λ (k : Held). b ∷ k ∷ hs) second
 
 -- what is dropped
 pub dropped_view : (pool : List ℕ) (n : ℕ) (hs : List Held) → map (value_in pool) (drop n hs) ≡ drop n (map (value_in pool) hs)

@@ -42,10 +42,6 @@ pub record IsHeld (pool : List ℕ) (kept : ℕ) (stack : List Held) (globals : 
   pub in_entries : EntriesWithin kept entries
   pub in_front : kept ≤ length pool
 
--- the stack is another
-abbrev pub with_values : List Value → Holding → Holding
-with_values stack h = record h { stack = stack }
-
 -- a value is pushed, where there is one
 abbrev pub with_pushed : Option Value → List Value → List Value
 with_pushed None stack = stack

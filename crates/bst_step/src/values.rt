@@ -8,7 +8,7 @@ ghost use Rattle.bst_meaning.specs.Sorting.{sorted};
 ghost use Rattle.bst_step.specs.EntryStates.{EntriesWithin, state_in};
 ghost use Rattle.bst_step.specs.Held.{value_of};
 ghost use Rattle.bst_step.specs.Machine.{key_at};
-ghost use Rattle.bst_step.specs.Values.{cut, doubled, given_globally, given_in_entry, joined, swapped, with_pushed, with_values};
+ghost use Rattle.bst_step.specs.Values.{cut, doubled, given_globally, given_in_entry, joined, swapped, with_pushed};
 ghost use Rattle.bst_step.specs.Variables.{VariablesWithin, held_at, variable_in};
 
 use crate::entry_states::{EntryState, entries_renewed, key_in, set_in_entry};

@@ -1,5 +1,5 @@
 -- What the cut vector has left, seen from the top.
-use Rattle.std.proofs.Common.{ap, ◌∙◌, ◌-◌, ℕ, length, take, drop, reverse}
+use Rattle.std.proofs.Common.{ap, ◌∙◌, ◌-◌, ℕ, take, drop, reverse}
 use Rattle.bst_step.specs.Stack.{Pile}
 use Rattle.bst_step.proofs.StackSteps.{reverse-take}
 use Rattle.bst_step.proofs.stack.Stack.drop_top.Goals as goal

@@ -1,5 +1,5 @@
 -- The pool grows by the joined string, which is held in the two strings' place.
-use Rattle.std.proofs.Common.{◌≡◌, ◌∙◌, ◌∷◌, List, [], ap, drop, map, refl, subst, sym}
+use Rattle.std.proofs.Common.{◌≡◌, ◌∙◌, ◌∷◌, List, [], ap, drop, map, subst, sym}
 use Rattle.bst_meaning.specs.declared.value.Value.{Value}
 use Rattle.bst_step.specs.declared.held.Held.{Held}
 use Rattle.bst_step.specs.Held.{value_in}

@@ -1,5 +1,5 @@
 -- The pool grows by the bytes, and a value that has them is pushed.
-use Rattle.std.proofs.Common.{◌≡◌, ◌∙◌, List, ◌∷◌, ap, map, subst, sym}
+use Rattle.std.proofs.Common.{◌∙◌, List, ◌∷◌, ap, map, subst, sym}
 use Rattle.bst_meaning.specs.declared.value.Value.{Value}
 use Rattle.bst_meaning.specs.declared.value.Value.TheVariants.{Str}
 use Rattle.bst_step.specs.declared.held.Held.{Held}

@@ -1,5 +1,5 @@
 -- The top is seen over the pool.
-use Rattle.std.proofs.Common.{◌≡◌, ◌∙◌, ◌∷◌, List, [], ℕ, ap, drop, map, subst, sym}
+use Rattle.std.proofs.Common.{◌≡◌, ◌∙◌, ◌∷◌, List, ℕ, ap, drop, map, subst, sym}
 use Rattle.bst_meaning.specs.declared.value.Value.{Value}
 use Rattle.bst_step.specs.declared.held.Held.{Held}
 use Rattle.bst_step.specs.Held.{value_in, value_of}
