@@ -1,14 +1,15 @@
 -- The parts of an effect, each as a change of the configuration.
-use Rattle.std.specs.Prelude.{ℕ, List, [], ◌∷◌, ◌++◌, drop, slice_get, Option, None, Some, option_map}
+use Rattle.std.specs.Prelude.{ℕ, Bool, true, false, List, [], ◌∷◌, ◌++◌, drop, slice_get, Option, None, Some, option_map}
 use Rattle.std.specs.Option.{option_and_then}
 use Rattle.bv_base.specs.declared.place.Place.{Place}
 use Rattle.name_table.specs.declared.names.Kind.{Kind}
+use Rattle.name_table.specs.declared.names.Kind.TheVariants.{IntEntry, StrEntry}
 use Rattle.name_table.specs.declared.names.NameId.{NameId}
 use Rattle.name_table.specs.declared.style.Style.{Style}
 use Rattle.bst_meaning.specs.declared.value.Value.{Value}
 use Rattle.bst_meaning.specs.declared.value.Value.TheVariants.{Str}
 use Rattle.bst_meaning.specs.Config.{Config, Event, Wrote}
-use Rattle.bst_meaning.specs.Machine.{assigned_by, with_assigned, with_found, visited_entry, value_at, field_in}
+use Rattle.bst_meaning.specs.Machine.{assigned_by, with_assigned, with_entry_variable, with_found, visited_entry, visited_index, value_at, field_in}
 use Rattle.bst_step.specs.Held.{part_from}
 
 -- the literal stack is this one
@@ -27,6 +28,18 @@ with_event event c = record c { events = c.events ++ event ∷ [] }
 abbrev pub with_top_written : List Value → Config → Config
 with_top_written (Str bytes ∷ stack) c = with_event (Wrote bytes) (with_stack stack c)
 with_top_written stack c = c
+
+-- a name of this kind is a variable of an entry
+abbrev pub is_of_entry : Option Kind → Bool
+is_of_entry (Some IntEntry) = true
+is_of_entry (Some StrEntry) = true
+is_of_entry _ = false
+
+-- the value on top of the stack is taken off, and assigned to a variable of the visited entry
+abbrev pub with_entry_assigned : NameId → List Value → Config → Config
+with_entry_assigned name [] c = c
+with_entry_assigned name (value ∷ stack) c =
+    record c { stack = stack; entries = with_entry_variable (record { name = name; value = value }) (visited_index c) c.entries }
 
 -- the value on top of the stack is taken off, and assigned by the kind of the variable's name
 abbrev pub with_top_assigned : Option Kind → NameId → List Value → Config → Config

@@ -6,7 +6,8 @@ ghost use Rattle.bst_meaning.specs.Machine as rule;
 ghost use Rattle.bst_step.specs.Outcome.{effect_of};
 ghost use Rattle.bst_step.specs.State.{config_of, event_of, tokens_left};
 ghost use Rattle.bst_step.specs.Values.{cut};
-ghost use Rattle.bst_step.specs.Moves.{with_stack, with_log, with_event, with_top_written, with_second_assigned, with_second_cut, with_top_assigned};
+ghost use Rattle.bst_step.specs.Moves as change;
+ghost use Rattle.bst_step.specs.Moves.{with_stack, with_log, with_event, with_top_written, with_second_assigned, with_second_cut, with_entry_assigned, with_top_assigned};
 
 use crate::held::Operand;
 use crate::outcome::Outcome;
@@ -175,12 +176,28 @@ impl<'a> State<'a> {
     fn assign_top(&mut self, style: &Style, name: NameId)
         ensures { config_of self.new ≡ with_top_assigned (parts.kind_of style.now name) name self.old.values.stack (config_of self.old) }
     {
-        match kind_of(style, name) {
-            Some(Kind::IntEntry | Kind::StrEntry) => match self.visited_index() {
-                Some(at) => self.values.give_in_entry(at, name),
-                None => self.values.drop_top(1),
-            },
-            _ => self.values.give_globally(name),
+        if is_of_entry(kind_of(style, name)) {
+            self.assign_in_entry(name);
+        } else {
+            self.values.give_globally(name);
         }
     }
+
+    /// Takes the top off, and gives it to a variable of the visited entry.
+    fn assign_in_entry(&mut self, name: NameId)
+        ensures { config_of self.new ≡ with_entry_assigned name self.old.values.stack (config_of self.old) }
+    {
+        let Some(at) = self.visited_index() else {
+            self.values.drop_top(1);
+            return;
+        };
+        self.values.give_in_entry(at, name);
+    }
+}
+
+/// Whether a name of this kind is a variable of an entry.
+fn is_of_entry(kind: Option<Kind>) -> bool
+    ensures { result ≡ change.is_of_entry kind }
+{
+    matches!(kind, Some(Kind::IntEntry | Kind::StrEntry))
 }
