@@ -1,17 +1,18 @@
 -- What the machine holds is moved, and the value that is second from the top is assigned.
-use Rattle.std.proofs.Common.{◌≡◌, ℕ, Bool, true, false, List, [], ◌∷◌, Option, None, Some, drop, refl, sym, ap, ◌∙◌, Result, Ok, Err}
+use Rattle.std.proofs.Common.{◌≡◌, ℕ, Bool, true, false, List, [], ◌∷◌, Option, None, Some, drop, refl, sym, ap, subst, ◌∙◌, Result, Ok, Err}
 use Rattle.std.specs.Result.{OnOk}
 use Rattle.name_table.specs.declared.names.Kind.{Kind}
 use Rattle.name_table.specs.declared.names.Kind.TheVariants.{Builtin, Wizard, Field, IntEntry, StrEntry, IntGlobal, StrGlobal}
 use Rattle.name_table.specs.declared.names.NameId.{NameId}
 use Rattle.name_table.specs.declared.style.Style.{Style}
 use Rattle.bst_meaning.specs.declared.value.Value.{Value}
+use Rattle.bst_meaning.specs.declared.value.Value.TheVariants.{Str}
 use Rattle.bst_meaning.specs.Config as config
 use Rattle.bst_meaning.specs.Config.{Config}
 use Rattle.bst_meaning.specs.Machine.{visited_index}
 use Rattle.bst_meaning.specs.StyleParts.{kind_of}
 use Rattle.bst_step.specs.declared.state.State.{State}
-use Rattle.bst_step.specs.Moves.{is_of_entry, with_entry_assigned, with_second_assigned, with_second_cut, with_stack, with_top_assigned}
+use Rattle.bst_step.specs.Moves.{is_of_entry, with_entry_assigned, with_event, with_second_assigned, with_second_cut, with_stack, with_top_assigned, with_top_written}
 use Rattle.bst_step.specs.State.{config_of}
 use Rattle.bst_step.specs.Values.{Holding, cut, given_globally, given_in_entry}
 
@@ -27,6 +28,12 @@ pub moved_where_ok : {A E : Type 0} (s : State) (v : Holding) (stack : List Valu
     → v.globals ≡ s.values.globals → v.entries ≡ s.values.entries → OnOk r (config_of (record s { values = v }) ≡ with_stack stack (config_of s))
 moved_where_ok s v stack (Ok a) is globals entries = values_moved s v stack is globals entries
 moved_where_ok s v stack (Err e) is globals entries = tt
+
+-- the string on top is written
+pub top_written : (stack : List Value) (bytes : List ℕ) (c : Config) → stack ≡ Str bytes ∷ drop 1 stack
+    → with_event (config.Wrote bytes) (with_stack (drop 1 stack) c) ≡ with_top_written stack c
+top_written stack bytes c is =
+    subst (λ (vs : List Value). with_event (config.Wrote bytes) (with_stack (drop 1 stack) c) ≡ with_top_written vs c) (sym is) refl
 
 -- nothing that is seen of the values is another, and a call runs
 pub call_begun : (s : State) (v : Holding) (running : Bool) → v.stack ≡ s.values.stack → v.globals ≡ s.values.globals → v.entries ≡ s.values.entries

@@ -120,6 +120,7 @@ impl<'a> State<'a> {
     }
 
     /// Writes the string on top of the stack.
+    #[tactic(auto, using(crate::proofs::AssignSteps::top_written))]
     fn write_top(&mut self) -> Result<(), NoMemory>
         ensures moved { OnOk result (config_of self.new ≡ with_top_written self.old.values.stack (config_of self.old)) }
         ensures entries { OnErr result (self.new.values.entries ≡ self.old.values.entries) }
