@@ -1,5 +1,5 @@
 -- What is held over a pool stays what it is where the pool grows behind it, or loses what stands behind it.
-use Rattle.std.proofs.Common.{◌≡◌, ℕ, zero, suc, ◌+◌, ◌≤◌, le_refl, refl, sym, ap, subst, ◌∙◌, List, [], ◌∷◌, ◌++◌, drop, length, map, slice_get, take, max, Option, Some, None, nat_eq, Bool, true, false, cond, arith}
+use Rattle.std.proofs.Common.{◌≡◌, ℕ, zero, suc, ◌+◌, ◌<◌, ◌≤◌, le_refl, refl, sym, ap, subst, ◌∙◌, List, [], ◌∷◌, ◌++◌, drop, get_or, length, map, slice_get, take, max, Option, Some, None, nat_eq, Bool, true, false, cond, arith}
 use Rattle.std.specs.Option.{option_and_then, option_map_or}
 use Rattle.std.proofs.Math.Seq.{take-append_seam}
 use Rattle.std.proofs.lemmas.List.{drop-take, length-set, length-take, take-take, take_all}
@@ -164,6 +164,12 @@ pub held_replaced : (pool : List ℕ) (kept n : ℕ) (h : Held) (hs more : List 
     → end_of h ≤ length pool → IsHeld pool kept hs gs es → IsHeld pool kept more gs es
 held_replaced pool kept n h hs more gs es is within held =
     held_pushed pool kept h (drop n hs) more gs es is within (held_dropped pool kept n hs (drop n hs) gs es refl held)
+
+-- the top is what stands there
+pub top_end : (pool : List ℕ) (kept : ℕ) (hs : List Held) (gs : List Variable) (es : List EntryState) (h : Held) → 0 < length hs → h ≡ get_or hs 0 h
+    → IsHeld pool kept hs gs es → end_of h ≤ length pool
+top_end pool kept [] gs es h some is held = absurd (omega (arith, some))
+top_end pool kept (first ∷ hs) gs es h some is held = omega (arith, held.on_stack.0, ap (λ (k : Held). end_of k) is)
 
 -- one of the values is another
 pub held_set : (pool : List ℕ) (kept n : ℕ) (h : Held) (hs more : List Held) (gs : List Variable) (es : List EntryState) → more ≡ set hs n h

@@ -112,31 +112,29 @@ doubled_view pool (x ∷ hs) h is =
     let same : h ≡ x = cc in ap (λ (k : Held). value_in pool k ∷ value_in pool x ∷ map (value_in pool) hs) same
 
 -- the two topmost are exchanged
-pub swapped_view : (pool : List ℕ) (hs middle more : List Held) (b a : Held) → slice_get hs 0 ≡ Some b → slice_get hs 1 ≡ Some a
-    → middle ≡ set hs 0 a → more ≡ set middle 1 b → map (value_in pool) more ≡ swapped (map (value_in pool) hs)
-swapped_view pool [] middle more b a top below first second = absurd (cc)
-swapped_view pool (x ∷ []) middle more b a top below first second = absurd (cc)
-swapped_view pool (x ∷ y ∷ hs) middle more b a top below first second =
-    let same : b ≡ x = cc in
+pub swapped_view : (pool : List ℕ) (hs middle more : List Held) (b a : Held) → b ≡ get_or hs 0 b → slice_get hs 1 ≡ Some a
+    → middle ≡ set hs 1 b → more ≡ a ∷ drop 1 middle → map (value_in pool) more ≡ swapped (map (value_in pool) hs)
+swapped_view pool [] middle more b a top below second first = absurd (cc)
+swapped_view pool (x ∷ []) middle more b a top below second first = absurd (cc)
+swapped_view pool (x ∷ y ∷ hs) middle more b a top below second first =
     let other : a ≡ y = cc in
-    ap (λ (l : List Held). map (value_in pool) l) (second ∙ ap (λ (l : List Held). set l 1 b) first)
+    ap (λ (l : List Held). map (value_in pool) l) (first ∙ ap (λ (l : List Held). a ∷ drop 1 l) second)
     ∙ ap (λ (k : Held). value_in pool k ∷ value_in pool b ∷ map (value_in pool) hs) other
-    ∙ ap (λ (k : Held). value_in pool y ∷ value_in pool k ∷ map (value_in pool) hs) same
+    ∙ ap (λ (k : Held). value_in pool y ∷ value_in pool k ∷ map (value_in pool) hs) top
 
 -- the two topmost strings are joined
-pub joined_view : (pool later : List ℕ) (hs more : List Held) (b a h : Held) → slice_get hs 0 ≡ Some b → slice_get hs 1 ≡ Some a
+pub joined_view : (pool later : List ℕ) (hs more : List Held) (b a h : Held) → b ≡ get_or hs 0 b → slice_get hs 1 ≡ Some a
     → more ≡ h ∷ drop 1 (drop 1 hs) → map (value_in later) hs ≡ map (value_in pool) hs
     → value_in later h ≡ Str (string_of (value_in pool a) ++ string_of (value_in pool b))
     → map (value_in later) more ≡ joined (map (value_in pool) hs)
 joined_view pool later [] more b a h top below is same value = absurd (cc)
 joined_view pool later (x ∷ []) more b a h top below is same value = absurd (cc)
 joined_view pool later (x ∷ y ∷ hs) more b a h top below is same value =
-    let first : b ≡ x = cc in
     let second : a ≡ y = cc in
     ap (λ (l : List Held). map (value_in later) l) is
     ∙ ap (λ (v : Value). v ∷ map (value_in later) hs) value
     ∙ ap (λ (k : Held). Str (string_of (value_in pool k) ++ string_of (value_in pool b)) ∷ map (value_in later) hs) second
-    ∙ ap (λ (k : Held). Str (string_of (value_in pool y) ++ string_of (value_in pool k)) ∷ map (value_in later) hs) first
+    ∙ ap (λ (k : Held). Str (string_of (value_in pool y) ++ string_of (value_in pool k)) ∷ map (value_in later) hs) top
     ∙ ap (λ (l : List Value). Str (string_of (value_in pool y) ++ string_of (value_in pool x)) ∷ drop 2 l) same
 
 -- a string on top is cut
@@ -167,10 +165,6 @@ given_in_view pool (x ∷ hs) es name at h is =
     ∙ ap (λ (k : Held). with_entry_variable (record { name = name; value = value_in pool k }) (Some at) (map (state_in pool) es)) same
 
 -- where there is no top, nothing is done
-pub no_top : (hs : List Held) → slice_get hs 0 ≡ None → hs ≡ []
-no_top [] is = refl
-no_top (h ∷ hs) is = absurd (cc)
-
 pub no_second : (pool : List ℕ) (hs : List Held) → slice_get hs 1 ≡ None → swapped (map (value_in pool) hs) ≡ map (value_in pool) hs
 no_second pool [] is = refl
 no_second pool (h ∷ []) is = refl

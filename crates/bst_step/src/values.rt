@@ -158,11 +158,13 @@ impl<'a> Values<'a> {
         ensures globals { self.new.globals ≡ self.old.globals }
         ensures entries { self.new.entries ≡ self.old.entries }
     {
-        let Some(top) = self.stack.top() else {
-            return Ok(());
-        };
-        self.stack.push(top)?;
-        Ok(())
+        match self.stack.top() {
+            Some(top) => {
+                self.stack.push(top)?;
+                Ok(())
+            }
+            None => Ok(()),
+        }
     }
 
     /// Exchanges the two topmost values.
@@ -171,14 +173,11 @@ impl<'a> Values<'a> {
         ensures globals { self.new.globals ≡ self.old.globals }
         ensures entries { self.new.entries ≡ self.old.entries }
     {
-        let Some(b) = self.stack.below(0) else {
-            return;
-        };
         let Some(a) = self.stack.below(1) else {
             return;
         };
-        self.stack.replace(0, a);
-        self.stack.replace(1, b);
+        self.stack.replace(1, self.stack.at(0));
+        self.stack.replace_top(a);
     }
 
     /// Joins the two topmost strings, the lower one first.
@@ -187,16 +186,15 @@ impl<'a> Values<'a> {
         ensures globals { self.new.globals ≡ self.old.globals }
         ensures entries { self.new.entries ≡ self.old.entries }
     {
-        let Some(b) = self.stack.below(0) else {
-            return Ok(());
-        };
-        let Some(a) = self.stack.below(1) else {
-            return Ok(());
-        };
-        let joined = joined_in(a, b, &mut self.pool)?;
-        self.stack.drop_top(1);
-        self.stack.replace_top(joined);
-        Ok(())
+        match self.stack.below(1) {
+            Some(a) => {
+                let joined = joined_in(a, self.stack.at(0), &mut self.pool)?;
+                self.stack.drop_top(1);
+                self.stack.replace_top(joined);
+                Ok(())
+            }
+            None => Ok(()),
+        }
     }
 
     /// Leaves of a string on top so many bytes from a place on.
