@@ -164,7 +164,7 @@ given_in_view pool (x ∷ hs) es name at h is =
     with_entry_held pool (record { name = name; value = h }) at es
     ∙ ap (λ (k : Held). with_entry_variable (record { name = name; value = value_in pool k }) (Some at) (map (state_in pool) es)) same
 
--- where there is no top, nothing is done
+-- where there are no two values, nothing is done
 pub no_second : (pool : List ℕ) (hs : List Held) → slice_get hs 1 ≡ None → swapped (map (value_in pool) hs) ≡ map (value_in pool) hs
 no_second pool [] is = refl
 no_second pool (h ∷ []) is = refl
