@@ -1,8 +1,14 @@
 -- Parts of what stands in a pool.
-use Rattle.std.proofs.Common.{◌≡◌, ℕ, zero, suc, ◌+◌, ◌-◌, ◌≤◌, inl, inr, le_refl, refl, sym, ap, ◌∙◌, List, [], ◌∷◌, drop, length, take, min, arith}
+use Rattle.std.proofs.Common.{◌≡◌, ℕ, zero, suc, ◌+◌, ◌-◌, ◌≤◌, inl, inr, le_refl, refl, sym, ap, ◌∙◌, List, [], ◌∷◌, Some, Result, Ok, drop, length, slice_get, take, min, arith}
 use Rattle.std.proofs.lemmas.Bool.{cases_lt}
 use Rattle.std.proofs.lemmas.List.{drop-drop, drop-take, drop_all, length-take, take-take, take_all}
 use Rattle.text_ops.specs.Substring.{last_bytes}
+use Rattle.bst_meaning.specs.declared.fault.Fault.{Fault}
+use Rattle.bst_meaning.specs.declared.value.Value.{Value}
+use Rattle.bst_meaning.specs.declared.value.Value.TheVariants.{Str}
+use Rattle.bst_meaning.specs.Effect.{Effect, left, pushed}
+use Rattle.bst_step.specs.Held.{part_from}
+use Rattle.bst_step.specs.Values.{cut}
 
 -- the first so many of the first so many
 taken : {A : Type 0} (count r : ℕ) (zs : List A) → take (min count r) zs ≡ take count (take r zs)
@@ -70,3 +76,14 @@ part_within bytes from count =
           ∙ taken count (length (drop from bytes)) (drop from bytes)
           ∙ ap (λ zs. take count zs) (take_all (length (drop from bytes)) (drop from bytes) (le_refl (length (drop from bytes))))
     ]
+
+-- a part of the third value from the top
+pub third_cut : (stack : List Value) (from count : ℕ) (text bytes : List ℕ) → slice_get stack 2 ≡ Some (Str text) → take count (drop from text) ≡ bytes
+    → Ok (left (cut from count (drop 2 stack))) ≡ pushed (Str bytes) (drop 3 stack)
+third_cut [] from count text bytes there is = absurd (cc)
+third_cut (x ∷ []) from count text bytes there is = absurd (cc)
+third_cut (x ∷ y ∷ []) from count text bytes there is = absurd (cc)
+third_cut (x ∷ y ∷ z ∷ stack) from count text bytes there is =
+    let same : z ≡ Str text = cc in
+    ap (λ (v : Value). let r : Result Effect Fault = Ok (left (part_from from count v ∷ stack)) in r) same
+    ∙ ap (λ (b : List ℕ). let r : Result Effect Fault = Ok (left (Str b ∷ stack)) in r) is

@@ -1,6 +1,6 @@
 //! The built-in functions on strings.
 
-ghost use Rattle.std.specs.Prelude.{◌≡◌, ◌++◌, ◌≤◌, ℕ, pos, drop, is_none, length, take, IfOk};
+ghost use Rattle.std.specs.Prelude.{◌≡◌, ◌++◌, ◌≤◌, pos, Some, drop, is_none, length, slice_get, take, IfOk};
 ghost use Rattle.text_ops.specs.AddPeriod.{with_period};
 ghost use Rattle.text_ops.specs.Purify.{purified};
 ghost use Rattle.text_ops.specs.Substring.{last_bytes, substring_of};
@@ -12,7 +12,7 @@ ghost use Rattle.bst_meaning.specs.Operands.{truth, ranged};
 ghost use Rattle.bst_meaning.specs.Builtins as rule;
 ghost use Rattle.bst_meaning.specs.Builtins.{string, is_empty, case_of, change_case_in};
 ghost use Rattle.bst_step.specs.Operands.{field, strings};
-ghost use Rattle.bst_step.specs.Outcome.{Gives};
+ghost use Rattle.bst_step.specs.Outcome.{Gives, effect_of};
 
 use crate::held::Operand;
 use crate::numbers::count;
@@ -136,14 +136,23 @@ fn last_place(text: &[u8], end: usize, count: usize) -> (usize, usize)
     (from, end - from)
 }
 
+/// Leaves of a text, the third from the top, the part by its place and its length, and takes the two integers.
+fn part_left<'a>(text: &[u8], start: i32, size: i32, values: &Values<'a>) -> Outcome<'a>
+    requires { slice_get values.now.stack 2 ≡ Some (Str text.now) }
+    ensures { effect_of result values.now.stack ≡ pushed (Str (substring_of text.now start size)) (drop 3 values.now.stack) }
+{
+    let _ = values;
+    let (from, count) = substring_place(text, start, size);
+    Outcome::Cut(2, from, count)
+}
+
 /// `substring$`
 pub fn substring<'a>(values: &Values<'a>) -> Result<Outcome<'a>, Stop>
     ensures { Gives result values.now.stack (rule.substring values.now.stack) }
 {
     match three(values)? {
         (Operand::Str(text), Operand::Int(start), Operand::Int(length)) => {
-            let (from, count) = substring_place(text, start, length);
-            Ok(Outcome::Cut(2, from, count))
+            Ok(part_left(text, start, length, values))
         }
         _ => Err(Stop::Fault(Fault::WrongKind)),
     }
