@@ -73,20 +73,20 @@ below_within end (first ∷ hs) (suc n) h within is = below_within end hs n h wi
 -- what a variable holds, and variables of which one holds another value
 pub held_within : (end id : ℕ) (vs : List Variable) (h : Held) → VariablesWithin end vs → held_at id vs ≡ Some h → end_of h ≤ end
 held_within end id [] h within is = absurd (cc)
-held_within end id (v ∷ vs) h within is = by (nat_eq v.name.0 id) is
+held_within end id (v ∷ vs) h within is = by (nat_eq v.name.0 id) is (λ e. held_within end id vs h within.1 e)
   where
-    by : (t : Bool) → cond t (Some v.value) (held_at id vs) ≡ Some h → end_of h ≤ end
-    by true e = let same : v.value ≡ h = cc in omega (arith, within.0, ap (λ (k : Held). end_of k) same)
-    by false e = held_within end id vs h within.1 e
+    by : (t : Bool) → cond t (Some v.value) (held_at id vs) ≡ Some h → (held_at id vs ≡ Some h → end_of h ≤ end) → end_of h ≤ end
+    by true e later = let same : v.value ≡ h = cc in omega (arith, within.0, ap (λ (k : Held). end_of k) same)
+    by false e later = later e
 
 pub with_held_within : (end : ℕ) (new : Variable) (vs : List Variable) → end_of new.value ≤ end → VariablesWithin end vs
     → VariablesWithin end (with_held new vs)
 with_held_within end new [] here within = tt
-with_held_within end new (v ∷ vs) here within = by (nat_eq v.name.0 new.name.0)
+with_held_within end new (v ∷ vs) here within = by (nat_eq v.name.0 new.name.0) (with_held_within end new vs here within.1)
   where
-    by : (t : Bool) → VariablesWithin end (cond t (new ∷ vs) (v ∷ with_held new vs))
-    by true = (here, within.1)
-    by false = (within.0, with_held_within end new vs here within.1)
+    by : (t : Bool) → VariablesWithin end (with_held new vs) → VariablesWithin end (cond t (new ∷ vs) (v ∷ with_held new vs))
+    by true later = (here, within.1)
+    by false later = (within.0, later)
 
 -- one of the values is another
 stack_set : (end : ℕ) (hs : List Held) (n : ℕ) (h : Held) → end_of h ≤ end → StackWithin end hs → StackWithin end (set hs n h)
