@@ -1,7 +1,6 @@
 -- The first of the commands that takes steps.
-use Rattle.std.proofs.Common.{◌≡◌, ℕ, suc, ◌<◌, Bool, true, cond, List, ◌∷◌, length, drop, get_or, sym, ap, ◌∙◌}
+use Rattle.std.proofs.Common.{◌≡◌, ℕ, suc, ◌<◌, Bool, true, cond, List, ◌∷◌, length, drop, drop-cons, get_or, sym, ap, ◌∙◌}
 use Rattle.std.specs.List.{filter}
-use Rattle.std.proofs.lemmas.List.{drop-cons}
 
 first_passes : {A : Type 0} (p : A → Bool) (x : A) (rest : List A) → p x ≡ true → filter p (x ∷ rest) ≡ x ∷ filter p rest
 first_passes p x rest passes = ap (λ t. cond t (x ∷ filter p rest) (filter p rest)) passes
