@@ -22,3 +22,4 @@ pub mod LateBreaks
 pub mod CutSteps
 pub mod KeySteps
 pub mod PlaceSteps
+pub mod RoomSteps

@@ -10,5 +10,6 @@ pub mod Places
 pub mod State
 pub mod Moves
 pub mod Frames
+pub mod Room
 pub mod Lines
 pub mod Machine

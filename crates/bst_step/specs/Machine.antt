@@ -1,4 +1,5 @@
--- What is seen of a machine (docs/MACHINE.md): the configuration of its run, and whether memory was wanting.
+-- What is seen of a machine (docs/MACHINE.md): the configuration of its run, whether memory was wanting, and for how many steps there is
+-- room.
 use Rattle.std.specs.Prelude.{ℕ, Bool, true, false, nat_eq, if◌then◌else◌, List, [], ◌∷◌, ◌++◌, map, Option, None, Some, IsPermutation, slice_get}
 use Rattle.std.specs.Option.{option_map_or}
 use Rattle.std.specs.List.{flat_map}
@@ -7,22 +8,37 @@ use Rattle.name_table.specs.declared.style.Style.{Style}
 use Rattle.bst_meaning.specs.declared.entry.EntryList.{EntryList}
 use Rattle.bst_meaning.specs.Config.{Config, Frame, EntryState, Stopped}
 use Rattle.bst_meaning.specs.Keeping.{placed}
-use Rattle.bst_step.specs.declared.machine.Machine.{Machine}
 use Rattle.bst_step.specs.declared.machine.Turn.{Turn}
 use Rattle.bst_step.specs.declared.machine.Turn.TheVariants.{Went, Ended, Faulted}
+use Rattle.bst_step.specs.declared.state.State.{State}
 use Rattle.bst_step.specs.State.{config_of}
 
+-- the configuration of its run, its style, whether memory was wanting in a step, and for how many steps there is room
+pub record Standing : Type 0 where
+  pub config : Config
+  pub style : Style
+  pub broken : Bool
+  pub spare : ℕ
+
+-- what is seen over a state
+abbrev pub standing_of : Style → State → Bool → ℕ → Standing
+standing_of style state broken spare = record { config = config_of state; style = style; broken = broken; spare = spare }
+
 -- the configuration of its run
-abbrev pub configuration : Machine → Config
-configuration m = config_of m.state
+abbrev pub configuration : Standing → Config
+configuration m = m.config
 
 -- its style
-abbrev pub style_of : Machine → Style
-style_of m = m.style.now
+abbrev pub style_of : Standing → Style
+style_of m = m.style
 
 -- memory was wanting in a step
-abbrev pub is_broken : Machine → Bool
+abbrev pub is_broken : Standing → Bool
 is_broken m = m.broken
+
+-- for so many steps there is room
+abbrev pub spare_of : Standing → ℕ
+spare_of m = m.spare
 
 -- what a configuration comes to: an execution error, the end where no command is left, or more steps
 abbrev pub turn_by : Option Stopped → List CommandAt → Turn

@@ -1,11 +1,12 @@
 //! `:=`
 
-ghost use Rattle.std.specs.Prelude.{◌≡◌, ℕ, Some, drop, slice_get, IfOk};
+ghost use Rattle.std.specs.Prelude.{◌≡◌, ℕ, true, Some, drop, slice_get, IfOk};
 ghost use Rattle.bst_meaning.specs.Operands.{as_string, as_integer};
 ghost use Rattle.bst_meaning.specs.StyleParts as parts;
 ghost use Rattle.bst_meaning.specs.Builtins as rule;
 ghost use Rattle.bst_step.specs.Held.{value_of};
 ghost use Rattle.bst_step.specs.Outcome.{Gives};
+ghost use Rattle.bst_step.specs.Room.{TakesRoom, cuts_nothing};
 ghost use Rattle.bst_step.specs.Surroundings.{context_in};
 
 use crate::held::Operand;
@@ -27,7 +28,8 @@ use std::alloc::Global;
 
 /// `:=`
 pub fn assign<'a>(around: Surroundings<'a>, values: &Values<'a>) -> Result<Outcome<'a>, Stop>
-    ensures { Gives result values.now.stack (rule.assign (context_in around.entry) values.now.stack) }
+    ensures effect { Gives result values.now.stack (rule.assign (context_in around.entry) values.now.stack) }
+    ensures room { cuts_nothing (rule.assign (context_in around.entry) values.now.stack) ≡ true → TakesRoom result }
 {
     let (value, target) = two(values)?;
     match target {
@@ -45,8 +47,10 @@ fn assign_to<'a>(
     values: &Values<'a>,
 ) -> Result<Outcome<'a>, Stop>
     requires { slice_get values.now.stack 1 ≡ Some (value_of value) }
-    ensures { Gives result values.now.stack
+    ensures effect { Gives result values.now.stack
         (rule.assign_to (context_in around.entry) (parts.kind_of around.entry.style.now name) name (value_of value.entry) (drop 2 values.now.stack)) }
+    ensures room { cuts_nothing (rule.assign_to (context_in around.entry) (parts.kind_of around.entry.style.now name) name (value_of value.entry)
+        (drop 2 values.now.stack)) ≡ true → TakesRoom result }
 {
     let visits = around.entry.is_some();
     match kind_of(around.style, name) {
@@ -66,7 +70,8 @@ fn assign_integer<'a>(
     values: &Values<'a>,
 ) -> Result<Outcome<'a>, Stop>
     requires { slice_get values.now.stack 1 ≡ Some (value_of value) }
-    ensures { Gives result values.now.stack (as_integer (value_of value.entry) (λ n. rule.assigned_integer name n (drop 2 values.now.stack))) }
+    ensures effect { Gives result values.now.stack (as_integer (value_of value.entry) (λ n. rule.assigned_integer name n (drop 2 values.now.stack))) }
+    ensures room { TakesRoom result }
 {
     let _ = values;
     match value {
@@ -84,8 +89,10 @@ fn assign_string<'a>(
     values: &Values<'a>,
 ) -> Result<Outcome<'a>, Stop>
     requires { slice_get values.now.stack 1 ≡ Some (value_of value) }
-    ensures { Gives result values.now.stack
+    ensures effect { Gives result values.now.stack
         (as_string (value_of value.entry) (λ bytes. rule.assigned_string around.entry.style.now name size bytes (drop 2 values.now.stack))) }
+    ensures room { cuts_nothing (as_string (value_of value.entry)
+        (λ bytes. rule.assigned_string around.entry.style.now name size bytes (drop 2 values.now.stack))) ≡ true → TakesRoom result }
 {
     let _ = values;
     let Operand::Str(bytes) = value else {

@@ -1,8 +1,9 @@
 //! What each built-in function comes to.
 
-ghost use Rattle.std.specs.Prelude.{◌≡◌};
+ghost use Rattle.std.specs.Prelude.{◌≡◌, true};
 ghost use Rattle.bst_meaning.specs.Builtins as rule;
 ghost use Rattle.bst_step.specs.Outcome.{Gives};
+ghost use Rattle.bst_step.specs.Room.{TakesRoom, built_in_takes_room};
 ghost use Rattle.bst_step.specs.Surroundings.{context_in};
 
 use crate::assign::assign;
@@ -20,7 +21,8 @@ pub fn outcome_of<'a>(
     around: Surroundings<'a>,
     values: &Values<'a>,
 ) -> Result<Outcome<'a>, Stop>
-    ensures { Gives result values.now.stack (rule.built_in op (context_in around.entry) values.now.stack) }
+    ensures effect { Gives result values.now.stack (rule.built_in op (context_in around.entry) values.now.stack) }
+    ensures room { built_in_takes_room op (rule.built_in op (context_in around.entry) values.now.stack) ≡ true → TakesRoom result }
 {
     match op {
         Builtin::Equal => numbers::equal(values),

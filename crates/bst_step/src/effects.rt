@@ -1,9 +1,10 @@
 //! The effects of the built-in functions on the machine.
 
-ghost use Rattle.std.specs.Prelude.{◌≡◌, ◌∷◌, [], drop, OnErr, OnOk};
+ghost use Rattle.std.specs.Prelude.{◌≡◌, true, ◌∷◌, [], drop, IsOk, OnErr, OnOk};
 ghost use Rattle.bst_meaning.specs.StyleParts as parts;
 ghost use Rattle.bst_meaning.specs.Machine as rule;
 ghost use Rattle.bst_step.specs.Outcome.{effect_of};
+ghost use Rattle.bst_step.specs.Room.{HasRoom, LeavesRoom, outcome_takes_room};
 ghost use Rattle.bst_step.specs.State.{config_of, event_of, tokens_left};
 ghost use Rattle.bst_step.specs.Values.{cut};
 ghost use Rattle.bst_step.specs.Moves as change;
@@ -40,6 +41,8 @@ impl<'a> State<'a> {
     ) -> Result<(), NoMemory>
         ensures moved { OnOk result (config_of self.new ≡ rule.with_effect style.now (effect_of outcome.entry self.old.values.stack) place (config_of self.old)) }
         ensures entries { OnErr result (self.new.values.entries ≡ self.old.values.entries) }
+        ensures fits { outcome_takes_room outcome.entry ≡ true → HasRoom self.old → IsOk result }
+        ensures room { LeavesRoom 1 self.old self.new }
     {
         match outcome {
             Outcome::Push(taken, value) => {
@@ -84,6 +87,8 @@ impl<'a> State<'a> {
     fn leave_part(&mut self, taken: usize, from: usize, count: usize) -> Result<(), NoMemory>
         ensures moved { OnOk result (config_of self.new ≡ with_stack (cut from count (drop taken self.old.values.stack)) (config_of self.old)) }
         ensures entries { OnErr result (self.new.values.entries ≡ self.old.values.entries) }
+        ensures fits { IsOk result }
+        ensures room { LeavesRoom 1 self.old self.new }
     {
         self.values.drop_top(taken);
         self.values.cut_top(from, count);
@@ -94,6 +99,7 @@ impl<'a> State<'a> {
     fn log_line(&mut self, line: Text) -> Result<(), NoMemory>
         ensures moved { OnOk result (config_of self.new ≡ with_log (line ∷ []) (config_of self.old)) }
         ensures entries { OnErr result (self.new.values.entries ≡ self.old.values.entries) }
+        ensures room { LeavesRoom 1 self.old self.new }
     {
         self.log.push(line)?;
         Ok(())
@@ -103,6 +109,7 @@ impl<'a> State<'a> {
     fn log_all(&mut self, lines: Vec<Text>) -> Result<(), NoMemory>
         ensures moved { OnOk result (config_of self.new ≡ with_stack [] (with_log lines.items (config_of self.old))) }
         ensures entries { OnErr result (self.new.values.entries ≡ self.old.values.entries) }
+        ensures room { LeavesRoom 1 self.old self.new }
     {
         let mut lines = lines;
         self.log.append(&mut lines)?;
@@ -114,6 +121,7 @@ impl<'a> State<'a> {
     fn write(&mut self, event: Event<'a>) -> Result<(), NoMemory>
         ensures moved { OnOk result (config_of self.new ≡ with_event (event_of event.entry) (config_of self.old)) }
         ensures entries { OnErr result (self.new.values.entries ≡ self.old.values.entries) }
+        ensures room { LeavesRoom 1 self.old self.new }
     {
         self.events.push(event)?;
         Ok(())
@@ -124,6 +132,7 @@ impl<'a> State<'a> {
     fn write_top(&mut self) -> Result<(), NoMemory>
         ensures moved { OnOk result (config_of self.new ≡ with_top_written self.old.values.stack (config_of self.old)) }
         ensures entries { OnErr result (self.new.values.entries ≡ self.old.values.entries) }
+        ensures room { LeavesRoom 1 self.old self.new }
     {
         if let Some(bytes) = self.values.lent_top() {
             return self.write_taken(Event::WroteLent(bytes));
@@ -141,6 +150,7 @@ impl<'a> State<'a> {
     fn write_taken(&mut self, event: Event<'a>) -> Result<(), NoMemory>
         ensures moved { OnOk result (config_of self.new ≡ with_event (event_of event.entry) (with_stack (drop 1 self.old.values.stack) (config_of self.old))) }
         ensures entries { OnErr result (self.new.values.entries ≡ self.old.values.entries) }
+        ensures room { LeavesRoom 1 self.old self.new }
     {
         self.values.drop_top(1);
         self.write(event)
@@ -148,7 +158,8 @@ impl<'a> State<'a> {
 
     /// Assigns the second value from the top, and takes both away.
     fn assign_second(&mut self, style: &Style, name: NameId)
-        ensures { config_of self.new ≡ with_second_assigned style.now name self.old.values.stack (config_of self.old) }
+        ensures moved { config_of self.new ≡ with_second_assigned style.now name self.old.values.stack (config_of self.old) }
+        ensures room { LeavesRoom 1 self.old self.new }
     {
         self.values.drop_top(1);
         self.assign_top(style, name);
@@ -165,6 +176,7 @@ impl<'a> State<'a> {
         ensures moved { OnOk result (config_of self.new ≡
             with_second_cut style.now name size self.old.values.stack (with_log (line ∷ []) (config_of self.old))) }
         ensures entries { OnErr result (self.new.values.entries ≡ self.old.values.entries) }
+        ensures room { LeavesRoom 1 self.old self.new }
     {
         self.log_line(line)?;
         self.values.drop_top(1);
@@ -175,7 +187,8 @@ impl<'a> State<'a> {
 
     /// Takes the top off, and gives it to a variable.
     fn assign_top(&mut self, style: &Style, name: NameId)
-        ensures { config_of self.new ≡ with_top_assigned (parts.kind_of style.now name) name self.old.values.stack (config_of self.old) }
+        ensures moved { config_of self.new ≡ with_top_assigned (parts.kind_of style.now name) name self.old.values.stack (config_of self.old) }
+        ensures room { LeavesRoom 1 self.old self.new }
     {
         if is_of_entry(kind_of(style, name)) {
             self.assign_in_entry(name);
@@ -186,7 +199,8 @@ impl<'a> State<'a> {
 
     /// Takes the top off, and gives it to a variable of the visited entry.
     fn assign_in_entry(&mut self, name: NameId)
-        ensures { config_of self.new ≡ with_entry_assigned name self.old.values.stack (config_of self.old) }
+        ensures moved { config_of self.new ≡ with_entry_assigned name self.old.values.stack (config_of self.old) }
+        ensures room { LeavesRoom 1 self.old self.new }
     {
         let Some(at) = self.visited_index() else {
             self.values.drop_top(1);

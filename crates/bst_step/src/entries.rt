@@ -5,6 +5,7 @@ ghost use Rattle.bst_meaning.specs.declared.value.Value.TheVariants.{Str};
 ghost use Rattle.bst_meaning.specs.Effect.{pushed};
 ghost use Rattle.bst_meaning.specs.Builtins.{at_entry, type_name};
 ghost use Rattle.bst_step.specs.Outcome.{Gives};
+ghost use Rattle.bst_step.specs.Room.{TakesRoom};
 
 use crate::held::Operand;
 use crate::outcome::Outcome;
@@ -16,7 +17,8 @@ use name_table::style::{Style, TypeTarget};
 
 /// `cite$`
 pub fn cite<'a>(entry: Option<&'a Entry>, values: &Values<'a>) -> Result<Outcome<'a>, Stop>
-    ensures { Gives result values.now.stack (at_entry (option_map (λ e. e.now) entry.entry) (λ e. pushed (Str e.key) values.now.stack)) }
+    ensures effect { Gives result values.now.stack (at_entry (option_map (λ e. e.now) entry.entry) (λ e. pushed (Str e.key) values.now.stack)) }
+    ensures room { TakesRoom result }
 {
     let _ = values;
     match entry {
@@ -41,8 +43,9 @@ pub fn type_of<'a>(
     entry: Option<&'a Entry>,
     values: &Values<'a>,
 ) -> Result<Outcome<'a>, Stop>
-    ensures { Gives result values.now.stack
+    ensures effect { Gives result values.now.stack
         (at_entry (option_map (λ e. e.now) entry.entry) (λ e. pushed (Str (type_name style.now e.entry_type)) values.now.stack)) }
+    ensures room { TakesRoom result }
 {
     let _ = values;
     match entry {

@@ -7,6 +7,7 @@ ghost use Rattle.bst_meaning.specs.Config as config;
 ghost use Rattle.bst_meaning.specs.Effect.{with_entered};
 ghost use Rattle.bst_meaning.specs.Builtins as rule;
 ghost use Rattle.bst_step.specs.Outcome.{Gives};
+ghost use Rattle.bst_step.specs.Room.{TakesRoom};
 
 use crate::held::Operand;
 use crate::operands::{three, two};
@@ -21,7 +22,8 @@ use name_table::style::{Style, TypeTarget};
 
 /// `if$`
 pub fn if_else<'a>(values: &Values<'a>) -> Result<Outcome<'a>, Stop>
-    ensures { Gives result values.now.stack (rule.if_else values.now.stack) }
+    ensures effect { Gives result values.now.stack (rule.if_else values.now.stack) }
+    ensures room { TakesRoom result }
 {
     match three(values)? {
         (Operand::Int(n), Operand::Func(first), Operand::Func(other)) => {
@@ -34,7 +36,8 @@ pub fn if_else<'a>(values: &Values<'a>) -> Result<Outcome<'a>, Stop>
 
 /// `while$`
 pub fn while_do<'a>(values: &Values<'a>) -> Result<Outcome<'a>, Stop>
-    ensures { Gives result values.now.stack (rule.while_do values.now.stack) }
+    ensures effect { Gives result values.now.stack (rule.while_do values.now.stack) }
+    ensures room { TakesRoom result }
 {
     match two(values)? {
         (Operand::Func(test), Operand::Func(body)) => {

@@ -1,11 +1,12 @@
 //! The steps of frames.
 
-ghost use Rattle.std.specs.Prelude.{◌≡◌, map, OnErr, OnOk};
+ghost use Rattle.std.specs.Prelude.{◌≡◌, ◌≤◌, true, map, IsOk, OnErr, OnOk};
 ghost use Rattle.name_table.specs.declared.style.Style.{Style};
 ghost use Rattle.bst_meaning.specs.Machine as rule;
 ghost use Rattle.bst_step.specs.Outcome.{part_of};
 ghost use Rattle.bst_step.specs.State.{config_of, frame_of};
 ghost use Rattle.bst_step.specs.Frames.{with_next};
+ghost use Rattle.bst_step.specs.Room.{HasRoom, LeavesRoom, frames_take_room, next_takes_room};
 
 use crate::effects::entered_at;
 use crate::held::Operand;
@@ -32,6 +33,8 @@ impl<'a> State<'a> {
     pub fn going_step(&mut self, style: &'a Style) -> Result<(), NoMemory>
         ensures moved { OnOk result (config_of self.new ≡ rule.going_step style.now (map frame_of self.old.frames.items) (config_of self.old)) }
         ensures entries { OnErr result (self.new.values.entries ≡ self.old.values.entries) }
+        ensures fits { frames_take_room style.now (map frame_of self.old.frames.items) (config_of self.old) ≡ true → HasRoom self.old → IsOk result }
+        ensures room { LeavesRoom 1 self.old self.new }
     {
         match self.next() {
             Next::Token(token, place) => self.token_step(style, token, place),
@@ -44,6 +47,9 @@ impl<'a> State<'a> {
     fn next(&mut self) -> Next
         ensures moved { (style : Style) → with_next style result (config_of self.new) ≡ rule.going_step style (map frame_of self.old.frames.items) (config_of self.old) }
         ensures entries { self.new.values.entries ≡ self.old.values.entries }
+        ensures takes { (style : Style) → next_takes_room style result (config_of self.new) ≡ frames_take_room style (map frame_of self.old.frames.items) (config_of self.old) }
+        ensures frames { self.old.frames.room ≤ self.new.frames.room }
+        ensures values { self.new.values ≡ self.old.values }
     {
         let Some(frame) = self.frames.top() else {
             return Next::Outer;
@@ -71,6 +77,8 @@ impl<'a> State<'a> {
     fn return_step(&mut self, style: &'a Style, part: Part, place: Place) -> Result<(), NoMemory>
         ensures moved { OnOk result (config_of self.new ≡ rule.return_step style.now (part_of part) place (config_of self.old)) }
         ensures entries { OnErr result (self.new.values.entries ≡ self.old.values.entries) }
+        ensures fits { HasRoom self.old → IsOk result }
+        ensures room { LeavesRoom 1 self.old self.new }
     {
         match part {
             Part::Whole => Ok(()),
@@ -95,6 +103,8 @@ impl<'a> State<'a> {
     ) -> Result<(), NoMemory>
         ensures moved { OnOk result (config_of self.new ≡ rule.test_ended style.now test body place self.old.values.stack (config_of self.old)) }
         ensures entries { OnErr result (self.new.values.entries ≡ self.old.values.entries) }
+        ensures fits { HasRoom self.old → IsOk result }
+        ensures room { LeavesRoom 1 self.old self.new }
     {
         match self.values.top() {
             Some(Operand::Int(n)) => {

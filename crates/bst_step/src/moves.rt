@@ -6,6 +6,7 @@ ghost use Rattle.bst_meaning.specs.Effect.{left, pushed, with_written};
 ghost use Rattle.bst_meaning.specs.Operands.{one_operand, two_operands};
 ghost use Rattle.bst_meaning.specs.Builtins.{string};
 ghost use Rattle.bst_step.specs.Outcome.{Gives};
+ghost use Rattle.bst_step.specs.Room.{TakesRoom};
 
 use crate::operands::{one, one_string, two};
 use crate::outcome::Outcome;
@@ -15,7 +16,8 @@ use name_table::builtin::Builtin;
 
 /// `duplicate$`
 pub fn duplicate<'a>(values: &Values<'a>) -> Result<Outcome<'a>, Stop>
-    ensures { Gives result values.now.stack (one_operand values.now.stack (λ a rest. pushed a (a ∷ rest))) }
+    ensures effect { Gives result values.now.stack (one_operand values.now.stack (λ a rest. pushed a (a ∷ rest))) }
+    ensures room { TakesRoom result }
 {
     let _ = one(values)?;
     Ok(Outcome::Double)
@@ -34,7 +36,8 @@ pub fn same<'a>(op: Builtin) -> Outcome<'a>
 
 /// `pop$`
 pub fn pop<'a>(values: &Values<'a>) -> Result<Outcome<'a>, Stop>
-    ensures { Gives result values.now.stack (one_operand values.now.stack (λ a rest. Ok (left rest))) }
+    ensures effect { Gives result values.now.stack (one_operand values.now.stack (λ a rest. Ok (left rest))) }
+    ensures room { TakesRoom result }
 {
     let _ = one(values)?;
     Ok(Outcome::Leave(1))
@@ -42,7 +45,8 @@ pub fn pop<'a>(values: &Values<'a>) -> Result<Outcome<'a>, Stop>
 
 /// `swap$`
 pub fn swap<'a>(values: &Values<'a>) -> Result<Outcome<'a>, Stop>
-    ensures { Gives result values.now.stack (two_operands values.now.stack (λ a b rest. Ok (left (a ∷ b ∷ rest)))) }
+    ensures effect { Gives result values.now.stack (two_operands values.now.stack (λ a b rest. Ok (left (a ∷ b ∷ rest)))) }
+    ensures room { TakesRoom result }
 {
     let _ = two(values)?;
     Ok(Outcome::Swap)

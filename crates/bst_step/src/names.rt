@@ -6,6 +6,7 @@ ghost use Rattle.bst_meaning.specs.Operands.{ranged};
 ghost use Rattle.bst_meaning.specs.Builtins as rule;
 ghost use Rattle.bst_meaning.specs.Builtins.{string};
 ghost use Rattle.bst_step.specs.Outcome.{Gives};
+ghost use Rattle.bst_step.specs.Room.{TakesRoom};
 
 use crate::held::Operand;
 use crate::numbers::count;
@@ -19,7 +20,8 @@ use std::alloc::Global;
 
 /// `num.names$`
 pub fn num_names<'a>(values: &Values<'a>) -> Result<Outcome<'a>, Stop>
-    ensures { Gives result values.now.stack (string (λ a rest. ranged (pos (length (names_of a))) rest) values.now.stack) }
+    ensures effect { Gives result values.now.stack (string (λ a rest. ranged (pos (length (names_of a))) rest) values.now.stack) }
+    ensures room { TakesRoom result }
 {
     let text = one_string(values)?;
     count(name_split::names::count(text) as u128, values)

@@ -9,6 +9,7 @@ ghost use Rattle.bst_meaning.specs.Builtins as rule;
 ghost use Rattle.bst_meaning.specs.Builtins.{integers, string, byte_number, byte_string};
 ghost use Rattle.bst_step.specs.Operands.{integer};
 ghost use Rattle.bst_step.specs.Outcome.{Gives};
+ghost use Rattle.bst_step.specs.Room.{TakesRoom};
 
 use crate::held::Operand;
 use crate::operands::{one_integer, one_string, truth, two, two_integers};
@@ -22,7 +23,8 @@ use text_ops::int_to_str::int_to_str;
 
 /// `=`
 pub fn equal<'a>(values: &Values<'a>) -> Result<Outcome<'a>, Stop>
-    ensures { Gives result values.now.stack (two_operands values.now.stack rule.equal) }
+    ensures effect { Gives result values.now.stack (two_operands values.now.stack rule.equal) }
+    ensures room { TakesRoom result }
 {
     match two(values)? {
         (Operand::Int(a), Operand::Int(b)) => Ok(Outcome::Push(2, truth(a == b))),
@@ -33,7 +35,8 @@ pub fn equal<'a>(values: &Values<'a>) -> Result<Outcome<'a>, Stop>
 
 /// `>`
 pub fn greater<'a>(values: &Values<'a>) -> Result<Outcome<'a>, Stop>
-    ensures { Gives result values.now.stack (integers (λ a b rest. pushed (truth (is_positive (a -ℤ b))) rest) values.now.stack) }
+    ensures effect { Gives result values.now.stack (integers (λ a b rest. pushed (truth (is_positive (a -ℤ b))) rest) values.now.stack) }
+    ensures room { TakesRoom result }
 {
     let (a, b) = two_integers(values)?;
     Ok(Outcome::Push(2, truth(a > b)))
@@ -41,7 +44,8 @@ pub fn greater<'a>(values: &Values<'a>) -> Result<Outcome<'a>, Stop>
 
 /// `<`
 pub fn less<'a>(values: &Values<'a>) -> Result<Outcome<'a>, Stop>
-    ensures { Gives result values.now.stack (integers (λ a b rest. pushed (truth (is_positive (b -ℤ a))) rest) values.now.stack) }
+    ensures effect { Gives result values.now.stack (integers (λ a b rest. pushed (truth (is_positive (b -ℤ a))) rest) values.now.stack) }
+    ensures room { TakesRoom result }
 {
     let (a, b) = two_integers(values)?;
     Ok(Outcome::Push(2, truth(a < b)))
@@ -49,7 +53,8 @@ pub fn less<'a>(values: &Values<'a>) -> Result<Outcome<'a>, Stop>
 
 /// `+`
 pub fn plus<'a>(values: &Values<'a>) -> Result<Outcome<'a>, Stop>
-    ensures { Gives result values.now.stack (integers (λ a b rest. ranged (a +ℤ b) rest) values.now.stack) }
+    ensures effect { Gives result values.now.stack (integers (λ a b rest. ranged (a +ℤ b) rest) values.now.stack) }
+    ensures room { TakesRoom result }
 {
     let (a, b) = two_integers(values)?;
     match a.checked_add(b) {
@@ -60,7 +65,8 @@ pub fn plus<'a>(values: &Values<'a>) -> Result<Outcome<'a>, Stop>
 
 /// `-`
 pub fn minus<'a>(values: &Values<'a>) -> Result<Outcome<'a>, Stop>
-    ensures { Gives result values.now.stack (integers (λ a b rest. ranged (a -ℤ b) rest) values.now.stack) }
+    ensures effect { Gives result values.now.stack (integers (λ a b rest. ranged (a -ℤ b) rest) values.now.stack) }
+    ensures room { TakesRoom result }
 {
     let (a, b) = two_integers(values)?;
     match a.checked_sub(b) {
@@ -100,7 +106,8 @@ pub fn int_to_str_of<'a>(alloc: Global, values: &Values<'a>) -> Result<Outcome<'
 
 /// Pushes a count in the place of one operand, where it has 32 bits.
 pub fn count<'a>(n: u128, values: &Values<'a>) -> Result<Outcome<'a>, Stop>
-    ensures { Gives result values.now.stack (ranged (pos n) (drop 1 values.now.stack)) }
+    ensures effect { Gives result values.now.stack (ranged (pos n) (drop 1 values.now.stack)) }
+    ensures room { TakesRoom result }
 {
     let _ = values;
     if n <= GREATEST_INTEGER as u128 {

@@ -46,6 +46,16 @@ impl<T: Copy + Default> Stack<T> {
         Ok(())
     }
 
+    /// Makes room for so many items more. Where it is refused, nothing changes.
+    pub fn reserve(&mut self, count: usize) -> Result<(), NoMemory>
+        ensures room { OnOk result (count ≤ self.new.room) }
+        ensures more { self.old.room ≤ self.new.room }
+        ensures items { self.new.items ≡ self.old.items }
+    {
+        self.inner.reserve(count)?;
+        Ok(())
+    }
+
     /// Puts an item in the top's place.
     pub fn replace_top(&mut self, item: T)
         requires { 0 < length self.old.items }

@@ -1,10 +1,11 @@
 //! What changes while a style runs.
 
-ghost use Rattle.std.specs.Prelude.{◌≡◌, [], ◌∷◌, option_map, OnOk};
+ghost use Rattle.std.specs.Prelude.{◌≡◌, ◌≤◌, [], ◌∷◌, option_map, IsOk, OnOk};
 ghost use Rattle.bst_meaning.specs.Machine as rule;
 ghost use Rattle.bst_step.specs.Held.{value_of};
 ghost use Rattle.bst_step.specs.State.{config_of, tokens_left, visit_in};
 ghost use Rattle.bst_step.specs.Outcome.{part_of};
+ghost use Rattle.bst_step.specs.Room.{LeavesRoom};
 ghost use Rattle.bst_step.specs.Surroundings.{context_in};
 
 use crate::held::Operand;
@@ -151,9 +152,22 @@ impl<'a> State<'a> {
         }
     }
 
+    /// Makes room for so many frames and values more.
+    pub fn reserve(&mut self, count: usize) -> Result<(), NoMemory>
+        ensures frames { OnOk result (count ≤ self.new.frames.room) }
+        ensures values { OnOk result (count ≤ self.new.values.room) }
+        ensures more { LeavesRoom 0 self.old self.new }
+        ensures same { config_of self.new ≡ config_of self.old }
+    {
+        self.frames.reserve(count)?;
+        self.values.reserve(count)
+    }
+
     /// Stops by an execution error at a place.
     pub fn stop(&mut self, fault: Fault, place: Place)
-        ensures { config_of self.new ≡ rule.stopped_by fault place (config_of self.old) }
+        ensures moved { config_of self.new ≡ rule.stopped_by fault place (config_of self.old) }
+        ensures frames { self.new.frames ≡ self.old.frames }
+        ensures values { self.new.values ≡ self.old.values }
     {
         let entry = self.visited_position();
         self.stopped = Some(Stopped {
@@ -166,6 +180,8 @@ impl<'a> State<'a> {
     pub fn push(&mut self, value: Operand<'a>) -> Result<(), NoMemory>
         ensures moved { OnOk result (config_of self.new ≡ rule.with_value (value_of value.entry) (config_of self.old)) }
         ensures entries { self.new.values.entries ≡ self.old.values.entries }
+        ensures fits { 1 ≤ self.old.values.room → IsOk result }
+        ensures room { LeavesRoom 1 self.old self.new }
     {
         self.values.push(value)
     }
@@ -174,6 +190,8 @@ impl<'a> State<'a> {
     pub fn enter(&mut self, rest: Rest<'a>, place: Place, part: Part) -> Result<(), NoMemory>
         ensures moved { OnOk result (config_of self.new ≡ rule.with_frame (tokens_left rest.entry) place (part_of part) (config_of self.old)) }
         ensures entries { self.new.values.entries ≡ self.old.values.entries }
+        ensures fits { 1 ≤ self.old.frames.room → IsOk result }
+        ensures room { LeavesRoom 1 self.old self.new }
     {
         self.frames.push(Frame { rest, place, part })
     }

@@ -1,6 +1,6 @@
 //! The built-in functions on strings.
 
-ghost use Rattle.std.specs.Prelude.{◌≡◌, ◌++◌, ◌≤◌, pos, Some, drop, is_none, length, slice_get, take, IfOk};
+ghost use Rattle.std.specs.Prelude.{◌≡◌, ◌++◌, ◌≤◌, true, pos, Some, drop, is_none, length, slice_get, take, IfOk};
 ghost use Rattle.text_ops.specs.AddPeriod.{with_period};
 ghost use Rattle.text_ops.specs.Purify.{purified};
 ghost use Rattle.text_ops.specs.Substring.{last_bytes, substring_of};
@@ -13,6 +13,7 @@ ghost use Rattle.bst_meaning.specs.Builtins as rule;
 ghost use Rattle.bst_meaning.specs.Builtins.{string, is_empty, case_of, change_case_in};
 ghost use Rattle.bst_step.specs.Operands.{field, strings};
 ghost use Rattle.bst_step.specs.Outcome.{Gives, effect_of};
+ghost use Rattle.bst_step.specs.Room.{TakesRoom, outcome_takes_room};
 
 use crate::held::Operand;
 use crate::numbers::count;
@@ -36,7 +37,8 @@ pub fn joined(alloc: Global, a: &[u8], b: &[u8]) -> Result<Vec<u8>, NoMemory>
 
 /// Pushes these bytes.
 pub fn constant<'a>(bytes: &'a [u8], values: &Values<'a>) -> Result<Outcome<'a>, Stop>
-    ensures { Gives result values.now.stack (pushed (Str bytes.now) values.now.stack) }
+    ensures effect { Gives result values.now.stack (pushed (Str bytes.now) values.now.stack) }
+    ensures room { TakesRoom result }
 {
     let _ = values;
     Ok(Outcome::Push(0, Operand::Str(bytes)))
@@ -86,7 +88,8 @@ pub fn change_case<'a>(alloc: Global, values: &Values<'a>) -> Result<Outcome<'a>
 
 /// `empty$`
 pub fn empty<'a>(values: &Values<'a>) -> Result<Outcome<'a>, Stop>
-    ensures { Gives result values.now.stack (field (λ bytes rest. pushed (truth (is_empty bytes)) rest) values.now.stack) }
+    ensures effect { Gives result values.now.stack (field (λ bytes rest. pushed (truth (is_empty bytes)) rest) values.now.stack) }
+    ensures room { TakesRoom result }
 {
     match one_field(values)? {
         Some(bytes) => Ok(Outcome::Push(1, truth(text_ops::is_blank::is_blank(bytes)))),
@@ -96,7 +99,8 @@ pub fn empty<'a>(values: &Values<'a>) -> Result<Outcome<'a>, Stop>
 
 /// `missing$`
 pub fn missing<'a>(values: &Values<'a>) -> Result<Outcome<'a>, Stop>
-    ensures { Gives result values.now.stack (field (λ bytes rest. pushed (truth (is_none bytes)) rest) values.now.stack) }
+    ensures effect { Gives result values.now.stack (field (λ bytes rest. pushed (truth (is_none bytes)) rest) values.now.stack) }
+    ensures room { TakesRoom result }
 {
     match one_field(values)? {
         Some(_) => Ok(Outcome::Push(1, truth(false))),
@@ -139,7 +143,8 @@ fn last_place(text: &[u8], end: usize, count: usize) -> (usize, usize)
 /// Leaves of a text, the third from the top, the part by its place and its length, and takes the two integers.
 fn part_left<'a>(text: &[u8], start: i32, size: i32, values: &Values<'a>) -> Outcome<'a>
     requires { slice_get values.now.stack 2 ≡ Some (Str text.now) }
-    ensures { effect_of result values.now.stack ≡ pushed (Str (substring_of text.now start size)) (drop 3 values.now.stack) }
+    ensures effect { effect_of result values.now.stack ≡ pushed (Str (substring_of text.now start size)) (drop 3 values.now.stack) }
+    ensures room { outcome_takes_room result ≡ true }
 {
     let _ = values;
     let (from, count) = substring_place(text, start, size);
@@ -148,7 +153,8 @@ fn part_left<'a>(text: &[u8], start: i32, size: i32, values: &Values<'a>) -> Out
 
 /// `substring$`
 pub fn substring<'a>(values: &Values<'a>) -> Result<Outcome<'a>, Stop>
-    ensures { Gives result values.now.stack (rule.substring values.now.stack) }
+    ensures effect { Gives result values.now.stack (rule.substring values.now.stack) }
+    ensures room { TakesRoom result }
 {
     match three(values)? {
         (Operand::Str(text), Operand::Int(start), Operand::Int(length)) => {
@@ -160,7 +166,8 @@ pub fn substring<'a>(values: &Values<'a>) -> Result<Outcome<'a>, Stop>
 
 /// `text.length$`
 pub fn text_length<'a>(values: &Values<'a>) -> Result<Outcome<'a>, Stop>
-    ensures { Gives result values.now.stack (string (λ a rest. ranged (pos (text_length_of a)) rest) values.now.stack) }
+    ensures effect { Gives result values.now.stack (string (λ a rest. ranged (pos (text_length_of a)) rest) values.now.stack) }
+    ensures room { TakesRoom result }
 {
     let text = one_string(values)?;
     count(text_ops::text_length::text_length(text) as u128, values)
@@ -181,7 +188,8 @@ pub fn text_prefix<'a>(alloc: Global, values: &Values<'a>) -> Result<Outcome<'a>
 
 /// `width$`
 pub fn width<'a>(values: &Values<'a>) -> Result<Outcome<'a>, Stop>
-    ensures { Gives result values.now.stack (string (λ a rest. ranged (pos (width_of a)) rest) values.now.stack) }
+    ensures effect { Gives result values.now.stack (string (λ a rest. ranged (pos (width_of a)) rest) values.now.stack) }
+    ensures room { TakesRoom result }
 {
     let text = one_string(values)?;
     count(text_ops::width::width(text), values)

@@ -1,11 +1,12 @@
 //! The execution of a token.
 
-ghost use Rattle.std.specs.Prelude.{◌≡◌, is_some, IfOk, OnErr, OnOk};
+ghost use Rattle.std.specs.Prelude.{◌≡◌, true, is_some, IfOk, IsOk, OnErr, OnOk};
 ghost use Rattle.std.specs.Option.{option_and_then};
 ghost use Rattle.bst_meaning.specs.StyleParts as parts;
 ghost use Rattle.bst_meaning.specs.Builtins.{built_in};
 ghost use Rattle.bst_meaning.specs.Machine as rule;
 ghost use Rattle.bst_step.specs.Outcome.{Gives};
+ghost use Rattle.bst_step.specs.Room.{HasRoom, LeavesRoom, TakesRoom, built_in_takes_room, call_takes_room, token_takes_room};
 ghost use Rattle.bst_step.specs.State.{config_of};
 ghost use Rattle.bst_step.specs.Moves.{with_field, with_entry_value, with_global, with_stack};
 ghost use Rattle.bst_step.specs.Values.{with_pushed};
@@ -34,6 +35,8 @@ impl<'a> State<'a> {
     ) -> Result<(), NoMemory>
         ensures moved { OnOk result (config_of self.new ≡ rule.token_step style.now token place (config_of self.old)) }
         ensures entries { OnErr result (self.new.values.entries ≡ self.old.values.entries) }
+        ensures fits { token_takes_room style.now token (config_of self.old) ≡ true → HasRoom self.old → IsOk result }
+        ensures room { LeavesRoom 1 self.old self.new }
     {
         match token {
             Token::Int(n) => self.push(Operand::Int(n)),
@@ -48,6 +51,8 @@ impl<'a> State<'a> {
     fn call_step(&mut self, style: &'a Style, name: NameId, place: Place) -> Result<(), NoMemory>
         ensures moved { OnOk result (config_of self.new ≡ rule.call_step style.now (parts.kind_of style.now name) name place (config_of self.old)) }
         ensures entries { OnErr result (self.new.values.entries ≡ self.old.values.entries) }
+        ensures fits { call_takes_room style.now (parts.kind_of style.now name) (config_of self.old) ≡ true → HasRoom self.old → IsOk result }
+        ensures room { LeavesRoom 1 self.old self.new }
     {
         match kind_of(style, name) {
             Some(Kind::Builtin(op)) => self.built_in_step(style, op, place),
@@ -66,6 +71,9 @@ impl<'a> State<'a> {
         ensures moved { OnOk result (config_of self.new ≡
             rule.with_effect style.now (built_in op (rule.context_of style.now (config_of self.old)) self.old.values.stack) place (config_of self.old)) }
         ensures entries { OnErr result (self.new.values.entries ≡ self.old.values.entries) }
+        ensures fits { built_in_takes_room op (built_in op (rule.context_of style.now (config_of self.old)) self.old.values.stack) ≡ true
+            → HasRoom self.old → IsOk result }
+        ensures room { LeavesRoom 1 self.old self.new }
     {
         let outcome = self.outcome(style, op);
         match outcome {
@@ -80,7 +88,9 @@ impl<'a> State<'a> {
 
     /// What a built-in function comes to.
     fn outcome(&self, style: &'a Style, op: Builtin) -> Result<Outcome<'a>, Stop>
-        ensures { Gives result self.now.values.stack (built_in op (rule.context_of style.now (config_of self.now)) self.now.values.stack) }
+        ensures effect { Gives result self.now.values.stack (built_in op (rule.context_of style.now (config_of self.now)) self.now.values.stack) }
+        ensures room { built_in_takes_room op (built_in op (rule.context_of style.now (config_of self.now)) self.now.values.stack) ≡ true
+            → TakesRoom result }
     {
         outcome_of(op, self.surroundings(style), &self.values)
     }
@@ -89,6 +99,8 @@ impl<'a> State<'a> {
     fn push_field(&mut self, name: NameId, place: Place) -> Result<(), NoMemory>
         ensures moved { OnOk result (config_of self.new ≡ with_field name place (config_of self.old)) }
         ensures entries { OnErr result (self.new.values.entries ≡ self.old.values.entries) }
+        ensures fits { HasRoom self.old → IsOk result }
+        ensures room { LeavesRoom 1 self.old self.new }
     {
         match self.visited_field(name) {
             Some(value) => self.push(value),
@@ -104,6 +116,8 @@ impl<'a> State<'a> {
     fn push_entry_variable(&mut self, name: NameId, place: Place) -> Result<(), NoMemory>
         ensures moved { OnOk result (config_of self.new ≡ with_entry_value name place (config_of self.old)) }
         ensures entries { OnErr result (self.new.values.entries ≡ self.old.values.entries) }
+        ensures fits { HasRoom self.old → IsOk result }
+        ensures room { LeavesRoom 1 self.old self.new }
     {
         if self.push_visited_variable(name)? {
             return Ok(());
@@ -120,6 +134,8 @@ impl<'a> State<'a> {
         ensures found { IfOk result (λ found. found ≡
             is_some (option_and_then (λ e. rule.value_at name.0 e.variables) (rule.visited_entry (config_of self.old)))) }
         ensures entries { OnErr result (self.new.values.entries ≡ self.old.values.entries) }
+        ensures fits { HasRoom self.old → IsOk result }
+        ensures room { LeavesRoom 1 self.old self.new }
     {
         match self.visited_index() {
             Some(at) => self.values.push_entry_variable(at, name),
@@ -132,6 +148,8 @@ impl<'a> State<'a> {
     fn push_global(&mut self, name: NameId, place: Place) -> Result<(), NoMemory>
         ensures moved { OnOk result (config_of self.new ≡ with_global name place (config_of self.old)) }
         ensures entries { OnErr result (self.new.values.entries ≡ self.old.values.entries) }
+        ensures fits { HasRoom self.old → IsOk result }
+        ensures room { LeavesRoom 1 self.old self.new }
     {
         if self.values.push_global(name)? {
             return Ok(());

@@ -1,6 +1,6 @@
 //! The values that the machine holds: those of the literal stack, and those of all variables.
 
-ghost use Rattle.std.specs.Prelude.{◌≡◌, ◌<◌, ◌∷◌, [], drop, is_some, length, map, option_map, slice_get, slice_index_or, Some, IfOk, IfSome, MatchOption, OnErr, OnOk};
+ghost use Rattle.std.specs.Prelude.{◌≡◌, ◌+◌, ◌<◌, ◌≤◌, ◌∷◌, [], drop, is_some, length, map, option_map, slice_get, slice_index_or, Some, IfOk, IfSome, IsOk, MatchOption, OnErr, OnOk};
 ghost use Rattle.std.specs.Option.{option_and_then};
 ghost use Rattle.bst_meaning.specs.declared.value.Value.TheVariants.{Str};
 ghost use Rattle.bst_meaning.specs.Machine as rule;
@@ -118,6 +118,7 @@ impl<'a> Values<'a> {
         ensures stack { self.new.stack ≡ drop count self.old.stack }
         ensures globals { self.new.globals ≡ self.old.globals }
         ensures entries { self.new.entries ≡ self.old.entries }
+        ensures room { self.old.room ≤ self.new.room }
     {
         self.stack.drop_top(count);
     }
@@ -127,6 +128,7 @@ impl<'a> Values<'a> {
         ensures stack { self.new.stack ≡ [] }
         ensures globals { self.new.globals ≡ self.old.globals }
         ensures entries { self.new.entries ≡ self.old.entries }
+        ensures room { self.old.room ≤ self.new.room }
     {
         self.stack.drop_top(self.stack.len());
     }
@@ -136,6 +138,8 @@ impl<'a> Values<'a> {
         ensures stack { OnOk result (self.new.stack ≡ value_of value.entry ∷ self.old.stack) }
         ensures globals { self.new.globals ≡ self.old.globals }
         ensures entries { self.new.entries ≡ self.old.entries }
+        ensures fits { 1 ≤ self.old.room → IsOk result }
+        ensures room { self.old.room ≤ self.new.room + 1 }
     {
         self.stack.push(Held::Lent(value))?;
         Ok(())
@@ -146,6 +150,7 @@ impl<'a> Values<'a> {
         ensures stack { OnOk result (self.new.stack ≡ Str bytes.now ∷ self.old.stack) }
         ensures globals { self.new.globals ≡ self.old.globals }
         ensures entries { self.new.entries ≡ self.old.entries }
+        ensures room { self.old.room ≤ self.new.room + 1 }
     {
         let made = made_in(bytes, &mut self.pool)?;
         self.stack.push(made)?;
@@ -157,6 +162,8 @@ impl<'a> Values<'a> {
         ensures stack { OnOk result (self.new.stack ≡ doubled self.old.stack) }
         ensures globals { self.new.globals ≡ self.old.globals }
         ensures entries { self.new.entries ≡ self.old.entries }
+        ensures fits { 1 ≤ self.old.room → IsOk result }
+        ensures room { self.old.room ≤ self.new.room + 1 }
     {
         match self.stack.top() {
             Some(top) => {
@@ -172,6 +179,7 @@ impl<'a> Values<'a> {
         ensures stack { self.new.stack ≡ swapped self.old.stack }
         ensures globals { self.new.globals ≡ self.old.globals }
         ensures entries { self.new.entries ≡ self.old.entries }
+        ensures room { self.new.room ≡ self.old.room }
     {
         let Some(a) = self.stack.below(1) else {
             return;
@@ -185,6 +193,7 @@ impl<'a> Values<'a> {
         ensures stack { OnOk result (self.new.stack ≡ joined self.old.stack) }
         ensures globals { self.new.globals ≡ self.old.globals }
         ensures entries { self.new.entries ≡ self.old.entries }
+        ensures room { self.old.room ≤ self.new.room }
     {
         match self.stack.below(1) {
             Some(a) => {
@@ -202,6 +211,7 @@ impl<'a> Values<'a> {
         ensures stack { self.new.stack ≡ cut from count self.old.stack }
         ensures globals { self.new.globals ≡ self.old.globals }
         ensures entries { self.new.entries ≡ self.old.entries }
+        ensures room { self.new.room ≡ self.old.room }
     {
         let Some(top) = self.stack.top() else {
             return;
@@ -216,6 +226,8 @@ impl<'a> Values<'a> {
         ensures found { IfOk result (λ found. found ≡ is_some (rule.value_at name.0 self.old.globals)) }
         ensures globals { self.new.globals ≡ self.old.globals }
         ensures entries { self.new.entries ≡ self.old.entries }
+        ensures fits { 1 ≤ self.old.room → IsOk result }
+        ensures room { self.old.room ≤ self.new.room + 1 }
     {
         match self.globals.value(name) {
             Some(held) => {
@@ -234,6 +246,8 @@ impl<'a> Values<'a> {
             is_some (option_and_then (λ e. rule.value_at name.0 e.variables) (slice_get self.old.entries at))) }
         ensures globals { self.new.globals ≡ self.old.globals }
         ensures entries { self.new.entries ≡ self.old.entries }
+        ensures fits { 1 ≤ self.old.room → IsOk result }
+        ensures room { self.old.room ≤ self.new.room + 1 }
     {
         match held_in_entry(self.entries.as_slice(), at, name) {
             Some(held) => {
@@ -249,6 +263,7 @@ impl<'a> Values<'a> {
         ensures stack { self.new.stack ≡ drop 1 self.old.stack }
         ensures globals { self.new.globals ≡ given_globally name self.old.stack self.old.globals }
         ensures entries { self.new.entries ≡ self.old.entries }
+        ensures room { self.old.room ≤ self.new.room }
     {
         if let Some(value) = self.stack.top() {
             self.stack.drop_top(1);
@@ -262,6 +277,7 @@ impl<'a> Values<'a> {
         ensures stack { self.new.stack ≡ drop 1 self.old.stack }
         ensures globals { self.new.globals ≡ self.old.globals }
         ensures entries { self.new.entries ≡ given_in_entry name (Some at) self.old.stack self.old.entries }
+        ensures room { self.old.room ≤ self.new.room }
     {
         if let Some(value) = self.stack.top() {
             self.stack.drop_top(1);
@@ -320,9 +336,21 @@ impl<'a> Values<'a> {
         ensures globals { self.new.globals ≡ self.old.globals }
         ensures sorted { OnOk result (self.new.entries ≡ sorted self.old.entries) }
         ensures kept { OnErr result (self.new.entries ≡ self.old.entries) }
+        ensures room { self.new.room ≡ self.old.room }
     {
         sort_entries(self.pool.as_slice(), &mut self.entries)?;
         Ok(())
+    }
+
+    /// Makes room for so many values more on the stack.
+    pub fn reserve(&mut self, count: usize) -> Result<(), NoMemory>
+        ensures room { OnOk result (count ≤ self.new.room) }
+        ensures more { self.old.room ≤ self.new.room }
+        ensures stack { self.new.stack ≡ self.old.stack }
+        ensures globals { self.new.globals ≡ self.old.globals }
+        ensures entries { self.new.entries ≡ self.old.entries }
+    {
+        self.stack.reserve(count)
     }
 
     /// Lets go of the bytes that no variable may hold, where the stack is empty.
@@ -341,6 +369,7 @@ impl<'a> Values<'a> {
         ensures stack { OnOk result (self.new.stack ≡ self.old.stack) }
         ensures globals { OnOk result (self.new.globals ≡ self.old.globals) }
         ensures entries { self.new.entries ≡ self.old.entries }
+        ensures room { self.new.room ≡ self.old.room }
     {
         if self.stack.len() > 0 {
             return Ok(());

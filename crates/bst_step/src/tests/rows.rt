@@ -5,7 +5,7 @@ use crate::machine::{Machine, Site, Turn};
 use crate::tests::entries::list;
 use crate::tests::operands::add_kinds;
 use crate::tests::program::{add_words, empty_style};
-use crate::tests::runs::{add_state, step_by_step};
+use crate::tests::runs::{add_state, reserved_steps, step_by_step};
 use crate::tests::writing::add_lengths;
 use bst_meaning::entry::EntryList;
 use bv_base::memory::NoMemory;
@@ -49,6 +49,8 @@ pub enum Telling {
     Steps,
     /// The same with one step at a time.
     StepByStep,
+    /// The same where room was made for each step.
+    Reserved,
 }
 
 impl Telling {
@@ -96,7 +98,7 @@ fn add_row(told: &mut String, table: &Table, row: &str) -> Result<(), NoMemory> 
 fn add_told(told: &mut String, table: &Table, words: &str) -> Result<(), NoMemory> {
     match table.telling {
         Telling::Kinds => add_kinds(told, table, words),
-        Telling::Steps | Telling::StepByStep => add_counted(told, table, words.as_bytes()),
+        Telling::Steps | Telling::StepByStep | Telling::Reserved => add_counted(told, table, words.as_bytes()),
         _ => add_after(told, table, ENOUGH, words.as_bytes()),
     }
 }
@@ -180,6 +182,7 @@ fn add_steps(
 fn turn_after(telling: Telling, n: u64, machine: &mut Machine<'_>) -> Result<Turn, NoMemory> {
     match telling {
         Telling::StepByStep => step_by_step(machine, n),
+        Telling::Reserved => reserved_steps(machine, n),
         _ => machine.run(n),
     }
 }
