@@ -61,7 +61,7 @@ built_in_takes_room _ effect = false
 -- a call of a name of a kind
 abbrev pub call_takes_room : Style → Option Kind → Config → Bool
 call_takes_room style None c = false
-call_takes_room style (Some (BuiltinKind op)) c = built_in_takes_room op (built_in op (context_of style c) c.stack)
+call_takes_room style (Some (BuiltinKind function)) c = built_in_takes_room function (built_in function (context_of style c) c.stack)
 call_takes_room style (Some kind) c = true
 
 -- a token
