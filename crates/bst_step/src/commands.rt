@@ -134,7 +134,7 @@ impl<'a> State<'a> {
         ensures moved { OnOk result (config_of self.new ≡
             rule.call_end_step self.old.values.stack place (drop 1 (config_of self.old).commands) (config_of self.old)) }
         ensures entries { OnErr result (self.new.values.entries ≡ self.old.values.entries) }
-        ensures room { LeavesRoom 1 self.old self.new }
+        ensures room { LeavesRoom 0 self.old self.new }
     {
         if self.values.len() > 0 {
             self.stop(Fault::StackLeft, place);
@@ -149,7 +149,7 @@ impl<'a> State<'a> {
         ensures moved { OnOk result (config_of self.new ≡
             rule.call_ended (config_of self.old).visit (drop 1 (config_of self.old).commands) (config_of self.old)) }
         ensures entries { OnErr result (self.new.values.entries ≡ self.old.values.entries) }
-        ensures room { LeavesRoom 1 self.old self.new }
+        ensures room { LeavesRoom 0 self.old self.new }
     {
         self.running = false;
         match self.visit {

@@ -88,7 +88,7 @@ impl<'a> State<'a> {
         ensures moved { OnOk result (config_of self.new ≡ with_stack (cut from count (drop taken self.old.values.stack)) (config_of self.old)) }
         ensures entries { OnErr result (self.new.values.entries ≡ self.old.values.entries) }
         ensures fits { IsOk result }
-        ensures room { LeavesRoom 1 self.old self.new }
+        ensures room { LeavesRoom 0 self.old self.new }
     {
         self.values.drop_top(taken);
         self.values.cut_top(from, count);
@@ -99,7 +99,7 @@ impl<'a> State<'a> {
     fn log_line(&mut self, line: Text) -> Result<(), NoMemory>
         ensures moved { OnOk result (config_of self.new ≡ with_log (line ∷ []) (config_of self.old)) }
         ensures entries { OnErr result (self.new.values.entries ≡ self.old.values.entries) }
-        ensures room { LeavesRoom 1 self.old self.new }
+        ensures room { LeavesRoom 0 self.old self.new }
     {
         self.log.push(line)?;
         Ok(())
@@ -109,7 +109,7 @@ impl<'a> State<'a> {
     fn log_all(&mut self, lines: Vec<Text>) -> Result<(), NoMemory>
         ensures moved { OnOk result (config_of self.new ≡ with_stack [] (with_log lines.items (config_of self.old))) }
         ensures entries { OnErr result (self.new.values.entries ≡ self.old.values.entries) }
-        ensures room { LeavesRoom 1 self.old self.new }
+        ensures room { LeavesRoom 0 self.old self.new }
     {
         let mut lines = lines;
         self.log.append(&mut lines)?;
@@ -121,7 +121,7 @@ impl<'a> State<'a> {
     fn write(&mut self, event: Event<'a>) -> Result<(), NoMemory>
         ensures moved { OnOk result (config_of self.new ≡ with_event (event_of event.entry) (config_of self.old)) }
         ensures entries { OnErr result (self.new.values.entries ≡ self.old.values.entries) }
-        ensures room { LeavesRoom 1 self.old self.new }
+        ensures room { LeavesRoom 0 self.old self.new }
     {
         self.events.push(event)?;
         Ok(())
@@ -132,7 +132,7 @@ impl<'a> State<'a> {
     fn write_top(&mut self) -> Result<(), NoMemory>
         ensures moved { OnOk result (config_of self.new ≡ with_top_written self.old.values.stack (config_of self.old)) }
         ensures entries { OnErr result (self.new.values.entries ≡ self.old.values.entries) }
-        ensures room { LeavesRoom 1 self.old self.new }
+        ensures room { LeavesRoom 0 self.old self.new }
     {
         if let Some(bytes) = self.values.lent_top() {
             return self.write_taken(Event::WroteLent(bytes));
@@ -150,7 +150,7 @@ impl<'a> State<'a> {
     fn write_taken(&mut self, event: Event<'a>) -> Result<(), NoMemory>
         ensures moved { OnOk result (config_of self.new ≡ with_event (event_of event.entry) (with_stack (drop 1 self.old.values.stack) (config_of self.old))) }
         ensures entries { OnErr result (self.new.values.entries ≡ self.old.values.entries) }
-        ensures room { LeavesRoom 1 self.old self.new }
+        ensures room { LeavesRoom 0 self.old self.new }
     {
         self.values.drop_top(1);
         self.write(event)
@@ -159,7 +159,7 @@ impl<'a> State<'a> {
     /// Assigns the second value from the top, and takes both away.
     fn assign_second(&mut self, style: &Style, name: NameId)
         ensures moved { config_of self.new ≡ with_second_assigned style.now name self.old.values.stack (config_of self.old) }
-        ensures room { LeavesRoom 1 self.old self.new }
+        ensures room { LeavesRoom 0 self.old self.new }
     {
         self.values.drop_top(1);
         self.assign_top(style, name);
@@ -176,7 +176,7 @@ impl<'a> State<'a> {
         ensures moved { OnOk result (config_of self.new ≡
             with_second_cut style.now name size self.old.values.stack (with_log (line ∷ []) (config_of self.old))) }
         ensures entries { OnErr result (self.new.values.entries ≡ self.old.values.entries) }
-        ensures room { LeavesRoom 1 self.old self.new }
+        ensures room { LeavesRoom 0 self.old self.new }
     {
         self.log_line(line)?;
         self.values.drop_top(1);
@@ -188,7 +188,7 @@ impl<'a> State<'a> {
     /// Takes the top off, and gives it to a variable.
     fn assign_top(&mut self, style: &Style, name: NameId)
         ensures moved { config_of self.new ≡ with_top_assigned (parts.kind_of style.now name) name self.old.values.stack (config_of self.old) }
-        ensures room { LeavesRoom 1 self.old self.new }
+        ensures room { LeavesRoom 0 self.old self.new }
     {
         if is_of_entry(kind_of(style, name)) {
             self.assign_in_entry(name);
@@ -200,7 +200,7 @@ impl<'a> State<'a> {
     /// Takes the top off, and gives it to a variable of the visited entry.
     fn assign_in_entry(&mut self, name: NameId)
         ensures moved { config_of self.new ≡ with_entry_assigned name self.old.values.stack (config_of self.old) }
-        ensures room { LeavesRoom 1 self.old self.new }
+        ensures room { LeavesRoom 0 self.old self.new }
     {
         let Some(at) = self.visited_index() else {
             self.values.drop_top(1);
