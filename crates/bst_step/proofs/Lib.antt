@@ -10,6 +10,7 @@ pub mod ValueSteps
 pub mod ViewSteps
 pub mod RenewSteps
 pub mod AssignSteps
+pub mod EffectSteps
 pub mod FoundSteps
 pub mod StableOrder
 pub mod SortSteps
