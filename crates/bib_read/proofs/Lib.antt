@@ -2,10 +2,12 @@ pub mod Enough
 pub mod FieldsSpelled
 pub mod Gaps
 pub mod Growing
+pub mod Insides
 pub mod ItemsSpelled
 pub mod Kept
 pub mod Pieces
 pub mod Rounds
 pub mod Shorter
+pub mod Squeezing
 pub mod Standing
 pub mod Tables

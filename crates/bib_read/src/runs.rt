@@ -59,13 +59,18 @@ fn ends_key(close: u8, b: u8) -> bool
     is_white(b) || b == b',' || (b == b'}' && close == b'}')
 }
 
-/// How many bytes stand before the end of a piece in braces or quotes, of which the mark at its end is given.
+/// How many bytes stand before the end of a piece in braces or quotes, of which the mark at its end is given. Most bytes are
+/// no brace and not the mark, which a look at each tells.
+#[tactic(auto, using(crate::proofs::Insides::plain_passed))]
 pub(crate) fn inside_length(mark: u8, bytes: &[u8]) -> usize
     ensures length { result ≡ runs.inside_length mark 0 bytes.now }
     ensures within { result ≤ length bytes.now }
 {
     let mut level: usize = 0;
     for (i, b) in bytes.iter().enumerate() {
+        if *b < b'{' && *b != mark {
+            continue;
+        }
         if level == 0 && (*b == mark || *b == b'}') {
             return i;
         }

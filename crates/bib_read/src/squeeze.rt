@@ -1,6 +1,6 @@
 //! White space in values.
 
-ghost use Rattle.std.specs.Prelude.{◌≡◌, IfOk, false, true};
+ghost use Rattle.std.specs.Prelude.{◌≡◌, ◌≤◌, ◌++◌, ◌&&◌, ◌||◌, not, nat_eq, if◌then◌else◌, [], ◌∷◌, length, take, drop, IfOk, OnOk, false, true};
 ghost use Rattle.bib_read.specs.Squeeze as squeeze;
 
 use bv_base::bytes::is_white;
@@ -31,15 +31,54 @@ pub(crate) fn trimmed(alloc: Global, text: &[u8]) -> Result<Text, NoMemory>
 fn squeeze(alloc: Global, begun: bool, text: &[u8]) -> Result<Vec<u8>, NoMemory>
     ensures { IfOk result (λ found. found.items ≡ squeeze.squeezed begun text.now) }
 {
-    let mut found = Vec::new(alloc);
-    let mut begun = begun;
-    for b in text {
-        if !is_white(*b) {
-            found.push(*b)?;
-        } else if !begun {
-            found.push(b' ')?;
-        }
-        begun = is_white(*b);
+    let (count, mut begun) = same_front(begun, text);
+    let (front, rest) = text.split_at(count);
+    let mut found = Vec::with_capacity(alloc, text.len())?;
+    found.extend_from_slice(front)?;
+    for b in rest {
+        let white = is_white(*b);
+        push_squeezed(&mut found, begun, white, *b)?;
+        begun = white;
     }
     Ok(found)
+}
+
+/// Appends a byte, of which it is known whether it is white space: one space for the first of a run, and none for the others.
+fn push_squeezed(found: &mut Vec<u8>, begun: bool, white: bool, b: u8) -> Result<(), NoMemory>
+    ensures { OnOk result (found.new.items ≡ found.old.items ++ (if white then (if begun then [] else 32 ∷ []) else b ∷ [])) }
+{
+    if !white {
+        found.push(b)?;
+        return Ok(());
+    }
+    if begun {
+        return Ok(());
+    }
+    found.push(b' ')?;
+    Ok(())
+}
+
+/// Whether squeezing changes a byte, of which it is known whether it is white space: all but a single space.
+fn changes(begun: bool, white: bool, b: u8) -> bool
+    ensures { result ≡ (white && (begun || not (nat_eq b 32))) }
+{
+    white && (begun || b != b' ')
+}
+
+/// How many bytes at its start a text keeps as they are, and whether a run of white space has begun behind them. Most texts
+/// keep all of them.
+fn same_front(begun: bool, text: &[u8]) -> (usize, bool)
+    ensures within { result.0 ≤ length text.now }
+    ensures same { squeeze.squeezed begun text.now
+        ≡ take result.0 text.now ++ squeeze.squeezed result.1 (drop result.0 text.now) }
+{
+    let mut begun = begun;
+    for (i, b) in text.iter().enumerate() {
+        let white = is_white(*b);
+        if changes(begun, white, *b) {
+            return (i, begun);
+        }
+        begun = white;
+    }
+    (text.len(), begun)
 }
