@@ -1,10 +1,12 @@
 pub mod Enough
+pub mod FieldLists
 pub mod FieldsSpelled
 pub mod Gaps
 pub mod Growing
 pub mod Insides
 pub mod ItemsSpelled
 pub mod Kept
+pub mod Lowering
 pub mod Pieces
 pub mod Rounds
 pub mod Shorter

@@ -2,7 +2,9 @@
 #![tactic(auto)]
 
 pub mod database;
+pub mod entries;
 pub mod fault;
+mod fields;
 pub mod laws;
 mod macros;
 mod opening;

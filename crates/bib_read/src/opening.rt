@@ -1,13 +1,13 @@
-//! The database before the first text, and copies of databases.
+//! The database before the first text, and the macros before each text.
 
 ghost use Rattle.std.specs.Prelude.{◌≡◌, IfOk, [], ◌++◌};
 ghost use Rattle.bib_read.specs.Names.{all_defined};
 ghost use Rattle.bib_read.specs.Reading as reading;
 
-use crate::database::{Database, RawEntry};
+use crate::database::Database;
+use crate::entries::Entries;
 use crate::macros::Macros;
 use bv_base::copied::Copied;
-use bv_base::keyed_list::KeyedList;
 use bv_base::memory::NoMemory;
 use bv_base::seq::Seq;
 use bv_base::text::Text;
@@ -20,7 +20,7 @@ pub(crate) fn opening(alloc: Global, style: &Style) -> Result<Database, NoMemory
 {
     Ok(Database {
         macros: style.macros.copied(alloc)?,
-        entries: Seq::new(alloc),
+        entries: Entries::new(alloc),
         preamble: Text::from_vec(Vec::new(alloc)),
         warnings: Seq::new(alloc),
     })
@@ -35,18 +35,4 @@ pub(crate) fn defined(alloc: Global, list: &[Macro]) -> Result<Macros, NoMemory>
         macros.define(one.name.as_slice(), one.value.as_slice())?;
     }
     Ok(macros)
-}
-
-/// A copy of entries, with a table of their keys.
-pub(crate) fn copied_entries(
-    alloc: Global,
-    list: &[RawEntry],
-) -> Result<KeyedList<RawEntry>, NoMemory>
-    ensures { IfOk result (λ entries. entries ≡ list.now) }
-{
-    let mut entries = KeyedList::new(alloc);
-    for one in list {
-        entries.add(one.copied(alloc)?)?;
-    }
-    Ok(entries)
 }

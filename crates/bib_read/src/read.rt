@@ -8,11 +8,10 @@ ghost use Rattle.bib_read.specs.declared.fault.BibFault.TheVariants.{NoMemory as
 
 use crate::database::Database;
 use crate::fault::BibFault;
-use crate::opening::{copied_entries, defined};
+use crate::fields::Fields;
+use crate::opening::defined;
 use crate::reader::Reader;
 use crate::stop::fault_of;
-use bv_base::copied::Copied;
-use bv_base::keyed_list::KeyedList;
 use bv_base::limits::DATA_BYTES;
 use bv_base::memory::NoMemory;
 use bv_base::text::Text;
@@ -26,30 +25,31 @@ pub fn opening(alloc: Global, style: &Style) -> Result<Database, NoMemory>
     crate::opening::opening(alloc, style)
 }
 
-/// Reads a text of at most 16777216 bytes: gives what was read before with what the text adds, or the first fault that the
-/// reading meets.
+/// Reads a text of at most 16777216 bytes: takes over what was read before and gives it with what the text adds, or the first
+/// fault that the reading meets.
 ///
 /// Where each key before is a key, one byte or more without white space, each key of what is read is one.
 ///
-/// Each byte of the text is read a fixed number of times, and each macro, field and key is looked up in a hash
-/// table. A macro's value is copied wherever its name stands.
-pub fn read(alloc: Global, source: &[u8], before: &Database) -> Result<Database, BibFault>
+/// Each byte of the text is read a fixed number of times. Each macro and key is looked up in a hash table, and each field
+/// among the first few of its entry and in a hash table behind them. A macro's value is copied wherever its name stands;
+/// entries and warnings that were read before aren't copied.
+pub fn read(alloc: Global, source: &[u8], before: Database) -> Result<Database, BibFault>
     requires { length source.now ≤ DATA_BYTES }
-    ensures ok { IfOk result (λ database. reading.database_of source.now before.now ≡ Ok database) }
-    ensures keys { IfOk result (λ database. AreKeyed before.now.entries → AreKeyed database.entries) }
+    ensures ok { IfOk result (λ database. reading.database_of source.now before ≡ Ok database) }
+    ensures keys { IfOk result (λ database. AreKeyed before.entries → AreKeyed database.entries) }
     ensures fault { IfErr result (λ fault. fault ≢ WantOfMemory
-        → reading.database_of source.now before.now ≡ Err fault) }
+        → reading.database_of source.now before ≡ Err fault) }
 {
     let database = read_after(alloc, source, before)?;
     Ok(database)
 }
 
 /// Reads a text after what was read before.
-fn read_after(alloc: Global, source: &[u8], before: &Database) -> Result<Database, BibFault>
+fn read_after(alloc: Global, source: &[u8], before: Database) -> Result<Database, BibFault>
     requires { length source.now ≤ DATA_BYTES }
-    ensures ok { IfOk result (λ database. reading.database_of source.now before.now ≡ Ok database) }
+    ensures ok { IfOk result (λ database. reading.database_of source.now before ≡ Ok database) }
     ensures fault { IfErr result (λ fault. fault ≢ WantOfMemory
-        → reading.database_of source.now before.now ≡ Err fault) }
+        → reading.database_of source.now before ≡ Err fault) }
 {
     let Ok(mut reader) = start(alloc, source, before) else {
         return Err(BibFault::NoMemory);
@@ -64,21 +64,22 @@ fn read_after(alloc: Global, source: &[u8], before: &Database) -> Result<Databas
 }
 
 /// The reader before the first byte.
-fn start<'a>(alloc: Global, source: &'a [u8], before: &Database) -> Result<Reader<'a>, NoMemory>
-    ensures { IfOk result (λ reader. (progress_of reader ≡ reading.start source.now before.now)
+fn start<'a>(alloc: Global, source: &'a [u8], before: Database) -> Result<Reader<'a>, NoMemory>
+    ensures { IfOk result (λ reader. (progress_of reader ≡ reading.start source.now before)
         × (reader.rest.now ≡ source.now)) }
 {
+    let macros = defined(alloc, before.macros.as_slice())?;
     let mut preamble = Vec::new(alloc);
     preamble.extend_from_slice(before.preamble.as_slice())?;
     Ok(Reader {
         alloc,
         rest: source,
-        macros: defined(alloc, before.macros.as_slice())?,
-        entries: copied_entries(alloc, before.entries.as_slice())?,
+        macros,
+        entries: before.entries,
         preamble,
-        warnings: before.warnings.copied(alloc)?,
+        warnings: before.warnings,
         text: Vec::new(alloc),
-        fields: KeyedList::new(alloc),
+        fields: Fields::new(alloc),
     })
 }
 
@@ -95,7 +96,7 @@ fn finish(reader: Reader<'_>) -> Result<Database, NoMemory>
     } = reader;
     Ok(Database {
         macros,
-        entries: entries.into_seq(),
+        entries,
         preamble: Text::from_vec(preamble),
         warnings,
     })

@@ -1,7 +1,8 @@
 //! What has been read of a database, and the parts of it that come next.
 
-ghost use Rattle.std.specs.Prelude.{◌≡◌, ◌++◌, length, OnOk};
+ghost use Rattle.std.specs.Prelude.{◌≡◌, ◌++◌, length, IfOk, OnOk};
 ghost use Rattle.bv_base.specs.Answers.{GivesAndLeaves, Leaves};
+ghost use Rattle.name_table.specs.Names as names;
 ghost use Rattle.bib_read.specs.Entering as entering;
 ghost use Rattle.bib_read.specs.Parts as parts;
 ghost use Rattle.bib_read.specs.Progressing.{progress_of};
@@ -9,13 +10,13 @@ ghost use Rattle.bib_read.specs.Reading as reading;
 ghost use Rattle.bib_read.specs.declared.stop.Stop.TheVariants.{NoMemory as WantOfMemory};
 
 use crate::database::{RawEntry, RawField};
+use crate::entries::Entries;
+use crate::fields::Fields;
 use crate::macros::Macros;
 use crate::runs::{after_at, begins_name, key_length, name_length};
 use crate::squeeze::{squeezed, trimmed};
 use crate::stop::{Stop, unexpected};
 use crate::warnings::second_field;
-use bv_base::key_set::lowered;
-use bv_base::keyed_list::KeyedList;
 use bv_base::memory::NoMemory;
 use bv_base::runs::after_white;
 use bv_base::seq::Seq;
@@ -29,13 +30,13 @@ pub(crate) struct Reader<'a> {
     /// The bytes that are left.
     pub(crate) rest: &'a [u8],
     pub(crate) macros: Macros,
-    pub(crate) entries: KeyedList<RawEntry>,
+    pub(crate) entries: Entries,
     pub(crate) preamble: Vec<u8>,
     pub(crate) warnings: Seq<Text>,
     /// The pieces of the value that is being read, joined.
     pub(crate) text: Vec<u8>,
     /// The fields of the entry that is being read.
-    pub(crate) fields: KeyedList<RawField>,
+    pub(crate) fields: Fields,
 }
 
 impl<'a> Reader<'a> {
@@ -129,24 +130,31 @@ impl<'a> Reader<'a> {
             return Err(Stop::RepeatedKey(rest.len()));
         }
         self.rest = left;
-        self.fields = KeyedList::new(self.alloc);
+        self.fields.clear();
         self.take_fields(close, key)?;
-        self.add_entry(key, entry_type)?;
+        self.add_entry(lowered_key, key, entry_type)?;
         Ok(())
     }
 
-    /// Adds an entry with the fields that have been read.
-    fn add_entry(&mut self, key: &[u8], entry_type: Text) -> Result<(), NoMemory>
+    /// Adds an entry with the fields that have been read. Its key is given lowered, too.
+    fn add_entry(
+        &mut self,
+        lowered_key: Vec<u8>,
+        key: &[u8],
+        entry_type: Text,
+    ) -> Result<(), NoMemory>
+        requires { lowered_key.items ≡ names.lowered key.now }
         ensures { OnOk result
             (progress_of self.new ≡ entering.with_entry key.now entry_type (progress_of self.old)) }
     {
         let key = Text::from_slice(self.alloc, key)?;
-        let fields = std::mem::replace(&mut self.fields, KeyedList::new(self.alloc)).into_seq();
-        self.entries.add(RawEntry {
+        let fields = self.fields.take()?;
+        let entry = RawEntry {
             key,
             entry_type,
             fields,
-        })
+        };
+        self.entries.add(lowered_key, entry)
     }
 
     #[tactic(auto, using(crate::proofs::Rounds::fields_round))]
@@ -271,6 +279,14 @@ impl<'a> Reader<'a> {
             }
         }
     }
+}
+
+#[tactic(auto, using(crate::proofs::Lowering::lowered_by_ascii))]
+/// The lowered bytes, in one piece of memory of their length.
+pub(crate) fn lowered(alloc: Global, bytes: &[u8]) -> Result<Vec<u8>, NoMemory>
+    ensures { IfOk result (λ found. found.items ≡ names.lowered bytes.now) }
+{
+    Ok(bytes.to_ascii_lowercase(alloc)?)
 }
 
 /// Appends bytes.

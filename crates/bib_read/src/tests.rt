@@ -161,9 +161,9 @@ const REPEATED: &str = r#"
 
 #[test]
 fn the_fault_with_the_least_place_is_answered(rt: HostRuntime) -> Result<(), Fail> {
-    let before = before(rt.alloc())?;
+    let style = style(rt.alloc())?;
     for rows in [EXPECTED, ENDS, UNBALANCED, REPEATED] {
-        expect(&rt, rt.alloc(), &before, rows)?;
+        expect(&rt, rt.alloc(), &style, rows)?;
     }
     Ok(())
 }
@@ -204,6 +204,7 @@ text } " { % # , without a mark -> #jan=January|<>|
 % Fields that come again.
 @misc{k, a = 1, A = 2} -> #jan=January|@misc k|.a=1|<>|!Warning--second field a in k!|
 @misc{K, a = {}, b = 2, A = 3, a = 4} -> #jan=January|@misc K|.a=|.b=2|<>|!Warning--second field a in K!|!Warning--second field a in K!|
+@misc{k,a=1,b=2,c=3,d=4,e=5,f=6,g=7,h=8,i=9,j=0,k=1,l=2,m=3,n=4,o=5,p=6,q=7,r=8,Q=9,A=0} -> #jan=January|@misc k|.a=1|.b=2|.c=3|.d=4|.e=5|.f=6|.g=7|.h=8|.i=9|.j=0|.k=1|.l=2|.m=3|.n=4|.o=5|.p=6|.q=7|.r=8|<>|!Warning--second field q in k!|!Warning--second field a in k!|
 @misc{k, a = x, a = y} -> #jan=January|@misc k|.a=|<>|!Warning--undefined macro x!|!Warning--second field a in k!|!Warning--undefined macro y!|
 % Comments.
 @comment{x @misc{k}} } -> #jan=January|@misc k|<>|
@@ -228,10 +229,10 @@ static ODD: [(&[u8], &[u8]); 2] = [
 
 #[test]
 fn texts_are_read(rt: HostRuntime) -> Result<(), Fail> {
-    let before = before(rt.alloc())?;
-    expect(&rt, rt.alloc(), &before, READ)?;
+    let style = style(rt.alloc())?;
+    expect(&rt, rt.alloc(), &style, READ)?;
     for (source, wanted) in &ODD {
-        expect_read(&rt, rt.alloc(), &before, source, wanted)?;
+        expect_opened(&rt, rt.alloc(), &style, source, wanted)?;
     }
     Ok(())
 }
@@ -254,16 +255,16 @@ const BOTH: &[u8] =
 #[test]
 fn texts_add_to_what_was_read_before(rt: HostRuntime) -> Result<(), Fail> {
     let before = before(rt.alloc())?;
-    let first = read(rt.alloc(), b"@A{One,}", &before)?;
-    Ok(expect_read(&rt, rt.alloc(), &first, LATER, BOTH)?)
+    let first = read(rt.alloc(), b"@A{One,}", before)?;
+    Ok(expect_read(&rt, rt.alloc(), first, LATER, BOTH)?)
 }
 
 /// Expects of the text of each row what the row tells.
-fn expect(rt: &impl Abort, alloc: Global, before: &Database, rows: &str) -> Result<(), NoMemory> {
+fn expect(rt: &impl Abort, alloc: Global, style: &Style, rows: &str) -> Result<(), NoMemory> {
     for row in rows.lines() {
         if let Some((written, wanted)) = row.split_once(" -> ") {
             let source = with_line_ends(alloc, written)?;
-            expect_read(rt, alloc, before, source.as_slice(), wanted.as_bytes())?;
+            expect_opened(rt, alloc, style, source.as_slice(), wanted.as_bytes())?;
         }
     }
     Ok(())
@@ -278,11 +279,23 @@ fn with_line_ends(alloc: Global, written: &str) -> Result<Vec<u8>, NoMemory> {
     Ok(bytes)
 }
 
+/// Expects a text after a style's macros to be read so.
+fn expect_opened(
+    rt: &impl Abort,
+    alloc: Global,
+    style: &Style,
+    source: &[u8],
+    wanted: &[u8],
+) -> Result<(), NoMemory> {
+    let before = opening(alloc, style)?;
+    expect_read(rt, alloc, before, source, wanted)
+}
+
 /// Expects a text to be read as this database or to have this fault.
 fn expect_read(
     rt: &impl Abort,
     alloc: Global,
-    before: &Database,
+    before: Database,
     source: &[u8],
     wanted: &[u8],
 ) -> Result<(), NoMemory> {

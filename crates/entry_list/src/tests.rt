@@ -163,7 +163,7 @@ fn database(alloc: Global, style: &Style, bib: &[u8]) -> Result<Database, Fail>
     ensures { IfOk result (λ found. AreKeyed found.entries) }
 {
     let opened = opening(alloc, style)?;
-    Ok(bib_read::read::read(alloc, bib, &opened)?)
+    Ok(bib_read::read::read(alloc, bib, opened)?)
 }
 
 /// What requests and a database are joined to, as lines.

@@ -104,7 +104,7 @@ fn databases_in<F: Files>(
 {
     let mut database = before;
     for name in names {
-        database = database_named(alloc, files, name, &database)?;
+        database = database_named(alloc, files, name, database)?;
     }
     Ok(database)
 }
@@ -114,11 +114,11 @@ fn database_named<F: Files>(
     alloc: Global,
     files: &mut F,
     name: &Text,
-    before: &Database,
+    before: Database,
 ) -> Result<Database, Stop>
-    requires keyed { AreKeyed before.now.entries }
+    requires keyed { AreKeyed before.entries }
     requires named { IsFileName name.now }
-    ensures reads { Reads ⟦<F as Files>⟧ files.old files.new (λ told. rule.database_named told name.now before.now) result }
+    ensures reads { Reads ⟦<F as Files>⟧ files.old files.new (λ told. rule.database_named told name.now before) result }
     ensures begun { Begins (F.told files.old) (λ told. file_begun told (file.with_ending name.now (codes ".bib"))) (F.begun files.old) (F.begun files.new) result }
     ensures keyed { IfOk result (λ database. AreKeyed database.entries) }
 {
@@ -132,11 +132,11 @@ fn database_from(
     alloc: Global,
     name: &str,
     text: &[u8],
-    before: &Database,
+    before: Database,
 ) -> Result<Database, Stop>
     requires short { length text.now ≤ DATA_BYTES }
-    requires keyed { AreKeyed before.now.entries }
-    ensures decides { stops.Decides (rule.read_database name.now (database_of text.now before.now)) result }
+    requires keyed { AreKeyed before.entries }
+    ensures decides { stops.Decides (rule.read_database name.now (database_of text.now before)) result }
     ensures keyed { IfOk result (λ database. AreKeyed database.entries) }
     ensures inside { IfErr result stops.IsInside }
 {
