@@ -128,12 +128,7 @@ fn database_named<F: Files>(
 }
 
 /// What the bytes of a database add to those before it.
-fn database_from(
-    alloc: Global,
-    name: &str,
-    text: &[u8],
-    before: Database,
-) -> Result<Database, Stop>
+fn database_from(alloc: Global, name: &str, text: &[u8], before: Database) -> Result<Database, Stop>
     requires short { length text.now ≤ DATA_BYTES }
     requires keyed { AreKeyed before.entries }
     ensures decides { stops.Decides (rule.read_database name.now (database_of text.now before)) result }
