@@ -151,6 +151,14 @@ fn write_on(rt: &impl Abort, sink: &mut MemSink) {
     assert_eq!(rt; write_all(sink, b""), Ok(()));
 }
 
+/// What stands behind the name of a file of four bytes, and why it can't be read: no such file, a file below a file, and
+/// below that.
+static NOT_FILES: [(&str, FileAnswer); 3] = [
+    ("-none", FileAnswer::Absent),
+    ("/below", FileAnswer::Failed),
+    ("/below/that", FileAnswer::Failed),
+];
+
 #[test]
 fn a_file_of_the_machine(rt: HostRuntime) -> Result<(), Fail> {
     let mut name = env::temp_dir(&rt)?.into_string();
@@ -158,18 +166,13 @@ fn a_file_of_the_machine(rt: HostRuntime) -> Result<(), Fail> {
     fs::write(&rt, name.as_str(), "text")?;
     let mut files = HostFiles::new(rt.alloc(), &rt);
     compare_read(&rt, rt.alloc(), &mut files, name.as_str(), 4, b"text", None);
-    name.push_str("-none")?;
-    let absent = Some(FileAnswer::Absent);
-    compare_read(&rt, rt.alloc(), &mut files, name.as_str(), 4, b"", absent);
-    compare_read(
-        &rt,
-        rt.alloc(),
-        &mut files,
-        "/",
-        4,
-        b"",
-        Some(FileAnswer::Failed),
-    );
+    let folder = Some(FileAnswer::Failed);
+    compare_read(&rt, rt.alloc(), &mut files, "/", 4, b"", folder);
+    for (behind, refusal) in &NOT_FILES {
+        let wanted = Some(*refusal);
+        let other = format!(in rt.alloc(); "{name}{behind}")?;
+        compare_read(&rt, rt.alloc(), &mut files, other.as_str(), 4, b"", wanted);
+    }
     Ok(())
 }
 
