@@ -256,8 +256,44 @@ fn floor_in(
     floor(alloc, state, cond, &row)
 }
 
-/// A row of a sum over names, by the symbols that a state binds to them.
+/// A row of what a sum is in a state, by the symbols that the state binds to its names.
 fn row_in_state(alloc: Global, state: &State, sum: &[Part]) -> Result<Row, NoMemory>
+    requires { IsSmallSum sum.now }
+    ensures said { IfOk result (λ row. row ≡ row_renamed (rule.symbol_in state.now) (rule.row_of_parts (rule.seen_in state.now sum.now))) }
+    ensures bounded { IfOk result IsBounded }
+{
+    if state.is_at_entry() {
+        row_over(alloc, state, sum)
+    } else {
+        let left = without_pos(alloc, sum)?;
+        row_over(alloc, state, left.as_slice())
+    }
+}
+
+/// A sum without the number of visited entries.
+fn without_pos(alloc: Global, sum: &[Part]) -> Result<Vec<Part>, NoMemory>
+    requires { IsSmallSum sum.now }
+    ensures said { IfOk result (λ left. left.items ≡ rule.without_pos sum.now) }
+    ensures small { IfOk result (λ left. IsSmallSum left.items) }
+{
+    let mut left = Vec::new(alloc);
+    for part in sum {
+        if !is_pos(part.term) {
+            left.push(*part)?;
+        }
+    }
+    Ok(left)
+}
+
+/// Whether a term is the number of visited entries.
+fn is_pos(term: Term) -> bool
+    ensures { result ≡ rule.is_pos term }
+{
+    matches!(term, Term::Pos)
+}
+
+/// A row of a sum over names, by the symbols that a state binds to them.
+fn row_over(alloc: Global, state: &State, sum: &[Part]) -> Result<Row, NoMemory>
     requires { IsSmallSum sum.now }
     ensures said { IfOk result (λ row. row ≡ row_renamed (rule.symbol_in state.now) (rule.row_of_parts sum.now)) }
     ensures bounded { IfOk result IsBounded }

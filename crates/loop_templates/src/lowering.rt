@@ -111,7 +111,7 @@ fn proved_rows(
 }
 
 /// Whether a row of a case has a straight proof in each of some states.
-fn is_proved_in_all(
+pub(crate) fn is_proved_in_all(
     alloc: Global,
     cond: &Cond,
     case: &Piece,

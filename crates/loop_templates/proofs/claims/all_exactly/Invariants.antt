@@ -6,5 +6,5 @@ use Rattle.loop_templates.proofs.claims.all_exactly.Given as goal
 
 abbrev pub invariant-loop-state : goal.invariant-loop-state
 invariant-loop-state l =
-    list_all (is_exactly l.cond l.sum l.c) (drop l.state-index (map (λ state. state.now) l.states))
+    list_all (is_exactly l.cond l.sum l.c) (map (λ state. state.now) (drop l.state-index l.states))
     ≡ list_all (is_exactly l.cond l.sum l.c) (map (λ state. state.now) l.states)
