@@ -18,7 +18,7 @@ use Rattle.straight_proofs.specs.Remainders.{fits, lead, minus}
 use Rattle.straight_proofs.specs.Straight.{ended, first_list, left_behind, list_within, proof_of, references, straight_proof}
 use Rattle.straight_proofs.proofs.Lists.{at_end, none_behind, none_left, one_more}
 use Rattle.straight_proofs.proofs.Looked.{finds, leaves}
-use Rattle.straight_proofs.proofs.Searched.{next_reference}
+use Rattle.straight_proofs.proofs.Searched.{next_item}
 
 -- a remainder without a lead
 pub floor_at_end : (n : ℕ) (c : Cond) (state : State) (remainder : Row) → lead remainder ≡ None → floor_within n c state remainder ≡ Some remainder.constant
@@ -49,9 +49,9 @@ floor_further n c state remainder t e =
       | Some term ↦ greatest_behind (λ r. option_and_then (floor_within n c state) (left_behind c state (Some term) remainder r)) (references state)
     ]) e
 
--- the greatest is that of the references that are kept, where none is behind each other
-greatest_kept : (keeps : Reference → Bool) (behind : Reference → Option ℤ) → ((r : Reference) → keeps r ≡ false → behind r ≡ None)
-    → (all : List Reference) → greatest_behind behind all ≡ greatest_behind behind (filter keeps all)
+-- the greatest is that of the references or rows that are kept, where none is behind each other
+pub greatest_kept : {X : Type 0} (keeps : X → Bool) (behind : X → Option ℤ) → ((x : X) → keeps x ≡ false → behind x ≡ None)
+    → (all : List X) → greatest_behind behind all ≡ greatest_behind behind (filter keeps all)
 greatest_kept keeps behind h [] = refl
 greatest_kept keeps behind h (r ∷ all) =
     elim (keeps r) as (λ (b : Bool). keeps r ≡ b → greatest_behind behind (r ∷ all) ≡ greatest_behind behind (cond b (r ∷ filter keeps all) (filter keeps all))) [
@@ -90,13 +90,13 @@ grouped (Some m) (Some n) (Some k) =
     let same : int_max (int_max m n) k ≡ int_max m (int_max n k) = omega (arith, ints, clamps) in
     ap (λ (most : ℤ). Some most) same
 
--- one reference less, whose floor is among those so far
-pub one_further : (behind : Reference → Option ℤ) (all : List Reference) (i : ℕ) (d : Reference) (so_far : Option ℤ) → i < length all
+-- one row less, whose floor is among those so far
+pub one_further : (behind : Row → Option ℤ) (all : List Row) (i : ℕ) (d : Row) (so_far : Option ℤ) → i < length all
     → greatest (greatest so_far (behind (get_or all i d))) (greatest_behind behind (drop (i + 1) all)) ≡ greatest so_far (greatest_behind behind (drop i all))
 one_further behind all i d so_far h =
-    let r = get_or all i d in
-    grouped so_far (behind r) (greatest_behind behind (drop (i + 1) all))
-    ∙ ap (λ (rest : List Reference). greatest so_far (greatest_behind behind rest)) (sym (next_reference all i d h))
+    let row = get_or all i d in
+    grouped so_far (behind row) (greatest_behind behind (drop (i + 1) all))
+    ∙ ap (λ (rest : List Row). greatest so_far (greatest_behind behind rest)) (sym (next_item all i d h))
 
 -- whether a floor is there and a number is at most it
 abbrev pub reaches : ℤ → Option ℤ → Bool

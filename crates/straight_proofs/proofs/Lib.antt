@@ -3,6 +3,7 @@ pub mod Alike
 pub mod Bare
 pub mod Canonical
 pub mod Floored
+pub mod Gathered
 pub mod Lists
 pub mod Looked
 pub mod Numbered

@@ -9,11 +9,12 @@ use Rattle.std.specs.Option.{IfSome}
 use Rattle.std.specs.Ordering.{int_eq}
 use Rattle.indexmap.specs.IndexMap.{insert_entry}
 use Rattle.lin_facts.specs.declared.row.Part.{Part}
+use Rattle.lin_facts.specs.declared.row.Row.{Row}
 use Rattle.lin_facts.specs.declared.row.Term.{Term}
 use Rattle.bst_meaning.specs.declared.condition.Cond.{Cond}
 use Rattle.sym_state.specs.State.{State}
 use Rattle.straight_proofs.specs.Remainders.{rank}
-use Rattle.straight_proofs.specs.Remembered.{HaveFloors, IsFloor, numbers, numbers_of, remembered}
+use Rattle.straight_proofs.specs.Remembered.{AreWith, HaveFloors, HaveRows, IsFloor, numbers, numbers_of, remembered, signed}
 use Rattle.straight_proofs.proofs.Alike.{rank_tells}
 
 -- the pairs that contracts see of the entries of a table
@@ -110,3 +111,37 @@ pub floor_found : (c : Cond) (state : State) (pairs : List (List ℤ × Option �
 floor_found c state pairs n parts others key given floor h are told is e =
     subst (λ (o : Option (Option ℤ)). IfSome o (IsFloor c state n parts))
     (ap (λ (k : List ℤ). remembered k pairs) (sym (is ∙ told ∙ ap (numbers n) are)) ∙ sym e) (h n parts)
+
+-- a key tells its term and its sign
+signed_told : (a b : Bool) (t u : Term) → signed a t ≡ signed b u → (a ≡ b) × (t ≡ u)
+signed_told a b t u e =
+    let ranks : rank t ≡ rank u = cc in
+    (by a b (cc), rank_tells t u ranks)
+  where
+    by : (a b : Bool) → ◌≡◌ {A = ℕ} (cond a 1 0) (cond b 1 0) → a ≡ b
+    by true true f = refl
+    by true false f = absurd (cc)
+    by false true f = absurd (cc)
+    by false false f = refl
+
+-- rows stay those of their terms once a term has its rows
+pub rows_stay : {V : Type 0} (rows_in : V → List Row) (c : Cond) (state : State) (old new : List (List ℤ × V)) (above : Bool) (t : Term) (key : List ℤ) (rows : V)
+    → HaveRows rows_in c state old → key ≡ signed above t → AreWith c state above t (rows_in rows)
+    → ((other : List ℤ) → remembered other new ≡ cond (pointwise int_eq other key) (Some rows) (remembered other old)) → HaveRows rows_in c state new
+rows_stay {V} rows_in c state old new above t key rows h told_by held is up u =
+    subst (λ (o : Option V). IfSome o (λ r. AreWith c state up u (rows_in r))) (sym (is (signed up u))) (by (pointwise int_eq (signed up u) key) refl)
+  where
+    by : (b : Bool) → pointwise int_eq (signed up u) key ≡ b
+        → IfSome (cond b (Some rows) (remembered (signed up u) old)) (λ r. AreWith c state up u (rows_in r))
+    by true e =
+        let same : signed above t ≡ signed up u = sym told_by ∙ sym ((signed_items (signed up u) key).0 e) in
+        subst (λ (d : Bool). AreWith c state d u (rows_in rows)) (signed_told above up t u same).0
+        (subst (λ (v : Term). AreWith c state above v (rows_in rows)) (signed_told above up t u same).1 held)
+    by false e = h up u
+
+-- what is found under the key of a term is its rows
+pub rows_found : {V : Type 0} (rows_in : V → List Row) (c : Cond) (state : State) (pairs : List (List ℤ × V)) (above : Bool) (t : Term) (key given : List ℤ) (rows : V)
+    → HaveRows rows_in c state pairs → key ≡ signed above t → given ≡ key → Some rows ≡ remembered given pairs → AreWith c state above t (rows_in rows)
+rows_found {V} rows_in c state pairs above t key given rows h told is e =
+    subst (λ (o : Option V). IfSome o (λ r. AreWith c state above t (rows_in r)))
+    (ap (λ (k : List ℤ). remembered k pairs) (sym (is ∙ told)) ∙ sym e) (h above t)

@@ -49,6 +49,10 @@ abbrev pub fits : Option Term → Row → Row → Bool
 fits None remainder row = true
 fits (Some term) remainder row = same_sign (coefficient_of remainder.parts term) (coefficient_of row.parts term)
 
+-- what is left of a remainder where a row may be subtracted
+abbrev pub left_of : Option Term → Row → Row → Option Row
+left_of leads remainder row = if fits leads remainder row then Some (minus remainder row) else None
+
 -- two rows have the same constant, and each term with the same coefficient
 pub record Alike (row other : Row) : Type 0 where
   pub constant : row.constant ≡ other.constant

@@ -10,8 +10,8 @@ ghost use Rattle.straight_proofs.specs.Straight as rule;
 
 use crate::floors::floor_of;
 use crate::known::Known;
+use crate::learnt::{Learnt, nothing};
 use crate::lookup::rows_in_reach;
-use crate::remembered::Remembered;
 use crate::straight::{MOST_REFERENCES, first_drop, first_proof};
 use bst_meaning::condition::Cond;
 use bv_base::memory::NoMemory;
@@ -21,12 +21,12 @@ use std::marker::Model;
 use sym_state::proof::Proof;
 use sym_state::state::State;
 
-/// Of one state under one condition, what straight proofs show. It remembers the floors that it came by, so that what is
-/// asked next needs no search for them. Contracts see the state and the condition.
+/// Of one state under one condition, what straight proofs show. What it learns stays at hand, so that what is asked
+/// next needs no search for it. Contracts see the state and the condition.
 #[derive(Drop)]
 pub struct Search<'a> {
     known: Known<'a>,
-    floors: Remembered<Option<i64>>,
+    learnt: Learnt,
 }
 
 impl<'a> Model for Search<'a> {
@@ -36,7 +36,7 @@ impl<'a> Model for Search<'a> {
 
     ghost view = { λ s. record { state = s.known.state.now; cond = s.known.cond.now } };
 
-    ghost invariant = { λ s. IsReady s.known.cond.now s.known.state.now s.known.rows.items s.floors };
+    ghost invariant = { λ s. IsReady s.known.cond.now s.known.state.now s.known.rows.items s.learnt };
 }
 
 impl<'a> Search<'a> {
@@ -54,7 +54,7 @@ impl<'a> Search<'a> {
         };
         Ok(Search {
             known,
-            floors: Remembered::new(alloc),
+            learnt: nothing(alloc),
         })
     }
 
@@ -66,7 +66,7 @@ impl<'a> Search<'a> {
         ensures few { IfOk result (λ found. IfSome found (λ proof. length proof.uses ≤ MOST_REFERENCES)) }
         ensures stays { self.new ≡ self.old }
     {
-        first_proof(&self.known, &mut self.floors, goal)
+        first_proof(&self.known, &mut self.learnt, goal)
     }
 
     /// The straight proof that a case can't come about, as the function of this name gives it.
@@ -76,7 +76,7 @@ impl<'a> Search<'a> {
         ensures few { IfOk result (λ found. IfSome found (λ proof. length proof.uses ≤ MOST_REFERENCES)) }
         ensures stays { self.new ≡ self.old }
     {
-        first_drop(&self.known, &mut self.floors)
+        first_drop(&self.known, &mut self.learnt)
     }
 
     /// The floor of a sum, as the function of this name gives it.
@@ -86,6 +86,6 @@ impl<'a> Search<'a> {
         ensures small { IfOk result (λ found. IfSome found (IsWithin (2 ^ 49))) }
         ensures stays { self.new ≡ self.old }
     {
-        floor_of(&self.known, &mut self.floors, sum)
+        floor_of(&self.known, &mut self.learnt, sum)
     }
 }

@@ -1,8 +1,9 @@
 //! The floor of a sum: the greatest number that straight proofs show it to be at least (docs/STATES.md, "Straight proofs").
 
 ghost use Rattle.std.specs.Prelude.{◌≡◌, ℕ, ◌+◌, ◌<◌, ◌^◌, ◌+ℤ◌, ◌-ℤ◌, Some, option_map, IfOk, IfSome};
+ghost use Rattle.std.specs.List.{All};
 ghost use Rattle.std.specs.Option.{option_and_then};
-ghost use Rattle.lin_facts.specs.Rows.{IsWithin};
+ghost use Rattle.lin_facts.specs.Rows.{IsSmall, IsWithin};
 ghost use Rattle.lin_facts.specs.declared.row.Row.{Row};
 ghost use Rattle.sym_state.specs.WellMade.{HasBounds, IsBounded};
 ghost use Rattle.straight_proofs.specs.Asked.{IsReady};
@@ -10,20 +11,19 @@ ghost use Rattle.straight_proofs.specs.Floors as rule;
 ghost use Rattle.straight_proofs.specs.Remainders as subtracting;
 ghost use Rattle.straight_proofs.specs.Remainders.{HasRoom};
 ghost use Rattle.straight_proofs.specs.Remembered.{IsNear};
-ghost use Rattle.straight_proofs.specs.Straight as order;
 
 use crate::asked::Search;
 use crate::known::Known;
-use crate::lookup::references_to;
-use crate::remainders::{canonical, lead};
-use crate::remembered::{Remembered, numbers};
-use crate::search::left_behind;
+use crate::learnt::Learnt;
+use crate::remainders::{canonical, is_above, lead};
+use crate::remembered::numbers;
+use crate::search::left_of;
 use crate::straight::MOST_REFERENCES;
+use crate::with_term::rows_with;
 use bst_meaning::condition::Cond;
 use bv_base::memory::NoMemory;
 use lin_facts::row::{Row, Term};
 use std::alloc::Global;
-use sym_state::proof::Reference;
 use sym_state::state::State;
 
 /// The floor of a sum in a state: the greatest number for which a straight proof shows that the sum is at least it. `None`
@@ -41,32 +41,32 @@ pub fn floor(alloc: Global, state: &State, cond: &Cond, sum: &Row) -> Result<Opt
 /// The floor of a sum.
 pub(crate) fn floor_of(
     known: &Known,
-    floors: &mut Remembered<Option<i64>>,
+    learnt: &mut Learnt,
     sum: &Row,
 ) -> Result<Option<i64>, NoMemory>
-    requires ready { IsReady known.now.cond.now known.now.state.now known.now.rows.items floors.old }
+    requires ready { IsReady known.now.cond.now known.now.state.now known.now.rows.items learnt.old }
     requires sum { IsBounded sum.now }
     ensures greatest { IfOk result (λ found. found ≡ rule.floor known.now.cond.now known.now.state.now sum.now) }
     ensures small { IfOk result (λ found. IfSome found (IsWithin (2 ^ 49))) }
-    ensures ready { IsReady known.now.cond.now known.now.state.now known.now.rows.items floors.new }
+    ensures ready { IsReady known.now.cond.now known.now.state.now known.now.rows.items learnt.new }
 {
     let remainder = canonical(known.alloc, sum)?;
-    floor_within(known, floors, &remainder, MOST_REFERENCES)
+    floor_within(known, learnt, &remainder, MOST_REFERENCES)
 }
 
 /// The floor of a remainder by at most so many references. Parts whose floor was found before aren't tried again.
 #[cycle(floors)]
 pub(crate) fn floor_within(
     known: &Known,
-    floors: &mut Remembered<Option<i64>>,
+    learnt: &mut Learnt,
     remainder: &Row,
     most: u32,
 ) -> Result<Option<i64>, NoMemory>
-    requires ready { IsReady known.now.cond.now known.now.state.now known.now.rows.items floors.old }
+    requires ready { IsReady known.now.cond.now known.now.state.now known.now.rows.items learnt.old }
     requires room { HasRoom most remainder.now }
     ensures greatest { IfOk result (λ found. found ≡ rule.floor_within most known.now.cond.now known.now.state.now remainder.now) }
     ensures near { IfOk result (IsNear most remainder.now) }
-    ensures ready { IsReady known.now.cond.now known.now.state.now known.now.rows.items floors.new }
+    ensures ready { IsReady known.now.cond.now known.now.state.now known.now.rows.items learnt.new }
 {
     match lead(remainder) {
         None => Ok(ended(remainder)),
@@ -74,7 +74,7 @@ pub(crate) fn floor_within(
             if most == 0 {
                 Ok(None)
             } else {
-                floor_if_new(known, floors, remainder, term, most)
+                floor_if_new(known, learnt, remainder, term, most)
             }
         }
     }
@@ -84,74 +84,78 @@ pub(crate) fn floor_within(
 #[cycle(floors)]
 fn floor_if_new(
     known: &Known,
-    floors: &mut Remembered<Option<i64>>,
+    learnt: &mut Learnt,
     remainder: &Row,
     term: Term,
     most: u32,
 ) -> Result<Option<i64>, NoMemory>
-    requires ready { IsReady known.now.cond.now known.now.state.now known.now.rows.items floors.old }
+    requires ready { IsReady known.now.cond.now known.now.state.now known.now.rows.items learnt.old }
     requires room { HasRoom most remainder.now }
     requires leads { subtracting.lead remainder.now ≡ Some term }
     requires more { 0 < most }
     ensures greatest { IfOk result (λ found. found ≡ rule.floor_within most known.now.cond.now known.now.state.now remainder.now) }
     ensures near { IfOk result (IsNear most remainder.now) }
-    ensures ready { IsReady known.now.cond.now known.now.state.now known.now.rows.items floors.new }
+    ensures ready { IsReady known.now.cond.now known.now.state.now known.now.rows.items learnt.new }
 {
     let key = numbers(known.alloc, most, remainder.parts.as_slice())?;
-    if let Some(floor) = floors.find(key.as_slice()) {
-        return Ok(with_constant(floor, remainder));
+    if let Some(floor) = learnt.floors.find(key.as_slice()) {
+        return Ok(with_constant(*floor, remainder));
     }
-    let there = references_to(known, remainder, term)?;
-    let floor = greatest_behind(known, floors, term, remainder, most - 1, there.as_slice())?;
-    floors.add(key, without_constant(floor, remainder))?;
+    let above = is_above(remainder, term);
+    let rows = rows_with(known, &mut learnt.rows, above, term)?;
+    let rows = rows.as_ref().as_slice();
+    let floor = greatest_behind(known, learnt, term, remainder, most - 1, rows)?;
+    learnt.floors.add(key, without_constant(floor, remainder))?;
     Ok(floor)
 }
 
-/// The greatest of the floors behind some references.
+/// The greatest of the floors behind some rows.
 #[cycle(floors)]
 fn greatest_behind(
     known: &Known,
-    floors: &mut Remembered<Option<i64>>,
+    learnt: &mut Learnt,
     term: Term,
     remainder: &Row,
     most: u32,
-    references: &[Reference],
+    rows: &[Row],
 ) -> Result<Option<i64>, NoMemory>
-    requires ready { IsReady known.now.cond.now known.now.state.now known.now.rows.items floors.old }
+    requires ready { IsReady known.now.cond.now known.now.state.now known.now.rows.items learnt.old }
     requires room { HasRoom (most + 1) remainder.now }
+    requires small { All IsSmall rows.now }
     ensures greatest { IfOk result (λ found. found
-        ≡ rule.greatest_behind (λ r. option_and_then (rule.floor_within most known.now.cond.now known.now.state.now)
-        (order.left_behind known.now.cond.now known.now.state.now (Some term) remainder.now r)) references.now) }
+        ≡ rule.greatest_behind (λ row. option_and_then (rule.floor_within most known.now.cond.now known.now.state.now)
+        (subtracting.left_of (Some term) remainder.now row)) rows.now) }
     ensures near { IfOk result (IsNear (most + 1) remainder.now) }
-    ensures ready { IsReady known.now.cond.now known.now.state.now known.now.rows.items floors.new }
+    ensures ready { IsReady known.now.cond.now known.now.state.now known.now.rows.items learnt.new }
 {
     let mut found = None;
-    for reference in references {
-        let floor = floor_behind(known, floors, term, remainder, most, *reference)?;
+    for row in rows {
+        let floor = floor_behind(known, learnt, term, remainder, most, row)?;
         found = greatest(found, floor);
     }
     Ok(found)
 }
 
-/// The floor of what is left behind a reference.
+/// The floor of what is left behind a row.
 #[cycle(floors)]
 fn floor_behind(
     known: &Known,
-    floors: &mut Remembered<Option<i64>>,
+    learnt: &mut Learnt,
     term: Term,
     remainder: &Row,
     most: u32,
-    reference: Reference,
+    row: &Row,
 ) -> Result<Option<i64>, NoMemory>
-    requires ready { IsReady known.now.cond.now known.now.state.now known.now.rows.items floors.old }
+    requires ready { IsReady known.now.cond.now known.now.state.now known.now.rows.items learnt.old }
     requires room { HasRoom (most + 1) remainder.now }
+    requires small { IsSmall row.now }
     ensures greatest { IfOk result (λ found. found ≡ option_and_then (rule.floor_within most known.now.cond.now known.now.state.now)
-        (order.left_behind known.now.cond.now known.now.state.now (Some term) remainder.now reference)) }
+        (subtracting.left_of (Some term) remainder.now row.now)) }
     ensures near { IfOk result (IsNear (most + 1) remainder.now) }
-    ensures ready { IsReady known.now.cond.now known.now.state.now known.now.rows.items floors.new }
+    ensures ready { IsReady known.now.cond.now known.now.state.now known.now.rows.items learnt.new }
 {
-    match left_behind(known, Some(term), remainder, reference)? {
-        Some(left) => floor_within(known, floors, &left, most),
+    match left_of(known.alloc, Some(term), remainder, row)? {
+        Some(left) => floor_within(known, learnt, &left, most),
         None => Ok(None),
     }
 }

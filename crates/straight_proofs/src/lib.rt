@@ -5,6 +5,7 @@ mod asked;
 mod floors;
 mod known;
 pub mod laws;
+mod learnt;
 mod lookup;
 mod on_term;
 mod remainders;
@@ -14,6 +15,7 @@ mod search;
 mod straight;
 #[cfg(test)]
 mod tests;
+mod with_term;
 
 pub use crate::asked::Search;
 pub use crate::floors::floor;

@@ -1,6 +1,6 @@
 //! What is left of a goal from which rows are subtracted, and its lead (docs/STATES.md, "Straight proofs").
 
-ghost use Rattle.std.specs.Prelude.{◌≡◌, ℕ, ◌+◌, ◌*◌, ◌<◌, ◌≤◌, ◌^◌, [], ◌+ℤ◌, ◌-ℤ◌, length, IfOk, IfSome, OnOk};
+ghost use Rattle.std.specs.Prelude.{◌≡◌, ℕ, ◌+◌, ◌*◌, ◌<◌, ◌≤◌, ◌^◌, [], ◌+ℤ◌, ◌-ℤ◌, length, pos, int_lt, IfOk, IfSome, OnOk};
 ghost use Rattle.std.specs.List.{All, fold};
 ghost use Rattle.lin_facts.specs.Rows.{IsSmall, IsWithin};
 ghost use Rattle.lin_facts.specs.Rows as sums;
@@ -94,6 +94,14 @@ pub(crate) fn fits(leads: Option<Term>, remainder: &Row, row: &Row) -> bool
     }
 }
 
+/// Whether a remainder has a term with a coefficient above 0.
+pub(crate) fn is_above(remainder: &Row, term: Term) -> bool
+    requires { HasRoom 0 remainder.now }
+    ensures { result ≡ int_lt (pos 0) (sums.coefficient_of remainder.now.parts term) }
+{
+    0 < coefficient_of(remainder.parts.as_slice(), term)
+}
+
 /// Whether two numbers are both above 0 or both below.
 fn same_sign(m: i64, n: i64) -> bool
     ensures { result ≡ rule.same_sign m n }
@@ -102,7 +110,7 @@ fn same_sign(m: i64, n: i64) -> bool
 }
 
 /// How often parts take a term.
-fn coefficient_of(parts: &[Part], term: Term) -> i64
+pub(crate) fn coefficient_of(parts: &[Part], term: Term) -> i64
     requires few { length parts.now ≤ 288 }
     requires small { All (λ part. IsWithin (2 ^ 50 * 9) part.coefficient) parts.now }
     ensures value { result ≡ sums.coefficient_of parts.now term }

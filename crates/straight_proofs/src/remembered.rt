@@ -1,6 +1,6 @@
 //! What a search remembers of the sums that it has been at (docs/STATES.md, "Straight proofs").
 
-ghost use Rattle.std.specs.Prelude.{◌≡◌, ℤ, List, [], ◌∷◌, ◌++◌, Some, pos, if◌then◌else◌, IfOk, OnErr, OnOk};
+ghost use Rattle.std.specs.Prelude.{◌≡◌, ℤ, List, [], ◌∷◌, ◌++◌, Some, pos, if◌then◌else◌, option_map, IfOk, OnErr, OnOk};
 ghost use Rattle.std.specs.Cmp.Lexicographic.{pointwise};
 ghost use Rattle.std.specs.Ordering.{int_eq};
 ghost use Rattle.straight_proofs.specs.Remainders as subtracting;
@@ -10,7 +10,7 @@ ghost use Rattle.straight_proofs.specs.Remembered.{remembered};
 use crate::remainders::rank;
 use bv_base::memory::NoMemory;
 use indexmap::IndexMap;
-use lin_facts::row::Part;
+use lin_facts::row::{Part, Term};
 use std::alloc::Global;
 use std::marker::Model;
 
@@ -28,7 +28,7 @@ impl<T> Model for Remembered<T> {
     ghost view = { λ r. map (λ e. (e.0.items, e.1)) r.table.entries };
 }
 
-impl<T: Copy + Drop> Remembered<T> {
+impl<T: Drop> Remembered<T> {
     /// No value.
     pub(crate) fn new(alloc: Global) -> Remembered<T>
         ensures { result ≡ [] }
@@ -39,13 +39,10 @@ impl<T: Copy + Drop> Remembered<T> {
     }
 
     /// The value of a key, by one look-up.
-    pub(crate) fn find(&self, key: &[i64]) -> Option<T>
-        ensures { result ≡ remembered key.now self.now }
+    pub(crate) fn find(&self, key: &[i64]) -> Option<&T>
+        ensures { option_map (λ value. value.now) result ≡ remembered key.now self.now }
     {
-        match self.table.get(key) {
-            Some(value) => Some(*value),
-            None => None,
-        }
+        self.table.get(key)
     }
 
     /// Gives a key a value.
@@ -88,4 +85,14 @@ fn push_part(key: &mut Vec<i64>, part: Part) -> Result<(), NoMemory>
     key.push(part.coefficient)?;
     key.push(rank(part.term) as i64)?;
     Ok(())
+}
+
+/// A term and a sign, as the numbers by which they are remembered.
+pub(crate) fn signed(alloc: Global, above: bool, term: Term) -> Result<Vec<i64>, NoMemory>
+    ensures { IfOk result (λ key. key.items ≡ rule.signed above term) }
+{
+    let mut key = Vec::new(alloc);
+    key.push(if above { 1 } else { 0 })?;
+    key.push(rank(term) as i64)?;
+    Ok(key)
 }

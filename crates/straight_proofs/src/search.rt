@@ -1,6 +1,6 @@
 //! The search for the first list of references that shows a remainder.
 
-ghost use Rattle.std.specs.Prelude.{◌≡◌, ℕ, ◌+◌, ◌<◌, ◌^◌, ◌-ℤ◌, None, Some, reverse, option_map, if◌then◌else◌, IfOk, IfSome, OnOk};
+ghost use Rattle.std.specs.Prelude.{◌≡◌, ℕ, ◌+◌, ◌<◌, ◌^◌, ◌-ℤ◌, Some, reverse, option_map, IfOk, IfSome, OnOk};
 ghost use Rattle.std.specs.Option.{option_and_then};
 ghost use Rattle.lin_facts.specs.Rows.{IsSmall, IsWithin};
 ghost use Rattle.sym_state.specs.WellMade.{HasBounds};
@@ -12,9 +12,9 @@ ghost use Rattle.straight_proofs.specs.Straight as rule;
 
 use crate::floors::floor_within;
 use crate::known::Known;
+use crate::learnt::Learnt;
 use crate::lookup::references_to;
 use crate::remainders::{fits, lead, minus};
-use crate::remembered::Remembered;
 use crate::said::row_said;
 use bv_base::memory::NoMemory;
 use lin_facts::row::{Row, Term};
@@ -25,15 +25,15 @@ use sym_state::proof::Reference;
 #[cycle(search)]
 pub(crate) fn list_within(
     known: &Known,
-    floors: &mut Remembered<Option<i64>>,
+    learnt: &mut Learnt,
     remainder: &Row,
     most: u32,
 ) -> Result<Option<Vec<Reference>>, NoMemory>
-    requires ready { IsReady known.now.cond.now known.now.state.now known.now.rows.items floors.old }
+    requires ready { IsReady known.now.cond.now known.now.state.now known.now.rows.items learnt.old }
     requires room { HasRoom most remainder.now }
     ensures found { IfOk result (λ found. option_map (λ list. reverse list.items) found
         ≡ rule.list_within most known.now.cond.now known.now.state.now remainder.now) }
-    ensures ready { IsReady known.now.cond.now known.now.state.now known.now.rows.items floors.new }
+    ensures ready { IsReady known.now.cond.now known.now.state.now known.now.rows.items learnt.new }
 {
     match lead(remainder) {
         None => Ok(ended(known.alloc, remainder)),
@@ -41,7 +41,7 @@ pub(crate) fn list_within(
             if most == 0 {
                 Ok(None)
             } else {
-                list_if_there(known, floors, remainder, term, most)
+                list_if_there(known, learnt, remainder, term, most)
             }
         }
     }
@@ -51,20 +51,20 @@ pub(crate) fn list_within(
 #[cycle(search)]
 fn list_if_there(
     known: &Known,
-    floors: &mut Remembered<Option<i64>>,
+    learnt: &mut Learnt,
     remainder: &Row,
     term: Term,
     most: u32,
 ) -> Result<Option<Vec<Reference>>, NoMemory>
-    requires ready { IsReady known.now.cond.now known.now.state.now known.now.rows.items floors.old }
+    requires ready { IsReady known.now.cond.now known.now.state.now known.now.rows.items learnt.old }
     requires room { HasRoom most remainder.now }
     requires leads { subtracting.lead remainder.now ≡ Some term }
     requires more { 0 < most }
     ensures found { IfOk result (λ found. option_map (λ list. reverse list.items) found
         ≡ rule.list_within most known.now.cond.now known.now.state.now remainder.now) }
-    ensures ready { IsReady known.now.cond.now known.now.state.now known.now.rows.items floors.new }
+    ensures ready { IsReady known.now.cond.now known.now.state.now known.now.rows.items learnt.new }
 {
-    let Some(floor) = floor_within(known, floors, remainder, most)? else {
+    let Some(floor) = floor_within(known, learnt, remainder, most)? else {
         return Ok(None);
     };
     if floor < 0 {
@@ -73,7 +73,7 @@ fn list_if_there(
     let there = references_to(known, remainder, term)?;
     first_list(
         known,
-        floors,
+        learnt,
         Some(term),
         remainder,
         most - 1,
@@ -85,21 +85,21 @@ fn list_if_there(
 #[cycle(search)]
 pub(crate) fn first_list(
     known: &Known,
-    floors: &mut Remembered<Option<i64>>,
+    learnt: &mut Learnt,
     leads: Option<Term>,
     remainder: &Row,
     most: u32,
     references: &[Reference],
 ) -> Result<Option<Vec<Reference>>, NoMemory>
-    requires ready { IsReady known.now.cond.now known.now.state.now known.now.rows.items floors.old }
+    requires ready { IsReady known.now.cond.now known.now.state.now known.now.rows.items learnt.old }
     requires room { HasRoom (most + 1) remainder.now }
     ensures found { IfOk result (λ found. option_map (λ list. reverse list.items) found
         ≡ rule.first_list (λ r. option_and_then (rule.list_within most known.now.cond.now known.now.state.now)
         (rule.left_behind known.now.cond.now known.now.state.now leads remainder.now r)) references.now) }
-    ensures ready { IsReady known.now.cond.now known.now.state.now known.now.rows.items floors.new }
+    ensures ready { IsReady known.now.cond.now known.now.state.now known.now.rows.items learnt.new }
 {
     for reference in references {
-        if let Some(list) = list_behind(known, floors, leads, remainder, most, *reference)? {
+        if let Some(list) = list_behind(known, learnt, leads, remainder, most, *reference)? {
             let mut list = list;
             list.push(*reference)?;
             return Ok(Some(list));
@@ -112,21 +112,21 @@ pub(crate) fn first_list(
 #[cycle(search)]
 fn list_behind(
     known: &Known,
-    floors: &mut Remembered<Option<i64>>,
+    learnt: &mut Learnt,
     leads: Option<Term>,
     remainder: &Row,
     most: u32,
     reference: Reference,
 ) -> Result<Option<Vec<Reference>>, NoMemory>
-    requires ready { IsReady known.now.cond.now known.now.state.now known.now.rows.items floors.old }
+    requires ready { IsReady known.now.cond.now known.now.state.now known.now.rows.items learnt.old }
     requires room { HasRoom (most + 1) remainder.now }
     ensures found { IfOk result (λ found. option_map (λ list. reverse list.items) found
         ≡ option_and_then (rule.list_within most known.now.cond.now known.now.state.now)
         (rule.left_behind known.now.cond.now known.now.state.now leads remainder.now reference)) }
-    ensures ready { IsReady known.now.cond.now known.now.state.now known.now.rows.items floors.new }
+    ensures ready { IsReady known.now.cond.now known.now.state.now known.now.rows.items learnt.new }
 {
     match left_behind(known, leads, remainder, reference)? {
-        Some(left) => list_within(known, floors, &left, most),
+        Some(left) => list_within(known, learnt, &left, most),
         None => Ok(None),
     }
 }
@@ -157,13 +157,13 @@ pub(crate) fn left_behind(
     ensures room { (more : ℕ) → HasRoom (more + 1) remainder.now → IfOk result (λ left. IfSome left (HasRoom more)) }
 {
     match row_said(known.alloc, known.state, known.cond, reference)? {
-        Some(row) => less(known.alloc, leads, remainder, &row),
+        Some(row) => left_of(known.alloc, leads, remainder, &row),
         None => Ok(None),
     }
 }
 
 /// What is left of a remainder where a row may be subtracted.
-fn less(
+pub(crate) fn left_of(
     alloc: Global,
     leads: Option<Term>,
     remainder: &Row,
@@ -171,8 +171,7 @@ fn less(
 ) -> Result<Option<Row>, NoMemory>
     requires remainder { HasRoom 1 remainder.now }
     requires row { IsSmall row.now }
-    ensures said { IfOk result (λ left. AreAlike left (if subtracting.fits leads remainder.now row.now
-        then Some (subtracting.minus remainder.now row.now) else None)) }
+    ensures said { IfOk result (λ left. AreAlike left (subtracting.left_of leads remainder.now row.now)) }
     ensures near { IfOk result (λ left. IfSome left (λ row. IsWithin (2 ^ 45) (row.constant -ℤ remainder.now.constant))) }
     ensures room { (more : ℕ) → HasRoom (more + 1) remainder.now → IfOk result (λ left. IfSome left (HasRoom more)) }
 {

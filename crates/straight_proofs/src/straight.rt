@@ -9,9 +9,9 @@ ghost use Rattle.straight_proofs.specs.Straight as rule;
 
 use crate::asked::Search;
 use crate::known::Known;
+use crate::learnt::Learnt;
 use crate::lookup::references;
 use crate::remainders::{canonical, never};
-use crate::remembered::Remembered;
 use crate::search::{first_list, list_within};
 use bst_meaning::condition::Cond;
 use bv_base::memory::NoMemory;
@@ -57,15 +57,15 @@ pub fn drop_proof(alloc: Global, state: &State, cond: &Cond) -> Result<Option<Pr
 /// The proof of the first list that shows a goal.
 pub(crate) fn first_proof(
     known: &Known,
-    floors: &mut Remembered<Option<i64>>,
+    learnt: &mut Learnt,
     goal: &Row,
 ) -> Result<Option<Proof>, NoMemory>
-    requires ready { IsReady known.now.cond.now known.now.state.now known.now.rows.items floors.old }
+    requires ready { IsReady known.now.cond.now known.now.state.now known.now.rows.items learnt.old }
     requires goal { IsBounded goal.now }
     ensures first { IfOk result (λ found. found ≡ rule.straight_proof known.now.cond.now known.now.state.now goal.now) }
-    ensures ready { IsReady known.now.cond.now known.now.state.now known.now.rows.items floors.new }
+    ensures ready { IsReady known.now.cond.now known.now.state.now known.now.rows.items learnt.new }
 {
-    match first_list_of(known, floors, goal)? {
+    match first_list_of(known, learnt, goal)? {
         Some(list) => Ok(Some(proof_of(known.alloc, list.as_slice())?)),
         None => Ok(None),
     }
@@ -74,49 +74,43 @@ pub(crate) fn first_proof(
 /// The first list that shows a goal, its last reference first.
 fn first_list_of(
     known: &Known,
-    floors: &mut Remembered<Option<i64>>,
+    learnt: &mut Learnt,
     goal: &Row,
 ) -> Result<Option<Vec<Reference>>, NoMemory>
-    requires ready { IsReady known.now.cond.now known.now.state.now known.now.rows.items floors.old }
+    requires ready { IsReady known.now.cond.now known.now.state.now known.now.rows.items learnt.old }
     requires goal { IsBounded goal.now }
     ensures found { IfOk result (λ found. option_map (λ list. reverse list.items) found
         ≡ rule.list_within MOST_REFERENCES known.now.cond.now known.now.state.now goal.now) }
-    ensures ready { IsReady known.now.cond.now known.now.state.now known.now.rows.items floors.new }
+    ensures ready { IsReady known.now.cond.now known.now.state.now known.now.rows.items learnt.new }
 {
     let remainder = canonical(known.alloc, goal)?;
-    list_within(known, floors, &remainder, MOST_REFERENCES)
+    list_within(known, learnt, &remainder, MOST_REFERENCES)
 }
 
 /// The proof of the first list that shows that a case can't come about.
-pub(crate) fn first_drop(
-    known: &Known,
-    floors: &mut Remembered<Option<i64>>,
-) -> Result<Option<Proof>, NoMemory>
-    requires { IsReady known.now.cond.now known.now.state.now known.now.rows.items floors.old }
+pub(crate) fn first_drop(known: &Known, learnt: &mut Learnt) -> Result<Option<Proof>, NoMemory>
+    requires { IsReady known.now.cond.now known.now.state.now known.now.rows.items learnt.old }
     ensures first { IfOk result (λ found. found ≡ rule.drop_proof known.now.cond.now known.now.state.now) }
-    ensures ready { IsReady known.now.cond.now known.now.state.now known.now.rows.items floors.new }
+    ensures ready { IsReady known.now.cond.now known.now.state.now known.now.rows.items learnt.new }
 {
-    match list_among_all(known, floors)? {
+    match list_among_all(known, learnt)? {
         Some(list) => Ok(Some(proof_of(known.alloc, list.as_slice())?)),
         None => Ok(None),
     }
 }
 
 /// The list that shows that a case can't come about, its last reference first.
-fn list_among_all(
-    known: &Known,
-    floors: &mut Remembered<Option<i64>>,
-) -> Result<Option<Vec<Reference>>, NoMemory>
-    requires { IsReady known.now.cond.now known.now.state.now known.now.rows.items floors.old }
+fn list_among_all(known: &Known, learnt: &mut Learnt) -> Result<Option<Vec<Reference>>, NoMemory>
+    requires { IsReady known.now.cond.now known.now.state.now known.now.rows.items learnt.old }
     ensures found { IfOk result (λ found. option_map (λ list. reverse list.items) found
         ≡ rule.drop_list known.now.cond.now known.now.state.now) }
-    ensures ready { IsReady known.now.cond.now known.now.state.now known.now.rows.items floors.new }
+    ensures ready { IsReady known.now.cond.now known.now.state.now known.now.rows.items learnt.new }
 {
     let goal = never(known.alloc);
     let all = references(known.alloc, known.state)?;
     first_list(
         known,
-        floors,
+        learnt,
         None,
         &goal,
         MOST_REFERENCES - 1,

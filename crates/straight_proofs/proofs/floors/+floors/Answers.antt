@@ -1,13 +1,14 @@
-use Rattle.std.proofs.Common.{◌≡◌, ℕ, ◌^◌, Option, Some, IfOk, ap, sym, ◌∙◌, subst, arith}
+use Rattle.std.proofs.Common.{◌≡◌, ℕ, ◌^◌, Option, Some, Vec, Global, IfOk, ap, sym, ◌∙◌, subst, arith}
 use Rattle.std.specs.Prelude.{ℤ, ◌-ℤ◌}
 use Rattle.std.specs.Option.{IfSome, option_and_then}
 use Rattle.lin_facts.specs.Rows.{IsWithin}
 use Rattle.lin_facts.specs.declared.row.Row.{Row}
 use Rattle.straight_proofs.specs.Floors.{floor_within}
-use Rattle.straight_proofs.specs.Straight.{left_behind}
+use Rattle.straight_proofs.specs.Remainders.{left_of}
 use Rattle.straight_proofs.proofs.Alike.{same_behind, same_floor}
 use Rattle.straight_proofs.proofs.Bare.{all_near_behind, floor_kept, floor_remembered, kept_within, near_remembered, near_within, one_more}
-use Rattle.straight_proofs.proofs.Floored.{floor_at_end, found_behind, no_floor}
+use Rattle.straight_proofs.proofs.Floored.{floor_at_end, no_floor}
+use Rattle.straight_proofs.proofs.Gathered.{found_over}
 use Rattle.straight_proofs.proofs.Remembering.{floor_found, floors_stay}
 use Rattle.straight_proofs.proofs.Rooms.{room_for_fewer}
 use Rattle.straight_proofs.proofs.floors.+floors.Goals as goal
@@ -27,19 +28,19 @@ floor_within-returns-then-most-eq0-clause-greatest t c =
 -- what was remembered, with the constant, is the floor
 pub floor_if_new-returns-in-Some-clause-greatest : goal.floor_if_new-returns-in-Some-clause-greatest
 floor_if_new-returns-in-Some-clause-greatest t c =
-    floor_remembered c.args.most c.args.known.now.cond.now c.args.known.now.state.now c.args.remainder.now c.in-Some.floor c.with_constant.result
+    floor_remembered c.args.most c.args.known.now.cond.now c.args.known.now.state.now c.args.remainder.now c.in-Some.floor.now c.with_constant.result
     (floor_found _ _ _ _ _ _ _ _ _ c.requires.ready.floors c.as_slice.ensures c.in_ok-key.ensures c.as_slice-2.ensures.value c.in-Some.ensures)
     c.with_constant.ensures
 
 pub floor_if_new-returns-in-Some-clause-near : goal.floor_if_new-returns-in-Some-clause-near
 floor_if_new-returns-in-Some-clause-near t c =
-    near_remembered c.args.most c.args.known.now.cond.now c.args.known.now.state.now c.args.remainder.now c.in-Some.floor c.with_constant.result
+    near_remembered c.args.most c.args.known.now.cond.now c.args.known.now.state.now c.args.remainder.now c.in-Some.floor.now c.with_constant.result
     (floor_found _ _ _ _ _ _ _ _ _ c.requires.ready.floors c.as_slice.ensures c.in_ok-key.ensures c.as_slice-2.ensures.value c.in-Some.ensures)
     c.with_constant.ensures
 
 pub floor_if_new-with_constant-requires-clause-floor : goal.floor_if_new-with_constant-requires-clause-floor
 floor_if_new-with_constant-requires-clause-floor t c =
-    kept_within c.args.most c.args.known.now.cond.now c.args.known.now.state.now c.args.remainder.now c.in-Some.floor c.requires.room
+    kept_within c.args.most c.args.known.now.cond.now c.args.known.now.state.now c.args.remainder.now c.in-Some.floor.now c.requires.room
     (floor_found _ _ _ _ _ _ _ _ _ c.requires.ready.floors c.as_slice.ensures c.in_ok-key.ensures c.as_slice-2.ensures.value c.in-Some.ensures)
 
 pub floor_if_new-without_constant-requires-clause-room : goal.floor_if_new-without_constant-requires-clause-room
@@ -53,8 +54,9 @@ floor_if_new-without_constant-requires-clause-floor t c =
 -- the floor behind a lead is found by look-up
 pub floor_if_new-returns-clause-greatest : goal.floor_if_new-returns-clause-greatest
 floor_if_new-returns-clause-greatest t c =
-    found_behind c.args.most c.args.known.now.cond.now c.args.known.now.state.now c.args.remainder.now c.args.term c.as_slice-3.result.now c.in_ok-floor.floor c.requires.more
-    c.requires.leads (c.as_slice-3.ensures.value ∙ c.in_ok-there.ensures) c.in_ok-floor.ensures.greatest
+    found_over c.args.most c.args.known.now.cond.now c.args.known.now.state.now c.args.remainder.now c.args.term c.is_above-above.result c.as_slice-rows.result.now c.in_ok-floor.floor c.requires.more
+    c.requires.leads (sym c.is_above-above.ensures)
+    (c.as_slice-rows.ensures.value ∙ ap (λ (rows : Vec Row Global). rows.items) c.as_ref.ensures ∙ c.in_ok-rows.ensures.with.are) c.in_ok-floor.ensures.greatest
 
 pub floor_if_new-returns-clause-near : goal.floor_if_new-returns-clause-near
 floor_if_new-returns-clause-near t c = one_more c.args.most c.args.remainder.now c.in_ok-floor.floor c.requires.more c.in_ok-floor.ensures.near
@@ -63,8 +65,9 @@ floor_if_new-returns-clause-near t c = one_more c.args.most c.args.remainder.now
 pub floor_if_new-returns-clause-ready : goal.floor_if_new-returns-clause-ready
 floor_if_new-returns-clause-ready t c =
     let is : c.in_ok-floor.floor ≡ floor_within c.args.most c.args.known.now.cond.now c.args.known.now.state.now c.args.remainder.now =
-    found_behind c.args.most c.args.known.now.cond.now c.args.known.now.state.now c.args.remainder.now c.args.term c.as_slice-3.result.now c.in_ok-floor.floor c.requires.more
-    c.requires.leads (c.as_slice-3.ensures.value ∙ c.in_ok-there.ensures) c.in_ok-floor.ensures.greatest in
+    found_over c.args.most c.args.known.now.cond.now c.args.known.now.state.now c.args.remainder.now c.args.term c.is_above-above.result c.as_slice-rows.result.now c.in_ok-floor.floor c.requires.more
+    c.requires.leads (sym c.is_above-above.ensures)
+    (c.as_slice-rows.ensures.value ∙ ap (λ (rows : Vec Row Global). rows.items) c.as_ref.ensures ∙ c.in_ok-rows.ensures.with.are) c.in_ok-floor.ensures.greatest in
     record {
       bounds = c.requires.ready.bounds;
       rows = c.requires.ready.rows;
@@ -72,13 +75,14 @@ floor_if_new-returns-clause-ready t c =
           (floor_kept c.args.most c.args.known.now.cond.now c.args.known.now.state.now c.args.remainder.now c.in_ok-floor.floor c.without_constant.result
           is (one_more c.args.most c.args.remainder.now c.in_ok-floor.floor c.requires.more c.in_ok-floor.ensures.near) c.without_constant.ensures)
           c.in_ok-add.ensures.added;
+      with = c.greatest_behind.ensures.ready.with;
     }
 
 -- what is left is alike what the definition leaves
 pub floor_behind-returns-in-Some-clause-greatest : goal.floor_behind-returns-in-Some-clause-greatest
 floor_behind-returns-in-Some-clause-greatest t c =
     let next : Row → Option ℤ = floor_within c.args.most c.args.known.now.cond.now c.args.known.now.state.now in
-    let left : Option Row = left_behind c.args.known.now.cond.now c.args.known.now.state.now (Some c.args.term) c.args.remainder.now c.args.reference in
+    let left : Option Row = left_of (Some c.args.term) c.args.remainder.now c.args.row.now in
     subst (λ (wanted : Option ℤ). IfOk c.floor_within.result (λ result. result ≡ wanted))
     (sym (ap (option_and_then next) c.in-Some.is)
     ∙ same_behind next (same_floor c.args.most c.args.known.now.cond.now c.args.known.now.state.now) c.in_ok-left.field-0 left c.in_ok-left.ensures.said)

@@ -22,5 +22,5 @@ abbrev pub invariant-first_list-loop-reference : goal.invariant-first_list-loop-
 invariant-first_list-loop-reference l = record {
   first : first_list (λ r. option_and_then (list_within l.most l.known.cond.now l.known.state.now) (left_behind l.known.cond.now l.known.state.now l.leads l.remainder r)) (drop l.reference-index l.references)
       ≡ first_list (λ r. option_and_then (list_within l.most l.known.cond.now l.known.state.now) (left_behind l.known.cond.now l.known.state.now l.leads l.remainder r)) l.references;
-  ready : IsReady l.known.cond.now l.known.state.now l.known.rows.items l.floors;
+  ready : IsReady l.known.cond.now l.known.state.now l.known.rows.items l.learnt;
 }
