@@ -9,9 +9,8 @@ ghost use Rattle.loop_templates.specs.Cases.{IsFrame};
 ghost use Rattle.loop_templates.specs.Visits as rule;
 
 use crate::cases::{Frame, bare_case, each, with_rows};
-use crate::lowering::is_proved_in_all;
+use crate::lowering::{marked_rows, proved_in_all};
 use bst_meaning::condition::Cond;
-use bv_base::copied::Copied;
 use bv_base::memory::NoMemory;
 use lin_facts::row::Row;
 use std::alloc::Global;
@@ -63,11 +62,6 @@ fn rows_shown(
     requires moved { moved.now ≡ map (row_moved AtNext) case.now.rows }
     ensures { IfOk result (λ rows. rows.items ≡ rule.rows_left cond.now case.now (map (λ state. state.now) states.now) case.now.rows) }
 {
-    let mut rows = Vec::new(alloc);
-    for (k, row) in case.rows.as_slice().iter().enumerate() {
-        if is_proved_in_all(alloc, cond, case, &moved[k], states)? {
-            rows.push(row.copied(alloc)?)?;
-        }
-    }
-    Ok(rows)
+    let shown = proved_in_all(alloc, cond, case, moved, states)?;
+    marked_rows(alloc, case.rows.as_slice(), shown.as_slice())
 }

@@ -58,6 +58,14 @@ impl<'a> Search<'a> {
         })
     }
 
+    /// The state.
+    pub fn state(&self) -> &'a State
+        ensures state { result.now ≡ self.now.state }
+        ensures bounds { HasBounds result.now }
+    {
+        self.known.state
+    }
+
     /// The straight proof of a goal, as the function of this name gives it.
     pub fn straight_proof(&mut self, goal: &Row) -> Result<Option<Proof>, NoMemory>
         requires { IsBounded goal.now }
