@@ -161,8 +161,29 @@ READ EXECUTE{init} ITERATE{next}
 const WIDE: &[u8] =
     b"ENTRY{a b c d e f g h i}{}{} FUNCTION{o}{duplicate$ missing$ 'pop$ 'write$ if$} FUNCTION{p}{a o b o c o d o e o f o g o h o i o #1 #1 + pop$} READ ITERATE{p}";
 
+/// Writes the names of a field, the last of them behind `and`, or `et al.` where that is `others`.
+const LIST: &[u8] = b"ENTRY{author}{}{}
+INTEGERS{nameptr namesleft numnames}
+STRINGS{s t}
+FUNCTION{format.names}
+{ 's := #1 'nameptr := s num.names$ 'numnames := numnames 'namesleft :=
+  { namesleft #0 > }
+  { s nameptr \"{ff~}{vv~}{ll}{, jj}\" format.name$ 't :=
+    nameptr #1 >
+    { namesleft #1 > { \", \" * t * }
+      { numnames #2 > { \",\" * } 'skip$ if$
+        t \"others\" = { \" et~al.\" * } { \" and \" * t * } if$ } if$ }
+    't if$
+    nameptr #1 + 'nameptr := namesleft #1 - 'namesleft := }
+  while$ }
+FUNCTION{misc}{author empty$ 'skip$ {author format.names write$ newline$} if$}
+READ
+ITERATE{call.type$}
+";
+
 /// Styles whose loops and pieces are found.
-static SOUGHT: [Sought; 4] = [
+static SOUGHT: [Sought; 5] = [
+    sought!(LIST, b"entries 10000\nkey 250\npreamble 20000\nlength 30000\nnames author 1000\ntype misc\nothertype yes\nend\n" => Done),
     // The letters from `a` on end behind the 31st.
     sought!(LETTERS, b"entries 31\nkey 9\npreamble 0\nlength 0\nothertype yes\nend\n" => Done),
     sought!(LETTERS, b"entries 32\nkey 9\npreamble 0\nlength 0\nothertype yes\nend\n" => Unknown),
