@@ -182,8 +182,10 @@ ITERATE{call.type$}
 ";
 
 /// Styles whose loops and pieces are found.
-static SOUGHT: [Sought; 5] = [
-    sought!(LIST, b"entries 10000\nkey 250\npreamble 20000\nlength 30000\nnames author 1000\ntype misc\nothertype yes\nend\n" => Done),
+static SOUGHT: [Sought; 6] = [
+    // A field that is never cut has the names that the condition allows, and one that may be cut any number.
+    sought!(LIST, b"entries 10000\nkey 250\npreamble 20000\nlength 20000\nnames author 1000\ntype misc\nothertype yes\nend\n" => Done),
+    sought!(LIST, b"entries 10000\nkey 250\npreamble 20000\nlength 30000\nnames author 1000\ntype misc\nothertype yes\nend\n" => Unknown),
     // The letters from `a` on end behind the 31st.
     sought!(LETTERS, b"entries 31\nkey 9\npreamble 0\nlength 0\nothertype yes\nend\n" => Done),
     sought!(LETTERS, b"entries 32\nkey 9\npreamble 0\nlength 0\nothertype yes\nend\n" => Unknown),
