@@ -1,5 +1,5 @@
 -- The tokens of a body that is walked are safe where the calls of names are, for one step more.
-use Rattle.std.proofs.Common.{◌≡◌, ℕ, zero, suc, List, [], ◌∷◌, ◌++◌, Ok, refl, sym, subst, inl, inr}
+use Rattle.std.proofs.Common.{◌≡◌, ℕ, zero, suc, List, [], ◌∷◌, ◌++◌, Ok, refl, sym, subst, inl, inr, Option, None, ap, ◌∙◌}
 use Rattle.std.specs.List.{All, AllByRecursion}
 use Rattle.std.proofs.lemmas.List.Elements.{All-cons, All-nil, All-same, All-tail}
 use Rattle.bv_base.specs.declared.place.Place.{Place}
@@ -23,13 +23,14 @@ use Rattle.sym_state.proofs.Pushing.{stands_framed}
 use Rattle.refinements.specs.Covered.{IsAmong}
 use Rattle.refinements.proofs.Covering.{among_later}
 use Rattle.cert_check.specs.Courses.{Course, counts, gives_all}
-use Rattle.cert_check.specs.Walks.{Enter, Scope, body_walked, chosen_in, named, taken, taken_from, token_taken, walked}
+use Rattle.cert_check.specs.Walks.{Enter, Make, Scope, body_walked, chosen_in, each_taken, named, taken, taken_by, taken_from, token_taken, walked}
 use Rattle.cert_check.proofs.Followed.{follows_self}
 use Rattle.cert_check.proofs.Inverted.{gives_all_ok}
 use Rattle.cert_check.proofs.Keeping.{Told}
 use Rattle.cert_check.proofs.Safety.{Framed, Reaches, SafeAfter, SafeFor, Start, among_sooner, emptied, formed_step, framed_fine, less, one_before, onward, remains_framed, safe_on}
 use Rattle.cert_check.proofs.Tokens.{token_safe}
-use Rattle.cert_check.proofs.Walked.{AreSound, Enters, body_moved, body_sound, come_made, taken_from_moved}
+use Rattle.cert_check.proofs.Walked.{AreSound, Enters, body_moved, body_sound, come_made, each_taken_moved}
+use Rattle.cert_check.proofs.Makings.{making_none}
 
 -- the same state with other frames
 pub framed_reached : (scope : Scope) (list : EntryList) (s : Start scope list) (frames : List Frame)
@@ -120,13 +121,19 @@ record TakenOne (scope : Scope) (enter : Enter) (t : TokenAt) (state : State) (a
   pub more : List State
   pub given : after.given ≡ middle.given ++ more
 
+-- a token is taken from states, one after the other, where no loop is made
+unmade_taken : (scope : Scope) (enter : Enter) (t : TokenAt) (states : List State) (course : Course) → scope.make ≡ None
+    → taken_from scope enter t states course ≡ each_taken scope enter t states course
+unmade_taken scope enter t states course unmade =
+    ap (λ (m : Option Make). taken_by m scope enter t states course) (making_none scope t.token unmade)
+
 taken_one : (scope : Scope) (enter : Enter) (t : TokenAt) (state : State) (states : List State) (course after : Course) → Told scope → Enters scope enter
     → IsTokenSound scope.style.names scope.style.bodies scope.style.texts t.token → All (WellMade scope.style) states → IsAmong state states
-    → taken_from scope enter t states course ≡ Ok after → TakenOne scope enter t state after
+    → each_taken scope enter t states course ≡ Ok after → TakenOne scope enter t state after
 taken_one scope enter t state [] course after told enters sound made among e = absurd among
 taken_one scope enter t state (first ∷ states) course after told enters sound made (inl is) e =
-    let one = then_ok (taken scope enter t first course) (taken_from scope enter t states) after e in
-    let later = taken_from_moved scope enter t states one.0 after told enters sound (All-tail (WellMade scope.style) first states made) one.2 in
+    let one = then_ok (taken scope enter t first course) (each_taken scope enter t states) after e in
+    let later = each_taken_moved scope enter t states one.0 after told enters sound (All-tail (WellMade scope.style) first states made) one.2 in
     record {
       before = course;
       middle = one.0;
@@ -135,7 +142,7 @@ taken_one scope enter t state (first ∷ states) course after told enters sound 
       given = later.given;
     }
 taken_one scope enter t state (first ∷ states) course after told enters sound made (inr later) e =
-    let one = then_ok (taken scope enter t first course) (taken_from scope enter t states) after e in
+    let one = then_ok (taken scope enter t first course) (each_taken scope enter t states) after e in
     taken_one scope enter t state states one.0 after told enters sound (All-tail (WellMade scope.style) first states made) later one.2
 
 pub tokens_safe : (scope : Scope) (list : EntryList) (n : ℕ) (enter : Enter) → Told scope → Fits scope.style list → Enters scope enter
@@ -159,8 +166,9 @@ tokens_safe scope list n enter told fits enters names (t ∷ tokens) at part fra
     let inner : Start scope list = framed_start scope list s (rest ∷ frames) fewer in
     let fresh : Course = record course { given = [] } in
     let first = then_ok (taken_from scope enter t course.given fresh) (walked scope enter tokens) after e in
-    let moves = taken_from_moved scope enter t course.given fresh first.0 told enters sound.0 made first.1 in
-    let one = taken_one scope enter t s.state course.given fresh first.0 told enters sound.0 made among first.1 in
+    let each = sym (unmade_taken scope enter t course.given fresh s.unmade) ∙ first.1 in
+    let moves = each_taken_moved scope enter t course.given fresh first.0 told enters sound.0 made each in
+    let one = taken_one scope enter t s.state course.given fresh first.0 told enters sound.0 made among each in
     let counted = then_ok (counts 1 t.place one.before) (token_taken scope enter t.token t.place s.state) one.middle one.taken in
     let stepped : IsWellFormed scope.style list (token_step scope.style t.token t.place inner.c) = formed_step s.laws scope list frame frames s.c told.sound fits here s.formed in
     let waits = safe_framed scope list (suc n) s (rest ∷ frames) (emptied at part frames) after.given fewer safe in

@@ -40,7 +40,7 @@ use Rattle.refinements.proofs.Framing.{above_left}
 use Rattle.refinements.proofs.Kept.{above_made}
 use Rattle.refinements.proofs.Signs.{labelled_sign_found}
 use Rattle.cert_check.specs.Courses.{behind, placed}
-use Rattle.cert_check.specs.Walks.{Call, Enter, Onward, Scope, built_in, cases_entered, choice, hints_of_choice, if_else, name_entered}
+use Rattle.cert_check.specs.Walks.{Call, Enter, Make, Onward, Scope, built_in, cases_entered, choice, hints_of_choice, if_else, name_entered, while_by_make}
 use Rattle.cert_check.proofs.Bodies.{returned, unframed}
 use Rattle.cert_check.proofs.Choosing.{case_entered, function_safe, name_safe}
 use Rattle.cert_check.proofs.Entering.{OnwardSafe, after_function}
@@ -75,7 +75,8 @@ pub functions_safe : (scope : Scope) (list : EntryList) (n : ℕ) (enter : Enter
     → OnwardSafe scope list n s.c.frames (built_in scope enter other o place) s (after_function scope list o at s)
 functions_safe scope list n enter other op.IfElse place at s told fits moves levels is formed chosen course after e safe = chosen refl course after e safe
 functions_safe scope list n enter other op.WhileDo place at s told fits moves levels is formed chosen course after e safe =
-    repeated_safe scope list n enter place at s told levels formed course after e safe
+    repeated_safe scope list n enter place at s told levels formed course after
+    (subst (λ (m : Option Make). while_by_make m scope place s.state course ≡ Ok after) s.unmade e) safe
 functions_safe scope list n enter other op.CallType place at s told fits moves levels is formed chosen course after e safe =
     typed_safe scope list n enter place at s told fits moves levels formed course after e safe
 functions_safe scope list n enter other _ place at s told fits moves levels is formed chosen course after e safe = absurd (cc)

@@ -1,8 +1,7 @@
 -- The call of a command that is walked is safe where all units are checked.
-use Rattle.std.proofs.Common.{◌≡◌, ℕ, suc, true, nat_eq, List, [], ◌∷◌, ◌++◌, slice_get, Option, None, Some, Ok, refl, sym, ap, subst, ◌∙◌, append_assoc, arith, inl, inr}
+use Rattle.std.proofs.Common.{◌≡◌, ℕ, suc, List, [], ◌∷◌, ◌++◌, slice_get, Option, None, Some, Ok, refl, sym, ap, subst, ◌∙◌, append_assoc, arith, inl, inr, IfSome}
 use Rattle.std.specs.List.{All}
 use Rattle.std.specs.Option.{option_map_or}
-use Rattle.std.proofs.lemmas.Bool.Decides.{nat_tests}
 use Rattle.std.proofs.lemmas.List.{append-nil}
 use Rattle.std.proofs.lemmas.List.Elements.{All-head, All-tail}
 use Rattle.bv_base.specs.declared.place.Place.{Place}
@@ -26,11 +25,11 @@ use Rattle.sym_state.specs.Symbols.{Valuation}
 use Rattle.sym_state.specs.WellMade.{WellMade}
 use Rattle.sym_state.specs.declared.hint.Hint.{Hint}
 use Rattle.refinements.specs.Covered.{IsAmong}
-use Rattle.cert_check.specs.Certified.{IsCertified}
+use Rattle.cert_check.specs.Certified.{IsCertified, MakesLoops}
 use Rattle.cert_check.specs.Courses.{Course}
 use Rattle.cert_check.specs.Safely.{EntersSafely, IsAllChecked, IsAt, IsLeft, RepeatsSafely, SafeFor, loop_step, target_step}
 use Rattle.cert_check.specs.Units.{beginning, call_walked, everywhere, loop_checked, summary_checked, target_entered, target_from}
-use Rattle.cert_check.specs.Walks.{Scope, body_walked, chosen_in, is_target, loop_used, summary_used}
+use Rattle.cert_check.specs.Walks.{Make, Scope, body_walked, chosen_in, loop_used, summary_used}
 use Rattle.cert_check.specs.declared.limits.TheConstants.{MOST_DEPTH}
 use Rattle.cert_check.proofs.Bodies.{returned}
 use Rattle.cert_check.proofs.Choosing.{name_safe}
@@ -42,6 +41,7 @@ use Rattle.cert_check.proofs.Safety.{Laws, Reaches, SafeAfter, Start, safe_fewer
 use Rattle.cert_check.proofs.Using.{AllChecked, units_safe}
 use Rattle.cert_check.proofs.Walked.{Moves, body_entered, body_moved, chosen_moved, name_moved}
 use Rattle.cert_check.proofs.Walking.{chosen_safe, levels_below}
+use Rattle.cert_check.proofs.Makings.{target_self}
 
 -- what is safe where the use of every unit is
 all_levels : (scope : Scope) (list : EntryList) (n : ℕ) → Told scope → Fits scope.style list → ((m : ℕ) → UnitsSafe scope list m)
@@ -119,9 +119,19 @@ among_made style state (first ∷ all) fine (inr later) = among_made style state
 
 -- a state that stands for a configuration is where a walk may start
 abbrev start_at : (laws : Laws) (scope : Scope) (list : EntryList) (v : Valuation) (state : State) (enter : Config → Config) (c : Config) (below : List Value)
-    → WellMade scope.style state → IsAt scope.style scope.cert.cond list v state enter c below → Start scope list
-start_at laws scope list v state enter c below made is =
-    record { laws = laws; v = v; state = state; c = c; below = below; made = made; goes = is.goes; formed = is.formed; stands = is.stands }
+    → WellMade scope.style state → scope.make ≡ None → IsAt scope.style scope.cert.cond list v state enter c below → Start scope list
+start_at laws scope list v state enter c below made unmade is = record {
+  laws = laws;
+  v = v;
+  state = state;
+  c = c;
+  below = below;
+  made = made;
+  goes = is.goes;
+  formed = is.formed;
+  stands = is.stands;
+  unmade = unmade;
+}
 
 -- a state that is reached from a start is one that its walk leaves
 left_by : (scope : Scope) (list : EntryList) (s : Start scope list) (after : State) (w : Valuation) (d : Config) → Reaches scope list s.c.frames s after w d
@@ -133,7 +143,7 @@ left_by scope list s after w d reached =
 all_told : (style : Style) (cert : Cert) (list : EntryList) → IsSound style → Fits style list → IsCertified style cert → IsAllChecked style cert
     → AllChecked style cert list
 all_told style cert list sound fits certified checked = record {
-  told = λ writes. told_by (record { style = style; cert = cert; writes = writes }) sound certified;
+  told = λ writes. told_by (record { style = style; cert = cert; writes = writes; make = None }) sound certified tt;
   fits = fits;
   summaries = λ k summary there. record {
     left = [];
@@ -151,18 +161,11 @@ pub call_safe : (laws : Laws) (style : Style) (cert : Cert) (list : EntryList) (
     → call_walked style cert states target place hints ≡ Ok after → EntersSafely (everywhere style cert) list n target at states after.given
 call_safe laws style cert list states target place at hints after n sound fits certified checked made e state v c below among is safe =
     let scope : Scope = everywhere style cert in
-    let told : Told scope = told_by scope sound certified in
-    let start = start_at laws scope list v state (target_step style target at) c below (among_made style state states made among) is in
+    let told : Told scope = told_by scope sound certified tt in
+    let start = start_at laws scope list v state (target_step style target at) c below (among_made style state states made among) refl is in
     from_safe scope list n target place at start states (beginning hints) after
     told fits (λ m. units_safe style cert list (all_told style cert list sound fits certified checked) m None) is.enters made among e
     (λ end w d given reached. safe end w d given (left_by scope list start end w d reached))
-
-same_self : (n : ℕ) → nat_eq n n ≡ true
-same_self n = grind (arith, nat_tests)
-
-target_self : (target : Target) → is_target target target ≡ true
-target_self (Named name) = same_self name.0
-target_self (Block body) = same_self body.0
 
 -- a first state alone is the only one
 same_one : (state first : State) → IsAmong state (first ∷ []) → state ≡ first
@@ -179,16 +182,26 @@ waits_behind : (scope : Scope) (list : EntryList) (n : ℕ) (target : Target) (a
 waits_behind scope list n (Named name) at s states told fits safe = safe
 waits_behind scope list n (Block body) at s states told fits safe = returned scope list n at s.c.frames s states told fits safe
 
+-- a scope that makes no loops is one that makes none
+unmade_units : (scope : Scope) (list : EntryList) (n : ℕ) → scope.make ≡ None
+    → UnitsSafe (record { style = scope.style; cert = scope.cert; writes = scope.writes; make = None }) list n → UnitsSafe scope list n
+unmade_units scope list n unmade units =
+    subst (λ (m : Option Make). UnitsSafe (record { style = scope.style; cert = scope.cert; writes = scope.writes; make = m }) list n) (sym unmade) units
+
+unmade_makes : (scope : Scope) → scope.make ≡ None → IfSome scope.make (MakesLoops scope.style)
+unmade_makes scope unmade = subst (λ (m : Option Make). IfSome m (MakesLoops scope.style)) (sym unmade) tt
+
 -- the use of a summary
 pub use_safe : (laws : Laws) (scope : Scope) (list : EntryList) (k : ℕ) (summary : Summary) (first : State) (place at : Place) (course after : Course) (n : ℕ)
     → IsSound scope.style → Fits scope.style list → IsCertified scope.style scope.cert → IsAllChecked scope.style scope.cert
-    → slice_get scope.cert.summaries k ≡ Some summary → WellMade scope.style first → summary_used scope place summary first course ≡ Ok after
+    → slice_get scope.cert.summaries k ≡ Some summary → WellMade scope.style first → scope.make ≡ None → summary_used scope place summary first course ≡ Ok after
     → EntersSafely scope list n summary.body at (first ∷ []) after.given
-use_safe laws scope list k summary first place at course after n sound fits certified checked there made e state v c below among is safe =
-    let told : Told scope = told_by scope sound certified in
+use_safe laws scope list k summary first place at course after n sound fits certified checked there made unmade e state v c below among is safe =
+    let told : Told scope = told_by scope sound certified (unmade_makes scope unmade) in
     let only = same_one state first among in
-    let start = start_at laws scope list v state (target_step scope.style summary.body at) c below (subst (WellMade scope.style) (sym only) made) is in
-    let units = units_safe scope.style scope.cert list (all_told scope.style scope.cert list sound fits certified checked) n scope.writes in
+    let start = start_at laws scope list v state (target_step scope.style summary.body at) c below (subst (WellMade scope.style) (sym only) made) unmade is in
+    let units = unmade_units scope list n unmade
+    (units_safe scope.style scope.cert list (all_told scope.style scope.cert list sound fits certified checked) n scope.writes) in
     let entry = entry_is scope.style summary.body at c in
     subst (SafeFor scope.style n) entry
     (units.uses summary.body k summary place at Whole start there (target_self summary.body) (subst (IsWellFormed scope.style list) (sym entry) is.enters) course after
@@ -199,11 +212,12 @@ use_safe laws scope list k summary first place at course after n sound fits cert
 -- the use of a loop
 pub loop_use_safe : (laws : Laws) (scope : Scope) (list : EntryList) (k : ℕ) (one : Loop) (first : State) (place at : Place) (course after : Course) (n : ℕ)
     → IsSound scope.style → Fits scope.style list → IsCertified scope.style scope.cert → IsAllChecked scope.style scope.cert
-    → slice_get scope.cert.loops k ≡ Some one → WellMade scope.style first → loop_used scope place one first course ≡ Ok after
+    → slice_get scope.cert.loops k ≡ Some one → WellMade scope.style first → scope.make ≡ None → loop_used scope place one first course ≡ Ok after
     → RepeatsSafely scope list n one at (first ∷ []) after.given
-loop_use_safe laws scope list k one first place at course after n sound fits certified checked there made e state v c below among is safe =
+loop_use_safe laws scope list k one first place at course after n sound fits certified checked there made unmade e state v c below among is safe =
     let only = same_one state first among in
-    let start = start_at laws scope list v state (loop_step scope.style one at) c below (subst (WellMade scope.style) (sym only) made) is in
-    let units = units_safe scope.style scope.cert list (all_told scope.style scope.cert list sound fits certified checked) n scope.writes in
+    let start = start_at laws scope list v state (loop_step scope.style one at) c below (subst (WellMade scope.style) (sym only) made) unmade is in
+    let units = unmade_units scope list n unmade
+    (units_safe scope.style scope.cert list (all_told scope.style scope.cert list sound fits certified checked) n scope.writes) in
     units.loops k one place at start there is.enters course after (subst (λ (x : State). loop_used scope place one x course ≡ Ok after) (sym only) e)
     (λ end w d given reached. safe end w d given (left_by scope list start end w d reached))

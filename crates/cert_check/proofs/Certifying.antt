@@ -1,5 +1,5 @@
 -- A certificate that was read for a style is one of it.
-use Rattle.std.proofs.Common.{◌≡◌, ℕ, suc, ◌+◌, ◌^◌, ◌≤◌, ◌<◌, Bool, true, false, max, List, [], ◌∷◌, length, Option, None, Some, IfSome, refl, sym, ap, subst, arith}
+use Rattle.std.proofs.Common.{◌≡◌, ℕ, ◌^◌, ◌≤◌, ◌<◌, Bool, true, false, List, [], ◌∷◌, length, Option, None, Some, IfSome, subst, arith}
 use Rattle.std.specs.List.{All}
 use Rattle.std.specs.Option.{option_map_or}
 use Rattle.std.proofs.lemmas.List.Elements.{All-cons, All-nil}
@@ -9,8 +9,7 @@ use Rattle.name_table.specs.Sound.{Each, IsSound}
 use Rattle.name_table.specs.declared.names.NameId.{NameId}
 use Rattle.name_table.specs.declared.style.Style.{Style}
 use Rattle.bst_meaning.specs.declared.condition.Cond.{Cond}
-use Rattle.bst_meaning.specs.declared.condition.NamesLine.{NamesLine}
-use Rattle.cert_format.specs.CertText.{AreWrites, CertText, IsCert, IsCommandPart, IsHint, IsLoop, IsPiece, IsSummary, IsVariable, next_behind, places_of}
+use Rattle.cert_format.specs.CertText.{AreWrites, CertText, IsCommandPart, IsHint, IsLoop, IsPiece, IsSummary, IsVariable, next_behind, places_of}
 use Rattle.cert_format.specs.CondText.{IsCond, IsNamesLine}
 use Rattle.cert_format.specs.declared.cert.Cert.{Cert}
 use Rattle.cert_format.specs.declared.cert.CommandPart.{CommandPart}
@@ -27,7 +26,7 @@ use Rattle.cert_check.specs.Left.{IsPlaced, IsPost}
 use Rattle.cert_check.specs.Uses.{passage}
 use Rattle.cert_check.proofs.ReadPieces.{IsRead, each_all, each_each, few_symbols, ordered, piece_read, placed_read, posted, read_movable, read_no_pos, shortly, variable_is}
 use Rattle.cert_check.proofs.ReadPlaces.{few_rise}
-use Rattle.cert_check.proofs.ReadTexts.{HasShortCases, HasShortParts, HasShortPieces, HasShortTexts, HasShortUnits, cert_short}
+use Rattle.cert_check.proofs.ReadTexts.{HasShortCases, HasShortParts, HasShortPieces, HasShortTexts, cert_short}
 
 -- hints
 hint_few : (h : Hint) → IsHint h → HasFewUses h
@@ -40,7 +39,7 @@ hint_few hint.Walk is = tt
 hint_few hint.Keep is = tt
 hint_few hint.Plain is = tt
 
-hints_few : (hints : List Hint) → Each IsHint hints → All HasFewUses hints
+pub hints_few : (hints : List Hint) → Each IsHint hints → All HasFewUses hints
 hints_few hints is = each_all IsHint HasFewUses hint_few hints is
 
 -- what a unit writes
@@ -123,7 +122,7 @@ maybe_movable : (style : Style) (piece : Option Piece) → IfSome piece (IsPiece
 maybe_movable style None is = tt
 maybe_movable style (Some piece) is = read_movable style true true 0 piece is
 
-command_read : (style : Style) (command : CommandPart) → IsSound style → IsCommandPart style command → HasShortParts command → IsCommandOf style command
+pub command_read : (style : Style) (command : CommandPart) → IsSound style → IsCommandPart style command → HasShortParts command → IsCommandOf style command
 command_read style command sound is short = record {
   there = is.there;
   after = maybe_read style false command.after sound is.after short.after;

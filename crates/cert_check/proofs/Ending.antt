@@ -64,7 +64,7 @@ given_there f (y ∷ xs) (suc k) x e = inr (given_there f xs k x e)
 
 -- where the own check ends in a post, what comes after the state that is left by it is safe
 pub left_safe : (scope : Scope) (list : EntryList) (n : ℕ) (place : Place) (frames : List Frame) (u : Used scope list) (course after : Course)
-    → list_all (may_write scope) u.unit.writes ≡ true
+    → list_all (may_write scope.writes) u.unit.writes ≡ true
     → gives_all place (map (left_state scope.style scope.cert.cond u.unit u.pre u.kept u.s.state) u.posts) course ≡ Ok after
     → SafeAfter scope list n frames u.s after.given → (k : ℕ) (e : EndOf scope list u) → slice_get u.posts k ≡ Some e.post → e.d.frames ≡ frames
     → SafeFor scope.style n e.d

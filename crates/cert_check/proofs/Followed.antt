@@ -1,10 +1,11 @@
 -- A state that follows another: it is well made, and it keeps what a unit may not change. What a rule gives of a state.
-use Rattle.std.proofs.Common.{◌≡◌, ℕ, ◌+◌, ◌*◌, ◌≤◌, List, [], ◌∷◌, ◌++◌, Option, None, Some, Ok, refl, sym, ap, subst, ◌∙◌, arith, append_assoc, inl, inr}
+use Rattle.std.proofs.Common.{◌≡◌, ℕ, ◌+◌, ◌*◌, ◌≤◌, List, [], ◌∷◌, ◌++◌, Option, None, Some, IfSome, Ok, refl, sym, ap, subst, ◌∙◌, arith, append_assoc, inl, inr}
 use Rattle.std.specs.List.{All}
 use Rattle.std.proofs.lemmas.List.{append-nil}
 use Rattle.std.proofs.lemmas.List.Elements.{All-append, All-cons, All-head, All-nil, All-tail, All-weaker}
 use Rattle.bv_base.specs.declared.place.Place.{Place}
 use Rattle.lin_facts.specs.declared.row.Row.{Row}
+use Rattle.cert_format.specs.declared.cert.Loop.{Loop}
 use Rattle.sym_state.specs.State.{State}
 use Rattle.sym_state.specs.Changes.{symbol_at}
 use Rattle.sym_state.specs.Demands.{HasFewUses}
@@ -14,6 +15,7 @@ use Rattle.sym_state.specs.declared.hint.Hint.{Hint}
 use Rattle.sym_state.specs.declared.symbol.Fact.{Fact}
 use Rattle.refinements.specs.Covered.{IsAmong}
 use Rattle.straight_hints.specs.declared.finding.Finding.{Finding}
+use Rattle.cert_check.specs.Certified.{IsStanding, MakesStanding}
 use Rattle.cert_check.specs.Courses.{Course, behind, counts, gives, gives_all, handed, left_behind}
 use Rattle.cert_check.specs.Walks.{Scope}
 pub use Rattle.cert_check.specs.Safely.{Follows, Grows}
@@ -77,8 +79,13 @@ among_all P x [] among all = absurd among
 among_all P x (first ∷ xs) (inl is) all = subst P (sym is) (All-head P first xs all)
 among_all P x (first ∷ xs) (inr later) all = among_all P x xs later (All-tail P first xs all)
 
+-- loops that were made may stand in a certificate, where those may that are made
+abbrev pub KeepsLoops : Scope → Course → Course → Type 0
+KeepsLoops scope before after =
+    IfSome scope.make (MakesStanding scope.style) → All (IsStanding scope.style) before.loops → All (IsStanding scope.style) after.loops
+
 -- what a rule gives of a state: further states, each of which follows it; what is counted doesn't fall, each new symbol is one of
--- those for which there is room beside what counts, and proofs stay short
+-- those for which there is room beside what counts, proofs stay short, and loops may be written
 pub record Moved (scope : Scope) (room : ℕ) (start : State) (before after : Course) : Type 0 where
   pub more : List State
   pub given : after.given ≡ before.given ++ more
@@ -86,6 +93,8 @@ pub record Moved (scope : Scope) (room : ℕ) (start : State) (before after : Co
   pub few : All (HasFewNew room before.count after.count start) more
   pub count : before.count ≤ after.count
   pub short : All HasFewUses before.hints → All HasFewUses after.hints
+  pub loops : KeepsLoops scope before after
+  pub stay : after.stay ≡ before.stay
 
 -- each of these states has more room where more was counted
 counted_on : (room low middle high : ℕ) (start : State) (states : List State) → low ≤ middle → All (HasFewNew room middle high start) states
@@ -106,6 +115,8 @@ moved_self scope room start course = record {
   few = All-nil (HasFewNew room course.count course.count start);
   count = omega arith;
   short = λ short. short;
+  loops = λ makes all. all;
+  stay = refl;
 }
 
 pub moved_twice : (scope : Scope) (room : ℕ) (start : State) (first second third : Course) → Moved scope room start first second
@@ -119,6 +130,8 @@ moved_twice scope room start first second third one other = record {
       (counted_on room first.count second.count third.count start other.more one.count other.few);
   count = let low = one.count in let high = other.count in omega (arith, low, high);
   short = λ short. other.short (one.short short);
+  loops = λ makes all. other.loops makes (one.loops makes all);
+  stay = other.stay ∙ one.stay;
 }
 
 -- the states follow an earlier one, that has no fewer symbols but for so many
@@ -132,6 +145,8 @@ moved_from scope room more start middle before after follows few moved = record 
       (λ state h. omega (arith, h, few)) moved.more moved.few;
   count = moved.count;
   short = moved.short;
+  loops = moved.loops;
+  stay = moved.stay;
 }
 
 -- there may be more room
@@ -145,6 +160,8 @@ moved_within scope room more start before after less moved = record {
       (λ state h. omega (arith, h, less)) moved.more moved.few;
   count = moved.count;
   short = moved.short;
+  loops = moved.loops;
+  stay = moved.stay;
 }
 
 -- hints that are taken don't matter
@@ -152,6 +169,37 @@ pub rehinted : (scope : Scope) (room : ℕ) (start : State) (before after : Cour
     → Moved scope room start (record before { hints = hints }) after → Moved scope room start before after
 rehinted scope room start before after hints short moved = record {
   short = λ all. moved.short (short all);
+  loops = moved.loops;
+  stay = moved.stay;
+  count = moved.count;
+  more = moved.more;
+  given = moved.given;
+  follow = moved.follow;
+  few = moved.few;
+}
+
+-- so do those that were found
+pub refound : (scope : Scope) (room : ℕ) (start : State) (before after : Course) (found : List Hint)
+    → Moved scope room start (record before { found = found }) after → Moved scope room start before after
+refound scope room start before after found moved = record {
+  short = moved.short;
+  loops = moved.loops;
+  stay = moved.stay;
+  count = moved.count;
+  more = moved.more;
+  given = moved.given;
+  follow = moved.follow;
+  few = moved.few;
+}
+
+-- and loops that were made
+pub remade : (scope : Scope) (room : ℕ) (start : State) (before after : Course) (loops : List Loop)
+    → (IfSome scope.make (MakesStanding scope.style) → All (IsStanding scope.style) after.loops → All (IsStanding scope.style) loops)
+    → Moved scope room start before after → Moved scope room start before (record after { loops = loops })
+remade scope room start before after loops keeps moved = record {
+  short = moved.short;
+  loops = λ makes all. keeps makes (moved.loops makes all);
+  stay = moved.stay;
   count = moved.count;
   more = moved.more;
   given = moved.given;
@@ -171,6 +219,8 @@ pub behind_moved : (scope : Scope) (room : ℕ) (start : State) (before after : 
     → Moved scope room start (behind (handed before.finding before.hints find) hints before) after → Moved scope room start before after
 behind_moved scope room start before after find hints short moved = record {
   short = λ all. moved.short (left_short before.finding before.hints hints find short all);
+  loops = moved.loops;
+  stay = moved.stay;
   count = moved.count;
   more = moved.more;
   given = moved.given;
@@ -192,6 +242,8 @@ counted_moved scope n room start place course middle after e moved =
           (λ state h. omega (arith, h, count)) moved.more moved.few;
       count = let high = moved.count in omega (arith, high, count);
       short = λ short. moved.short (subst (λ (c : Course). All HasFewUses c.hints) (sym is) short);
+      loops = λ makes all. moved.loops makes (subst (λ (c : Course). All (IsStanding scope.style) c.loops) (sym is) all);
+      stay = moved.stay ∙ ap (λ (c : Course). c.stay) is;
     }
 
 pub all_given : (scope : Scope) (room : ℕ) (start : State) (place : Place) (states : List State) (course after : Course) → All (Follows scope start) states
@@ -205,6 +257,8 @@ all_given scope room start place states course after follow few e =
       few = All-weaker (λ (state : State). state.next ≤ start.next + room) (HasFewNew room course.count course.count start) (λ state h. omega (arith, h)) states few;
       count = omega arith;
       short = λ short. short;
+      loops = λ makes all. all;
+      stay = refl;
     })
 
 pub one_given : (scope : Scope) (room : ℕ) (start state : State) (place : Place) (course after : Course) → Follows scope start state
@@ -218,4 +272,6 @@ one_given scope room start state place course after follow few e =
       few = All-cons (HasFewNew room course.count course.count start) state [] (omega (arith, few)) (All-nil (HasFewNew room course.count course.count start));
       count = omega arith;
       short = λ short. short;
+      loops = λ makes all. all;
+      stay = refl;
     })

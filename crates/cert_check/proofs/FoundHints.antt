@@ -20,11 +20,11 @@ pub record Way : Type 0 where
 
 -- the course there of a walk that found these hints
 abbrev pub seeking : Finding → Way → List Hint → Course
-seeking finding way found = record { given = way.given; hints = []; count = way.count; finding = Some finding; found = found }
+seeking finding way found = record { given = way.given; hints = []; count = way.count; finding = Some finding; found = found; stay = 0; loops = [] }
 
 -- the course there of one that has these hints left
 abbrev pub reading : Way → List Hint → Course
-reading way hints = record { given = way.given; hints = hints; count = way.count; finding = None; found = [] }
+reading way hints = record { given = way.given; hints = hints; count = way.count; finding = None; found = []; stay = 0; loops = [] }
 
 -- a rule that finds its hints came to a course: it found some, and with these before others the rule that reads comes as far, and
 -- leaves the others

@@ -49,7 +49,7 @@ use Rattle.refinements.proofs.Kept.{split_made}
 use Rattle.straight_hints.specs.Found.{plain_hints, test_hints}
 use Rattle.cert_check.specs.declared.refusal.Refusal.{Refusal}
 use Rattle.cert_check.specs.Courses.{Course, behind, counts, gives, gives_all, placed}
-use Rattle.cert_check.specs.Certified.{IsCertified, IsLoopOf, IsPieceOf, IsPostOf, IsSummaryOf}
+use Rattle.cert_check.specs.Certified.{IsCertified, IsLoopOf, IsPieceOf, IsPostOf, IsSummaryOf, MakesLoops}
 use Rattle.cert_check.specs.Uses.{Passage, around, comes_by, left_state, passage}
 use Rattle.cert_check.specs.Walks.{Come, Scope, comes_by_case, comes_to, confined, entering_nothing, hints_at, hints_of_test, is_within, leaves, literal, literal_state, loop_used, may_write, plain, split, summary_used, test_of, variable, written_by}
 use Rattle.cert_check.proofs.Followed.{Follows, Moved, all_given, behind_moved, counted_moved, grows_of, left_follows, one_given, rehinted}
@@ -66,26 +66,33 @@ pub record Told (scope : Scope) : Type 0 where
   pub fields : HasSmallFields scope.cert.cond
   pub summaries : All (IsSummaryOf scope.style) scope.cert.summaries
   pub loops : All (IsLoopOf scope.style) scope.cert.loops
+  pub makes : IfSome scope.make (MakesLoops scope.style)
 
-pub told_by : (scope : Scope) → IsSound scope.style → IsCertified scope.style scope.cert → Told scope
-told_by scope sound certified =
-    record { sound = sound; limits = certified.limits; fields = certified.fields; summaries = certified.summaries; loops = certified.loops }
+pub told_by : (scope : Scope) → IsSound scope.style → IsCertified scope.style scope.cert → IfSome scope.make (MakesLoops scope.style) → Told scope
+told_by scope sound certified makes = record {
+  sound = sound;
+  limits = certified.limits;
+  fields = certified.fields;
+  summaries = certified.summaries;
+  loops = certified.loops;
+  makes = makes;
+}
 
 -- the variable that `:=` binds is one that may be written
 written_is : (scope : Scope) (o : Builtin) (old new : State) → o ≡ op.Assign → (a : Assigns scope.style old new)
-    → is_within scope (written_by o old) ≡ true → may_write scope a.name ≡ true
+    → is_within scope.writes (written_by o old) ≡ true → may_write scope.writes a.name ≡ true
 written_is scope o old new is a within =
     let first : written_by op.Assign old ≡ Some a.name =
     ap (λ (stack : List Sym). option_and_then (λ s. option_and_then name_of (exact_function old.facts s.0)) (slice_get stack 0)) a.on_top
     ∙ ap (option_and_then name_of) a.named in
-    sym (ap (λ (b : Builtin). is_within scope (written_by b old)) is ∙ ap (is_within scope) first) ∙ within
+    sym (ap (λ (b : Builtin). is_within scope.writes (written_by b old)) is ∙ ap (is_within scope.writes) first) ∙ within
 
 no_such : {X : Type 0} (t : Bool) → t ≡ false → t ≡ true → X
 no_such true e f = absurd (cc)
 no_such false e f = absurd (cc)
 
 pub effect_follows : (scope : Scope) (state : State) (o : Builtin) (hints : List Hint) (after : After) → Told scope → WellMade scope.style state
-    → is_within scope (written_by o state) ≡ true → effect_of scope.style scope.cert.cond state o hints ≡ Ok after → Follows scope state after.state
+    → is_within scope.writes (written_by o state) ≡ true → effect_of scope.style scope.cert.cond state o hints ≡ Ok after → Follows scope state after.state
 effect_follows scope state o hints after told made within e =
     let kept = effects_keep scope.style scope.cert.cond state o hints after told.limits made e in
     elim (effect_framed scope.style scope.cert.cond state o hints after made e) [
@@ -93,8 +100,8 @@ effect_follows scope state o hints after told made within e =
       | inr assigned ↦ record {
         made = kept;
         grows = grows_of state after.state assigned.1.extends;
-        vars = λ name not. assigned.1.others name (λ same. no_such (may_write scope name) not
-            (ap (λ (n : ℕ). may_write scope (record { 0 = n })) same ∙ written_is scope o state after.state assigned.0 assigned.1 within));
+        vars = λ name not. assigned.1.others name (λ same. no_such (may_write scope.writes name) not
+            (ap (λ (n : ℕ). may_write scope.writes (record { 0 = n })) same ∙ written_is scope o state after.state assigned.0 assigned.1 within));
       }
     ]
 
@@ -111,9 +118,9 @@ pub plain_moved : (scope : Scope) (o : Builtin) (place : Place) (state : State) 
     → plain scope o place state course ≡ Ok after → Moved scope 1 state course after
 plain_moved scope o place state course after told made e =
     let hints = hints_at scope o state course in
-    let effect = confined (is_within scope (written_by o state)) (effect_of scope.style scope.cert.cond state o hints) in
+    let effect = confined (is_within scope.writes (written_by o state)) (effect_of scope.style scope.cert.cond state o hints) in
     let mid = then_ok (placed place effect) (λ given. gives place given.state (behind hints given.hints course)) after e in
-    let inside = confined_ok (is_within scope (written_by o state)) (effect_of scope.style scope.cert.cond state o hints) mid.0
+    let inside = confined_ok (is_within scope.writes (written_by o state)) (effect_of scope.style scope.cert.cond state o hints) mid.0
     (placed_ok place effect mid.0 mid.1) in
     behind_moved scope 1 state course after (λ finding. plain_hints finding scope.style scope.cert.cond state o) mid.0.hints
     (effect_keeps HasFewUses scope.style scope.cert.cond state o hints mid.0 inside.1)
@@ -263,12 +270,12 @@ posts_few scope unit kept pre posts state hints left is made came =
     omega (arith, few, short)) posts is.each
 
 -- what is left by a unit that a state came to
-leaves_moved : (scope : Scope) (place : Place) (unit : Passage) (kept : ℕ) (pre : Piece) (posts : List Piece) (state : State) (hints left : List Hint)
+pub leaves_moved : (scope : Scope) (place : Place) (unit : Passage) (kept : ℕ) (pre : Piece) (posts : List Piece) (state : State) (hints left : List Hint)
     (course after : Course) → Told scope → IsPassed scope.style unit kept pre posts → WellMade scope.style state
     → comes_by unit scope.cert.cond pre state hints ≡ Ok left → leaves scope place unit pre posts kept state course ≡ Ok after
     → Moved scope 64 state course after
 leaves_moved scope place unit kept pre posts state hints left course after told is made came e =
-    let may = where_ok (list_all (may_write scope) unit.writes) _ _ after e in
+    let may = where_ok (list_all (may_write scope.writes) unit.writes) _ _ after e in
     let counted = then_ok (counts (length unit.writes) place course) _ after may.1 in
     let post : Piece → State = left_state scope.style scope.cert.cond unit pre kept state in
     counted_moved scope (length unit.writes) 64 state place course counted.0 after counted.1

@@ -78,7 +78,7 @@ written_unbound style state unit_entry (name ∷ names) made all = (
 -- the state that a unit leaves by one of its posts follows the state that came to it
 pub post_follows : (scope : Scope) (unit : Passage) (kept : ℕ) (pre : Piece) (posts : List Piece) (state : State) (post : Piece) (hints left : List Hint)
     → HasSmallFields scope.cert.cond → IsPassed scope.style unit kept pre posts → IsPostOf scope.style unit kept post → WellMade scope.style state
-    → comes_by unit scope.cert.cond pre state hints ≡ Ok left → list_all (may_write scope) unit.writes ≡ true
+    → comes_by unit scope.cert.cond pre state hints ≡ Ok left → list_all (may_write scope.writes) unit.writes ≡ true
     → Follows scope state (left_state scope.style scope.cert.cond unit pre kept state post)
 post_follows scope unit kept pre posts state post hints left small is one made came may =
     left_framed scope unit pre kept state post may (written_unbound scope.style state unit.entry unit.writes made one.placed.writes)
@@ -87,7 +87,7 @@ post_follows scope unit kept pre posts state post hints left small is one made c
 -- so do all of them
 pub posts_follow : (scope : Scope) (unit : Passage) (kept : ℕ) (pre : Piece) (posts : List Piece) (state : State) (hints left : List Hint)
     → HasSmallFields scope.cert.cond → IsPassed scope.style unit kept pre posts → WellMade scope.style state
-    → comes_by unit scope.cert.cond pre state hints ≡ Ok left → list_all (may_write scope) unit.writes ≡ true
+    → comes_by unit scope.cert.cond pre state hints ≡ Ok left → list_all (may_write scope.writes) unit.writes ≡ true
     → All (λ post. Follows scope state (left_state scope.style scope.cert.cond unit pre kept state post)) posts
 posts_follow scope unit kept pre posts state hints left small is made came may =
     All-weaker (IsPostOf scope.style unit kept) (λ post. Follows scope state (left_state scope.style scope.cert.cond unit pre kept state post))

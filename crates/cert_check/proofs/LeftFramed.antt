@@ -34,22 +34,22 @@ same_number : (a b : ℕ) → nat_eq a b ≡ true → a ≡ b
 same_number a b e = grind (arith, nat_tests)
 
 -- a name that may not be written is none of those that may
-differs : (scope : Scope) (name other : NameId) → may_write scope name ≡ false → may_write scope other ≡ true → nat_eq other.0 name.0 ≡ false
+differs : (scope : Scope) (name other : NameId) → may_write scope.writes name ≡ false → may_write scope.writes other ≡ true → nat_eq other.0 name.0 ≡ false
 differs scope name other not may = by_test (nat_eq other.0 name.0) refl
   where
     by_test : (t : Bool) → nat_eq other.0 name.0 ≡ t → t ≡ false
     by_test false is = refl
     by_test true is =
-        sym may ∙ ap (λ (n : ℕ). may_write scope (record { 0 = n })) (same_number other.0 name.0 is) ∙ not
+        sym may ∙ ap (λ (n : ℕ). may_write scope.writes (record { 0 = n })) (same_number other.0 name.0 is) ∙ not
 
-all_differ : (scope : Scope) (name : NameId) (names : List NameId) → may_write scope name ≡ false → list_all (may_write scope) names ≡ true
+all_differ : (scope : Scope) (name : NameId) (names : List NameId) → may_write scope.writes name ≡ false → list_all (may_write scope.writes) names ≡ true
     → AllByRecursion (λ other. nat_eq other.0 name.0 ≡ false) names
 all_differ scope name [] not may = tt
 all_differ scope name (other ∷ names) not may =
-    let parts = and_parts (may_write scope other) (list_all (may_write scope) names) may in
+    let parts = and_parts (may_write scope.writes other) (list_all (may_write scope.writes) names) may in
     (differs scope name other not parts.0, all_differ scope name names not parts.1)
 
-pub left_framed : (scope : Scope) (unit : Passage) (pre : Piece) (kept : ℕ) (state : State) (post : Piece) → list_all (may_write scope) unit.writes ≡ true
+pub left_framed : (scope : Scope) (unit : Passage) (pre : Piece) (kept : ℕ) (state : State) (post : Piece) → list_all (may_write scope.writes) unit.writes ≡ true
     → AllByRecursion (λ name. symbol_at name state.fields ≡ None) unit.writes
     → WellMade scope.style (left_state scope.style scope.cert.cond unit pre kept state post)
     → Follows scope state (left_state scope.style scope.cert.cond unit pre kept state post)

@@ -19,6 +19,8 @@ pub mod LeftFollowing
 pub mod LeftFramed
 pub mod Levels
 pub mod Looping
+pub mod Nameable
+pub mod Makings
 pub mod OwnEnd
 pub mod OwnFacts
 pub mod OwnFrame
@@ -55,3 +57,6 @@ pub mod TurnSteps
 pub mod FoundHints
 pub mod FoundWalks
 pub mod TourSteps
+pub mod TourEnds
+pub mod Standing
+pub mod WhileSteps

@@ -1,5 +1,5 @@
 -- What the steps of the use of a loop come to, and those of `call.type$`.
-use Rattle.std.proofs.Common.{◌≡◌, ℕ, List, ◌∷◌, IfOk, Result, Ok, Err, sym, ap, subst, ◌∙◌, arith}
+use Rattle.std.proofs.Common.{◌≡◌, ℕ, List, ◌∷◌, IfOk, Result, Ok, Err, sym, ap, subst, ◌∙◌, arith, IfSome}
 use Rattle.bv_base.specs.Answers.{then_do}
 use Rattle.bv_base.specs.declared.place.Place.{Place}
 use Rattle.name_table.specs.Sound.{IsSound}
@@ -7,7 +7,7 @@ use Rattle.name_table.specs.declared.names.NameId.{NameId}
 use Rattle.sym_state.specs.State.{State}
 use Rattle.sym_state.specs.declared.demand.EffectFault.{EffectFault}
 use Rattle.cert_check.specs.declared.refusal.Refusal.{Refusal}
-use Rattle.cert_check.specs.Certified.{IsCertified}
+use Rattle.cert_check.specs.Certified.{IsCertified, MakesLoops}
 use Rattle.cert_check.specs.Courses.{Course, Walk, placed}
 use Rattle.cert_check.specs.Given.{Refused}
 use Rattle.cert_check.specs.Room.{HasRoom}
@@ -38,10 +38,10 @@ next_called scope enter place names rest name state one course mid whole is same
     ∙ sym (ap (λ (l : List NameId). types_called scope enter place l state course) is) ∙ left
 
 pub called_room : (scope : Scope) (depth : ℕ) (place : Place) (name : NameId) (state one : State) (course mid : Course) → IsSound scope.style
-    → IsCertified scope.style scope.cert → one ≡ state → HasRoom scope.style 0 course.count state
+    → IsCertified scope.style scope.cert → IfSome scope.make (MakesLoops scope.style) → one ≡ state → HasRoom scope.style 0 course.count state
     → type_called scope (body_walked scope depth) place name one course ≡ Ok mid → HasRoom scope.style 0 mid.count state
-called_room scope depth place name state one course mid sound cert same room e =
-    let kept = type_room scope depth place name one course mid sound cert (subst (HasRoom scope.style 0 course.count) (sym same) room) e in
+called_room scope depth place name state one course mid sound cert makes same room e =
+    let kept = type_room scope depth place name one course mid sound cert makes (subst (HasRoom scope.style 0 course.count) (sym same) room) e in
     room_on scope.style 0 0 course.count mid.count state (omega arith) kept.count room
 
 pub called_refused : (scope : Scope) (enter : Enter) (place : Place) (names rest : List NameId) (name : NameId) (state one : State) (course : Course) (whole : Walk)

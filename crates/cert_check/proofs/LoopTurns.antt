@@ -1,6 +1,6 @@
 -- The use of a loop whose own check is Ok is safe: each turn starts where a case holds, and ends where a case or an exit does.
 use Rattle.std.proofs.Common.{◌≡◌, ℕ, zero, suc, ◌<◌, Bool, true, false, cond, List, [], ◌∷◌, ◌++◌, length, reverse, map, slice_get, Some, Ok, refl, sym, ap, subst, ◌∙◌, arith, inl, inr}
-use Rattle.std.specs.List.{All, AllByRecursion, list_all}
+use Rattle.std.specs.List.{AllByRecursion, list_all}
 use Rattle.std.proofs.lemmas.List.{reverse-reverse}
 use Rattle.std.proofs.lemmas.List.Elements.{All-head, All-tail}
 use Rattle.bv_base.specs.Answers.{then_do}
@@ -356,7 +356,7 @@ loop_safe scope list n told own_told fits checked units blocks k one place at s 
     let by = comes_to_ok scope one s.state course.hints mid.0 (placed_ok place shown mid.0 mid.1) in
     let case = mid.0.case in
     let left : Course = record course { hints = mid.0.hints } in
-    let may = where_ok (list_all (may_write scope) one.writes) _ _ after mid.2 in
+    let may = where_ok (list_all (may_write scope.writes) one.writes) _ _ after mid.2 in
     let counted = then_ok (counts (length one.writes) place left) (gives_all place (map (left_state scope.style scope.cert.cond (around one) case 0 s.state) one.exits))
     after may.1 in
     let a : LoopUse scope list = record {

@@ -28,7 +28,7 @@ use Rattle.cert_check.proofs.Keeping.{Told}
 use Rattle.cert_check.proofs.Levels.{Levels}
 use Rattle.cert_check.proofs.Repeating.{repeated_ok, without_two}
 use Rattle.cert_check.proofs.Safety.{Reaches, SafeFor, Start, onward, remains_framed, safe_on, spot_at}
-use Rattle.cert_check.proofs.Walked.{popped_follows}
+use Rattle.cert_check.proofs.Makings.{popped_follows}
 
 pub repeated_safe : (scope : Scope) (list : EntryList) (n : ℕ) (enter : Enter) (place at : Place) (s : Start scope list) → Told scope → Levels scope list n enter
     → IsWellFormed scope.style list (after_function scope list op.WhileDo at s)

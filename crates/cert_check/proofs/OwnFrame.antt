@@ -29,7 +29,7 @@ same_visited frames c d stays =
 -- the value of a symbol that stays
 module _ (scope : Scope) (list : EntryList) (frames : List Frame) (s : Start scope list) (end : State) (w : Valuation) (d : Config) where
   -- a variable that the unit doesn't write
-  variable_kept : Reaches scope list frames s end w d → (name : NameId) (k : Kind) → may_write scope name ≡ false → kind_of scope.style name ≡ Some k
+  variable_kept : Reaches scope list frames s end w d → (name : NameId) (k : Kind) → may_write scope.writes name ≡ false → kind_of scope.style name ≡ Some k
       → is_variable s.state.at_entry k ≡ true
       → value_by (kind_of scope.style name) name d.globals (visited_entry d) ≡ value_by (kind_of scope.style name) name s.c.globals (visited_entry s.c)
   variable_kept reached name k not is variable =
@@ -51,7 +51,7 @@ module _ (scope : Scope) (list : EntryList) (frames : List Frame) (s : Start sco
       after ∙ ap Some same ∙ sym before
 
   -- any name that the unit doesn't write
-  pub name_kept : Reaches scope list frames s end w d → (name : NameId) → may_write scope name ≡ false
+  pub name_kept : Reaches scope list frames s end w d → (name : NameId) → may_write scope.writes name ≡ false
       → value_by (kind_of scope.style name) name d.globals (visited_entry d) ≡ value_by (kind_of scope.style name) name s.c.globals (visited_entry s.c)
   name_kept reached name not = by_kind (kind_of scope.style name) refl
     where

@@ -286,7 +286,7 @@ module _ (scope : Scope) (list : EntryList) (u : Used scope list) (e : EndOf sco
           no_both false a b = cc
 
 -- the state that a unit leaves by the post in which its own check ends is reached
-pub left_reached : (scope : Scope) (list : EntryList) (u : Used scope list) (e : EndOf scope list u) → list_all (may_write scope) u.unit.writes ≡ true
+pub left_reached : (scope : Scope) (list : EntryList) (u : Used scope list) (e : EndOf scope list u) → list_all (may_write scope.writes) u.unit.writes ≡ true
     → Reaches scope list e.d.frames u.s (left_state scope.style scope.cert.cond u.unit u.pre u.kept u.s.state e.post) (left_values scope list u e) e.d
 unfolding left_state
 left_reached scope list u e may =

@@ -1,5 +1,5 @@
 -- While a unit is used the state from which its own check starts stands where a piece of it holds, at first its pre.
-use Rattle.std.proofs.Common.{◌≡◌, ℕ, ◌-◌, ◌≤◌, ◌<◌, Bool, true, false, cond, not, nat_eq, List, [], ◌∷◌, ◌++◌, length, map, take, Option, Some, Ok, Err, refl, sym, ap, subst, ◌∙◌, arith}
+use Rattle.std.proofs.Common.{◌≡◌, ℕ, ◌-◌, ◌≤◌, ◌<◌, Bool, true, false, cond, not, nat_eq, List, [], ◌∷◌, ◌++◌, length, map, take, Option, Some, Ok, Err, refl, sym, ap, subst, ◌∙◌, arith, None}
 use Rattle.std.specs.Prelude.{◌&&◌, ◌||◌}
 use Rattle.std.specs.List.{AllByRecursion}
 use Rattle.std.proofs.lemmas.Bool.{and_parts}
@@ -247,7 +247,7 @@ first_begun scope list u = record {
 
 -- where a unit's own check is: it may write what the unit writes
 abbrev pub own_scope : Scope → List NameId → Scope
-own_scope scope writes = record { style = scope.style; cert = scope.cert; writes = Some writes }
+own_scope scope writes = record { style = scope.style; cert = scope.cert; writes = Some writes; make = None }
 
 -- the state with which a unit's own check starts
 abbrev pub own_state : Scope → Passage → Piece → State
@@ -285,4 +285,5 @@ own_start scope list u b = record {
   goes = b.inside.remains.goes;
   formed = b.inside.formed;
   stands = (own_open scope list u b).stands;
+  unmade = refl;
 }

@@ -165,9 +165,9 @@ pub plain_safe : (scope : Scope) (list : EntryList) (n : ℕ) (s : Start scope l
     → SafeFor scope.style n (with_effect scope.style (built_in o (context_of scope.style s.c) s.c.stack) at s.c)
 plain_safe scope list n s o place at course after told is formed e safe =
     let hints = hints_at scope o s.state course in
-    let effect = confined (is_within scope (written_by o s.state)) (effect_of scope.style scope.cert.cond s.state o hints) in
+    let effect = confined (is_within scope.writes (written_by o s.state)) (effect_of scope.style scope.cert.cond s.state o hints) in
     let mid = then_ok (placed place effect) (λ given. gives place given.state (behind hints given.hints course)) after e in
-    let inside = confined_ok (is_within scope (written_by o s.state)) (effect_of scope.style scope.cert.cond s.state o hints) mid.0
+    let inside = confined_ok (is_within scope.writes (written_by o s.state)) (effect_of scope.style scope.cert.cond s.state o hints) mid.0
     (placed_ok place effect mid.0 mid.1) in
     let covers = effect_covers (spot_at scope list s at) o hints mid.0 inside.1 in
     safe mid.0.state covers.assignment (with_effect scope.style (built_in o (context_of scope.style s.c) s.c.stack) at s.c)

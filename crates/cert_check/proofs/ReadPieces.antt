@@ -1,7 +1,7 @@
 -- A piece that was read fits its style, and its symbols are where it says.
-use Rattle.std.proofs.Common.{◌≡◌, ◌≢◌, ℕ, zero, suc, ◌+◌, ◌*◌, ◌^◌, ◌≤◌, ◌<◌, ◌&&◌, ◌||◌, ◌⊎◌, inl, inr, not, Bool, true, false, nat_eq, nat_le, nat_lt, max, List, [], ◌∷◌, ◌++◌, length, length-append, map, slice_get, Option, None, Some, IfSome, ℤ, pos, negsuc, refl, sym, ap, ◌∙◌, subst, arith}
+use Rattle.std.proofs.Common.{◌≡◌, ◌≢◌, ℕ, suc, ◌+◌, ◌*◌, ◌^◌, ◌≤◌, ◌<◌, ◌&&◌, ◌||◌, ◌⊎◌, inl, inr, not, Bool, true, false, nat_eq, nat_lt, max, List, [], ◌∷◌, ◌++◌, length, length-append, map, slice_get, Option, None, Some, ℤ, pos, negsuc, refl, sym, ap, subst, arith}
 use Rattle.std.specs.Prelude.{is_some}
-use Rattle.std.specs.List.{All, list_any, sum_by}
+use Rattle.std.specs.List.{All, sum_by}
 use Rattle.std.specs.Option.{option_map, option_map_or}
 use Rattle.std.proofs.lemmas.Bool.{and_parts}
 use Rattle.std.proofs.lemmas.Bool.Decides.{nat_tests}
@@ -14,7 +14,7 @@ use Rattle.lin_facts.specs.declared.row.Row.{Row}
 use Rattle.lin_facts.specs.declared.row.Term.{Term}
 use Rattle.lin_facts.specs.declared.row.Term.TheVariants.{Value, Length, Names, Pos, Count}
 use Rattle.name_table.specs.Names.{kind_at}
-use Rattle.name_table.specs.Numbers.{IsByteList, has_32_bits}
+use Rattle.name_table.specs.Numbers.{has_32_bits}
 use Rattle.name_table.specs.Sound.{Each, IsSound, block_of}
 use Rattle.name_table.specs.declared.names.Kind.{Kind}
 use Rattle.name_table.specs.declared.names.Kind.TheVariants as kind
@@ -23,8 +23,8 @@ use Rattle.name_table.specs.declared.style.BodyId.{BodyId}
 use Rattle.name_table.specs.declared.style.Style.{Style}
 use Rattle.bv_base.specs.declared.limits.TheConstants.{GREATEST_INTEGER}
 use Rattle.bst_meaning.specs.StyleParts.{kind_of}
-use Rattle.cert_format.specs.CertText.{IsFact, IsPart, IsPiece, IsRow, IsTerm, IsVariable, is_within, next_behind, places_of}
-use Rattle.cert_format.specs.CondText.{IsField, is_below, is_chain}
+use Rattle.cert_format.specs.CertText.{IsFact, IsPart, IsPiece, IsRow, IsTerm, IsVariable, is_within, next_behind}
+use Rattle.cert_format.specs.CondText.{IsField, is_chain}
 use Rattle.cert_format.specs.Items.{is_field as read_field}
 use Rattle.cert_format.specs.PieceItems.{body_of, is_before, term_rank, term_symbol}
 use Rattle.cert_format.specs.PieceItems as items
@@ -32,16 +32,15 @@ use Rattle.cert_format.specs.declared.piece_items.TheConstants.{ROW_SIZE}
 use Rattle.cert_format.proofs.CertTargets.{block_found}
 use Rattle.sym_state.specs.Facts.{subject}
 use Rattle.sym_state.specs.Positions.{position_size, position_sizes}
-use Rattle.sym_state.specs.Starting.{IsFit, IsNumbered, has_kind, placed, symbol_count, symbols_of}
+use Rattle.sym_state.specs.Starting.{IsFit, has_kind, placed, symbols_of}
 use Rattle.sym_state.specs.WellMade.{HasByteText, HasShortText, HasSmallInteger, IsBounded, IsOfStyle, IsTermBelow, is_field, is_variable, size}
 use Rattle.sym_state.specs.declared.piece.Piece.{Piece}
 use Rattle.sym_state.specs.declared.symbol.Bind.{Bind}
 use Rattle.sym_state.specs.declared.symbol.Fact.{Fact}
 use Rattle.sym_state.specs.declared.symbol.Fact.TheVariants as fact
-use Rattle.sym_state.specs.declared.symbol.Sym.{Sym}
 use Rattle.sym_state.proofs.Bounds.{within_size}
-use Rattle.cert_check.specs.Certified.{IsMovable, IsPieceOf, IsPostOf, IsShort, HasNoPos}
-use Rattle.cert_check.specs.Left.{HasPlaces, IsPlaced, IsPost}
+use Rattle.cert_check.specs.Certified.{IsMovable, IsPieceOf, IsShort, HasNoPos}
+use Rattle.cert_check.specs.Left.{IsPlaced, IsPost}
 use Rattle.cert_check.specs.Uses.{Passage}
 use Rattle.cert_check.proofs.ReadPlaces.{InOrder, few_rise, go_upwards, in_order}
 

@@ -1,5 +1,6 @@
 -- A rule that fails does so at its own place, or at one of a body that it walks.
-use Rattle.std.proofs.Common.{◌≡◌, ℕ, zero, suc, ◌+◌, ◌⊎◌, Bool, true, false, cond, List, [], ◌∷◌, ◌++◌, length, map, reverse, Option, None, Some, Result, Ok, Err, refl, sym, subst, inl, inr, arith}
+use Rattle.cert_check.specs.declared.limits.TheConstants.{MOST_LOOPS}
+use Rattle.std.proofs.Common.{◌≡◌, ℕ, zero, suc, ◌+◌, ◌⊎◌, Bool, true, false, cond, List, [], ◌∷◌, ◌++◌, length, map, reverse, Option, None, Some, Result, Ok, Err, refl, sym, subst, inl, inr, arith, nat_lt}
 use Rattle.std.specs.Prelude.{◌&&◌, IfErr, IfSome, slice_get}
 use Rattle.std.specs.List.{list_all}
 use Rattle.std.specs.Option.{option_map_or}
@@ -45,11 +46,11 @@ use Rattle.cert_check.proofs.ReadPieces.{each_each}
 use Rattle.cert_check.specs.declared.limits.TheConstants.{MOST_DEPTH}
 use Rattle.cert_check.specs.declared.refusal.Reason.{Reason}
 use Rattle.cert_check.specs.declared.refusal.Refusal.{Refusal}
-use Rattle.cert_check.specs.Courses.{Course, Walk, behind, counts, gives, gives_all, placed, refuses}
+use Rattle.cert_check.specs.Courses.{Course, behind, counts, first_number, gives, gives_all, placed, refuses}
 use Rattle.cert_check.specs.Places.{IsOfBody, IsOfUnit}
 use Rattle.cert_check.specs.Units.{all_end, all_entail, all_tested, all_turned, beginning, body_of, call_walked, loop_checked, none_left, own_walked, place_of, summary_checked, target_entered, target_from, tested, turn, turn_state, turned, turned_from}
 use Rattle.cert_check.specs.Uses.{Passage, around, comes_by, left_state, passage}
-use Rattle.cert_check.specs.Walks.{Call, Enter, Onward, Scope, body_walked, built_in, cases_entered, choice, chosen, chosen_in, comes_to, confined, entered, entered_by, entering, entering_nothing, exact_target, function_entered, has_summary, hints_at, hints_of_choice, hints_of_test, if_else, is_target, is_within, is_wizard, leaves, literal_state, loop_around, loop_by, loop_of, loop_used, may_write, name_entered, named, plain, repeated, split, summary_used, taken, taken_from, test_of, token_taken, type_called, type_functions, type_walked, types_called, use_of, variable, walked, written_by}
+use Rattle.cert_check.specs.Walks.{Call, Enter, Make, Making, Numbered, Onward, Scope, While, all_made, body_walked, built_in, cases_entered, choice, chosen, chosen_in, comes_to, coming_hints, confined, each_taken, entered, entered_by, entering, entering_nothing, entering_with, exact_target, function_entered, has_summary, hints_at, hints_of_choice, hints_of_test, if_else, is_target, is_within, is_wizard, leaves, literal_state, loop_around, loop_by, loop_made, loop_of, loop_used, made_used, making_for, may_write, name_entered, named, next_number, none_made, numbered, plain, repeated, split, summary_used, taken, taken_by, taken_from, test_of, token_taken, type_called, type_functions, type_walked, types_called, use_of, variable, walked, while_alone, while_by_make, while_made, while_of, while_taken, whiles_taken, written_by}
 
 module _ (P : Place → Type 0) where
   -- such a place is that of the refusal, where there is one
@@ -92,7 +93,7 @@ module _ (P : Place → Type 0) where
   plain_fails : (scope : Scope) (o : Builtin) (place : Place) (state : State) (course : Course) → P place → Fails (plain scope o place state course)
   plain_fails scope o place state course at =
       let hints = hints_at scope o state course in
-      let effect = confined (is_within scope (written_by o state)) (effect_of scope.style scope.cert.cond state o hints) in
+      let effect = confined (is_within scope.writes (written_by o state)) (effect_of scope.style scope.cert.cond state o hints) in
       then_faulty FailsAt (placed place effect) (λ after. gives place after.state (behind hints after.hints course)) (placed_fails place effect at)
       (λ after _. gives_fails place after.state (behind hints after.hints course) at)
 
@@ -120,7 +121,7 @@ module _ (P : Place → Type 0) where
       → Fails (leaves scope place unit pre posts kept state course)
   leaves_fails scope place unit pre posts kept state course at =
       let states = map (left_state scope.style scope.cert.cond unit pre kept state) posts in
-      where_fails (list_all (may_write scope) unit.writes) place _ _ at
+      where_fails (list_all (may_write scope.writes) unit.writes) place _ _ at
       (then_faulty FailsAt (counts (length unit.writes) place course) (gives_all place states) (counts_fails (length unit.writes) place course at)
       (λ after _. gives_all_fails place states after at))
 
@@ -213,6 +214,52 @@ module _ (P : Place → Type 0) where
       (placed_fails place (two_of Func Func state) at)
       (λ two _. around_fails scope place (exact_target scope.style state two.lower) (exact_target scope.style state two.upper) at two.rest course)
 
+  -- a loop that is made
+  made_fails : (place : Place) (found : Option Numbered) (new : Option Loop) (making : Making) → P place → Fails (loop_made place found new making)
+  made_fails place (Some found) new making at = tt
+  made_fails place None None making at = at
+  made_fails place None (Some one) making at = where_fails (nat_lt (next_number making) MOST_LOOPS) place _ (Ok _) at tt
+
+  made_used_fails : (scope : Scope) (place : Place) (found : Numbered) (k : ℕ) → P place → OnwardFails (made_used scope place found k)
+  made_used_fails scope place found k at state course =
+      let hints = coming_hints scope.cert.cond state k found in
+      let come = comes_to (around found.one) scope.cert.cond found.one.cases state hints in
+      let all : List Hint = course.found ++ hint.Loop found.number ∷ hints in
+      then_faulty FailsAt (placed place come) (λ come. leaves scope place (around found.one) come.case found.one.exits 0 state (record course { found = all }))
+      (placed_fails place come at) (λ come _. leaves_fails scope place (around found.one) come.case found.one.exits 0 state (record course { found = all }) at)
+
+  around_made_fails : (make : Make) (scope : Scope) (place : Place) (states earlier : List State) (one : Option While) (making : Making) → P place
+      → Fails (while_made make scope place states earlier one making)
+  around_made_fails make scope place states earlier None making at = at
+  around_made_fails make scope place states earlier (Some one) making at =
+      let found = numbered one (first_number making.course) making.made in
+      let new = make one.test one.body (entering_with scope one states) in
+      let k = length (entering_with scope one earlier) in
+      then_faulty FailsAt (loop_made place found new making) _ (made_fails place found new making at) (λ known _.
+      then_faulty FailsAt (made_used scope place known.0 k one.rest known.1.course) (λ course. Ok (record known.1 { course = course }))
+      (made_used_fails scope place known.0 k at one.rest known.1.course) (λ course _. tt))
+
+  while_taken_fails : (make : Make) (scope : Scope) (place : Place) (states earlier : List State) (state : State) (making : Making) → P place
+      → Fails (while_taken make scope place states earlier state making)
+  while_taken_fails make scope place states earlier state making at =
+      then_faulty FailsAt (placed place (two_of Func Func state)) (λ two. while_made make scope place states earlier (while_of scope state two) making)
+      (placed_fails place (two_of Func Func state) at) (λ two _. around_made_fails make scope place states earlier (while_of scope state two) making at)
+
+  alone_fails : (make : Make) (scope : Scope) (place : Place) (state : State) (course : Course) → P place → Fails (while_alone make scope place state course)
+  alone_fails make scope place state course at =
+      then_faulty FailsAt (while_taken make scope place (state ∷ []) [] state (none_made course)) (λ making. Ok (all_made making))
+      (while_taken_fails make scope place (state ∷ []) [] state (none_made course) at) (λ making _. tt)
+
+  whiles_fail : (make : Make) (scope : Scope) (place : Place) (states earlier later : List State) (making : Making) → P place
+      → Fails (whiles_taken make scope place states earlier later making)
+  whiles_fail make scope place states earlier [] making at = tt
+  whiles_fail make scope place states earlier (state ∷ later) making at =
+      then_faulty FailsAt (counts 1 place making.course) _ (counts_fails 1 place making.course at) (λ course _.
+      then_faulty FailsAt (while_taken make scope place states earlier state (record making { course = course }))
+      (whiles_taken make scope place states (earlier ++ state ∷ []) later)
+      (while_taken_fails make scope place states earlier state (record making { course = course }) at)
+      (λ after _. whiles_fail make scope place states (earlier ++ state ∷ []) later after at))
+
   -- `call.type$`
   type_walk_fails : (enter : Enter) (found : Option Kind) (place : Place) → P place → EnterFails enter → OnwardFails (type_walked enter found place)
   type_walk_fails enter (Some (kind.Wizard body)) place at enters state course = enters place body at state course
@@ -232,7 +279,11 @@ module _ (P : Place → Type 0) where
   built_in_fails : (scope : Scope) (enter : Enter) (other : Onward) (o : Builtin) (place : Place) → P place → EnterFails enter → OnwardFails other
       → OnwardFails (built_in scope enter other o place)
   built_in_fails scope enter other op.IfElse place at enters others state course = others state course
-  built_in_fails scope enter other op.WhileDo place at enters others state course = repeated_fails scope place at state course
+  built_in_fails scope enter other op.WhileDo place at enters others state course = by_make scope.make
+    where
+      by_make : (make : Option Make) → Fails (while_by_make make scope place state course)
+      by_make None = repeated_fails scope place at state course
+      by_make (Some make) = alone_fails make scope place state course at
   built_in_fails scope enter other op.CallType place at enters others state course =
       where_fails state.at_entry place _ _ at (types_fail scope enter place (type_functions scope.style scope.cert.cond) at enters state course)
   built_in_fails scope enter other o place at enters others state course = nothing_fails scope o (test_of o) place state course at
@@ -281,14 +332,24 @@ module _ (P : Place → Type 0) where
       named_fails scope enter (chosen_in scope enter place) (kind_of scope.style name) name place at enters (chosen_in_fails scope enter place at enters) state course
   token_fails scope enter t place at enters state course = gives_fails place (literal_state scope.style t state) course at
 
-  from_fails : (scope : Scope) (enter : Enter) (t : TokenAt) (states : List State) (course : Course) → P t.place → EnterFails enter
-      → Fails (taken_from scope enter t states course)
-  from_fails scope enter t [] course at enters = tt
-  from_fails scope enter t (state ∷ states) course at enters =
-      then_faulty FailsAt (taken scope enter t state course) (taken_from scope enter t states)
+  each_fails : (scope : Scope) (enter : Enter) (t : TokenAt) (states : List State) (course : Course) → P t.place → EnterFails enter
+      → Fails (each_taken scope enter t states course)
+  each_fails scope enter t [] course at enters = tt
+  each_fails scope enter t (state ∷ states) course at enters =
+      then_faulty FailsAt (taken scope enter t state course) (each_taken scope enter t states)
       (then_faulty FailsAt (counts 1 t.place course) (token_taken scope enter t.token t.place state) (counts_fails 1 t.place course at)
       (λ after _. token_fails scope enter t.token t.place at enters state after))
-      (λ after _. from_fails scope enter t states after at enters)
+      (λ after _. each_fails scope enter t states after at enters)
+
+  from_fails : (scope : Scope) (enter : Enter) (t : TokenAt) (states : List State) (course : Course) → P t.place → EnterFails enter
+      → Fails (taken_from scope enter t states course)
+  from_fails scope enter t states course at enters = by_make (making_for scope t.token)
+    where
+      by_make : (make : Option Make) → Fails (taken_by make scope enter t states course)
+      by_make None = each_fails scope enter t states course at enters
+      by_make (Some make) =
+          then_faulty FailsAt (whiles_taken make scope t.place states [] states (none_made course)) (λ making. Ok (all_made making))
+          (whiles_fail make scope t.place states [] states (none_made course) at) (λ making _. tt)
 
   walked_fails : (scope : Scope) (enter : Enter) (tokens : List TokenAt) (course : Course) → Each (λ t. P t.place) tokens → EnterFails enter
       → Fails (walked scope enter tokens course)
@@ -327,7 +388,7 @@ module _ (P : Place → Type 0) where
   summary_fails : (style : Style) (cert : Cert) (summary : Summary) → P (place_of style (body_of style summary.body)) → TokensAt style
       → Fails (summary_checked style cert summary)
   summary_fails style cert summary at tokens =
-      let scope : Scope = record { style = style; cert = cert; writes = Some summary.writes } in
+      let scope : Scope = record { style = style; cert = cert; writes = Some summary.writes; make = None } in
       let body = body_of style summary.body in
       let place = place_of style body in
       let state = started style cert.cond (summary.pre ∷ []) summary.whole summary.entry in
@@ -399,7 +460,7 @@ module _ (P : Place → Type 0) where
 
   check_fails : (style : Style) (cert : Cert) (one : Loop) → P (place_of style (body_of style one.body)) → TokensAt style → Fails (loop_checked style cert one)
   check_fails style cert one at tokens =
-      let scope : Scope = record { style = style; cert = cert; writes = Some one.writes } in
+      let scope : Scope = record { style = style; cert = cert; writes = Some one.writes; make = None } in
       let place = place_of style (body_of style one.body) in
       then_faulty FailsAt (turned_from scope place one one.cases (beginning one.hints)) (λ course. none_left place course.hints)
       (turns_fail scope place one one.cases (beginning one.hints) at tokens) (λ course _. left_fails place course.hints at)
@@ -458,7 +519,7 @@ pub call_refused : (style : Style) (cert : Cert) (states : List State) (target :
 call_refused style cert states target place hints refusal is =
     let At : Place → Type 0 = λ p. (p ≡ place) ⊎ IsOfBody style p in
     refused At (call_walked style cert states target place hints) refusal is
-    (targets_fail At (record { style = style; cert = cert; writes = None }) place target states (beginning hints) (inl refl)
+    (targets_fail At (record { style = style; cert = cert; writes = None; make = None }) place target states (beginning hints) (inl refl)
     (λ body. each_each (λ t. IsOfBody style t.place) (λ t. At t.place) (λ t at. inr at) (tokens_of style body) (tokens_at style body)))
 
 -- what holds of the places of bodies and of their tokens

@@ -33,7 +33,7 @@ without_two state stack met = record state { stack = reverse met.rest }
 abbrev pub two_met : (state : State) (stack : List Sym) → TwoMet state stack → Two
 two_met state stack met = record { lower = met.test; upper = met.body; rest = without_two state stack met }
 
-two_ok : (state : State) (stack : List Sym) (two : Two) → two_by Func Func stack state ≡ Ok two → (met : TwoMet state stack) × (two ≡ two_met state stack met)
+pub two_ok : (state : State) (stack : List Sym) (two : Two) → two_by Func Func stack state ≡ Ok two → (met : TwoMet state stack) × (two ≡ two_met state stack met)
 two_ok state [] two e = absurd (cc)
 two_ok state (b ∷ []) two e = absurd (cc)
 two_ok state (b ∷ (a ∷ rest)) two e =

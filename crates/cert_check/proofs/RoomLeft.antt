@@ -1,6 +1,6 @@
 -- The states that rules give have room for new symbols where those have that they are taken from.
-use Rattle.std.proofs.Common.{◌≡◌, ℕ, ◌+◌, ◌≤◌, ◌<◌, Bool, List, [], ◌∷◌, ◌++◌, length, is_none, Option, Ok, sym, ap, subst, ◌∙◌, arith}
-use Rattle.std.specs.List.{All, count_by}
+use Rattle.std.proofs.Common.{◌≡◌, ℕ, ◌+◌, ◌≤◌, ◌<◌, Bool, List, [], ◌∷◌, ◌++◌, is_none, Option, Ok, sym, ap, subst, ◌∙◌, arith, IfSome}
+use Rattle.std.specs.List.{All}
 use Rattle.std.proofs.lemmas.List.Sums.{count_by-le-length}
 use Rattle.std.proofs.lemmas.List.Elements.{All-append, All-cons, All-head, All-nil, All-same, All-tail, All-weaker}
 use Rattle.bv_base.specs.declared.place.Place.{Place}
@@ -30,7 +30,7 @@ use Rattle.sym_state.proofs.Keeping.{started_well_made}
 use Rattle.sym_state.proofs.Started.{ids_from-length}
 use Rattle.refinements.proofs.Framing.{above_left}
 use Rattle.refinements.proofs.Kept.{above_made}
-use Rattle.cert_check.specs.Certified.{IsCertified, IsLoopOf}
+use Rattle.cert_check.specs.Certified.{IsCertified, IsLoopOf, MakesLoops}
 use Rattle.cert_check.specs.Courses.{Course}
 use Rattle.cert_check.specs.Room.{GivesRoom, HasRoom, KeepsRoom}
 use Rattle.cert_check.specs.Units.{target_entered}
@@ -84,19 +84,19 @@ made_of : (style : Style) (count : ℕ) (states : List State) → All (HasRoom s
 made_of style count states room = All-weaker (HasRoom style 0 count) (WellMade style) (λ state one. one.made) states room
 
 -- a token is taken from a state
-pub taken_room : (scope : Scope) (depth : ℕ) (t : TokenAt) (state : State) (course after : Course) → IsSound scope.style → IsCertified scope.style scope.cert
+pub taken_room : (scope : Scope) (depth : ℕ) (t : TokenAt) (state : State) (course after : Course) → IsSound scope.style → IsCertified scope.style scope.cert → IfSome scope.make (MakesLoops scope.style)
     → IsTokenSound scope.style.names scope.style.bodies scope.style.texts t.token → HasRoom scope.style 0 course.count state
     → taken scope (body_walked scope depth) t state course ≡ Ok after → KeepsRoom scope.style course after
-taken_room scope depth t state course after sound cert token room e =
-    let told = told_by scope sound cert in
+taken_room scope depth t state course after sound cert makes token room e =
+    let told = told_by scope sound cert makes in
     moved_room scope 0 state course after (taken_moved scope (body_walked scope depth) t state told (body_moved scope depth told) room.made token course after e) room
 
 -- and from states, one after the other
 pub taken_from_room : (scope : Scope) (depth : ℕ) (t : TokenAt) (states : List State) (course after : Course) → IsSound scope.style
-    → IsCertified scope.style scope.cert → IsTokenSound scope.style.names scope.style.bodies scope.style.texts t.token → All (HasRoom scope.style 0 course.count) states
+    → IsCertified scope.style scope.cert → IfSome scope.make (MakesLoops scope.style) → IsTokenSound scope.style.names scope.style.bodies scope.style.texts t.token → All (HasRoom scope.style 0 course.count) states
     → taken_from scope (body_walked scope depth) t states course ≡ Ok after → KeepsRoom scope.style course after
-taken_from_room scope depth t states course after sound cert token room e =
-    let told = told_by scope sound cert in
+taken_from_room scope depth t states course after sound cert makes token room e =
+    let told = told_by scope sound cert makes in
     let moved = taken_from_moved scope (body_walked scope depth) t states course after told (body_moved scope depth told) token
     (made_of scope.style course.count states room) e in
     record {
@@ -108,37 +108,37 @@ taken_from_room scope depth t states course after sound cert token room e =
     }
 
 -- the tokens of a body
-pub walked_room : (scope : Scope) (depth : ℕ) (tokens : List TokenAt) (course after : Course) → IsSound scope.style → IsCertified scope.style scope.cert
+pub walked_room : (scope : Scope) (depth : ℕ) (tokens : List TokenAt) (course after : Course) → IsSound scope.style → IsCertified scope.style scope.cert → IfSome scope.make (MakesLoops scope.style)
     → AreSound scope tokens → GivesRoom scope.style course → walked scope (body_walked scope depth) tokens course ≡ Ok after → KeepsRoom scope.style course after
-walked_room scope depth tokens course after sound cert are room e =
-    let told = told_by scope sound cert in
+walked_room scope depth tokens course after sound cert makes are room e =
+    let told = told_by scope sound cert makes in
     let ended = walked_ends scope (body_walked scope depth) tokens course after told (body_moved scope depth told) are
     (made_of scope.style course.count course.given room) e in
     record { count = ended.count; given = λ given. come_room scope course.given course.count after.count after.given given ended.come }
 
 -- a body
 pub body_room : (scope : Scope) (depth : ℕ) (place : Place) (body : BodyId) (state : State) (course after : Course) → IsSound scope.style
-    → IsCertified scope.style scope.cert → HasRoom scope.style 0 course.count state → body_walked scope depth place body state course ≡ Ok after
+    → IsCertified scope.style scope.cert → IfSome scope.make (MakesLoops scope.style) → HasRoom scope.style 0 course.count state → body_walked scope depth place body state course ≡ Ok after
     → KeepsRoom scope.style course after
-body_room scope depth place body state course after sound cert room e =
-    moved_room scope 0 state course after (body_moved scope depth (told_by scope sound cert) place body state room.made course after e) room
+body_room scope depth place body state course after sound cert makes room e =
+    moved_room scope 0 state course after (body_moved scope depth (told_by scope sound cert makes) place body state room.made course after e) room
 
 -- what a token gives that has counted
 pub token_room : (scope : Scope) (depth : ℕ) (t : Token) (place : Place) (state : State) (course after : Course) → IsSound scope.style
-    → IsCertified scope.style scope.cert → IsTokenSound scope.style.names scope.style.bodies scope.style.texts t → HasRoom scope.style 65 course.count state
+    → IsCertified scope.style scope.cert → IfSome scope.make (MakesLoops scope.style) → IsTokenSound scope.style.names scope.style.bodies scope.style.texts t → HasRoom scope.style 65 course.count state
     → token_taken scope (body_walked scope depth) t place state course ≡ Ok after → KeepsRoom scope.style course after
-token_room scope depth t place state course after sound cert token room e =
-    let told = told_by scope sound cert in
+token_room scope depth t place state course after sound cert makes token room e =
+    let told = told_by scope sound cert makes in
     moved_room scope 65 state course after
     (token_moved scope (body_walked scope depth) t place state told (body_moved scope depth told) room.made token course after e) room
 
 -- a name of a kind that is called, which has counted
 pub named_room : (scope : Scope) (depth : ℕ) (found : Option Kind) (name : NameId) (place : Place) (state : State) (course after : Course) → IsSound scope.style
-    → IsCertified scope.style scope.cert → HasRoom scope.style 65 course.count state
+    → IsCertified scope.style scope.cert → IfSome scope.make (MakesLoops scope.style) → HasRoom scope.style 65 course.count state
     → (let enter = body_walked scope depth in named scope enter (chosen_in scope enter place) found name place state course ≡ Ok after)
     → KeepsRoom scope.style course after
-named_room scope depth found name place state course after sound cert room e =
-    let told = told_by scope sound cert in
+named_room scope depth found name place state course after sound cert makes room e =
+    let told = told_by scope sound cert makes in
     let enters = body_moved scope depth told in
     let enter = body_walked scope depth in
     moved_room scope 65 state course after
@@ -146,11 +146,11 @@ named_room scope depth found name place state course after sound cert room e =
 
 -- a name that is entered and counts
 pub name_room : (scope : Scope) (depth : ℕ) (place : Place) (name : NameId) (state : State) (stack : List Sym) (course after : Course) → IsSound scope.style
-    → IsCertified scope.style scope.cert → HasRoom scope.style 0 course.count state → AreBelow state stack
+    → IsCertified scope.style scope.cert → IfSome scope.make (MakesLoops scope.style) → HasRoom scope.style 0 course.count state → AreBelow state stack
     → (let enter = body_walked scope depth in name_entered scope enter (if_else scope enter place stack) place name state course ≡ Ok after)
     → KeepsRoom scope.style course after
-name_room scope depth place name state stack course after sound cert room below e =
-    let told = told_by scope sound cert in
+name_room scope depth place name state stack course after sound cert makes room below e =
+    let told = told_by scope sound cert makes in
     let enters = body_moved scope depth told in
     let enter = body_walked scope depth in
     moved_room scope 0 state course after
@@ -159,10 +159,10 @@ name_room scope depth place name state stack course after sound cert room below 
 
 -- `if$`, which has counted
 pub if_else_room : (scope : Scope) (depth : ℕ) (place : Place) (stack : List Sym) (state : State) (course after : Course) → IsSound scope.style
-    → IsCertified scope.style scope.cert → HasRoom scope.style 65 course.count state → AreBelow state stack
+    → IsCertified scope.style scope.cert → IfSome scope.make (MakesLoops scope.style) → HasRoom scope.style 65 course.count state → AreBelow state stack
     → if_else scope (body_walked scope depth) place stack state course ≡ Ok after → KeepsRoom scope.style course after
-if_else_room scope depth place stack state course after sound cert room below e =
-    let told = told_by scope sound cert in
+if_else_room scope depth place stack state course after sound cert makes room below e =
+    let told = told_by scope sound cert makes in
     moved_room scope 65 state course after
     (if_else_moved scope (body_walked scope depth) place stack state told (body_moved scope depth told) room.made below course after e) room
 
@@ -188,63 +188,63 @@ cases_room style admits state s hints labelled count below room e =
 
 -- a body that is entered with or without a summary
 pub entered_room : (scope : Scope) (depth : ℕ) (place : Place) (target : Target) (body : BodyId) (state : State) (course after : Course) → IsSound scope.style
-    → IsCertified scope.style scope.cert → HasRoom scope.style 64 course.count state
+    → IsCertified scope.style scope.cert → IfSome scope.make (MakesLoops scope.style) → HasRoom scope.style 64 course.count state
     → entered scope place target (body_walked scope depth place body) state course ≡ Ok after → KeepsRoom scope.style course after
-entered_room scope depth place target body state course after sound cert room e =
-    let told = told_by scope sound cert in
+entered_room scope depth place target body state course after sound cert makes room e =
+    let told = told_by scope sound cert makes in
     moved_room scope 64 state course after
     (body_entered scope (body_walked scope depth) place target body state told (body_moved scope depth told) room.made course after e) room
 
 -- what is entered before a walk, if it is walked
 pub come_in_room : (scope : Scope) (place : Place) (target : Target) (state : State) (course after : Course) → IsSound scope.style
-    → IsCertified scope.style scope.cert → HasRoom scope.style 64 course.count state
+    → IsCertified scope.style scope.cert → IfSome scope.make (MakesLoops scope.style) → HasRoom scope.style 64 course.count state
     → entered scope place target (λ s c. Ok c) state course ≡ Ok after → KeepsRoom scope.style course after
-come_in_room scope place target state course after sound cert room e =
+come_in_room scope place target state course after sound cert makes room e =
     let stays : Moves scope 64 (λ s c. Ok c) state =
     λ begun ended is. subst (Moved scope 64 state begun) (sym (ok_is begun ended is)) (moved_self scope 64 state begun) in
     moved_room scope 64 state course after
-    (entered_moved scope 64 place target (λ s c. Ok c) state (told_by scope sound cert) (omega arith) room.made stays course after e) room
+    (entered_moved scope 64 place target (λ s c. Ok c) state (told_by scope sound cert makes) (omega arith) room.made stays course after e) room
 
 -- the target of a call, where nothing has counted for it
 pub target_room : (scope : Scope) (place : Place) (target : Target) (state : State) (course after : Course) → IsSound scope.style
-    → IsCertified scope.style scope.cert → HasRoom scope.style 64 course.count state → target_entered scope place target state course ≡ Ok after
+    → IsCertified scope.style scope.cert → IfSome scope.make (MakesLoops scope.style) → HasRoom scope.style 64 course.count state → target_entered scope place target state course ≡ Ok after
     → KeepsRoom scope.style course after
-target_room scope place target state course after sound cert room e =
-    moved_room scope 64 state course after (target_moved scope target place state (told_by scope sound cert) room.made course after e) room
+target_room scope place target state course after sound cert makes room e =
+    moved_room scope 64 state course after (target_moved scope target place state (told_by scope sound cert makes) room.made course after e) room
 
 -- a loop that is used
-pub loop_room : (scope : Scope) (place : Place) (one : Loop) (state : State) (course after : Course) → IsSound scope.style → IsCertified scope.style scope.cert
+pub loop_room : (scope : Scope) (place : Place) (one : Loop) (state : State) (course after : Course) → IsSound scope.style → IsCertified scope.style scope.cert → IfSome scope.make (MakesLoops scope.style)
     → IsLoopOf scope.style one → HasRoom scope.style 64 course.count state → loop_used scope place one state course ≡ Ok after → KeepsRoom scope.style course after
-loop_room scope place one state course after sound cert is room e =
-    moved_room scope 64 state course after (loop_moved scope place one state course after (told_by scope sound cert) is room.made e) room
+loop_room scope place one state course after sound cert makes is room e =
+    moved_room scope 64 state course after (loop_moved scope place one state course after (told_by scope sound cert makes) is room.made e) room
 
 -- `while$`, which has counted
-pub repeated_room : (scope : Scope) (place : Place) (state : State) (course after : Course) → IsSound scope.style → IsCertified scope.style scope.cert
+pub repeated_room : (scope : Scope) (place : Place) (state : State) (course after : Course) → IsSound scope.style → IsCertified scope.style scope.cert → IfSome scope.make (MakesLoops scope.style)
     → HasRoom scope.style 64 course.count state → repeated scope place state course ≡ Ok after → KeepsRoom scope.style course after
-repeated_room scope place state course after sound cert room e =
-    moved_room scope 64 state course after (repeated_moved scope place state (told_by scope sound cert) room.made course after e) room
+repeated_room scope place state course after sound cert makes room e =
+    moved_room scope 64 state course after (repeated_moved scope place state (told_by scope sound cert makes) room.made course after e) room
 
 -- a function that `call.type$` enters, and all of them
 pub type_room : (scope : Scope) (depth : ℕ) (place : Place) (name : NameId) (state : State) (course after : Course) → IsSound scope.style
-    → IsCertified scope.style scope.cert → HasRoom scope.style 0 course.count state → type_called scope (body_walked scope depth) place name state course ≡ Ok after
+    → IsCertified scope.style scope.cert → IfSome scope.make (MakesLoops scope.style) → HasRoom scope.style 0 course.count state → type_called scope (body_walked scope depth) place name state course ≡ Ok after
     → KeepsRoom scope.style course after
-type_room scope depth place name state course after sound cert room e =
-    let told = told_by scope sound cert in
+type_room scope depth place name state course after sound cert makes room e =
+    let told = told_by scope sound cert makes in
     moved_room scope 0 state course after (type_moved scope (body_walked scope depth) place name state told (body_moved scope depth told) room.made course after e) room
 
 pub types_room : (scope : Scope) (depth : ℕ) (place : Place) (names : List NameId) (state : State) (course after : Course) → IsSound scope.style
-    → IsCertified scope.style scope.cert → HasRoom scope.style 0 course.count state → types_called scope (body_walked scope depth) place names state course ≡ Ok after
+    → IsCertified scope.style scope.cert → IfSome scope.make (MakesLoops scope.style) → HasRoom scope.style 0 course.count state → types_called scope (body_walked scope depth) place names state course ≡ Ok after
     → KeepsRoom scope.style course after
-types_room scope depth place names state course after sound cert room e =
-    let told = told_by scope sound cert in
+types_room scope depth place names state course after sound cert makes room e =
+    let told = told_by scope sound cert makes in
     moved_room scope 0 state course after (types_moved scope (body_walked scope depth) place names state told (body_moved scope depth told) room.made course after e) room
 
 -- what a target gives where nothing was given before keeps the room that the state has beside the target's
 pub target_leaves : (scope : Scope) (place : Place) (target : Target) (more : ℕ) (state : State) (course after : Course) → IsSound scope.style
-    → IsCertified scope.style scope.cert → HasRoom scope.style (more + 64) course.count state → course.given ≡ []
+    → IsCertified scope.style scope.cert → IfSome scope.make (MakesLoops scope.style) → HasRoom scope.style (more + 64) course.count state → course.given ≡ []
     → target_entered scope place target state course ≡ Ok after → All (HasRoom scope.style more after.count) after.given
-target_leaves scope place target more state course after sound cert room none e =
-    let moved = target_moved scope target place state (told_by scope sound cert) room.made course after e in
+target_leaves scope place target more state course after sound cert makes room none e =
+    let moved = target_moved scope target place state (told_by scope sound cert makes) room.made course after e in
     All-same (HasRoom scope.style more after.count) after.given moved.more (moved.given ∙ ap (λ (l : List State). l ++ moved.more) none)
     (each moved.more moved.follow moved.few)
   where

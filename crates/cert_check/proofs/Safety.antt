@@ -114,7 +114,7 @@ pub record Laws : Type 0 where
   pub one_body : (style : Style) (a b : BodyId) (number : ℕ) → IsSound style → block_of a style.bodies ≡ Some (Some number)
       → block_of b style.bodies ≡ Some (Some number) → a.0 ≡ b.0
 
--- where a walk starts: a well-made state that stands for a configuration of a run, which goes on
+-- where a walk starts that makes no loops: a well-made state that stands for a configuration of a run, which goes on
 pub record Start (scope : Scope) (list : EntryList) : Type 0 where
   pub laws : Laws
   pub v : Valuation
@@ -125,6 +125,7 @@ pub record Start (scope : Scope) (list : EntryList) : Type 0 where
   pub goes : c.stopped ≡ None
   pub formed : IsWellFormed scope.style list c
   pub stands : Stands scope.style scope.cert.cond list v state c below
+  pub unmade : scope.make ≡ None
 
 -- a start at a place, as rules on states have it
 abbrev pub spot_at : (scope : Scope) (list : EntryList) → Start scope list → Place → Spot
@@ -163,6 +164,7 @@ onward scope list frames s after w d reached = record {
   goes = reached.remains.goes;
   formed = reached.formed;
   stands = reached.stands;
+  unmade = s.unmade;
 }
 
 -- what is reached from there is reached from the first start

@@ -1,5 +1,5 @@
 -- What holds of each hint holds of those that rules on states leave.
-use Rattle.std.proofs.Common.{◌≡◌, ℕ, suc, Bool, true, false, cond, sym, subst, List, [], ◌∷◌, Ok, Err}
+use Rattle.std.proofs.Common.{◌≡◌, ℕ, suc, sym, subst, List, [], ◌∷◌, Ok}
 use Rattle.std.specs.List.{All}
 use Rattle.std.proofs.lemmas.List.Elements.{All-drop, All-tail}
 use Rattle.bv_base.proofs.ThenLemmas.{ok_is, then_ok, where_ok}
@@ -14,7 +14,6 @@ use Rattle.sym_state.specs.Entailing.{first_row_line, match_of}
 use Rattle.sym_state.specs.References.{shows}
 use Rattle.sym_state.specs.Renaming.{row_renamed}
 use Rattle.sym_state.specs.Showing.{piece_by, row_by, row_shown_by, rows_by}
-use Rattle.sym_state.specs.declared.demand.EffectFault.{EffectFault}
 use Rattle.sym_state.specs.declared.hint.Hint.{Hint}
 use Rattle.sym_state.specs.declared.hint.Hint.TheVariants.{Step}
 use Rattle.sym_state.specs.declared.piece.Piece.{Piece}

@@ -1,5 +1,5 @@
 -- What the steps of a turn come to whose hints are found.
-use Rattle.std.proofs.Common.{◌≡◌, ℕ, ◌+◌, ◌≤◌, Bool, true, false, List, [], ◌∷◌, ◌++◌, OnOk, Result, Ok, Err, refl, sym, ap, subst, ◌∙◌, arith}
+use Rattle.std.proofs.Common.{◌≡◌, ℕ, ◌≤◌, Bool, true, false, List, [], ◌∷◌, OnOk, Result, Ok, Err, refl, sym, ap, subst, ◌∙◌, arith, IfSome}
 use Rattle.std.specs.List.{All}
 use Rattle.std.specs.Result.{MatchResult}
 use Rattle.std.proofs.lemmas.List.Elements.{All-append, All-cons, All-head, All-nil, All-tail, All-weaker}
@@ -24,7 +24,7 @@ use Rattle.cert_check.specs.declared.refusal.Refusal.{Refusal}
 use Rattle.cert_check.specs.declared.tours.Ended.{Ended}
 use Rattle.cert_check.specs.declared.tours.Tour.{Tour}
 use Rattle.cert_check.specs.declared.tours.Turning.{Turning}
-use Rattle.cert_check.specs.Certified.{IsCertified}
+use Rattle.cert_check.specs.Certified.{IsCertified, MakesLoops}
 use Rattle.cert_check.specs.Courses.{Course, Walk, behind, placed}
 use Rattle.cert_check.specs.Given.{AreCases, GoesOn, Refused, Takes}
 use Rattle.cert_check.specs.Room.{HasRoom, IsEnd}
@@ -131,29 +131,29 @@ all_end_so style turned (state ∷ states) tour are written ends =
     (one_ends style turned state tour (All-head (IsEnd style) state states are) written ends)
 
 -- what the ends leave of the course
-none_ended : (turned : Bool) (states : List State) (tour : Tour) → GivesNone tour → GivesNone (all_ended turned states tour)
+pub none_ended : (turned : Bool) (states : List State) (tour : Tour) → GivesNone tour → GivesNone (all_ended turned states tour)
 none_ended turned [] tour none = none
 none_ended turned (state ∷ states) tour none = none_ended turned states (ended turned state tour) none
 
-count_ended : (turned : Bool) (states : List State) (tour : Tour) → (all_ended turned states tour).course.count ≡ tour.course.count
+pub count_ended : (turned : Bool) (states : List State) (tour : Tour) → (all_ended turned states tour).course.count ≡ tour.course.count
 count_ended turned [] tour = refl
 count_ended turned (state ∷ states) tour = count_ended turned states (ended turned state tour)
 
 -- what the body leaves has turned
 pub turned_keeps : (scope : Scope) (place : Place) (one : Turning) (state : State) (tour : Tour) (mid : Course) → IsSound scope.style
-    → IsCertified scope.style scope.cert → HasRoom scope.style 64 tour.course.count state → GivesNone tour
+    → IsCertified scope.style scope.cert → IfSome scope.make (MakesLoops scope.style) → HasRoom scope.style 64 tour.course.count state → GivesNone tour
     → target_entered scope place one.body state tour.course ≡ Ok mid → mid.count ≤ MOST_COUNT → Each IsHint mid.found
     → KeepsTour scope.style tour (turn_ended tour.ends mid)
-turned_keeps scope place one state tour mid sound cert room none e most written =
+turned_keeps scope place one state tour mid sound cert makes room none e most written =
     let start : Tour = record { course = record mid { given = [] }; ends = tour.ends } in
-    let rises = (target_room scope place one.body state tour.course mid sound cert room e).count in
+    let rises = (target_room scope place one.body state tour.course mid sound cert makes room e).count in
     let same = count_ended true mid.given start in
     record {
       none = none_ended true mid.given start refl;
       count = omega (arith, rises, same);
       ends = all_end_so scope.style true mid.given start
           (All-weaker (HasRoom scope.style 0 mid.count) (IsEnd scope.style) (λ inner there. end_of scope.style 0 mid.count inner most there) mid.given
-          (target_leaves scope place one.body 0 state tour.course mid sound cert room none e))
+          (target_leaves scope place one.body 0 state tour.course mid sound cert makes room none e))
           written;
     }
 
@@ -180,12 +180,12 @@ kept_from {T} style tour after mid r rises =
 
 -- what a case of the integer comes to
 pub turned_kept : {T : Type 0} (scope : Scope) (place : Place) (one : Turning) (state : State) (tour after : Tour) (mid : Course) (r : Result T Refusal)
-    → IsSound scope.style → IsCertified scope.style scope.cert → HasRoom scope.style 64 tour.course.count state → GivesNone tour
+    → IsSound scope.style → IsCertified scope.style scope.cert → IfSome scope.make (MakesLoops scope.style) → HasRoom scope.style 64 tour.course.count state → GivesNone tour
     → target_entered scope place one.body state tour.course ≡ Ok mid → mid.count ≤ MOST_COUNT → Each IsHint mid.found
     → MatchResult r (λ _. after ≡ turn_ended tour.ends mid) (λ refusal. refusal.reason ≡ NoMemory) → OnOk r (KeepsTour scope.style tour after)
-turned_kept {T} scope place one state tour after mid (Ok x) sound cert room none e most written is =
-    subst (KeepsTour scope.style tour) (sym is) (turned_keeps scope place one state tour mid sound cert room none e most written)
-turned_kept {T} scope place one state tour after mid (Err refusal) sound cert room none e most written is = tt
+turned_kept {T} scope place one state tour after mid (Ok x) sound cert makes room none e most written is =
+    subst (KeepsTour scope.style tour) (sym is) (turned_keeps scope place one state tour mid sound cert makes room none e most written)
+turned_kept {T} scope place one state tour after mid (Err refusal) sound cert makes room none e most written is = tt
 
 pub left_kept : {T : Type 0} (style : Style) (state : State) (tour after : Tour) (r : Result T Refusal) → HasRoom style 64 tour.course.count state → GivesNone tour
     → tour.course.count ≤ MOST_COUNT → Each IsHint tour.course.found
@@ -203,9 +203,9 @@ turn_takes {T} scope one case tour after place state r at starts takes =
 
 -- the count behind a target that is entered
 pub entered_rises : (scope : Scope) (place : Place) (target : Target) (state : State) (course mid fresh : Course) → IsSound scope.style
-    → IsCertified scope.style scope.cert → HasRoom scope.style 64 course.count state → target_entered scope place target state course ≡ Ok mid
+    → IsCertified scope.style scope.cert → IfSome scope.make (MakesLoops scope.style) → HasRoom scope.style 64 course.count state → target_entered scope place target state course ≡ Ok mid
     → fresh ≡ record mid { given = [] } → course.count ≤ fresh.count
-entered_rises scope place target state course mid fresh sound cert room e is =
-    let rises = (target_room scope place target state course mid sound cert room e).count in
+entered_rises scope place target state course mid fresh sound cert makes room e is =
+    let rises = (target_room scope place target state course mid sound cert makes room e).count in
     let left : fresh.count ≡ mid.count = ap (λ (c : Course). c.count) is in
     omega (arith, rises, left)

@@ -1,9 +1,9 @@
 -- What the steps of a loop's own check come to.
-use Rattle.std.proofs.Common.{◌≡◌, ℕ, ◌+◌, ◌<◌, ◌≤◌, Bool, true, List, [], ◌∷◌, reverse, slice_get, Option, None, Some, IfSome, IfOk, OnOk, Result, Ok, Err, sym, ap, subst, ◌∙◌, arith}
+use Rattle.std.proofs.Common.{◌≡◌, ℕ, ◌+◌, ◌<◌, ◌≤◌, Bool, List, [], ◌∷◌, reverse, slice_get, Option, None, Some, IfSome, IfOk, OnOk, Result, Ok, Err, sym, ap, subst, ◌∙◌, arith}
 use Rattle.std.specs.List.{All}
 use Rattle.std.specs.Option.{option_map_or}
 use Rattle.std.specs.Result.{MatchResult}
-use Rattle.std.proofs.lemmas.List.Elements.{All-cons, All-head, All-nil, All-tail, All-weaker}
+use Rattle.std.proofs.lemmas.List.Elements.{All-head, All-tail, All-weaker}
 use Rattle.bv_base.specs.Answers.{then_do}
 use Rattle.bv_base.specs.declared.place.Place.{Place}
 use Rattle.name_table.specs.Sound.{IsSound}
@@ -27,12 +27,12 @@ use Rattle.sym_state.proofs.Frames.{all_reversed}
 use Rattle.sym_state.proofs.Resulting.{rest_made}
 use Rattle.cert_check.specs.declared.refusal.Reason.TheVariants.{NoMemory}
 use Rattle.cert_check.specs.declared.refusal.Refusal.{Refusal}
-use Rattle.cert_check.specs.Certified.{IsCertified, IsLoopOf, IsPieceOf}
+use Rattle.cert_check.specs.Certified.{IsCertified, IsLoopOf, IsPieceOf, MakesLoops}
 use Rattle.cert_check.specs.Courses.{Course, Walk, placed}
 use Rattle.cert_check.specs.Given.{Refused, Takes}
 use Rattle.cert_check.specs.Room.{HasRoom}
 use Rattle.cert_check.specs.Units.{all_tested, all_turned, beginning, body_of, loop_checked, loop_checked_at, none_left, place_of, target_entered, tested, turn, turn_state, turned, turned_from}
-use Rattle.cert_check.specs.Walks.{Scope}
+use Rattle.cert_check.specs.Walks.{Make, Scope}
 use Rattle.cert_check.proofs.Inverted.{placed_ok}
 use Rattle.cert_check.proofs.PieceUses.{turn_room as case_room}
 use Rattle.cert_check.proofs.RoomLeft.{cases_room, room_on, target_leaves, target_room}
@@ -42,9 +42,9 @@ use Rattle.cert_check.proofs.Walked.{found_one}
 use Rattle.cert_check.proofs.WalkSteps.{then_goes, wanted_same}
 
 -- the state with which a turn starts
-pub turn_room : (scope : Scope) (case : Piece) (whole entry : Bool) (state : State) → IsSound scope.style → IsCertified scope.style scope.cert
+pub turn_room : (scope : Scope) (case : Piece) (whole entry : Bool) (state : State) → IsSound scope.style → IsCertified scope.style scope.cert → IfSome scope.make (MakesLoops scope.style)
     → IsPieceOf scope.style entry case → state ≡ started scope.style scope.cert.cond (case ∷ []) whole entry → HasRoom scope.style 129 0 state
-turn_room scope case whole entry state sound cert is same =
+turn_room scope case whole entry state sound cert makes is same =
     subst (HasRoom scope.style 129 0) (sym same) (case_room scope case whole entry 0 sound cert.fields is)
 
 pub held_same : {E : Type 0} (wanted : State) (r : Result State E) (given : Result State Refusal) → MatchResult given (λ s. r ≡ Ok s) (λ refusal. refusal.reason ≡ NoMemory)
@@ -81,29 +81,29 @@ tested_takes {T} scope place one state course mid after cases result is takes =
 
 -- what a target leaves, which is taken
 pub left_room : (scope : Scope) (place : Place) (target : Target) (more : ℕ) (state : State) (course mid fresh : Course) (states : List State) → IsSound scope.style
-    → IsCertified scope.style scope.cert → HasRoom scope.style (more + 64) course.count state → course.given ≡ [] → target_entered scope place target state course ≡ Ok mid
+    → IsCertified scope.style scope.cert → IfSome scope.make (MakesLoops scope.style) → HasRoom scope.style (more + 64) course.count state → course.given ≡ [] → target_entered scope place target state course ≡ Ok mid
     → states ≡ mid.given → fresh ≡ record mid { given = [] } → All (HasRoom scope.style more fresh.count) states
-left_room scope place target more state course mid fresh states sound cert room none e are is =
+left_room scope place target more state course mid fresh states sound cert makes room none e are is =
     subst (λ (l : List State). All (HasRoom scope.style more fresh.count) l) (sym are)
     (subst (λ (n : ℕ). All (HasRoom scope.style more n) mid.given) (sym (ap (λ (c : Course). c.count) is))
-    (target_leaves scope place target more state course mid sound cert room none e))
+    (target_leaves scope place target more state course mid sound cert makes room none e))
 
 pub left_bounds : (scope : Scope) (place : Place) (target : Target) (state : State) (course mid fresh : Course) (states : List State) → IsSound scope.style
-    → IsCertified scope.style scope.cert → HasRoom scope.style 64 course.count state → course.given ≡ [] → target_entered scope place target state course ≡ Ok mid
+    → IsCertified scope.style scope.cert → IfSome scope.make (MakesLoops scope.style) → HasRoom scope.style 64 course.count state → course.given ≡ [] → target_entered scope place target state course ≡ Ok mid
     → states ≡ mid.given → fresh ≡ record mid { given = [] } → All HasBounds states
-left_bounds scope place target state course mid fresh states sound cert room none e are is =
+left_bounds scope place target state course mid fresh states sound cert makes room none e are is =
     All-weaker (HasRoom scope.style 0 fresh.count) HasBounds (λ inner there. there.made.bounds) states
-    (left_room scope place target 0 state course mid fresh states sound cert room none e are is)
+    (left_room scope place target 0 state course mid fresh states sound cert makes room none e are is)
 
 pub turned_rises : {T : Type 0} (scope : Scope) (place : Place) (target : Target) (state : State) (course mid fresh after : Course) (r : Result T Refusal)
-    → IsSound scope.style → IsCertified scope.style scope.cert → HasRoom scope.style 64 course.count state → target_entered scope place target state course ≡ Ok mid
+    → IsSound scope.style → IsCertified scope.style scope.cert → IfSome scope.make (MakesLoops scope.style) → HasRoom scope.style 64 course.count state → target_entered scope place target state course ≡ Ok mid
     → fresh ≡ record mid { given = [] } → OnOk r (after ≡ record fresh { hints = after.hints }) → OnOk r (course.count ≤ after.count)
-turned_rises {T} scope place target state course mid fresh after (Ok x) sound cert room e is rest =
-    let rises = (target_room scope place target state course mid sound cert room e).count in
+turned_rises {T} scope place target state course mid fresh after (Ok x) sound cert makes room e is rest =
+    let rises = (target_room scope place target state course mid sound cert makes room e).count in
     let same : after.count ≡ fresh.count = ap (λ (c : Course). c.count) rest in
     let left : fresh.count ≡ mid.count = ap (λ (c : Course). c.count) is in
     omega (arith, rises, same, left)
-turned_rises {T} scope place target state course mid fresh after (Err refusal) sound cert room e is rest = rest
+turned_rises {T} scope place target state course mid fresh after (Err refusal) sound cert makes room e is rest = rest
 
 -- states at the test's end, one after the other
 pub next_tested : (scope : Scope) (place : Place) (one : Loop) (states rest : List State) (state : State) (course mid : Course) (whole : Walk) → states ≡ state ∷ rest
@@ -206,6 +206,7 @@ loop_is style cert k one certified found =
 -- the check of a loop from its parts
 pub record AreLoopParts (scope : Scope) (one : Loop) (place : Place) (course : Course) : Type 0 where
   pub writes : scope.writes ≡ Some one.writes
+  pub unmade : scope.make ≡ None
   pub place_is : place ≡ place_of scope.style (body_of scope.style one.body)
   pub course_is : course ≡ beginning one.hints
 
@@ -213,8 +214,10 @@ parts_are : (scope : Scope) (one : Loop) (place : Place) (course : Course) → A
     → loop_checked scope.style scope.cert one ≡ then_do (turned_from scope place one one.cases course) (λ after. none_left place after.hints)
 parts_are scope one place course parts =
     let at : Place = place_of scope.style (body_of scope.style one.body) in
-    ap (λ (w : Option (List NameId)). let s : Scope = record { style = scope.style; cert = scope.cert; writes = w } in
+    ap (λ (w : Option (List NameId)). let s : Scope = record { style = scope.style; cert = scope.cert; writes = w; make = None } in
     then_do (turned_from s at one one.cases (beginning one.hints)) (λ after. none_left at after.hints)) (sym parts.writes)
+    ∙ ap (λ (m : Option Make). let s : Scope = record { style = scope.style; cert = scope.cert; writes = scope.writes; make = m } in
+    then_do (turned_from s at one one.cases (beginning one.hints)) (λ after. none_left at after.hints)) (sym parts.unmade)
     ∙ ap (λ (p : Place). then_do (turned_from scope p one one.cases (beginning one.hints)) (λ after. none_left p after.hints)) (sym parts.place_is)
     ∙ ap (λ (c : Course). then_do (turned_from scope place one one.cases c) (λ after. none_left place after.hints)) (sym parts.course_is)
 

@@ -1,5 +1,5 @@
 -- What the steps of a unit's check come to, and those of a call.
-use Rattle.std.proofs.Common.{◌≡◌, ℕ, ◌≤◌, Bool, List, [], ◌∷◌, slice_get, Option, None, Some, IfOk, Result, Ok, sym, ap, subst, ◌∙◌, arith}
+use Rattle.std.proofs.Common.{◌≡◌, ℕ, ◌≤◌, Bool, List, [], ◌∷◌, slice_get, Option, None, Some, IfOk, Result, Ok, sym, ap, subst, ◌∙◌, arith, IfSome}
 use Rattle.std.specs.List.{All}
 use Rattle.std.specs.Option.{option_map_or}
 use Rattle.std.specs.Result.{MatchResult}
@@ -19,18 +19,20 @@ use Rattle.cert_format.specs.declared.cert.Cert.{Cert}
 use Rattle.cert_format.specs.declared.cert.Summary.{Summary}
 use Rattle.sym_state.specs.State.{State}
 use Rattle.sym_state.specs.Starting.{IsFit, IsNumbered, started, symbols_of}
-use Rattle.sym_state.specs.WellMade.{HasBounds}
+use Rattle.sym_state.specs.WellMade.{HasBounds, WellMade}
 use Rattle.sym_state.specs.declared.hint.Hint.{Hint}
 use Rattle.sym_state.specs.declared.piece.Piece.{Piece}
 use Rattle.straight_hints.specs.declared.finding.Finding.{Finding}
-use Rattle.cert_check.specs.declared.limits.TheConstants.{MOST_DEPTH}
+use Rattle.straight_hints.specs.declared.finding.Finding.TheVariants.{Straight}
+use Rattle.cert_check.specs.declared.checker.Called.{Called}
+use Rattle.cert_check.specs.declared.limits.TheConstants.{MOST_COUNT, MOST_DEPTH}
 use Rattle.cert_check.specs.declared.refusal.Refusal.{Refusal}
-use Rattle.cert_check.specs.Certified.{IsCertified, IsSummaryOf}
+use Rattle.cert_check.specs.Certified.{AreSound, CanWalk, IsCertified, IsSummaryOf, MakesLoops}
 use Rattle.cert_check.specs.Courses.{Course, Walk, placed}
 use Rattle.cert_check.specs.Given.{Finds, Leads, Refused}
-use Rattle.cert_check.specs.Room.{GivesRoom, HasRoom, KeepsRoom}
-use Rattle.cert_check.specs.Units.{all_end, beginning, body_of, call_found, call_walked, checked_at, everywhere, none_left, own_walked, place_of, searching, summary_checked, target_entered, target_from}
-use Rattle.cert_check.specs.Walks.{Scope}
+use Rattle.cert_check.specs.Room.{GivesRoom, HasRoom, IsEnd, KeepsRoom}
+use Rattle.cert_check.specs.Units.{all_end, beginning, body_of, call_found, call_made, call_walked, came_to, checked_at, everywhere, none_left, own_walked, place_of, searching, summary_checked, target_entered, target_from}
+use Rattle.cert_check.specs.Walks.{Make, Over, Scope}
 use Rattle.cert_check.proofs.RoomLeft.{body_room, named_room, room_on, started_room, target_room}
 use Rattle.cert_check.proofs.WalkSteps.{then_goes}
 
@@ -49,6 +51,7 @@ by_parts scope summary body place state kept =
 -- the parts are those of the definition
 pub record AreParts (scope : Scope) (summary : Summary) (body : Option BodyId) (place : Place) (state : State) (kept : ℕ) : Type 0 where
   pub writes : scope.writes ≡ Some summary.writes
+  pub unmade : scope.make ≡ None
   pub body_is : body ≡ body_of scope.style summary.body
   pub place_is : place ≡ place_of scope.style body
   pub state_is : state ≡ started scope.style scope.cert.cond (summary.pre ∷ []) summary.whole summary.entry
@@ -58,8 +61,10 @@ parts_are : (scope : Scope) (summary : Summary) (body : Option BodyId) (place : 
     → summary_checked scope.style scope.cert summary ≡ by_parts scope summary body place state kept
 parts_are scope summary body place state kept parts =
     let first : State = started scope.style scope.cert.cond (summary.pre ∷ []) summary.whole summary.entry in
-    ap (λ (w : Option (List NameId)). let s : Scope = record { style = scope.style; cert = scope.cert; writes = w } in
+    ap (λ (w : Option (List NameId)). let s : Scope = record { style = scope.style; cert = scope.cert; writes = w; make = None } in
     by_parts s summary (body_of scope.style summary.body) (place_of scope.style (body_of scope.style summary.body)) first (symbols_of summary.pre)) (sym parts.writes)
+    ∙ ap (λ (m : Option Make). let s : Scope = record { style = scope.style; cert = scope.cert; writes = scope.writes; make = m } in
+    by_parts s summary (body_of scope.style summary.body) (place_of scope.style (body_of scope.style summary.body)) first (symbols_of summary.pre)) (sym parts.unmade)
     ∙ ap (λ (b : Option BodyId). by_parts scope summary b (place_of scope.style b) first (symbols_of summary.pre)) (sym parts.body_is)
     ∙ ap (λ (p : Place). by_parts scope summary body p first (symbols_of summary.pre)) (sym parts.place_is)
     ∙ ap (λ (s : State). by_parts scope summary body place s (symbols_of summary.pre)) (sym parts.state_is)
@@ -85,10 +90,10 @@ unit_checks {T} scope summary body place state kept course after result parts is
     checks
 
 -- the state that the pre starts
-pub own_room : (scope : Scope) (summary : Summary) (state : State) (course : Course) → IsSound scope.style → IsCertified scope.style scope.cert
+pub own_room : (scope : Scope) (summary : Summary) (state : State) (course : Course) → IsSound scope.style → IsCertified scope.style scope.cert → IfSome scope.make (MakesLoops scope.style)
     → IsSummaryOf scope.style summary → state ≡ started scope.style scope.cert.cond (summary.pre ∷ []) summary.whole summary.entry
     → course ≡ beginning summary.hints → HasRoom scope.style 65 course.count state
-own_room scope summary state course sound cert is state_is course_is =
+own_room scope summary state course sound cert makes is state_is course_is =
     let few = is.short.symbols in
     let room = started_room scope.style scope.cert.cond (summary.pre ∷ []) summary.whole summary.entry sound cert.fields
     (All-cons IsNumbered summary.pre [] is.numbered (All-nil IsNumbered)) (All-cons (IsFit scope.style) summary.pre [] is.fit (All-nil (IsFit scope.style)))
@@ -110,10 +115,10 @@ pub first_target : (style : Style) (count : ℕ) (states rest : List State) (sta
 first_target style count states rest state is room = let P : State → Type 0 = HasRoom style 64 count in All-head P state rest (subst (All P) is room)
 
 pub target_kept : (scope : Scope) (place : Place) (target : Target) (states rest : List State) (state : State) (course mid : Course) → IsSound scope.style
-    → IsCertified scope.style scope.cert → states ≡ state ∷ rest → All (HasRoom scope.style 64 course.count) states
+    → IsCertified scope.style scope.cert → IfSome scope.make (MakesLoops scope.style) → states ≡ state ∷ rest → All (HasRoom scope.style 64 course.count) states
     → target_entered scope place target state course ≡ Ok mid → KeepsRoom scope.style course mid
-target_kept scope place target states rest state course mid sound cert is room e =
-    target_room scope place target state course mid sound cert (first_target scope.style course.count states rest state is room) e
+target_kept scope place target states rest state course mid sound cert makes is room e =
+    target_room scope place target state course mid sound cert makes (first_target scope.style course.count states rest state is room) e
 
 pub rest_targets : (scope : Scope) (states rest : List State) (state : State) (low high : ℕ) → states ≡ state ∷ rest → low ≤ high
     → All (HasRoom scope.style 64 low) states → All (HasRoom scope.style 64 high) rest
@@ -136,22 +141,22 @@ bounds_of : (style : Style) (count : ℕ) (states : List State) → All (HasRoom
 bounds_of style count states room = All-weaker (HasRoom style 0 count) HasBounds (λ state there. there.made.bounds) states room
 
 own_kept : (scope : Scope) (place : Place) (target : Target) (body : Option BodyId) (state : State) (course after : Course) → IsSound scope.style
-    → IsCertified scope.style scope.cert → HasRoom scope.style 65 course.count state → own_walked scope place target body state course ≡ Ok after
+    → IsCertified scope.style scope.cert → IfSome scope.make (MakesLoops scope.style) → HasRoom scope.style 65 course.count state → own_walked scope place target body state course ≡ Ok after
     → KeepsRoom scope.style course after
-own_kept scope place target (Some body) state course after sound cert room e =
-    body_room scope MOST_DEPTH place body state course after sound cert
+own_kept scope place target (Some body) state course after sound cert makes room e =
+    body_room scope MOST_DEPTH place body state course after sound cert makes
     (room_on scope.style 65 0 course.count course.count state (omega arith) (omega arith) room) e
-own_kept scope place (Named name) None state course after sound cert room e =
-    named_room scope MOST_DEPTH (kind_of scope.style name) name place state course after sound cert room e
-own_kept scope place (Block body) None state course after sound cert room e =
+own_kept scope place (Named name) None state course after sound cert makes room e =
+    named_room scope MOST_DEPTH (kind_of scope.style name) name place state course after sound cert makes room e
+own_kept scope place (Block body) None state course after sound cert makes room e =
     subst (KeepsRoom scope.style course) (sym (ok_is course after e)) (record { count = omega arith; given = λ given. given })
 
 pub own_ends : (scope : Scope) (place : Place) (target : Target) (body : Option BodyId) (state : State) (course after : Course) (hints : List Hint)
-    → IsSound scope.style → IsCertified scope.style scope.cert → HasRoom scope.style 65 course.count state → course ≡ beginning hints
+    → IsSound scope.style → IsCertified scope.style scope.cert → IfSome scope.make (MakesLoops scope.style) → HasRoom scope.style 65 course.count state → course ≡ beginning hints
     → own_walked scope place target body state course ≡ Ok after → All HasBounds after.given
-own_ends scope place target body state course after hints sound cert room is e =
+own_ends scope place target body state course after hints sound cert makes room is e =
     bounds_of scope.style after.count after.given
-    ((own_kept scope place target body state course after sound cert room e).given
+    ((own_kept scope place target body state course after sound cert makes room e).given
     (subst (GivesRoom scope.style) (sym is) (All-nil (HasRoom scope.style 0 0))))
 
 -- the summary of a number
@@ -168,10 +173,9 @@ pub none_checks : (style : Style) (cert : Cert) (k : ℕ) → None ≡ slice_get
 none_checks style cert k found = ap (λ (o : Option Summary). option_map_or (summary_checked style cert) o (Ok [])) (sym found)
 
 -- a call from its parts
-call_is : (style : Style) (cert : Cert) (states : List State) (target : Target) (place : Place) (begun : Course) (scope : Scope) (course : Course)
-    → scope ≡ everywhere style cert → course ≡ begun
-    → target_from (everywhere style cert) place target states begun ≡ target_from scope place target states course
-call_is style cert states target place begun scope course scope_is course_is =
+call_is : (wanted : Scope) (states : List State) (target : Target) (place : Place) (begun : Course) (scope : Scope) (course : Course)
+    → scope ≡ wanted → course ≡ begun → target_from wanted place target states begun ≡ target_from scope place target states course
+call_is wanted states target place begun scope course scope_is course_is =
     sym (ap (λ (s : Scope). target_from s place target states begun) scope_is) ∙ sym (ap (λ (c : Course). target_from scope place target states c) course_is)
 
 pub called : (style : Style) (cert : Cert) (states : List State) (target : Target) (place : Place) (hints : List Hint) (scope : Scope) (course after : Course)
@@ -179,7 +183,7 @@ pub called : (style : Style) (cert : Cert) (states : List State) (target : Targe
     → given ≡ after.given → left ≡ after.hints → Leads (call_walked style cert states target place hints) given left
 called style cert states target place hints scope course after given left scope_is course_is e given_is left_is = record {
   course = after;
-  is = call_is style cert states target place (beginning hints) scope course scope_is course_is ∙ e;
+  is = call_is (everywhere style cert) states target place (beginning hints) scope course scope_is course_is ∙ e;
   given = sym given_is;
   left = sym left_is;
 }
@@ -190,7 +194,68 @@ pub called_finding : (finding : Finding) (style : Style) (cert : Cert) (states :
     → target_from scope place target states course ≡ Ok after → given ≡ after.given → found ≡ after.found → Finds (call_found finding style cert states target place) given found
 called_finding finding style cert states target place scope course after given found scope_is course_is e given_is found_is = record {
   course = after;
-  is = call_is style cert states target place (searching finding) scope course scope_is course_is ∙ e;
+  is = call_is (everywhere style cert) states target place (searching finding) scope course scope_is course_is ∙ e;
   given = sym given_is;
   found = sym found_is;
 }
+
+-- a walk of a checker that makes its loops, and where it begins
+abbrev pub scope_making : Option Make → Style → Cert → Scope
+scope_making make style cert = record { style = style; cert = cert; writes = None; make = make }
+
+abbrev pub begun_behind : ℕ → Course
+begun_behind stay = record (searching Straight) { stay = stay }
+
+-- what it comes to is what the walk of the checker's scope does
+pub making_taken : (make : Option Make) (style : Style) (cert : Cert) (stay : ℕ) (states : List State) (target : Target) (place : Place) (scope : Scope)
+    (course after : Course) → scope ≡ scope_making make style cert → course ≡ begun_behind stay → target_from scope place target states course ≡ Ok after
+    → target_from (scope_making make style cert) place target states (begun_behind stay) ≡ Ok after
+making_taken make style cert stay states target place scope course after scope_is course_is e =
+    call_is (scope_making make style cert) states target place (begun_behind stay) scope course scope_is course_is ∙ e
+
+-- a call whose hints are found and whose loops are made
+pub called_making : (make : Option Make) (style : Style) (cert : Cert) (stay : ℕ) (states : List State) (target : Target) (place : Place) (scope : Scope)
+    (course after : Course) (called : Called) → scope ≡ scope_making make style cert → course ≡ begun_behind stay
+    → target_from scope place target states course ≡ Ok after → called ≡ came_to after
+    → call_made make style cert stay states target place ≡ Ok called
+called_making make style cert stay states target place scope course after called scope_is course_is e called_is =
+    ap (λ (w : Walk). then_do w (λ course. Ok (came_to course)))
+    (making_taken make style cert stay states target place scope course after scope_is course_is e)
+    ∙ ap (λ (c : Called). let found : Result Called Refusal = Ok c in found) (sym called_is)
+
+pub making_refused : (make : Option Make) (style : Style) (cert : Cert) (stay : ℕ) (states : List State) (target : Target) (place : Place) (scope : Scope)
+    (course : Course) (refusal : Refusal) → scope ≡ scope_making make style cert → course ≡ begun_behind stay
+    → Refused (target_from scope place target states course) refusal → Refused (call_made make style cert stay states target place) refusal
+making_refused make style cert stay states target place scope course refusal scope_is course_is refused differs =
+    ap (λ (w : Walk). then_do w (λ course. Ok (came_to course)))
+    (call_is (scope_making make style cert) states target place (begun_behind stay) scope course scope_is course_is ∙ refused differs)
+
+-- it may be walked where the loops that are made are loops of the checker's style
+pub making_walks : (make : Option Make) (style own : Style) (cert : Cert) (over : Over) → over ≡ record { style = style; cert = cert; writes = None }
+    → AreSound style cert → own ≡ style → IfSome make (MakesLoops own) → CanWalk over own make
+making_walks make style own cert over is sound same makes =
+    subst (λ (o : Over). CanWalk o own make) (sym is) (record {
+      sound = sound.sound;
+      certified = sound.certified;
+      same = same;
+      makes = subst (λ (s : Style). IfSome make (MakesLoops s)) same makes;
+    })
+
+-- the states at its end
+pub making_ends : (style own : Style) (stay : ℕ) (begun after : Course) (called : Called) → own ≡ style → begun ≡ begun_behind stay
+    → (GivesRoom own begun → GivesRoom own after) → after.count ≤ MOST_COUNT → called ≡ came_to after → All (IsEnd style) called.given
+making_ends style own stay begun after called same is keeps most came =
+    let none : begun.given ≡ [] = ap (λ (c : Course). c.given) is in
+    let given = keeps (subst (λ (l : List State). All (HasRoom own 0 begun.count) l) (sym none) (All-nil (HasRoom own 0 begun.count))) in
+    subst (λ (l : List State). All (IsEnd style) l) (sym (ap (λ (c : Called). c.given) came))
+    (subst (λ (s : Style). All (IsEnd s) after.given) same
+    (All-weaker (HasRoom own 0 after.count) (IsEnd own) (λ state room. let few = room.few in record { made = room.made; few = omega (arith, few, most) })
+    after.given given))
+
+-- the states that are called are well made
+pub called_made : (style : Style) (states : List State) → All (HasRoom style 64 0) states → All (WellMade style) states
+called_made style states room = All-weaker (HasRoom style 64 0) (WellMade style) (λ state there. there.made) states room
+
+-- what is told of how loops are made holds of the checker's style
+pub told_of : (P : Style → Make → Type 0) (make : Option Make) (style own : Style) → own ≡ style → IfSome make (P own) → IfSome make (P style)
+told_of P make style own same told = subst (λ (s : Style). IfSome make (P s)) same told

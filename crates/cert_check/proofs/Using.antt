@@ -1,5 +1,5 @@
 -- The use of a summary whose own check is Ok is safe, and all units together are.
-use Rattle.std.proofs.Common.{◌≡◌, ℕ, zero, suc, ◌<◌, true, List, length, map, slice_get, Option, Some, Ok, sym, subst, arith}
+use Rattle.std.proofs.Common.{◌≡◌, ℕ, zero, suc, ◌<◌, true, List, length, map, slice_get, Option, Some, Ok, sym, subst, arith, None}
 use Rattle.std.specs.List.{list_all}
 use Rattle.bv_base.specs.Answers.{then_do}
 use Rattle.bv_base.specs.declared.place.Place.{Place}
@@ -71,7 +71,7 @@ summary_use scope list summary s hints left told is came = record {
 used_safe : (scope : Scope) (list : EntryList) (n : ℕ) (place at : Place) (part : Part) (summary : Summary) (s : Start scope list) (hints left : List Hint)
     (course after : Course) (told : Told scope) (is : IsSummaryOf scope.style summary)
     (came : comes_by (passage summary) scope.cert.cond summary.pre s.state hints ≡ Ok left) → IsChecked scope.style scope.cert summary
-    → OwnSafe scope list n summary.body → list_all (may_write scope) summary.writes ≡ true
+    → OwnSafe scope list n summary.body → list_all (may_write scope.writes) summary.writes ≡ true
     → IsWellFormed scope.style list (entry_step scope.style summary.body at part s.c)
     → gives_all place (map (left_state scope.style scope.cert.cond (passage summary) summary.pre (symbols_of summary.pre) s.state) summary.posts) course ≡ Ok after
     → SafeAfter scope list n (entry_frames summary.body at part s.c.frames) s after.given → SafeFor scope.style n (entry_step scope.style summary.body at part s.c)
@@ -107,7 +107,7 @@ use_by scope list n target told checked own k summary place at part s there is f
     let shown = comes_by (passage summary) scope.cert.cond summary.pre s.state course.hints in
     let mid = then_ok (placed place shown) (λ hints. leaves scope place (passage summary) summary.pre summary.posts (symbols_of summary.pre) s.state (record course { hints = hints })) after e in
     let left : Course = record course { hints = mid.0 } in
-    let may = where_ok (list_all (may_write scope) summary.writes) _ _ after mid.2 in
+    let may = where_ok (list_all (may_write scope.writes) summary.writes) _ _ after mid.2 in
     let counted = then_ok (counts (length summary.writes) place left) _ after may.1 in
     subst (λ (t : Target). SafeFor scope.style n (entry_step scope.style t at part s.c)) same
     (used_safe scope list n place at part summary s course.hints mid.0 counted.0 after told
@@ -118,18 +118,18 @@ use_by scope list n target told checked own k summary place at part s there is f
 
 -- what is told of a certificate whose units are all checked
 pub record AllChecked (style : Style) (cert : Cert) (list : EntryList) : Type 0 where
-  pub told : (writes : Option (List NameId)) → Told (record { style = style; cert = cert; writes = writes })
+  pub told : (writes : Option (List NameId)) → Told (record { style = style; cert = cert; writes = writes; make = None })
   pub fits : Fits style list
   pub summaries : (k : ℕ) (summary : Summary) → slice_get cert.summaries k ≡ Some summary → IsChecked style cert summary
   pub loops : (k : ℕ) (one : Loop) → slice_get cert.loops k ≡ Some one → IsLoopChecked style cert one
 
 -- all units are used safely for so many steps, whatever may be written
 abbrev AllSafe : Style → Cert → EntryList → ℕ → Type 0
-AllSafe style cert list n = (writes : Option (List NameId)) → UnitsSafe (record { style = style; cert = cert; writes = writes }) list n
+AllSafe style cert list n = (writes : Option (List NameId)) → UnitsSafe (record { style = style; cert = cert; writes = writes; make = None }) list n
 
 module _ (style : Style) (cert : Cert) (list : EntryList) (all : AllChecked style cert list) where
   abbrev writing : Option (List NameId) → Scope
-  writing writes = record { style = style; cert = cert; writes = writes }
+  writing writes = record { style = style; cert = cert; writes = writes; make = None }
 
   -- blocks first: their own check needs units for fewer steps alone
   block_uses : (n : ℕ) → ((m : ℕ) → m < n → AllSafe style cert list m) → (writes : Option (List NameId)) (body : BodyId) → UseSafe (writing writes) list n (Block body)

@@ -1,10 +1,9 @@
 -- What the steps of the walk's functions come to.
-use Rattle.std.proofs.Common.{◌≡◌, ℕ, zero, suc, ◌+◌, ◌-◌, ◌<◌, ◌≤◌, Bool, false, cond, List, [], ◌∷◌, drop, length, get_or, reverse, Option, None, Some, Result, Ok, refl, sym, ap, subst, ◌∙◌, add-one, arith, drop-cons}
+use Rattle.std.proofs.Common.{◌≡◌, ℕ, zero, suc, ◌+◌, ◌-◌, ◌<◌, ◌≤◌, Bool, false, cond, List, [], ◌∷◌, drop, length, get_or, reverse, Option, None, Some, Result, Ok, refl, sym, ap, subst, ◌∙◌, add-one, arith, drop-cons, IfSome}
 use Rattle.std.specs.List.{All}
 use Rattle.std.proofs.lemmas.List.Elements.{All-cons, All-head, All-nil, All-tail, All-weaker}
 use Rattle.bv_base.specs.Answers.{then_do}
 use Rattle.bv_base.specs.declared.place.Place.{Place}
-use Rattle.bv_base.proofs.ThenLemmas.{ok}
 use Rattle.name_table.specs.Sound.{Each, IsSound, IsTokenSound}
 use Rattle.name_table.specs.declared.builtin.Builtin.{Builtin}
 use Rattle.name_table.specs.declared.builtin.Builtin.TheVariants as op
@@ -21,11 +20,11 @@ use Rattle.sym_state.specs.State.{State}
 use Rattle.sym_state.specs.Demands.{Three}
 use Rattle.sym_state.specs.declared.symbol.Sym.{Sym}
 use Rattle.cert_check.specs.declared.refusal.Refusal.{Refusal}
-use Rattle.cert_check.specs.Certified.{IsCertified}
+use Rattle.cert_check.specs.Certified.{IsCertified, MakesLoops}
 use Rattle.cert_check.specs.Courses.{Course, Walk, gives_all}
 use Rattle.cert_check.specs.Given.{Refused, Takes}
 use Rattle.cert_check.specs.Room.{GivesRoom, HasRoom, IsCaseWithin, KeepsRoom}
-use Rattle.cert_check.specs.Walks.{Enter, Onward, Scope, body_walked, built_in, cases_entered, chosen, chosen_in, entering_nothing, enters, exact_target, function_entered, named, taken, taken_from, test_of, walked}
+use Rattle.cert_check.specs.Walks.{Enter, Onward, Scope, body_walked, built_in, cases_entered, chosen, chosen_in, each_taken, entering_nothing, enters, exact_target, function_entered, named, taken, taken_from, test_of, walked}
 use Rattle.cert_check.proofs.Keeping.{told_by}
 use Rattle.cert_check.proofs.OwnStacks.{by_own_stack, chosen_own, one_deeper}
 use Rattle.cert_check.proofs.RoomLeft.{all_room, entered_room, moved_room, room_on, taken_from_room, taken_room}
@@ -104,19 +103,19 @@ body_takes {T} scope more place body state course begun inner after tokens given
 
 -- states that a token is taken from
 pub next_taken : (scope : Scope) (enter : Enter) (t : TokenAt) (states rest : List State) (state : State) (course mid : Course) (whole : Walk)
-    → states ≡ state ∷ rest → taken_from scope enter t states course ≡ whole → taken scope enter t state course ≡ Ok mid
-    → taken_from scope enter t rest mid ≡ whole
+    → states ≡ state ∷ rest → each_taken scope enter t states course ≡ whole → taken scope enter t state course ≡ Ok mid
+    → each_taken scope enter t rest mid ≡ whole
 next_taken scope enter t states rest state course mid whole is left e =
-    sym (then_goes (taken scope enter t state course) (taken_from scope enter t rest) mid e) ∙ sym (ap (λ (l : List State). taken_from scope enter t l course) is) ∙ left
+    sym (then_goes (taken scope enter t state course) (each_taken scope enter t rest) mid e) ∙ sym (ap (λ (l : List State). each_taken scope enter t l course) is) ∙ left
 
 pub rest_room : (scope : Scope) (depth : ℕ) (t : TokenAt) (states rest : List State) (state : State) (course mid : Course) → IsSound scope.style
-    → IsCertified scope.style scope.cert → IsTokenSound scope.style.names scope.style.bodies scope.style.texts t.token → states ≡ state ∷ rest
+    → IsCertified scope.style scope.cert → IfSome scope.make (MakesLoops scope.style) → IsTokenSound scope.style.names scope.style.bodies scope.style.texts t.token → states ≡ state ∷ rest
     → All (HasRoom scope.style 0 course.count) states → taken scope (body_walked scope depth) t state course ≡ Ok mid
     → All (HasRoom scope.style 0 mid.count) rest
-rest_room scope depth t states rest state course mid sound cert token is room e =
+rest_room scope depth t states rest state course mid sound cert makes token is room e =
     let P : State → Type 0 = HasRoom scope.style 0 course.count in
     let all = subst (All P) is room in
-    let kept = taken_room scope depth t state course mid sound cert token (All-head P state rest all) e in
+    let kept = taken_room scope depth t state course mid sound cert makes token (All-head P state rest all) e in
     all_room scope.style course.count mid.count rest kept.count (All-tail P state rest all)
 
 -- tokens of a body
@@ -130,30 +129,40 @@ next_walked scope enter tokens t rest states course fresh mid whole is fresh_is 
     sym (then_goes (taken_from scope enter t course.given (record course { given = [] })) (walked scope enter rest) mid taken_is)
     ∙ sym (ap (λ (l : List TokenAt). walked scope enter l course) is) ∙ left
 
+pub walked_refused : (scope : Scope) (enter : Enter) (tokens : List TokenAt) (t : TokenAt) (rest : List TokenAt) (states : List State) (course fresh : Course)
+    (whole : Walk) (refusal : Refusal) → tokens ≡ t ∷ rest → fresh ≡ record course { given = [] } → states ≡ course.given
+    → walked scope enter tokens course ≡ whole → Refused (taken_from scope enter t states fresh) refusal → Refused whole refusal
+walked_refused scope enter tokens t rest states course fresh whole refusal is fresh_is given left refused differs =
+    let taken_is : taken_from scope enter t course.given (record course { given = [] }) ≡ taken_from scope enter t states fresh =
+    sym (ap (λ (l : List State). taken_from scope enter t l (record course { given = [] })) given)
+    ∙ sym (ap (λ (c : Course). taken_from scope enter t states c) fresh_is) in
+    sym left ∙ ap (λ (l : List TokenAt). walked scope enter l course) is
+    ∙ ap (λ (w : Walk). then_do w (walked scope enter rest)) (taken_is ∙ refused differs)
+
 pub token_kept : (scope : Scope) (depth : ℕ) (t : TokenAt) (states : List State) (course fresh mid : Course) → IsSound scope.style
-    → IsCertified scope.style scope.cert → IsTokenSound scope.style.names scope.style.bodies scope.style.texts t.token → fresh ≡ record course { given = [] }
+    → IsCertified scope.style scope.cert → IfSome scope.make (MakesLoops scope.style) → IsTokenSound scope.style.names scope.style.bodies scope.style.texts t.token → fresh ≡ record course { given = [] }
     → states ≡ course.given → GivesRoom scope.style course → taken_from scope (body_walked scope depth) t states fresh ≡ Ok mid → GivesRoom scope.style mid
-token_kept scope depth t states course fresh mid sound cert token is are room e =
+token_kept scope depth t states course fresh mid sound cert makes token is are room e =
     let count : course.count ≡ fresh.count = sym (ap (λ (c : Course). c.count) is) in
     let all = subst (λ (n : ℕ). All (HasRoom scope.style 0 n) states) count (subst (All (HasRoom scope.style 0 course.count)) (sym are) room) in
-    (taken_from_room scope depth t states fresh mid sound cert token all e).given
+    (taken_from_room scope depth t states fresh mid sound cert makes token all e).given
     (subst (GivesRoom scope.style) (sym is) (All-nil (HasRoom scope.style 0 course.count)))
 
 -- the function of a case
 pub function_room : (scope : Scope) (depth : ℕ) (place : Place) (target : Option Target) (state : State) (course after : Course) → IsSound scope.style
-    → IsCertified scope.style scope.cert → HasRoom scope.style 64 course.count state
+    → IsCertified scope.style scope.cert → IfSome scope.make (MakesLoops scope.style) → HasRoom scope.style 64 course.count state
     → (let enter = body_walked scope depth in function_entered scope enter (by_own_stack scope enter place) place target state course ≡ Ok after)
     → KeepsRoom scope.style course after
-function_room scope depth place None state course after sound cert room e = absurd (cc)
-function_room scope depth place (Some (Named name)) state course after sound cert room e =
-    let told = told_by scope sound cert in
+function_room scope depth place None state course after sound cert makes room e = absurd (cc)
+function_room scope depth place (Some (Named name)) state course after sound cert makes room e =
+    let told = told_by scope sound cert makes in
     let enters = body_moved scope depth told in
     let enter = body_walked scope depth in
     moved_room scope 0 state course after
     (name_moved scope enter (chosen_in scope enter place) place name state told enters room.made (chosen_moved scope enter place state told enters room.made) course after e)
     (room_on scope.style 64 0 course.count course.count state (omega arith) (omega arith) room)
-function_room scope depth place (Some (Block body)) state course after sound cert room e =
-    entered_room scope depth place (Block body) body state course after sound cert room e
+function_room scope depth place (Some (Block body)) state course after sound cert makes room e =
+    entered_room scope depth place (Block body) body state course after sound cert makes room e
 
 pub next_entered : (scope : Scope) (enter : Enter) (place : Place) (three : Three) (cases rest : List (Bool × State)) (above : Bool) (state : State) (function : Sym)
     (target : Option Target) (course mid : Course) (whole : Walk) → cases ≡ (above, state) ∷ rest → function ≡ cond above three.middle three.top
@@ -175,14 +184,14 @@ cases_later style known low high cases rises all =
     (λ case within. record { room = room_on style 64 64 low high case.1 (omega arith) rises within.room; operands = within.operands }) cases all
 
 pub rest_within : (scope : Scope) (depth known : ℕ) (place : Place) (cases rest : List (Bool × State)) (above : Bool) (state : State) (target : Option Target)
-    (course mid : Course) → IsSound scope.style → IsCertified scope.style scope.cert → cases ≡ (above, state) ∷ rest
+    (course mid : Course) → IsSound scope.style → IsCertified scope.style scope.cert → IfSome scope.make (MakesLoops scope.style) → cases ≡ (above, state) ∷ rest
     → All (IsCaseWithin scope.style known course.count) cases
     → (let enter = body_walked scope depth in function_entered scope enter (by_own_stack scope enter place) place target state course ≡ Ok mid)
     → All (IsCaseWithin scope.style known mid.count) rest
-rest_within scope depth known place cases rest above state target course mid sound cert is within e =
+rest_within scope depth known place cases rest above state target course mid sound cert makes is within e =
     let P : (Bool × State) → Type 0 = IsCaseWithin scope.style known course.count in
     let all = subst (All P) is within in
-    let kept = function_room scope depth place target state course mid sound cert (All-head P (above, state) rest all).room e in
+    let kept = function_room scope depth place target state course mid sound cert makes (All-head P (above, state) rest all).room e in
     cases_later scope.style known course.count mid.count rest kept.count (All-tail P (above, state) rest all)
 
 pub case_within : (style : Style) (known count : ℕ) (cases rest : List (Bool × State)) (case : Bool × State) → cases ≡ case ∷ rest

@@ -5,6 +5,7 @@ use Rattle.std.specs.Option.{option_map_or}
 use Rattle.std.proofs.lemmas.List.{append-nil}
 use Rattle.std.proofs.lemmas.List.Elements.{All-append, All-cons, All-head, All-nil, All-same, All-tail, All-weaker}
 use Rattle.bv_base.specs.declared.place.Place.{Place}
+use Rattle.bv_base.specs.Answers.{then_do}
 use Rattle.bv_base.proofs.ThenLemmas.{ok_is, then_ok, where_ok}
 use Rattle.name_table.specs.Sound.{Each, IsSound, IsTokenSound}
 use Rattle.name_table.specs.declared.builtin.Builtin.{Builtin}
@@ -40,13 +41,14 @@ use Rattle.refinements.proofs.Framing.{above_left}
 use Rattle.refinements.proofs.HintsTaken.{labelled_hints_keep}
 use Rattle.refinements.proofs.Kept.{above_made}
 use Rattle.straight_hints.specs.Found.{above_hints}
-use Rattle.cert_check.specs.Certified.{IsLoopOf, IsSummaryOf}
+use Rattle.cert_check.specs.Certified.{HasMade, IsLoopOf, IsSummaryOf, MakesLoops}
 use Rattle.cert_check.specs.Courses.{Course, behind, counts, gives, gives_all, placed}
-use Rattle.cert_check.specs.Walks.{Call, Enter, Onward, Scope, body_walked, built_in, cases_entered, choice, chosen, chosen_in, entered, entered_by, entering, exact_target, function_entered, has_summary, hints_of_choice, if_else, is_target, is_wizard, literal_state, name_entered, named, repeated, summary_used, taken, taken_from, test_of, token_taken, type_called, type_functions, type_walked, types_called, use_of, walked}
-use Rattle.cert_check.proofs.Followed.{Follows, HasFewNew, Moved, among_all, behind_moved, counted_moved, follows_self, follows_twice, left_follows, moved_from, moved_self, moved_twice, moved_within, one_given, rehinted}
+use Rattle.cert_check.specs.Walks.{Call, Enter, Make, Making, Onward, Scope, all_made, body_walked, built_in, cases_entered, choice, chosen, chosen_in, each_taken, entered, entered_by, entering, exact_target, function_entered, has_summary, hints_of_choice, if_else, is_target, is_while_token, is_wizard, literal_state, making_for, name_entered, named, none_made, repeated, summary_used, taken, taken_by, taken_from, test_of, token_taken, type_called, type_functions, type_walked, types_called, use_of, walked, while_by_make, while_taken, whiles_taken}
+use Rattle.cert_check.proofs.Followed.{Follows, HasFewNew, KeepsLoops, Moved, among_all, behind_moved, counted_moved, follows_self, follows_twice, left_follows, moved_from, moved_self, moved_twice, moved_within, one_given, rehinted}
 use Rattle.cert_check.proofs.Inverted.{gives_all_ok, placed_ok}
 use Rattle.cert_check.proofs.Keeping.{Told, element, loop_moved, nothing_entered, token_few, token_follows, used_moved, variable_moved}
-use Rattle.cert_check.proofs.Repeating.{TwoMet, repeated_ok, without_two}
+use Rattle.cert_check.proofs.Repeating.{repeated_ok, without_two}
+use Rattle.cert_check.proofs.Makings.{KeepsMade, all_written, alone_moved, popped_follows, while_moved}
 
 -- a way on from a state gives states that follow it
 abbrev pub Moves : Scope → ℕ → Onward → State → Type 0
@@ -191,16 +193,6 @@ choice_moved scope enter call place a b c rest state course after told enters ca
     (above_made scope.style scope.cert.cond popped a hints split.0 (rest_made scope.style state rest made under) old cases)
     (above_left scope.cert.cond popped a hints split.0 cases)) split.2)
 
--- the state without the two functions follows
-pub popped_follows : (scope : Scope) (state : State) (met : TwoMet state (reverse state.stack)) → WellMade scope.style state
-    → Follows scope state (without_two state (reverse state.stack) met)
-popped_follows scope state met made =
-    let below = all_reversed state.next state.stack made.stack in
-    let under = All-tail (λ (s : Sym). s.0 < state.next) met.test met.rest
-    (All-tail (λ (s : Sym). s.0 < state.next) met.body (met.test ∷ met.rest)
-    (subst (λ (l : List Sym). All (λ (s : Sym). s.0 < state.next) l) met.on_top below)) in
-    left_follows scope state (without_two state (reverse state.stack) met) (rest_made scope.style state met.rest made under) (moved state (reverse met.rest))
-
 -- a loop is used in it
 pub repeated_moved : (scope : Scope) (place : Place) (state : State) → Told scope → WellMade scope.style state → Moves scope 64 (repeated scope place) state
 repeated_moved scope place state told made course after e =
@@ -242,7 +234,12 @@ built_in_moved : (scope : Scope) (enter : Enter) (other : Onward) (o : Builtin) 
     → WellMade scope.style state → Moves scope 65 other state → Moves scope 65 (built_in scope enter other o place) state
 built_in_moved scope enter other op.IfElse place state told enters made moves course after e = moves course after e
 built_in_moved scope enter other op.WhileDo place state told enters made moves course after e =
-    moved_within scope 64 65 state course after (omega arith) (repeated_moved scope place state told made course after e)
+    moved_within scope 64 65 state course after (omega arith) (by_make scope.make refl e)
+  where
+    by_make : (make : Option Make) → scope.make ≡ make → while_by_make make scope place state course ≡ Ok after → Moved scope 64 state course after
+    by_make None is e = repeated_moved scope place state told made course after e
+    by_make (Some make) is e =
+        alone_moved make scope place state course after told (subst (λ (o : Option Make). IfSome o (MakesLoops scope.style)) is told.makes) is made e
 built_in_moved scope enter other op.CallType place state told enters made moves course after e =
     let at = where_ok state.at_entry (types_called scope enter place (type_functions scope.style scope.cert.cond) state course) _ after e in
     moved_within scope 0 65 state course after (omega arith)
@@ -413,49 +410,124 @@ pub record MovedFrom (scope : Scope) (starts : List State) (before after : Cours
   pub come : All (Comes scope starts before.count after.count) more
   pub count : before.count ≤ after.count
   pub short : All HasFewUses before.hints → All HasFewUses after.hints
+  pub loops : KeepsLoops scope before after
+  pub stay : after.stay ≡ before.stay
 
-pub taken_from_moved : (scope : Scope) (enter : Enter) (t : TokenAt) (states : List State) (course after : Course) → Told scope → Enters scope enter
-    → IsTokenSound scope.style.names scope.style.bodies scope.style.texts t.token → All (WellMade scope.style) states
-    → taken_from scope enter t states course ≡ Ok after → MovedFrom scope states course after
-taken_from_moved scope enter t [] course after told enters sound made e =
-    subst (MovedFrom scope [] course) (sym (ok_is course after e)) (record {
-      more = [];
-      given = sym (append-nil course.given);
-      come = All-nil (Comes scope [] course.count course.count);
-      count = omega arith;
-      short = λ short. short;
-    })
-taken_from_moved scope enter t (state ∷ states) course after told enters sound made e =
-    let first = then_ok (taken scope enter t state course) (taken_from scope enter t states) after e in
-    let one = taken_moved scope enter t state told enters (All-head (WellMade scope.style) state states made) sound course first.0 first.1 in
-    let rest = taken_from_moved scope enter t states first.0 after told enters sound (All-tail (WellMade scope.style) state states made) first.2 in
+-- what a rule gives of the first state, and what it gives of the others
+pub from_twice : (scope : Scope) (state : State) (states : List State) (before middle after : Course) → Moved scope 0 state before middle
+    → MovedFrom scope states middle after → MovedFrom scope (state ∷ states) before after
+from_twice scope state states before middle after one rest =
     let low = one.count in
     let high = rest.count in
     record {
       more = one.more ++ rest.more;
-      given = rest.given ∙ ap (λ (l : List State). l ++ rest.more) one.given ∙ append_assoc course.given one.more rest.more;
-      come = All-append (Comes scope (state ∷ states) course.count after.count) one.more rest.more
-          (come_wider scope (state ∷ []) (state ∷ states) course.count course.count first.0.count after.count one.more (omega arith) rest.count
-          (λ x among. only_first x state states among) (from_one scope state course first.0 one))
-          (come_wider scope states (state ∷ states) course.count first.0.count after.count after.count rest.more one.count (omega arith)
+      given = rest.given ∙ ap (λ (l : List State). l ++ rest.more) one.given ∙ append_assoc before.given one.more rest.more;
+      come = All-append (Comes scope (state ∷ states) before.count after.count) one.more rest.more
+          (come_wider scope (state ∷ []) (state ∷ states) before.count before.count middle.count after.count one.more (omega arith) rest.count
+          only_first (come_of scope state before.count middle.count one.more one.follow one.few))
+          (come_wider scope states (state ∷ states) before.count middle.count after.count after.count rest.more one.count (omega arith)
           (λ x among. inr among) rest.come);
       count = omega (arith, low, high);
       short = λ short. rest.short (one.short short);
+      loops = λ makes all. rest.loops makes (one.loops makes all);
+      stay = rest.stay ∙ one.stay;
     }
   where
-    only_first : (x state : State) (states : List State) → IsAmong x (state ∷ []) → IsAmong x (state ∷ states)
-    only_first x state states (inl is) = inl is
-    only_first x state states (inr none) = absurd none
+    only_first : (x : State) → IsAmong x (state ∷ []) → IsAmong x (state ∷ states)
+    only_first x (inl is) = inl is
+    only_first x (inr none) = absurd none
 
-    from_one : (scope : Scope) (state : State) (before after : Course) (one : Moved scope 0 state before after)
-        → All (Comes scope (state ∷ []) before.count after.count) one.more
-    from_one scope state before after one = come_of scope state before.count after.count one.more one.follow one.few
+-- nothing is given of no state
+pub from_none : (scope : Scope) (course : Course) → MovedFrom scope [] course course
+from_none scope course = record {
+  more = [];
+  given = sym (append-nil course.given);
+  come = All-nil (Comes scope [] course.count course.count);
+  count = omega arith;
+  short = λ short. short;
+  loops = λ makes all. all;
+  stay = refl;
+}
+
+pub each_taken_moved : (scope : Scope) (enter : Enter) (t : TokenAt) (states : List State) (course after : Course) → Told scope → Enters scope enter
+    → IsTokenSound scope.style.names scope.style.bodies scope.style.texts t.token → All (WellMade scope.style) states
+    → each_taken scope enter t states course ≡ Ok after → MovedFrom scope states course after
+each_taken_moved scope enter t [] course after told enters sound made e = subst (MovedFrom scope [] course) (sym (ok_is course after e)) (from_none scope course)
+each_taken_moved scope enter t (state ∷ states) course after told enters sound made e =
+    let first = then_ok (taken scope enter t state course) (each_taken scope enter t states) after e in
+    from_twice scope state states course first.0 after
+    (taken_moved scope enter t state told enters (All-head (WellMade scope.style) state states made) sound course first.0 first.1)
+    (each_taken_moved scope enter t states first.0 after told enters sound (All-tail (WellMade scope.style) state states made) first.2)
+
+-- what loops that are made for the states of a token keep
+record WhiledFrom (make : Make) (scope : Scope) (starts : List State) (before after : Making) : Type 0 where
+  pub moved : MovedFrom scope starts before.course after.course
+  pub written : KeepsMade make scope before after
+
+-- loops that are made for the states of a token
+whiles_moved : (make : Make) (scope : Scope) (place : Place) (states earlier later : List State) (making after : Making) → Told scope
+    → MakesLoops scope.style make → All (WellMade scope.style) states → ((x : State) → IsAmong x later → IsAmong x states)
+    → All (WellMade scope.style) later → HasMade scope.style making → whiles_taken make scope place states earlier later making ≡ Ok after
+    → WhiledFrom make scope later making after
+whiles_moved make scope place states earlier [] making after told makes all among well made e =
+    subst (WhiledFrom make scope [] making) (sym (ok_is making after e)) (record { moved = from_none scope making.course; written = λ makes all. all })
+whiles_moved make scope place states earlier (state ∷ later) making after told makes all among well made e =
+    let rest = whiles_taken make scope place states (earlier ++ state ∷ []) later in
+    let counted = then_ok (counts 1 place making.course)
+    (λ course. then_do (while_taken make scope place states earlier state (record making { course = course })) rest) after e in
+    let begun : Making = record making { course = counted.0 } in
+    let taken = then_ok (while_taken make scope place states earlier state begun) rest after counted.2 in
+    let one = while_moved make scope place states earlier state begun taken.0 told makes all (among state (inl refl))
+    (All-head (WellMade scope.style) state later well) made taken.1 in
+    let others = whiles_moved make scope place states (earlier ++ state ∷ []) later taken.0 after told makes all (λ x later. among x (inr later))
+    (All-tail (WellMade scope.style) state later well) one.made taken.2 in
+    record {
+      moved = from_twice scope state later making.course taken.0.course after.course
+          (counted_moved scope 1 0 state place making.course counted.0 taken.0.course counted.1
+          (moved_within scope 64 65 state counted.0 taken.0.course (omega arith) one.moved)) others.moved;
+      written = λ writes loops. others.written writes (one.written writes loops);
+    }
+
+-- how loops are made for a token is how they are made
+pub making_is : (scope : Scope) (t : Token) (make : Make) → making_for scope t ≡ Some make → scope.make ≡ Some make
+making_is scope t make e =
+    elim (is_while_token scope.style t) as (λ (b : Bool). cond b scope.make None ≡ Some make → scope.make ≡ Some make) [
+      | true ↦ λ is. is
+      | false ↦ λ is. absurd (cc)
+    ] e
+
+pub taken_from_moved : (scope : Scope) (enter : Enter) (t : TokenAt) (states : List State) (course after : Course) → Told scope → Enters scope enter
+    → IsTokenSound scope.style.names scope.style.bodies scope.style.texts t.token → All (WellMade scope.style) states
+    → taken_from scope enter t states course ≡ Ok after → MovedFrom scope states course after
+taken_from_moved scope enter t states course after told enters sound made e = by_make (making_for scope t.token) refl e
+  where
+    by_make : (found : Option Make) → making_for scope t.token ≡ found → taken_by found scope enter t states course ≡ Ok after
+        → MovedFrom scope states course after
+    by_make None is e = each_taken_moved scope enter t states course after told enters sound made e
+    by_make (Some make) is e =
+        let all = then_ok (whiles_taken make scope t.place states [] states (none_made course)) (λ making. Ok (all_made making)) after e in
+        let makes = subst (λ (o : Option Make). IfSome o (MakesLoops scope.style)) (making_is scope t.token make is) told.makes in
+        let moved = whiles_moved make scope t.place states [] states (none_made course) all.0 told makes made (λ x among. among) made
+        (All-nil (IsLoopOf scope.style)) all.1 in
+        let come = moved.moved in
+        subst (MovedFrom scope states course) (sym (ok_is (all_made all.0) after all.2)) (record {
+          more = come.more;
+          given = come.given;
+          come = come.come;
+          count = come.count;
+          short = come.short;
+          loops = λ writes loops.
+              all_written make scope all.0 (making_is scope t.token make is) moved.written writes (come.loops writes loops);
+          stay = come.stay;
+        })
 
 -- the states at a walk's end come from those at its start
 pub record Ended (scope : Scope) (starts : List State) (before after : Course) : Type 0 where
   pub come : All (Comes scope starts before.count after.count) after.given
   pub count : before.count ≤ after.count
   pub short : All HasFewUses before.hints → All HasFewUses after.hints
+  pub loops : KeepsLoops scope before after
+  pub stay : after.stay ≡ before.stay
 
 pub walked_ends : (scope : Scope) (enter : Enter) (tokens : List TokenAt) (course after : Course) → Told scope → Enters scope enter
     → AreSound scope tokens → All (WellMade scope.style) course.given → walked scope enter tokens course ≡ Ok after → Ended scope course.given course after
@@ -464,6 +536,8 @@ walked_ends scope enter [] course after told enters sound made e =
       come = come_self scope course.count course.given made;
       count = omega arith;
       short = λ short. short;
+      loops = λ makes all. all;
+      stay = refl;
     })
 walked_ends scope enter (t ∷ tokens) course after told enters sound made e =
     let fresh = record course { given = [] } in
@@ -477,6 +551,8 @@ walked_ends scope enter (t ∷ tokens) course after told enters sound made e =
       come = come_twice scope course.given first.0.given course.count first.0.count after.count after.given come rest.come;
       count = omega (arith, low, high);
       short = λ short. rest.short (one.short short);
+      loops = λ makes all. rest.loops makes (one.loops makes all);
+      stay = rest.stay ∙ one.stay;
     }
 
 -- the tokens of a body of the style
@@ -506,4 +582,6 @@ body_moved scope (suc more) told place body state made course after e =
       few = come_few scope state course.count inner.0.count inner.0.given ended.come;
       count = ended.count;
       short = ended.short;
+      loops = ended.loops;
+      stay = ended.stay;
     })

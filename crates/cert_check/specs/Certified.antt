@@ -1,5 +1,5 @@
 -- What a walk asks of a certificate (docs/CHECKER.md, "Certificates"): what every certificate that was read for the style has.
-use Rattle.std.specs.Prelude.{◌≡◌, ◌≢◌, ℕ, ◌+◌, ◌<◌, ◌≤◌, ◌^◌, Bool, true, false, nat_lt, List, length, IfSome}
+use Rattle.std.specs.Prelude.{◌≡◌, ◌≢◌, ℕ, ◌+◌, ◌<◌, ◌≤◌, ◌^◌, Bool, true, false, nat_lt, List, length, Option, IfSome}
 use Rattle.std.specs.List.{All}
 use Rattle.std.specs.Option.{option_map_or}
 use Rattle.lin_facts.specs.declared.row.Row.{Row}
@@ -8,6 +8,8 @@ use Rattle.name_table.specs.Sound.{IsSound}
 use Rattle.name_table.specs.declared.names.NameId.{NameId}
 use Rattle.name_table.specs.declared.style.Style.{Style}
 use Rattle.bst_meaning.specs.StyleParts.{kind_of}
+use Rattle.cert_format.specs.CertText.{IsLoop, IsNameable}
+use Rattle.bst_meaning.specs.declared.value.Target.{Target}
 use Rattle.cert_format.specs.CondText.{is_chain}
 use Rattle.cert_format.specs.declared.cert.Cert.{Cert}
 use Rattle.cert_format.specs.declared.cert.CommandPart.{CommandPart}
@@ -17,10 +19,13 @@ use Rattle.sym_state.specs.Demands.{HasFewUses}
 use Rattle.sym_state.specs.Entailing.{line_count}
 use Rattle.sym_state.specs.Positions.{position_sizes}
 use Rattle.sym_state.specs.Starting.{IsFit, IsNumbered, has_kind, symbols_of}
-use Rattle.sym_state.specs.WellMade.{HasSmallFields, HasSmallLimits, is_field, is_variable, size}
+use Rattle.sym_state.specs.WellMade.{HasSmallFields, HasSmallLimits, WellMade, is_field, is_variable, size}
 use Rattle.sym_state.specs.declared.piece.Piece.{Piece}
+use Rattle.sym_state.specs.State.{State}
 use Rattle.cert_check.specs.Left.{AreUpwards, HasPlaces, IsPlaced, IsPost}
 use Rattle.cert_check.specs.Uses.{Passage, passage}
+use Rattle.cert_check.specs.Walks.{Make, Making, Over, next_number}
+use Rattle.cert_check.specs.declared.limits.TheConstants.{MOST_LOOPS}
 
 -- a piece is within the bounds of calls: few symbols, of which few on its stack, and few lines
 pub record IsShort (piece : Piece) : Type 0 where
@@ -103,3 +108,35 @@ pub record IsCertified (style : Style) (cert : Cert) : Type 0 where
 pub record AreSound (style : Style) (cert : Cert) : Type 0 where
   pub sound : IsSound style
   pub certified : IsCertified style cert
+
+-- loops that are made are loops of the style, where there is a state that enters and each of them is well made
+abbrev pub MakesLoops : Style → Make → Type 0
+MakesLoops style make =
+    (test body : Target) (states : List State) → 1 ≤ length states → All (WellMade style) states → IfSome (make test body states) (IsLoopOf style)
+
+-- a loop of a style that may stand in a certificate
+pub record IsStanding (style : Style) (one : Loop) : Type 0 where
+  pub of_style : IsLoopOf style one
+  pub stands : IsLoop style one
+
+-- loops that are made may stand in one, where their functions may be named
+abbrev pub MakesStanding : Style → Make → Type 0
+MakesStanding style make =
+    (test body : Target) (states : List State) → IsNameable style test → IsNameable style body → 1 ≤ length states → All (WellMade style) states
+    → IfSome (make test body states) (IsLoop style)
+
+-- a walk may be taken: what it is over is sound, and the loops that are made for it are loops of its style
+pub record CanWalk (over : Over) (style : Style) (make : Option Make) : Type 0 where
+  pub sound : IsSound over.style
+  pub certified : IsCertified over.style over.cert
+  pub same : style ≡ over.style
+  pub makes : IfSome make (MakesLoops over.style)
+
+-- the loops that were made for a token are loops of the style
+abbrev pub HasMade : Style → Making → Type 0
+HasMade style making = All (IsLoopOf style) making.made
+
+-- with those that were made before they are no more than a certificate may have
+pub record AreMade (style : Style) (making : Making) : Type 0 where
+  pub made : HasMade style making
+  pub few : next_number making ≤ MOST_LOOPS

@@ -2,6 +2,7 @@
 use Rattle.std.specs.Prelude.{ℕ, ◌+◌, nat_le, nat_lt, if◌then◌else◌, List, [], ◌∷◌, ◌++◌, length, Option, None, Some, Result, Ok, Err}
 use Rattle.bv_base.specs.Answers.{then_do}
 use Rattle.bv_base.specs.declared.place.Place.{Place}
+use Rattle.cert_format.specs.declared.cert.Loop.{Loop}
 use Rattle.sym_state.specs.State.{State}
 use Rattle.sym_state.specs.declared.demand.EffectFault.{EffectFault}
 use Rattle.sym_state.specs.declared.demand.EffectFault.TheVariants as fault
@@ -13,13 +14,20 @@ use Rattle.cert_check.specs.declared.refusal.Reason.TheVariants.{Demand, NotEnta
 use Rattle.cert_check.specs.declared.refusal.Refusal.{Refusal}
 
 -- the states that the token in hand has given so far, the hints of the certificate that are left, and how much the unit's walk has
--- counted; where hints are found and not read, how that is done, and those that were found so far
+-- counted; where hints are found and not read, how that is done, those that were found so far, and the loops that were made, behind so
+-- many that stay from walks before
 pub record Course : Type 0 where
   pub given : List State
   pub hints : List Hint
   pub count : ℕ
   pub finding : Option Finding
   pub found : List Hint
+  pub stay : ℕ
+  pub loops : List Loop
+
+-- the number of the first loop that is made for the token in hand
+abbrev pub first_number : Course → ℕ
+first_number course = course.stay + length course.loops
 
 -- the course after a rule, or the first rule that fails
 abbrev pub Walk : Type 0

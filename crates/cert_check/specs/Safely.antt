@@ -56,7 +56,7 @@ pub record Grows (old new : State) : Type 0 where
 pub record Follows (scope : Scope) (start after : State) : Type 0 where
   pub made : WellMade scope.style after
   pub grows : Grows start after
-  pub vars : (name : NameId) → may_write scope name ≡ false → symbol_at name after.vars ≡ symbol_at name start.vars
+  pub vars : (name : NameId) → may_write scope.writes name ≡ false → symbol_at name after.vars ≡ symbol_at name start.vars
 
 -- what stays of a configuration while a call goes on: the commands, the visit, the entries but for the variables of the one
 -- that is visited, and all of them where the state isn't at an entry; these frames wait

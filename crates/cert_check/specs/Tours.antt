@@ -1,6 +1,6 @@
 -- Turns of a loop of which the cases alone are known (docs/ANALYSER.md, "Loops"): they are walked as the loop's own check walks them, with
 -- hints that are found, and the states are kept that come to their ends.
-use Rattle.std.specs.Prelude.{◌≡◌, ◌≤◌, Bool, true, false, List, [], ◌∷◌, ◌++◌, Result, Ok, Err}
+use Rattle.std.specs.Prelude.{◌≡◌, ◌≤◌, Bool, true, false, List, [], ◌∷◌, ◌++◌, Result, Ok}
 use Rattle.std.specs.List.{All}
 use Rattle.bv_base.specs.Answers.{then_do}
 use Rattle.bv_base.specs.declared.place.Place.{Place}

@@ -24,12 +24,14 @@ use Rattle.sym_state.specs.declared.hint.Hint.TheVariants.{Case}
 use Rattle.sym_state.specs.declared.piece.Piece.{Piece}
 use Rattle.sym_state.specs.declared.symbol.Kinds.TheVariants.{Int}
 use Rattle.straight_hints.specs.declared.finding.Finding.{Finding}
+use Rattle.straight_hints.specs.declared.finding.Finding.TheVariants.{Straight}
 use Rattle.cert_check.specs.declared.limits.TheConstants.{MOST_DEPTH}
+use Rattle.cert_check.specs.declared.checker.Called.{Called}
 use Rattle.cert_check.specs.declared.refusal.Reason.TheVariants.{HintsLeft}
 use Rattle.cert_check.specs.declared.refusal.Refusal.{Refusal}
-use Rattle.cert_check.specs.Courses.{Course, Walk, counts, placed, refuses}
+use Rattle.cert_check.specs.Courses.{Course, Walk, placed, refuses}
 use Rattle.sym_state.specs.Showing.{Shown, piece_by}
-use Rattle.cert_check.specs.Walks.{Onward, Scope, body_walked, chosen_in, entered, name_entered, named}
+use Rattle.cert_check.specs.Walks.{Make, Onward, Scope, body_walked, chosen_in, entered, name_entered, named}
 
 -- a style and a certificate
 pub record Checked : Type 0 where
@@ -78,11 +80,11 @@ none_left place (hint ∷ hints) = refuses place HintsLeft
 
 -- a walk that begins with these hints
 abbrev pub beginning : List Hint → Course
-beginning hints = record { given = []; hints = hints; count = 0; finding = None; found = [] }
+beginning hints = record { given = []; hints = hints; count = 0; finding = None; found = []; stay = 0; loops = [] }
 
 -- a walk that finds its hints
 abbrev pub searching : Finding → Course
-searching finding = record { given = []; hints = []; count = 0; finding = Some finding; found = [] }
+searching finding = record { given = []; hints = []; count = 0; finding = Some finding; found = []; stay = 0; loops = [] }
 
 -- a unit's own body is walked from a state, of a name that isn't a function of the style its call
 abbrev pub own_walked : Scope → Place → Target → Option BodyId → Onward
@@ -95,7 +97,7 @@ own_walked scope place (Block body) None state course = Ok course
 -- the body of a summary is walked from its pre: each state at its end entails one of its posts, and no hint is left
 abbrev pub summary_checked : Style → Cert → Summary → Result (List Hint) Refusal
 summary_checked style cert summary =
-    let scope : Scope = record { style = style; cert = cert; writes = Some summary.writes } in
+    let scope : Scope = record { style = style; cert = cert; writes = Some summary.writes; make = None } in
     let body = body_of style summary.body in
     let place = place_of style body in
     let state = started style cert.cond (summary.pre ∷ []) summary.whole summary.entry in
@@ -108,7 +110,7 @@ checked_at style cert k = option_map_or (summary_checked style cert) (slice_get 
 
 -- a walk that may write every variable
 abbrev pub everywhere : Style → Cert → Scope
-everywhere style cert = record { style = style; cert = cert; writes = None }
+everywhere style cert = record { style = style; cert = cert; writes = None; make = None }
 
 -- a target is entered from a state: a name counts
 abbrev pub target_entered : Scope → Place → Target → Onward
@@ -164,7 +166,7 @@ turned_from scope place one (case ∷ cases) course =
 -- a loop is checked from each of its cases, and no hint is left; its place is that of its body
 abbrev pub loop_checked : Style → Cert → Loop → Result (List Hint) Refusal
 loop_checked style cert one =
-    let scope : Scope = record { style = style; cert = cert; writes = Some one.writes } in
+    let scope : Scope = record { style = style; cert = cert; writes = Some one.writes; make = None } in
     let place = place_of style (body_of style one.body) in
     then_do (turned_from scope place one one.cases (beginning one.hints)) (λ course. none_left place course.hints)
 
@@ -186,3 +188,14 @@ call_walked style cert states target place hints = target_from (everywhere style
 -- and for what has a summary: hints are short there.
 abbrev pub call_found : Finding → Style → Cert → List State → Target → Place → Walk
 call_found finding style cert states target place = target_from (everywhere style cert) place target states (searching finding)
+
+-- what a course came to
+abbrev pub came_to : Course → Called
+came_to course = record { given = course.given; found = course.found; loops = course.loops }
+
+-- the call of a command whose hints are found and whose loops are made, behind so many that stay: its states, those hints and those loops,
+-- or the first rule that fails
+abbrev pub call_made : Option Make → Style → Cert → ℕ → List State → Target → Place → Result Called Refusal
+call_made make style cert stay states target place =
+    let scope : Scope = record { style = style; cert = cert; writes = None; make = make } in
+    then_do (target_from scope place target states (record (searching Straight) { stay = stay })) (λ course. Ok (came_to course))

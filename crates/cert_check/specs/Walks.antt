@@ -1,8 +1,9 @@
 -- The walk over tokens (docs/CHECKER.md, "The walk"): each token is taken from each state in order, and what it gives takes the
 -- state's place. How a body is walked that a token enters is told to each rule.
-use Rattle.std.specs.Prelude.{ℕ, zero, suc, Bool, true, false, ◌&&◌, ◌||◌, nat_eq, if◌then◌else◌, List, [], ◌∷◌, ◌++◌, length, reverse, map, codes, Option, None, Some, is_none, Result, Ok, Err, slice_get}
-use Rattle.std.specs.List.{list_all, list_any}
+use Rattle.std.specs.Prelude.{ℕ, zero, suc, Bool, true, false, ◌&&◌, ◌||◌, nat_eq, nat_lt, ◌+◌, if◌then◌else◌, List, [], ◌∷◌, ◌++◌, length, reverse, map, codes, Option, None, Some, is_none, Result, Ok, Err, slice_get}
+use Rattle.std.specs.List.{filter_map, list_all, list_any}
 use Rattle.std.specs.Option.{option_and_then, option_map, option_map_or}
+use Rattle.std.specs.Result.{result_ok}
 use Rattle.bv_base.specs.Answers.{then_do}
 use Rattle.bv_base.specs.declared.place.Place.{Place}
 use Rattle.name_table.specs.Sound.{block_of}
@@ -30,7 +31,7 @@ use Rattle.sym_state.specs.State.{State}
 use Rattle.sym_state.specs.Cases.{above_of, split_of}
 use Rattle.sym_state.specs.Changes.{bound}
 use Rattle.sym_state.specs.Decided.{Function, ByName, ByNumber, exact_function, name_of}
-use Rattle.sym_state.specs.Demands.{Outcome, Three, three_by, two_of}
+use Rattle.sym_state.specs.Demands.{Outcome, Three, Two, three_by, two_of}
 use Rattle.sym_state.specs.Effects.{effect_of}
 use Rattle.sym_state.specs.Results.{next_of, with_result, with_top}
 use Rattle.sym_state.specs.Starting.{symbols_of}
@@ -48,15 +49,39 @@ use Rattle.sym_state.specs.declared.symbol.Sym.{Sym}
 use Rattle.sym_state.specs.declared.test.Test.{Test}
 use Rattle.sym_state.specs.declared.test.Test.TheVariants as test
 use Rattle.cert_check.specs.declared.refusal.Reason.TheVariants as reason
-use Rattle.straight_hints.specs.Found.{above_hints, plain_hints, test_hints}
-use Rattle.cert_check.specs.Courses.{Course, Walk, behind, counts, gives, gives_all, handed, placed, refuses}
+use Rattle.straight_hints.specs.Found.{above_hints, piece_hints, plain_hints, test_hints}
+use Rattle.straight_hints.specs.declared.finding.Finding.TheVariants.{Straight}
+use Rattle.cert_check.specs.Courses.{Course, Walk, behind, counts, first_number, gives, gives_all, handed, placed, refuses}
 use Rattle.cert_check.specs.Uses.{Passage, around, comes_by, is_among, left_state, passage}
+use Rattle.cert_check.specs.declared.refusal.Refusal.{Refusal}
+use Rattle.cert_check.specs.declared.limits.TheConstants.{MOST_LOOPS}
 
--- where a walk is: the style and the certificate, and the variables that the scope which is checked may write: all where none is listed
+-- how the loop of two functions is made that these states enter: there may be none
+abbrev pub Make : Type 0
+Make = Target → Target → List State → Option Loop
+
+-- how they are made, where they are: else there is none
+abbrev pub made_by : Option Make → Make
+made_by None = λ test body states. None
+made_by (Some make) = make
+
+-- what a walk is over: the style and the certificate, and the variables that the unit which is checked may write: all where none is
+-- listed
+pub record Over : Type 0 where
+  pub style : Style
+  pub cert : Cert
+  pub writes : Option (List NameId)
+
+-- where a walk is: what it is over, and where loops are made and not read, how that is done
 pub record Scope : Type 0 where
   pub style : Style
   pub cert : Cert
   pub writes : Option (List NameId)
+  pub make : Option Make
+
+-- a walk over these that makes loops so
+abbrev pub scope_of : Over → Option Make → Scope
+scope_of over make = record { style = over.style; cert = over.cert; writes = over.writes; make = make }
 
 -- how a body is walked that a token at a place enters
 abbrev pub Enter : Type 0
@@ -66,9 +91,9 @@ Enter = Place → BodyId → State → Course → Walk
 abbrev pub literal : Kinds → Fact → State → State
 literal kind said state = with_result kind (said ∷ []) [] state
 
--- the unit may write a variable
-abbrev pub may_write : Scope → NameId → Bool
-may_write scope name = option_map_or (λ writes. is_among writes name) scope.writes true
+-- a unit that writes these, or all, may write a variable
+abbrev pub may_write : Option (List NameId) → NameId → Bool
+may_write writes name = option_map_or (λ names. is_among names name) writes true
 
 -- the variable that `:=` writes, which the exact function on top names
 abbrev pub written_by : Builtin → State → Option NameId
@@ -76,8 +101,8 @@ written_by op.Assign state = option_and_then (λ s. option_and_then name_of (exa
 written_by _ state = None
 
 -- the unit may write what a built-in function writes
-abbrev pub is_within : Scope → Option NameId → Bool
-is_within scope written = option_map_or (may_write scope) written true
+abbrev pub is_within : Option (List NameId) → Option NameId → Bool
+is_within writes written = option_map_or (may_write writes) written true
 
 -- a variable that the unit may not write isn't written: that comes behind the demands and before the hints
 abbrev pub confined : Bool → Outcome → Outcome
@@ -93,7 +118,7 @@ hints_at scope op state course = handed course.finding course.hints (λ finding.
 abbrev pub plain : Scope → Builtin → Place → State → Course → Walk
 plain scope op place state course =
     let hints = hints_at scope op state course in
-    then_do (placed place (confined (is_within scope (written_by op state)) (effect_of scope.style scope.cert.cond state op hints)))
+    then_do (placed place (confined (is_within scope.writes (written_by op state)) (effect_of scope.style scope.cert.cond state op hints)))
     (λ after. gives place after.state (behind hints after.hints course))
 
 -- the hints for a test
@@ -126,7 +151,7 @@ has_summary cert target = list_any (λ summary. is_target summary.body target) c
 -- and each of its posts gives one state
 abbrev pub leaves : Scope → Place → Passage → Piece → List Piece → ℕ → State → Course → Walk
 leaves scope place unit pre posts kept state course =
-    if list_all (may_write scope) unit.writes
+    if list_all (may_write scope.writes) unit.writes
     then then_do (counts (length unit.writes) place course)
     (gives_all place (map (left_state scope.style scope.cert.cond unit pre kept state) posts))
     else refuses place (reason.NotEntailed 0)
@@ -264,11 +289,131 @@ abbrev pub loop_around : Scope → Place → Option Target → Option Target →
 loop_around scope place (Some test) (Some body) state course = loop_by scope place test body state course course.hints
 loop_around scope place test body state course = refuses place reason.UnknownFunction
 
--- `while$`: the test and, on top of it, the body
+-- `while$` by hints that are read: the test and, on top of it, the body
 abbrev pub repeated : Scope → Place → Onward
 repeated scope place state course =
     then_do (placed place (two_of Func Func state)) (λ two.
     loop_around scope place (exact_target scope.style state two.lower) (exact_target scope.style state two.upper) two.rest course)
+
+-- the two functions of a `while$`, and the state without them
+pub record While : Type 0 where
+  pub test : Target
+  pub body : Target
+  pub rest : State
+
+-- both functions are known exactly
+abbrev pub while_by : Option Target → Option Target → State → Option While
+while_by (Some test) (Some body) rest = Some (record { test = test; body = body; rest = rest })
+while_by test body rest = None
+
+-- those of a state with these operands
+abbrev pub while_of : Scope → State → Two → Option While
+while_of scope state two = while_by (exact_target scope.style state two.lower) (exact_target scope.style state two.upper) two.rest
+
+-- those of a state
+abbrev pub while_in : Scope → State → Option While
+while_in scope state = option_and_then (while_of scope state) (result_ok (two_of Func Func state))
+
+-- what is left of a state with these functions
+abbrev pub rest_of : While → While → Option State
+rest_of one other = if is_target one.test other.test && is_target one.body other.body then Some other.rest else None
+
+-- the states of a list that hold the same functions, without them
+abbrev pub entering_with : Scope → While → List State → List State
+entering_with scope one states = filter_map (λ state. option_and_then (rest_of one) (while_in scope state)) states
+
+-- the loops that were made for the token in hand, and the course
+pub record Making : Type 0 where
+  pub made : List Loop
+  pub course : Course
+
+-- a loop and its number
+pub record Numbered : Type 0 where
+  pub number : ℕ
+  pub one : Loop
+
+-- the loop of two functions among these, which are numbered from here
+abbrev pub numbered : While → ℕ → List Loop → Option Numbered
+numbered one number [] = None
+numbered one number (made ∷ loops) =
+    if is_target made.test one.test && is_target made.body one.body
+    then Some (record { number = number; one = made })
+    else numbered one (suc number) loops
+
+-- the one at a place among them
+abbrev pub numbered_at : ℕ → ℕ → List Loop → Option Numbered
+numbered_at number k loops = option_map (λ one. record { number = number + k; one = one }) (slice_get loops k)
+
+-- the number of the next loop
+abbrev pub next_number : Making → ℕ
+next_number making = first_number making.course + length making.made
+
+-- a loop that was made for the token, or else the one that is made now
+abbrev pub loop_made : Place → Option Numbered → Option Loop → Making → Result (Numbered × Making) Refusal
+loop_made place (Some found) new making = Ok (found, making)
+loop_made place None None making = refuses place reason.NoInvariant
+loop_made place None (Some one) making =
+    if nat_lt (next_number making) MOST_LOOPS
+    then Ok (record { number = next_number making; one = one }, record making { made = making.made ++ one ∷ [] })
+    else refuses place reason.NoInvariant
+
+-- the hints by which a state comes to a loop by the case of a number
+abbrev pub coming_hints : Cond → State → ℕ → Numbered → List Hint
+coming_hints admits state k found =
+    hint.Case k ∷ option_map_or (piece_hints Straight admits state) (slice_get found.one.cases k) []
+
+-- a loop that was made is used, by the case of a number
+abbrev pub made_used : Scope → Place → Numbered → ℕ → Onward
+made_used scope place found k state course =
+    let hints = coming_hints scope.cert.cond state k found in
+    then_do (placed place (comes_to (around found.one) scope.cert.cond found.one.cases state hints)) (λ come.
+    leaves scope place (around found.one) come.case found.one.exits 0 state
+    (record course { found = course.found ++ hint.Loop found.number ∷ hints }))
+
+-- a `while$` in a state of a list, of which these were taken: the loop's cases are those of the states that enter it, in order
+abbrev pub while_made : Make → Scope → Place → List State → List State → Option While → Making → Result Making Refusal
+while_made make scope place states earlier None making = refuses place reason.UnknownFunction
+while_made make scope place states earlier (Some one) making =
+    let found = numbered one (first_number making.course) making.made in
+    then_do (loop_made place found (make one.test one.body (entering_with scope one states)) making) (λ known.
+    then_do (made_used scope place known.0 (length (entering_with scope one earlier)) one.rest known.1.course) (λ course.
+    Ok (record known.1 { course = course })))
+
+-- `while$` in a state of a list, of which these were taken
+abbrev pub while_taken : Make → Scope → Place → List State → List State → State → Making → Result Making Refusal
+while_taken make scope place states earlier state making =
+    then_do (placed place (two_of Func Func state)) (λ two. while_made make scope place states earlier (while_of scope state two) making)
+
+-- a walk in which no loop was made yet for the token in hand
+abbrev pub none_made : Course → Making
+none_made course = record { made = []; course = course }
+
+-- those that were made for it come behind those that were made before
+abbrev pub all_made : Making → Course
+all_made making = record making.course { loops = making.course.loops ++ making.made }
+
+-- `while$` in one state whose loop is made
+abbrev pub while_alone : Make → Scope → Place → Onward
+while_alone make scope place state course =
+    then_do (while_taken make scope place (state ∷ []) [] state (none_made course)) (λ making. Ok (all_made making))
+
+-- `while$` in a state
+abbrev pub while_by_make : Option Make → Scope → Place → Onward
+while_by_make None scope place state course = repeated scope place state course
+while_by_make (Some make) scope place state course = while_alone make scope place state course
+
+-- `while$` in the states of a token, one after the other: each counts
+abbrev pub whiles_taken : Make → Scope → Place → List State → List State → List State → Making → Result Making Refusal
+whiles_taken make scope place states earlier [] making = Ok making
+whiles_taken make scope place states earlier (state ∷ later) making =
+    then_do (counts 1 place making.course) (λ course.
+    then_do (while_taken make scope place states earlier state (record making { course = course }))
+    (whiles_taken make scope place states (earlier ++ state ∷ []) later))
+
+-- in all of them
+abbrev pub whiles_from : Make → Scope → Place → List State → Course → Walk
+whiles_from make scope place states course =
+    then_do (whiles_taken make scope place states [] states (none_made course)) (λ making. Ok (all_made making))
 
 -- the functions of these types, of those that the style defines
 abbrev pub listed_functions : Style → List (List ℕ) → List NameId
@@ -321,7 +466,7 @@ enters _ = false
 -- a built-in function is called
 abbrev pub built_in : Scope → Enter → Onward → Builtin → Place → State → Course → Walk
 built_in scope enter if_else op.IfElse place state course = if_else state course
-built_in scope enter if_else op.WhileDo place state course = repeated scope place state course
+built_in scope enter if_else op.WhileDo place state course = while_by_make scope.make scope place state course
 built_in scope enter if_else op.CallType place state course = typed scope enter place state course
 built_in scope enter if_else op place state course = entering_nothing scope op (test_of op) place state course
 
@@ -382,9 +527,32 @@ abbrev pub taken : Scope → Enter → TokenAt → State → Course → Walk
 taken scope enter t state course = then_do (counts 1 t.place course) (token_taken scope enter t.token t.place state)
 
 -- a token is taken from states, one after the other
+abbrev pub each_taken : Scope → Enter → TokenAt → List State → Course → Walk
+each_taken scope enter t [] course = Ok course
+each_taken scope enter t (state ∷ states) course = then_do (taken scope enter t state course) (each_taken scope enter t states)
+
+-- `while$`
+abbrev pub is_while : Option Kind → Bool
+is_while (Some (kind.Builtin op.WhileDo)) = true
+is_while _ = false
+
+-- a token is `while$`
+abbrev pub is_while_token : Style → Token → Bool
+is_while_token style (token.Call name) = is_while (kind_of style name)
+is_while_token style _ = false
+
+-- how loops are made for a token: it may be `while$`
+abbrev pub making_for : Scope → Token → Option Make
+making_for scope t = if is_while_token scope.style t then scope.make else None
+
+-- a token is taken from states, of which a loop that is made takes all
+abbrev pub taken_by : Option Make → Scope → Enter → TokenAt → List State → Course → Walk
+taken_by None scope enter t states course = each_taken scope enter t states course
+taken_by (Some make) scope enter t states course = whiles_from make scope t.place states course
+
+-- a token is taken from states
 abbrev pub taken_from : Scope → Enter → TokenAt → List State → Course → Walk
-taken_from scope enter t [] course = Ok course
-taken_from scope enter t (state ∷ states) course = then_do (taken scope enter t state course) (taken_from scope enter t states)
+taken_from scope enter t states course = taken_by (making_for scope t.token) scope enter t states course
 
 -- the tokens of a body, each from the states that the one before it gave
 abbrev pub walked : Scope → Enter → List TokenAt → Course → Walk

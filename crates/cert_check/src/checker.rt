@@ -1,17 +1,19 @@
 //! The units of a certificate, and the calls of commands (docs/CHECKER.md, "Units").
 
-ghost use Rattle.std.specs.Prelude.{◌≡◌, [], Ok, IfOk, OnErr, OnOk, MatchResult, option_map, slice_get};
+ghost use Rattle.std.specs.Prelude.{◌≡◌, ◌≤◌, ◌+◌, [], length, Ok, IfOk, OnErr, OnOk, MatchResult, option_map, slice_get};
 ghost use Rattle.std.specs.List.{All};
 ghost use Rattle.name_table.specs.Sound.{Each, IsSound};
 ghost use Rattle.cert_format.specs.CertText.{IsHint};
 ghost use Rattle.sym_state.specs.Demands.{HasFewUses};
-ghost use Rattle.cert_check.specs.Certified.{AreSound, IsCertified, IsPieceOf};
+ghost use Rattle.cert_check.specs.Certified.{AreSound, IsCertified, IsPieceOf, IsStanding};
 ghost use Rattle.cert_check.specs.Given.{Finds, Leads, Refused, Takes};
 ghost use Rattle.cert_check.specs.Room.{HasRoom, IsEnd};
 ghost use Rattle.cert_check.specs.Tours as tours;
 ghost use Rattle.cert_check.specs.Units as rule;
 
 use crate::course::Course;
+use crate::limits::{MOST_COUNT, MOST_LOOPS};
+use crate::making::{Loops, Unmade};
 use crate::refusal::{Refusal, Walk};
 use crate::scope::Scope;
 use crate::tables::Tables;
@@ -22,6 +24,7 @@ use bst_meaning::condition::Cond;
 use bst_meaning::value::Target;
 use bv_base::memory::NoMemory;
 use bv_base::place::Place;
+use bv_base::seq::Seq;
 use cert_format::cert::{Cert, Loop, Summary};
 use name_table::names::NameId;
 use name_table::style::Style;
@@ -31,6 +34,14 @@ use straight_hints::Finding;
 use sym_state::hint::{Hint, Hints};
 use sym_state::piece::Piece;
 use sym_state::state::State;
+
+/// What a call came to whose hints are found and whose loops are made: the states at its end, those hints, and those loops.
+#[derive(Drop)]
+pub struct Called {
+    pub given: Seq<State>,
+    pub found: Seq<Hint>,
+    pub loops: Seq<Loop>,
+}
 
 /// A style and a certificate that is checked for it.
 #[derive(Drop)]
@@ -116,7 +127,8 @@ impl<'a> Checker<'a> {
     {
         let scope = self.scope(None);
         let mut course = Course::new(self.alloc, hints.rest());
-        target_from(&scope, place, target, states, &mut course)?;
+        let maker = Unmade::of(&scope);
+        target_from(&scope, &maker, place, target, states, &mut course)?;
         *hints = Hints::new(course.rest());
         Ok(course.take_given())
     }
@@ -139,9 +151,38 @@ impl<'a> Checker<'a> {
     {
         let scope = self.scope(None);
         let mut course = Course::searching(self.alloc, finding);
-        target_from(&scope, place, target, states, &mut course)?;
+        let maker = Unmade::of(&scope);
+        target_from(&scope, &maker, place, target, states, &mut course)?;
         let found = course.take_found();
         Ok((course.take_given(), found))
+    }
+
+    /// Calls a target from states, where hints are found and loops are made: the states at its end, those hints, and those loops, which are
+    /// numbered behind so many that stay.
+    pub fn make_call<M: Loops>(
+        &self,
+        maker: &M,
+        stay: usize,
+        states: Vec<State>,
+        target: Target,
+        place: Place,
+    ) -> Result<Called, Refusal>
+        requires style { M.style maker.now ≡ self.now.style }
+        requires stay { stay ≤ MOST_LOOPS }
+        requires room { All (HasRoom self.now.style 64 0) states.items }
+        ensures makes { MatchResult result
+            (λ called. rule.call_made (M.made maker.now) self.now.style self.now.cert stay states.items target place ≡ Ok called)
+            (Refused (rule.call_made (M.made maker.now) self.now.style self.now.cert stay states.items target place)) }
+        ensures made { IfOk result (λ called. All (IsEnd self.now.style) called.given) }
+        ensures written { IfOk result (λ called. Each IsHint called.found) }
+        ensures stand { IfOk result (λ called. All (IsStanding self.now.style) called.loops) }
+        ensures few { IfOk result (λ called. stay + length called.loops ≤ MOST_LOOPS) }
+    {
+        maker.makes();
+        let scope = self.scope(None);
+        let mut course = Course::making(self.alloc, stay);
+        target_from(&scope, maker, place, target, states, &mut course)?;
+        Ok(came_to(&mut course))
     }
 
     /// A turn from a case of a loop, by a certificate that has no such loop: the states that come to its ends, with the hints that are
@@ -192,5 +233,19 @@ impl<'a> Checker<'a> {
         ensures { option_map (λ one. one.now) result ≡ slice_get self.now.cert.loops index }
     {
         self.cert.loops.as_slice().get(index)
+    }
+}
+
+/// What a course came to, which is taken from it.
+fn came_to(course: &mut Course<'_>) -> Called
+    ensures came { result ≡ rule.came_to course.old }
+    ensures written { Each IsHint result.found }
+    ensures few { course.old.stay + length result.loops ≤ MOST_LOOPS }
+    ensures counted { course.old.count ≤ MOST_COUNT }
+{
+    Called {
+        given: Seq::from_vec(course.take_given()),
+        found: Seq::from_vec(course.take_found()),
+        loops: Seq::from_vec(course.take_loops()),
     }
 }

@@ -11,11 +11,14 @@ ghost use Rattle.sym_state.specs.Entailing.{line_count};
 ghost use Rattle.sym_state.specs.Results as results;
 ghost use Rattle.sym_state.specs.WellMade.{HasBounds, IsBounded};
 ghost use Rattle.sym_state.specs.declared.demand.EffectFault.TheVariants.{NoMemory as WantOfMemoryThere};
+ghost use Rattle.sym_state.specs.declared.hint.Hint.TheVariants.{Case as CaseHint, Loop as LoopHint};
 ghost use Rattle.sym_state.specs.declared.symbol.Kinds.TheVariants.{Int as IntKind};
 ghost use Rattle.cert_format.specs.CertText.{IsHint};
 ghost use Rattle.cert_format.specs.declared.cert.Loop.{Loop};
 ghost use Rattle.cert_check.specs.Courses as courses;
 ghost use Rattle.cert_check.specs.Given.{AnswersAt, AreCases, CanEnd, GoesOn, Takes};
+ghost use Rattle.cert_check.specs.Here.{here};
+ghost use Rattle.straight_hints.specs.declared.finding.Finding.TheVariants.{Straight};
 ghost use Rattle.cert_check.specs.Room.{AreWithin, HasRoom};
 ghost use Rattle.cert_check.specs.Tours as tours;
 ghost use Rattle.cert_check.specs.Units as units;
@@ -25,7 +28,8 @@ ghost use Rattle.cert_check.specs.declared.refusal.Reason.TheVariants.{NoMemory 
 
 use crate::at::At;
 use crate::choice::{Three, test_of};
-use crate::limits::{MOST_CASES, MOST_COUNT};
+use crate::limits::{MOST_CASES, MOST_COUNT, MOST_LOOPS};
+use crate::making::Loops;
 use crate::refusal::{Reason, Refusal, Walk};
 use crate::scope::Scope;
 use crate::units::all_end;
@@ -34,6 +38,7 @@ use bst_meaning::condition::Cond;
 use builtin_effects::effect::effect;
 use bv_base::memory::NoMemory;
 use bv_base::place::Place;
+use cert_format::cert::Loop;
 use name_table::builtin::Builtin;
 use name_table::names::NameId;
 use refinements::{Test, above, split};
@@ -49,7 +54,8 @@ use sym_state::state::State;
 use sym_state::symbol::{Kinds, Sym};
 
 /// The states that the token in hand has given so far, the hints of the certificate that are left, and how much the unit's
-/// walk has counted. Where hints are found and not read, how that is done, and those that were found so far.
+/// walk has counted. Where hints are found and not read, how that is done, those that were found so far, and the loops that were made,
+/// behind so many that stay from walks before.
 #[derive(Drop)]
 pub(crate) struct Course<'a> {
     alloc: Global,
@@ -58,22 +64,24 @@ pub(crate) struct Course<'a> {
     count: u32,
     finding: Option<Finding>,
     found: Vec<Hint>,
+    stay: usize,
+    loops: Vec<Loop>,
 }
 
 impl<'a> Model for Course<'a> {
-    ghost use Rattle.std.specs.Prelude.{◌≤◌};
+    ghost use Rattle.std.specs.Prelude.{◌≤◌, ◌+◌, length};
     ghost use Rattle.std.specs.List.{All};
     ghost use Rattle.name_table.specs.Sound.{Each};
     ghost use Rattle.cert_format.specs.CertText.{IsHint};
     ghost use Rattle.sym_state.specs.Demands.{HasFewUses};
     ghost use Rattle.cert_check.specs.Courses as courses;
-    ghost use Rattle.cert_check.specs.declared.limits.TheConstants.{MOST_COUNT};
+    ghost use Rattle.cert_check.specs.declared.limits.TheConstants.{MOST_COUNT, MOST_LOOPS};
 
     ghost Value = { courses.Course };
 
-    ghost view = { λ c. record { given = c.given.items; hints = c.hints; count = c.count; finding = c.finding; found = c.found.items } };
+    ghost view = { λ c. record { given = c.given.items; hints = c.hints; count = c.count; finding = c.finding; found = c.found.items; stay = c.stay; loops = c.loops.items } };
 
-    ghost invariant = { λ c. (c.count ≤ MOST_COUNT) × All HasFewUses c.hints × Each IsHint c.found.items };
+    ghost invariant = { λ c. (c.count ≤ MOST_COUNT) × All HasFewUses c.hints × Each IsHint c.found.items × (c.stay + length c.loops.items ≤ MOST_LOOPS) };
 }
 
 impl<'a> Course<'a> {
@@ -89,6 +97,8 @@ impl<'a> Course<'a> {
             count: 0,
             finding: None,
             found: Vec::new(alloc),
+            stay: 0,
+            loops: Vec::new(alloc),
         }
     }
 
@@ -103,6 +113,25 @@ impl<'a> Course<'a> {
             count: 0,
             finding: Some(finding),
             found: Vec::new(alloc),
+            stay: 0,
+            loops: Vec::new(alloc),
+        }
+    }
+
+    /// A walk that finds its hints and makes its loops, behind so many that stay.
+    pub(crate) fn making(alloc: Global, stay: usize) -> Course<'a>
+        requires few { stay ≤ MOST_LOOPS }
+        ensures { result ≡ record (units.searching Straight) { stay = stay } }
+    {
+        Course {
+            alloc,
+            given: Vec::new(alloc),
+            hints: Hints::new(&[]),
+            count: 0,
+            finding: Some(Finding::Straight),
+            found: Vec::new(alloc),
+            stay,
+            loops: Vec::new(alloc),
         }
     }
 
@@ -197,6 +226,65 @@ impl<'a> Course<'a> {
         mem::replace(&mut self.found, Vec::new(self.alloc))
     }
 
+    /// How many loops stay and were made.
+    pub(crate) fn loop_count(&self) -> usize
+        ensures made { result ≡ courses.first_number self.now }
+        ensures few { courses.first_number self.now ≤ MOST_LOOPS }
+        ensures counted { self.now.count ≤ MOST_COUNT }
+    {
+        self.stay + self.loops.len()
+    }
+
+    /// The loops that were made for a token come behind those that were made before.
+    pub(crate) fn makes(&mut self, place: Place, mut made: Vec<Loop>) -> Walk
+        requires few { courses.first_number self.old + length made.items ≤ MOST_LOOPS }
+        ensures { MatchResult result (λ _. self.new ≡ rule.all_made (record { made = made.items; course = self.old }))
+            (λ refusal. refusal.reason ≡ WantOfMemory) }
+    {
+        match self.loops.append(&mut made) {
+            Ok(()) => Ok(()),
+            Err(_) => refuse(place, Reason::NoMemory),
+        }
+    }
+
+    /// The loops that were made, which are taken.
+    pub(crate) fn take_loops(&mut self) -> Vec<Loop>
+        ensures loops { result.items ≡ self.old.loops }
+        ensures few { self.old.stay + length self.old.loops ≤ MOST_LOOPS }
+        ensures rest { self.new ≡ record self.old { loops = [] } }
+    {
+        mem::replace(&mut self.loops, Vec::new(self.alloc))
+    }
+
+    /// The hints by which a state comes to a loop that was made were found: its number, that of its case, and the steps.
+    pub(crate) fn finds_loop(
+        &mut self,
+        place: Place,
+        number: usize,
+        case: usize,
+        steps: Vec<Hint>,
+    ) -> Walk
+        requires number { number ≤ 65536 }
+        requires case { case ≤ 65536 }
+        requires written { Each IsHint steps.items }
+        ensures { MatchResult result (λ _. self.new ≡ record self.old { found = self.old.found ++ LoopHint number ∷ (CaseHint case ∷ steps.items) })
+            (λ refusal. refusal.reason ≡ WantOfMemory) }
+    {
+        let mut hints = Vec::new(self.alloc);
+        if hints.push(Hint::Loop(number as u32)).is_err()
+            || hints.push(Hint::Case(case as u32)).is_err()
+        {
+            return refuse(place, Reason::NoMemory);
+        }
+        self.finds(place, hints)?;
+        self.finds(place, steps)
+    }
+
+    /// Where its lists are.
+    pub(crate) fn alloc(&self) -> Global {
+        self.alloc
+    }
+
     /// How hints are found, where they are.
     fn finding(&self) -> Option<Finding>
         ensures finding { result ≡ self.now.finding }
@@ -218,9 +306,9 @@ impl<'a> Course<'a> {
     }
 
     /// A state comes to a unit by its pre, which the next hints show.
-    pub(crate) fn comes(
+    pub(crate) fn comes<M: Loops>(
         &mut self,
-        at: &At<'_>,
+        at: &At<'_, M>,
         unit: &Passage<'_>,
         pre: &Piece,
         state: &State,
@@ -239,10 +327,10 @@ impl<'a> Course<'a> {
     }
 
     /// A built-in function that is neither a test nor enters a function gives one state.
-    pub(crate) fn plain(&mut self, at: &At<'_>, op: Builtin, state: &State) -> Walk
+    pub(crate) fn plain<M: Loops>(&mut self, at: &At<'_, M>, op: Builtin, state: &State) -> Walk
         requires plain { effects.is_plain op ≡ true }
         requires room { HasRoom at.now.scope.now.style 65 self.old.count state.now }
-        ensures takes { Takes (rule.plain at.now.scope.now op at.now.place state.now self.old) self.new result }
+        ensures takes { Takes (rule.plain (here M.made at.now) op at.now.place state.now self.old) self.new result }
     {
         match self.finding() {
             None => self.plain_read(at, op, state),
@@ -251,23 +339,29 @@ impl<'a> Course<'a> {
     }
 
     /// The same by hints that are left.
-    fn plain_read(&mut self, at: &At<'_>, op: Builtin, state: &State) -> Walk
+    fn plain_read<M: Loops>(&mut self, at: &At<'_, M>, op: Builtin, state: &State) -> Walk
         requires reads { self.old.finding ≡ None }
         requires plain { effects.is_plain op ≡ true }
         requires room { HasRoom at.now.scope.now.style 65 self.old.count state.now }
-        ensures takes { Takes (rule.plain at.now.scope.now op at.now.place state.now self.old) self.new result }
+        ensures takes { Takes (rule.plain (here M.made at.now) op at.now.place state.now self.old) self.new result }
     {
         let after = confined(at, op, state, &mut self.hints)?;
         self.gives(at.place, after)
     }
 
     /// By hints that are found.
-    fn plain_found(&mut self, finding: Finding, at: &At<'_>, op: Builtin, state: &State) -> Walk
+    fn plain_found<M: Loops>(
+        &mut self,
+        finding: Finding,
+        at: &At<'_, M>,
+        op: Builtin,
+        state: &State,
+    ) -> Walk
         requires finds { self.old.finding ≡ Some finding }
         requires plain { effects.is_plain op ≡ true }
         requires bounds { HasBounds state.now }
         requires room { state.now.next < 4294967295 }
-        ensures takes { Takes (rule.plain at.now.scope.now op at.now.place state.now self.old) self.new result }
+        ensures takes { Takes (rule.plain (here M.made at.now) op at.now.place state.now self.old) self.new result }
     {
         let hints = held(
             at.place,
@@ -280,9 +374,9 @@ impl<'a> Course<'a> {
     }
 
     /// A test gives the states of its cases.
-    pub(crate) fn split(&mut self, at: &At<'_>, test: Test, state: &State) -> Walk
+    pub(crate) fn split<M: Loops>(&mut self, at: &At<'_, M>, test: Test, state: &State) -> Walk
         requires room { HasRoom at.now.scope.now.style 65 self.old.count state.now }
-        ensures takes { Takes (rule.split at.now.scope.now test at.now.place state.now self.old) self.new result }
+        ensures takes { Takes (rule.split (here M.made at.now) test at.now.place state.now self.old) self.new result }
     {
         match self.finding() {
             None => self.split_read(at, test, state),
@@ -291,10 +385,10 @@ impl<'a> Course<'a> {
     }
 
     /// The same by hints that are left.
-    fn split_read(&mut self, at: &At<'_>, test: Test, state: &State) -> Walk
+    fn split_read<M: Loops>(&mut self, at: &At<'_, M>, test: Test, state: &State) -> Walk
         requires reads { self.old.finding ≡ None }
         requires room { HasRoom at.now.scope.now.style 65 self.old.count state.now }
-        ensures takes { Takes (rule.split at.now.scope.now test at.now.place state.now self.old) self.new result }
+        ensures takes { Takes (rule.split (here M.made at.now) test at.now.place state.now self.old) self.new result }
     {
         let answer = split(state, at.scope.cond(), test, &mut self.hints);
         let states = placed(at.place, answer)?;
@@ -302,11 +396,17 @@ impl<'a> Course<'a> {
     }
 
     /// By hints that are found.
-    fn split_found(&mut self, finding: Finding, at: &At<'_>, test: Test, state: &State) -> Walk
+    fn split_found<M: Loops>(
+        &mut self,
+        finding: Finding,
+        at: &At<'_, M>,
+        test: Test,
+        state: &State,
+    ) -> Walk
         requires finds { self.old.finding ≡ Some finding }
         requires bounds { HasBounds state.now }
         requires room { state.now.next < 4294967295 }
-        ensures takes { Takes (rule.split at.now.scope.now test at.now.place state.now self.old) self.new result }
+        ensures takes { Takes (rule.split (here M.made at.now) test at.now.place state.now self.old) self.new result }
     {
         let hints = held(at.place, test_hints(finding, state, at.scope.cond(), test))?;
         let mut left = Hints::new(hints.as_slice());
@@ -317,10 +417,15 @@ impl<'a> Course<'a> {
     }
 
     /// A built-in function that enters nothing.
-    pub(crate) fn entering_nothing(&mut self, at: &At<'_>, op: Builtin, state: &State) -> Walk
+    pub(crate) fn entering_nothing<M: Loops>(
+        &mut self,
+        at: &At<'_, M>,
+        op: Builtin,
+        state: &State,
+    ) -> Walk
         requires nothing { rule.enters op ≡ false }
         requires room { HasRoom at.now.scope.now.style 65 self.old.count state.now }
-        ensures takes { Takes (rule.entering_nothing at.now.scope.now op (rule.test_of op) at.now.place state.now self.old) self.new result }
+        ensures takes { Takes (rule.entering_nothing (here M.made at.now) op (rule.test_of op) at.now.place state.now self.old) self.new result }
     {
         match test_of(op) {
             Some(test) => self.split(at, test, state),
@@ -329,15 +434,15 @@ impl<'a> Course<'a> {
     }
 
     /// The operands of `if$`, and the cases that are kept, each with whether the integer is above 0 there.
-    pub(crate) fn chooses(
+    pub(crate) fn chooses<M: Loops>(
         &mut self,
-        at: &At<'_>,
+        at: &At<'_, M>,
         state: &State,
     ) -> Result<(Three, Vec<(bool, State)>), Refusal>
         requires room { HasRoom at.now.scope.now.style 65 self.old.count state.now }
         ensures takes { (enter : rule.Enter) (call : rule.Call)
-            → GoesOn (rule.chosen at.now.scope.now enter call at.now.place (reverse state.now.stack) state.now self.old)
-            (λ chosen. rule.cases_entered at.now.scope.now enter call at.now.place chosen.0 chosen.1.items self.new) result }
+            → GoesOn (rule.chosen (here M.made at.now) enter call at.now.place (reverse state.now.stack) state.now self.old)
+            (λ chosen. rule.cases_entered (here M.made at.now) enter call at.now.place chosen.0 chosen.1.items self.new) result }
         ensures cases { (known : ℕ) → length state.now.stack ≤ known
             → IfOk result (λ chosen. AreWithin at.now.scope.now.style known self.new.count chosen.1.items) }
     {
@@ -347,11 +452,15 @@ impl<'a> Course<'a> {
     }
 
     /// The cases of whether the integer of an `if$` is above 0.
-    fn above(&mut self, at: &At<'_>, three: &Three) -> Result<Vec<(bool, State)>, Refusal>
+    fn above<M: Loops>(
+        &mut self,
+        at: &At<'_, M>,
+        three: &Three,
+    ) -> Result<Vec<(bool, State)>, Refusal>
         requires bounds { HasBounds three.now.rest }
         requires room { three.now.rest.next + 65 ≤ 2147483648 + 65 * self.old.count }
-        ensures takes { (enter : rule.Enter) (call : rule.Call) → GoesOn (rule.choice at.now.scope.now enter call at.now.place three.now self.old)
-            (λ cases. rule.cases_entered at.now.scope.now enter call at.now.place three.now cases.items self.new) result }
+        ensures takes { (enter : rule.Enter) (call : rule.Call) → GoesOn (rule.choice (here M.made at.now) enter call at.now.place three.now self.old)
+            (λ cases. rule.cases_entered (here M.made at.now) enter call at.now.place three.now cases.items self.new) result }
         ensures cases { IfOk result (λ cases. AreCases at.now.scope.now.cert.cond three.now.rest three.now.lowest cases.items) }
         ensures counted { OnOk result (self.new.count ≡ self.old.count) }
     {
@@ -359,15 +468,15 @@ impl<'a> Course<'a> {
     }
 
     /// The cases of whether an integer in a state is above 0.
-    pub(crate) fn sign(
+    pub(crate) fn sign<M: Loops>(
         &mut self,
-        at: &At<'_>,
+        at: &At<'_, M>,
         rest: &State,
         sym: Sym,
     ) -> Result<Vec<(bool, State)>, Refusal>
         requires bounds { HasBounds rest.now }
         requires room { rest.now.next + 65 ≤ 2147483648 + 65 * self.old.count }
-        ensures takes { GoesOn (tours.signed at.now.scope.now at.now.place rest.now sym self.old)
+        ensures takes { GoesOn (tours.signed (here M.made at.now) at.now.place rest.now sym self.old)
             (λ cases. Ok (record { cases = cases.items; course = self.new })) result }
         ensures cases { IfOk result (λ cases. AreCases at.now.scope.now.cert.cond rest.now sym cases.items) }
         ensures counted { OnOk result (self.new.count ≡ self.old.count) }
@@ -379,17 +488,17 @@ impl<'a> Course<'a> {
     }
 
     /// The same by hints that are found.
-    fn sign_found(
+    fn sign_found<M: Loops>(
         &mut self,
         finding: Finding,
-        at: &At<'_>,
+        at: &At<'_, M>,
         rest: &State,
         sym: Sym,
     ) -> Result<Vec<(bool, State)>, Refusal>
         requires finds { self.old.finding ≡ Some finding }
         requires bounds { HasBounds rest.now }
         requires room { rest.now.next < 4294967295 }
-        ensures takes { GoesOn (tours.signed at.now.scope.now at.now.place rest.now sym self.old)
+        ensures takes { GoesOn (tours.signed (here M.made at.now) at.now.place rest.now sym self.old)
             (λ cases. Ok (record { cases = cases.items; course = self.new })) result }
         ensures cases { IfOk result (λ cases. AreCases at.now.scope.now.cert.cond rest.now sym cases.items) }
         ensures counted { OnOk result (self.new.count ≡ self.old.count) }
@@ -402,9 +511,9 @@ impl<'a> Course<'a> {
     }
 
     /// The cases of whether an integer in a state is above 0, by hints that are left.
-    fn above_in(
+    fn above_in<M: Loops>(
         &mut self,
-        at: &At<'_>,
+        at: &At<'_, M>,
         state: &State,
         sym: Sym,
     ) -> Result<Vec<(bool, State)>, Refusal>
@@ -418,14 +527,14 @@ impl<'a> Course<'a> {
     }
 
     /// The integer on top is given up: the cases of whether it is above 0.
-    pub(crate) fn signs(
+    pub(crate) fn signs<M: Loops>(
         &mut self,
-        at: &At<'_>,
+        at: &At<'_, M>,
         state: &State,
     ) -> Result<Vec<(bool, State)>, Refusal>
         requires room { HasRoom at.now.scope.now.style 65 self.old.count state.now }
-        ensures takes { (turns : Loop) → GoesOn (units.tested at.now.scope.now at.now.place turns state.now self.old)
-            (λ cases. units.all_turned at.now.scope.now at.now.place turns cases.items self.new) result }
+        ensures takes { (turns : Loop) → GoesOn (units.tested (here M.made at.now) at.now.place turns state.now self.old)
+            (λ cases. units.all_turned (here M.made at.now) at.now.place turns cases.items self.new) result }
         ensures rest { OnOk result (self.new ≡ record self.old { hints = self.new.hints }) }
         ensures cases { IfOk result (λ cases. All (λ case. HasRoom at.now.scope.now.style 64 self.old.count case.1) cases.items) }
     {
@@ -434,7 +543,12 @@ impl<'a> Course<'a> {
     }
 
     /// Each of these states entails one of the pieces.
-    pub(crate) fn all_entail(&mut self, at: &At<'_>, pieces: &[Piece], states: &[State]) -> Walk
+    pub(crate) fn all_entail<M: Loops>(
+        &mut self,
+        at: &At<'_, M>,
+        pieces: &[Piece],
+        states: &[State],
+    ) -> Walk
         requires states { All HasBounds states.now }
         requires pieces { All CanEnd pieces.now }
         ensures takes { Takes (units.all_entail at.now.place at.now.scope.now.cert.cond pieces.now states.now self.old) self.new result }
@@ -499,8 +613,8 @@ pub(crate) fn integer(place: Place, state: &State) -> Result<(Sym, State), Refus
 }
 
 /// The cases of whether an integer in a state is above 0.
-fn sign_cases(
-    at: &At<'_>,
+fn sign_cases<M: Loops>(
+    at: &At<'_, M>,
     state: &State,
     sym: Sym,
     hints: &mut Hints<'_>,
@@ -575,8 +689,8 @@ fn with_top(mut state: State, sym: Sym) -> Result<State, NoMemory>
 }
 
 /// What a built-in function gives of a state, where the unit may write what it writes.
-fn confined(
-    at: &At<'_>,
+fn confined<M: Loops>(
+    at: &At<'_, M>,
     op: Builtin,
     state: &State,
     hints: &mut Hints<'_>,
@@ -585,7 +699,7 @@ fn confined(
     requires next { state.now.next < 4294967295 }
     requires plain { effects.is_plain op ≡ true }
     requires hints { All HasFewUses hints.old }
-    ensures gives { GoesOn (courses.placed at.now.place (rule.confined (rule.is_within at.now.scope.now (rule.written_by op state.now))
+    ensures gives { GoesOn (courses.placed at.now.place (rule.confined (rule.is_within at.now.scope.now.writes (rule.written_by op state.now))
         (effects.effect_of at.now.scope.now.style at.now.scope.now.cert.cond state.now op hints.old)))
         (λ after. Ok (record { state = after; hints = hints.new })) result }
     ensures few { All HasFewUses hints.new }
@@ -615,7 +729,7 @@ fn written_by(op: Builtin, state: &State) -> Option<NameId>
 
 /// Whether the unit may write what a built-in function writes.
 fn is_within(scope: &Scope<'_>, written: Option<NameId>) -> bool
-    ensures { result ≡ rule.is_within scope.now written }
+    ensures { result ≡ rule.is_within scope.now.writes written }
 {
     match written {
         Some(name) => scope.may_write(name),

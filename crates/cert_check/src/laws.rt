@@ -46,11 +46,11 @@ pub fn certificates_are_certified()
 pub fn checked_units_are_safe()
     ensures uses { (scope : Scope) (list : EntryList) (k : ℕ) (summary : Summary) (first : State) (place at : Place) (course after : Course)
         (n : ℕ) → IsSound scope.style → Fits scope.style list → IsCertified scope.style scope.cert → IsAllChecked scope.style scope.cert
-        → slice_get scope.cert.summaries k ≡ Some summary → WellMade scope.style first
+        → slice_get scope.cert.summaries k ≡ Some summary → WellMade scope.style first → scope.make ≡ None
         → summary_used scope place summary first course ≡ Ok after → EntersSafely scope list n summary.body at (first ∷ []) after.given }
     ensures loops { (scope : Scope) (list : EntryList) (k : ℕ) (one : Loop) (first : State) (place at : Place) (course after : Course)
         (n : ℕ) → IsSound scope.style → Fits scope.style list → IsCertified scope.style scope.cert → IsAllChecked scope.style scope.cert
-        → slice_get scope.cert.loops k ≡ Some one → WellMade scope.style first → loop_used scope place one first course ≡ Ok after
+        → slice_get scope.cert.loops k ≡ Some one → WellMade scope.style first → scope.make ≡ None → loop_used scope place one first course ≡ Ok after
         → RepeatsSafely scope list n one at (first ∷ []) after.given }
     ensures calls { (style : Style) (cert : Cert) (list : EntryList) (states : List State) (target : Target) (place at : Place)
         (hints : List Hint) (after : Course) (n : ℕ) → IsSound style → Fits style list → IsCertified style cert → IsAllChecked style cert

@@ -9,3 +9,6 @@ pub const MOST_COUNT: u32 = 1000000;
 
 /// The most bodies that are walked one in the other, the unit's own included.
 pub const MOST_DEPTH: u32 = 256;
+
+/// The most loops of a certificate.
+pub const MOST_LOOPS: usize = 65536;

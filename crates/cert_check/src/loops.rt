@@ -5,14 +5,17 @@ ghost use Rattle.std.specs.List.{All};
 ghost use Rattle.sym_state.specs.Demands.{two_of, without};
 ghost use Rattle.sym_state.specs.WellMade.{HasBounds};
 ghost use Rattle.sym_state.specs.declared.symbol.Kinds.TheVariants.{Func as FuncKind};
-ghost use Rattle.cert_check.specs.Certified.{AreSound, IsLoopOf};
+ghost use Rattle.cert_check.specs.Certified.{CanWalk, IsLoopOf};
 ghost use Rattle.cert_check.specs.Courses as courses;
 ghost use Rattle.cert_check.specs.Given.{AnswersAt, CanEnd, GoesOn, Takes};
+ghost use Rattle.cert_check.specs.Here.{here};
 ghost use Rattle.cert_check.specs.Room.{HasRoom};
+ghost use Rattle.cert_check.specs.Uses.{around};
 ghost use Rattle.cert_check.specs.Walks as rule;
 
 use crate::at::At;
 use crate::course::{Course, held, placed, refuse};
+use crate::making::Loops;
 use crate::refusal::{Reason, Refusal, Walk};
 use crate::scope::is_target;
 use crate::summaries::leaves;
@@ -28,10 +31,10 @@ use sym_state::state::State;
 use sym_state::symbol::{Kinds, Sym};
 
 /// `while$`: the test and, on top of it, the body. Both have to be known exactly, before the hint is looked at.
-pub(crate) fn repeated(at: &At<'_>, state: &State, course: &mut Course<'_>) -> Walk
-    requires sound { AreSound at.now.scope.now.style at.now.scope.now.cert }
+pub(crate) fn repeated<M: Loops>(at: &At<'_, M>, state: &State, course: &mut Course<'_>) -> Walk
+    requires sound { CanWalk at.now.scope.now (M.style at.now.maker.now) (M.made at.now.maker.now) }
     requires room { HasRoom at.now.scope.now.style 65 course.old.count state.now }
-    ensures takes { Takes (rule.repeated at.now.scope.now at.now.place state.now course.old) course.new result }
+    ensures takes { Takes (rule.repeated (here M.made at.now) at.now.place state.now course.old) course.new result }
 {
     let (lower, upper, rest) = two_functions(at.place, state)?;
     let test = exact_target(at.scope, state, lower);
@@ -40,7 +43,7 @@ pub(crate) fn repeated(at: &At<'_>, state: &State, course: &mut Course<'_>) -> W
 }
 
 /// The two functions, the lower one first, and the state without them.
-fn two_functions(place: Place, state: &State) -> Result<(Sym, Sym, State), Refusal>
+pub(crate) fn two_functions(place: Place, state: &State) -> Result<(Sym, Sym, State), Refusal>
     ensures two { GoesOn (courses.placed place (two_of FuncKind FuncKind state.now)) (λ p. Ok (record { lower = p.0; upper = p.1; rest = p.2 })) result }
     ensures rest { IfOk result (λ p. p.2 ≡ without 2 state.now) }
 {
@@ -50,17 +53,17 @@ fn two_functions(place: Place, state: &State) -> Result<(Sym, Sym, State), Refus
 }
 
 /// Both functions have to be known exactly, before the hint is looked at.
-fn loop_around(
-    at: &At<'_>,
+fn loop_around<M: Loops>(
+    at: &At<'_, M>,
     test: Option<Target>,
     body: Option<Target>,
     state: &State,
     course: &mut Course<'_>,
 ) -> Walk
-    requires sound { AreSound at.now.scope.now.style at.now.scope.now.cert }
+    requires sound { CanWalk at.now.scope.now (M.style at.now.maker.now) (M.made at.now.maker.now) }
     requires bounds { HasBounds state.now }
     requires room { state.now.next + 65 ≤ 2147483648 + 65 * course.old.count }
-    ensures takes { Takes (rule.loop_around at.now.scope.now at.now.place test body state.now course.old) course.new result }
+    ensures takes { Takes (rule.loop_around (here M.made at.now) at.now.place test body state.now course.old) course.new result }
 {
     match (test, body) {
         (Some(test), Some(body)) => loop_by(at, test, body, state, course),
@@ -69,11 +72,17 @@ fn loop_around(
 }
 
 /// The next hint names a loop.
-fn loop_by(at: &At<'_>, test: Target, body: Target, state: &State, course: &mut Course<'_>) -> Walk
-    requires sound { AreSound at.now.scope.now.style at.now.scope.now.cert }
+fn loop_by<M: Loops>(
+    at: &At<'_, M>,
+    test: Target,
+    body: Target,
+    state: &State,
+    course: &mut Course<'_>,
+) -> Walk
+    requires sound { CanWalk at.now.scope.now (M.style at.now.maker.now) (M.made at.now.maker.now) }
     requires bounds { HasBounds state.now }
     requires room { state.now.next + 65 ≤ 2147483648 + 65 * course.old.count }
-    ensures takes { Takes (rule.loop_by at.now.scope.now at.now.place test body state.now course.old course.old.hints) course.new result }
+    ensures takes { Takes (rule.loop_by (here M.made at.now) at.now.place test body state.now course.old course.old.hints) course.new result }
 {
     match course.next_hint() {
         Some(Hint::Loop(k)) => loop_of(at, test, body, *k, state, course),
@@ -83,18 +92,18 @@ fn loop_by(at: &At<'_>, test: Target, body: Target, state: &State, course: &mut 
 }
 
 /// The loop of a number is used, where it is one of the two functions.
-fn loop_of(
-    at: &At<'_>,
+fn loop_of<M: Loops>(
+    at: &At<'_, M>,
     test: Target,
     body: Target,
     k: u32,
     state: &State,
     course: &mut Course<'_>,
 ) -> Walk
-    requires sound { AreSound at.now.scope.now.style at.now.scope.now.cert }
+    requires sound { CanWalk at.now.scope.now (M.style at.now.maker.now) (M.made at.now.maker.now) }
     requires bounds { HasBounds state.now }
     requires room { state.now.next ≤ 2212483648 }
-    ensures takes { Takes (rule.loop_of at.now.scope.now at.now.place test body (slice_get at.now.scope.now.cert.loops k) state.now course.old) course.new result }
+    ensures takes { Takes (rule.loop_of (here M.made at.now) at.now.place test body (slice_get at.now.scope.now.cert.loops k) state.now course.old) course.new result }
 {
     match at.scope.repetition(k) {
         Some(one) => {
@@ -110,18 +119,31 @@ fn loop_of(
 
 /// A loop is used in a state without its two functions: a case is entailed, and the exits act as posts that share no symbol
 /// with it.
-fn loop_used(at: &At<'_>, one: &Loop, state: &State, course: &mut Course<'_>) -> Walk
+fn loop_used<M: Loops>(at: &At<'_, M>, one: &Loop, state: &State, course: &mut Course<'_>) -> Walk
     requires one { IsLoopOf at.now.scope.now.style one.now }
     requires bounds { HasBounds state.now }
     requires room { state.now.next ≤ 2212483648 }
-    ensures takes { Takes (rule.loop_used at.now.scope.now at.now.place one.now state.now course.old) course.new result }
+    ensures takes { Takes (rule.loop_used (here M.made at.now) at.now.place one.now state.now course.old) course.new result }
 {
-    let unit = Passage {
-        entry: one.entry,
-        whole: one.whole,
-        writes: one.writes.as_slice(),
-    };
+    let unit = Passage::around(one);
     let case = comes_to(at, &unit, one.cases.as_slice(), state, course)?;
+    leaves_loop(at, one, case, state, course)
+}
+
+/// A loop is left that a state came to by a case.
+pub(crate) fn leaves_loop<M: Loops>(
+    at: &At<'_, M>,
+    one: &Loop,
+    case: &Piece,
+    state: &State,
+    course: &mut Course<'_>,
+) -> Walk
+    requires one { IsLoopOf at.now.scope.now.style one.now }
+    requires stack { length case.now.stack ≤ length state.now.stack }
+    requires room { state.now.next ≤ 2212483648 }
+    ensures takes { Takes (rule.leaves (here M.made at.now) at.now.place (around one.now) case.now one.now.exits 0 state.now course.old) course.new result }
+{
+    let unit = Passage::around(one);
     let came = Came {
         style: at.scope.style(),
         cond: at.scope.cond(),
@@ -134,8 +156,8 @@ fn loop_used(at: &At<'_>, one: &Loop, state: &State, course: &mut Course<'_>) ->
 }
 
 /// A state comes to a loop by a case, whose number among those of the loop is the next hint.
-fn comes_to<'p>(
-    at: &At<'_>,
+fn comes_to<'p, M: Loops>(
+    at: &At<'_, M>,
     unit: &Passage<'_>,
     cases: &'p [Piece],
     state: &State,
@@ -156,8 +178,8 @@ fn comes_to<'p>(
 }
 
 /// A state comes to a loop by a case.
-fn comes_by_case<'p>(
-    at: &At<'_>,
+fn comes_by_case<'p, M: Loops>(
+    at: &At<'_, M>,
     unit: &Passage<'_>,
     case: Option<&'p Piece>,
     state: &State,

@@ -27,7 +27,7 @@ impl<'a> Model for Scope<'a> {
     ghost use Rattle.cert_check.specs.Tables.{AreTables};
     ghost use Rattle.cert_check.specs.Walks as rule;
 
-    ghost Value = { rule.Scope };
+    ghost Value = { rule.Over };
 
     ghost view = { λ s. record { style = s.style.now; cert = s.cert.now; writes = option_map (λ names. names.now) s.writes } };
 
@@ -83,7 +83,7 @@ impl<'a> Scope<'a> {
 
     /// Whether the unit may write a variable.
     pub(crate) fn may_write(&self, name: NameId) -> bool
-        ensures { result ≡ rule.may_write self.now name }
+        ensures { result ≡ rule.may_write self.now.writes name }
     {
         match self.writes {
             Some(writes) => is_among(writes, name),

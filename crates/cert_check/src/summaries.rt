@@ -4,13 +4,15 @@ ghost use Rattle.std.specs.Prelude.{◌≡◌, ◌<◌, ◌≤◌, ◌+◌, if�
 ghost use Rattle.std.specs.List.{All, list_all};
 ghost use Rattle.sym_state.specs.Starting.{symbols_of as count_of};
 ghost use Rattle.sym_state.specs.WellMade.{HasBounds};
-ghost use Rattle.cert_check.specs.Certified.{AreSound, IsSummaryOf};
+ghost use Rattle.cert_check.specs.Certified.{CanWalk, IsSummaryOf};
 ghost use Rattle.cert_check.specs.Given.{GoesOn, Takes};
+ghost use Rattle.cert_check.specs.Here.{here};
 ghost use Rattle.cert_check.specs.Room.{HasRoom};
 ghost use Rattle.cert_check.specs.Walks as rule;
 
 use crate::at::At;
 use crate::course::{Course, held, refuse};
+use crate::making::Loops;
 use crate::refusal::{Reason, Refusal, Walk};
 use crate::scope::{Scope, is_target};
 use crate::uses::{Came, Passage, left_states};
@@ -24,16 +26,16 @@ use sym_state::symbols_of;
 
 /// Whether a target that is entered is walked. Where it has a summary the next hint tells, and one that is used gives the
 /// states of its posts.
-pub(crate) fn comes_in(
-    at: &At<'_>,
+pub(crate) fn comes_in<M: Loops>(
+    at: &At<'_, M>,
     target: Target,
     state: &State,
     course: &mut Course<'_>,
 ) -> Result<bool, Refusal>
-    requires sound { AreSound at.now.scope.now.style at.now.scope.now.cert }
+    requires sound { CanWalk at.now.scope.now (M.style at.now.maker.now) (M.made at.now.maker.now) }
     requires room { HasRoom at.now.scope.now.style 64 course.old.count state.now }
     ensures count { IfOk result (λ walks. IsTrue walks → course.new.count ≡ course.old.count) }
-    ensures takes { (walk : rule.Onward) → GoesOn (rule.entered at.now.scope.now at.now.place target walk state.now course.old)
+    ensures takes { (walk : rule.Onward) → GoesOn (rule.entered (here M.made at.now) at.now.place target walk state.now course.old)
         (λ walks. if walks then walk state.now course.new else Ok course.new) result }
 {
     if !at.scope.has_summary(target) {
@@ -51,11 +53,17 @@ pub(crate) fn comes_in(
 }
 
 /// The summary of a number is used, where it is one of the target.
-fn use_of(at: &At<'_>, target: Target, k: u32, state: &State, course: &mut Course<'_>) -> Walk
-    requires sound { AreSound at.now.scope.now.style at.now.scope.now.cert }
+fn use_of<M: Loops>(
+    at: &At<'_, M>,
+    target: Target,
+    k: u32,
+    state: &State,
+    course: &mut Course<'_>,
+) -> Walk
+    requires sound { CanWalk at.now.scope.now (M.style at.now.maker.now) (M.made at.now.maker.now) }
     requires bounds { HasBounds state.now }
     requires room { state.now.next ≤ 2212483648 }
-    ensures takes { Takes (rule.use_of at.now.scope.now at.now.place target (slice_get at.now.scope.now.cert.summaries k) state.now course.old) course.new result }
+    ensures takes { Takes (rule.use_of (here M.made at.now) at.now.place target (slice_get at.now.scope.now.cert.summaries k) state.now course.old) course.new result }
 {
     match at.scope.summary(k) {
         Some(summary) => {
@@ -70,11 +78,16 @@ fn use_of(at: &At<'_>, target: Target, k: u32, state: &State, course: &mut Cours
 }
 
 /// A summary is used: its pre is entailed first.
-fn summary_used(at: &At<'_>, summary: &Summary, state: &State, course: &mut Course<'_>) -> Walk
+fn summary_used<M: Loops>(
+    at: &At<'_, M>,
+    summary: &Summary,
+    state: &State,
+    course: &mut Course<'_>,
+) -> Walk
     requires summary { IsSummaryOf at.now.scope.now.style summary.now }
     requires bounds { HasBounds state.now }
     requires room { state.now.next ≤ 2212483648 }
-    ensures takes { Takes (rule.summary_used at.now.scope.now at.now.place summary.now state.now course.old) course.new result }
+    ensures takes { Takes (rule.summary_used (here M.made at.now) at.now.place summary.now state.now course.old) course.new result }
 {
     let unit = Passage {
         entry: summary.entry,
@@ -95,14 +108,19 @@ fn summary_used(at: &At<'_>, summary: &Summary, state: &State, course: &mut Cour
 
 /// A unit is used that a state came to: the unit which is checked may write what this one writes, each of these variables
 /// counts, and each of its posts gives one state.
-pub(crate) fn leaves(at: &At<'_>, came: &Came<'_>, posts: &[Piece], course: &mut Course<'_>) -> Walk
+pub(crate) fn leaves<M: Loops>(
+    at: &At<'_, M>,
+    came: &Came<'_>,
+    posts: &[Piece],
+    course: &mut Course<'_>,
+) -> Walk
     requires style { came.now.style.now ≡ at.now.scope.now.style }
     requires cond { came.now.cond.now ≡ at.now.scope.now.cert.cond }
     requires few { length came.now.unit.now.writes ≤ 65536 }
     requires stack { length came.now.pre.now.stack ≤ length came.now.state.now.stack }
     requires room { All (λ post. came.now.state.now.next + (count_of post + length came.now.unit.now.writes) < 4294967296) posts.now }
     requires names { All (λ name. name.0 < length came.now.style.now.names) came.now.unit.now.writes }
-    ensures takes { Takes (rule.leaves at.now.scope.now at.now.place came.now.unit.now came.now.pre.now posts.now came.now.kept came.now.state.now course.old)
+    ensures takes { Takes (rule.leaves (here M.made at.now) at.now.place came.now.unit.now came.now.pre.now posts.now came.now.kept came.now.state.now course.old)
         course.new result }
 {
     let unit = came.unit;
@@ -116,7 +134,7 @@ pub(crate) fn leaves(at: &At<'_>, came: &Came<'_>, posts: &[Piece], course: &mut
 
 /// Whether the unit may write all of these variables.
 fn may_write_all(scope: &Scope<'_>, writes: &[NameId]) -> bool
-    ensures { result ≡ list_all (rule.may_write scope.now) writes.now }
+    ensures { result ≡ list_all (rule.may_write scope.now.writes) writes.now }
 {
     writes.iter().all(|name| scope.may_write(*name))
 }

@@ -1,18 +1,21 @@
 //! Turns of a loop of which the cases alone are known (docs/ANALYSER.md, "Loops").
 
-ghost use Rattle.std.specs.Prelude.{◌≡◌, ◌≤◌, [], ◌∷◌, ◌++◌, true, false, Ok, IfOk, MatchResult, OnOk};
+ghost use Rattle.std.specs.Prelude.{◌≡◌, ◌≤◌, [], ◌∷◌, ◌++◌, true, false, None, Ok, IfOk, MatchResult, OnOk};
 ghost use Rattle.std.specs.List.{All};
 ghost use Rattle.name_table.specs.Sound.{Each};
 ghost use Rattle.cert_format.specs.CertText.{IsHint};
-ghost use Rattle.cert_check.specs.Certified.{AreSound, IsPieceOf};
+ghost use Rattle.cert_check.specs.Certified.{AreSound, CanWalk, IsPieceOf};
 ghost use Rattle.cert_check.specs.Given.{Takes};
+ghost use Rattle.cert_check.specs.Here.{here};
 ghost use Rattle.cert_check.specs.Room.{HasRoom};
 ghost use Rattle.cert_check.specs.Tours as rule;
+ghost use Rattle.cert_check.specs.Walks as walks;
 ghost use Rattle.cert_check.specs.declared.refusal.Reason.TheVariants.{NoMemory as WantOfMemory};
 
 use crate::at::At;
 use crate::course::{Course, integer, refuse};
 use crate::limits::{MOST_COUNT, MOST_DEPTH};
+use crate::making::{Loops, Unmade};
 use crate::refusal::{Reason, Walk};
 use crate::scope::Scope;
 use crate::turns::case_state;
@@ -112,11 +115,13 @@ pub(crate) fn turn_of(
     requires sound { AreSound scope.now.style scope.now.cert }
     requires case { IsPieceOf scope.now.style one.entry case.now }
     requires none { rule.GivesNone tour.old }
-    ensures takes { Takes (rule.turn_of scope.now one case.now tour.old) tour.new result }
+    ensures takes { Takes (rule.turn_of (walks.scope_of scope.now None) one case.now tour.old) tour.new result }
     ensures keeps { OnOk result (rule.KeepsTour scope.now.style tour.old tour.new) }
 {
+    let maker = Unmade::of(scope);
     let at = At {
         scope,
+        maker: &maker,
         place: place_of(scope.style(), body_of(scope.style(), one.body)),
         more: MOST_DEPTH,
         known: 0,
@@ -126,24 +131,36 @@ pub(crate) fn turn_of(
 }
 
 /// A turn from a state: the test is entered first.
-fn turn_from(at: &At<'_>, one: Turning, state: State, tour: &mut Tour<'_>) -> Walk
-    requires sound { AreSound at.now.scope.now.style at.now.scope.now.cert }
+fn turn_from<M: Loops>(at: &At<'_, M>, one: Turning, state: State, tour: &mut Tour<'_>) -> Walk
+    requires sound { CanWalk at.now.scope.now (M.style at.now.maker.now) (M.made at.now.maker.now) }
     requires room { HasRoom at.now.scope.now.style 129 0 state }
     requires none { rule.GivesNone tour.old }
-    ensures takes { Takes (rule.turn_from at.now.scope.now at.now.place one state tour.old) tour.new result }
+    ensures takes { Takes (rule.turn_from (here M.made at.now) at.now.place one state tour.old) tour.new result }
     ensures keeps { OnOk result (rule.KeepsTour at.now.scope.now.style tour.old tour.new) }
 {
-    target_entered(at.scope, at.place, one.test, state, &mut tour.course)?;
+    target_entered(
+        at.scope,
+        at.maker,
+        at.place,
+        one.test,
+        state,
+        &mut tour.course,
+    )?;
     let states = tour.course.take_given();
     all_tests_ended(at, one, states, tour)
 }
 
 /// Each state at the test's end, in order.
-fn all_tests_ended(at: &At<'_>, one: Turning, states: Vec<State>, tour: &mut Tour<'_>) -> Walk
-    requires sound { AreSound at.now.scope.now.style at.now.scope.now.cert }
+fn all_tests_ended<M: Loops>(
+    at: &At<'_, M>,
+    one: Turning,
+    states: Vec<State>,
+    tour: &mut Tour<'_>,
+) -> Walk
+    requires sound { CanWalk at.now.scope.now (M.style at.now.maker.now) (M.made at.now.maker.now) }
     requires room { All (HasRoom at.now.scope.now.style 65 tour.old.course.count) states.items }
     requires none { rule.GivesNone tour.old }
-    ensures takes { Takes (rule.all_tests_ended at.now.scope.now at.now.place one states.items tour.old) tour.new result }
+    ensures takes { Takes (rule.all_tests_ended (here M.made at.now) at.now.place one states.items tour.old) tour.new result }
     ensures keeps { OnOk result (rule.KeepsTour at.now.scope.now.style tour.old tour.new) }
 {
     for state in states {
@@ -153,11 +170,11 @@ fn all_tests_ended(at: &At<'_>, one: Turning, states: Vec<State>, tour: &mut Tou
 }
 
 /// At the test's end a state gives up an integer, and is split on it.
-fn test_ended(at: &At<'_>, one: Turning, state: &State, tour: &mut Tour<'_>) -> Walk
-    requires sound { AreSound at.now.scope.now.style at.now.scope.now.cert }
+fn test_ended<M: Loops>(at: &At<'_, M>, one: Turning, state: &State, tour: &mut Tour<'_>) -> Walk
+    requires sound { CanWalk at.now.scope.now (M.style at.now.maker.now) (M.made at.now.maker.now) }
     requires room { HasRoom at.now.scope.now.style 65 tour.old.course.count state.now }
     requires none { rule.GivesNone tour.old }
-    ensures takes { Takes (rule.test_ended at.now.scope.now at.now.place one state.now tour.old) tour.new result }
+    ensures takes { Takes (rule.test_ended (here M.made at.now) at.now.place one state.now tour.old) tour.new result }
     ensures keeps { OnOk result (rule.KeepsTour at.now.scope.now.style tour.old tour.new) }
 {
     let (operand, rest) = integer(at.place, state)?;
@@ -166,16 +183,16 @@ fn test_ended(at: &At<'_>, one: Turning, state: &State, tour: &mut Tour<'_>) -> 
 }
 
 /// The cases of the test's integer, in order.
-fn all_turned_or_left(
-    at: &At<'_>,
+fn all_turned_or_left<M: Loops>(
+    at: &At<'_, M>,
     one: Turning,
     cases: Vec<(bool, State)>,
     tour: &mut Tour<'_>,
 ) -> Walk
-    requires sound { AreSound at.now.scope.now.style at.now.scope.now.cert }
+    requires sound { CanWalk at.now.scope.now (M.style at.now.maker.now) (M.made at.now.maker.now) }
     requires cases { All (λ case. HasRoom at.now.scope.now.style 64 tour.old.course.count case.1) cases.items }
     requires none { rule.GivesNone tour.old }
-    ensures takes { Takes (rule.all_turned_or_left at.now.scope.now at.now.place one cases.items tour.old) tour.new result }
+    ensures takes { Takes (rule.all_turned_or_left (here M.made at.now) at.now.place one cases.items tour.old) tour.new result }
     ensures keeps { OnOk result (rule.KeepsTour at.now.scope.now.style tour.old tour.new) }
 {
     for (above, state) in cases {
@@ -185,15 +202,28 @@ fn all_turned_or_left(
 }
 
 /// Above 0 the body is entered, and each state at its end has turned. Else the state leaves.
-fn turned_or_left(at: &At<'_>, one: Turning, above: bool, state: State, tour: &mut Tour<'_>) -> Walk
-    requires sound { AreSound at.now.scope.now.style at.now.scope.now.cert }
+fn turned_or_left<M: Loops>(
+    at: &At<'_, M>,
+    one: Turning,
+    above: bool,
+    state: State,
+    tour: &mut Tour<'_>,
+) -> Walk
+    requires sound { CanWalk at.now.scope.now (M.style at.now.maker.now) (M.made at.now.maker.now) }
     requires room { HasRoom at.now.scope.now.style 64 tour.old.course.count state }
     requires none { rule.GivesNone tour.old }
-    ensures takes { Takes (rule.turned_or_left at.now.scope.now at.now.place one above state tour.old) tour.new result }
+    ensures takes { Takes (rule.turned_or_left (here M.made at.now) at.now.place one above state tour.old) tour.new result }
     ensures keeps { OnOk result (rule.KeepsTour at.now.scope.now.style tour.old tour.new) }
 {
     if above {
-        target_entered(at.scope, at.place, one.body, state, &mut tour.course)?;
+        target_entered(
+            at.scope,
+            at.maker,
+            at.place,
+            one.body,
+            state,
+            &mut tour.course,
+        )?;
         tour.turn_ended(at.place)
     } else {
         tour.ended(at.place, false, state)

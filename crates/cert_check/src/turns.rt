@@ -3,8 +3,9 @@
 ghost use Rattle.std.specs.Prelude.{◌≡◌, ◌≤◌, [], ◌∷◌, Ok, Some, IfOk, MatchResult, OnOk};
 ghost use Rattle.std.specs.List.{All};
 ghost use Rattle.sym_state.specs.Starting.{started};
-ghost use Rattle.cert_check.specs.Certified.{AreSound, IsLoopOf, IsPieceOf};
+ghost use Rattle.cert_check.specs.Certified.{AreSound, CanWalk, IsLoopOf, IsPieceOf};
 ghost use Rattle.cert_check.specs.Given.{Takes};
+ghost use Rattle.cert_check.specs.Here.{here};
 ghost use Rattle.cert_check.specs.Room.{HasRoom};
 ghost use Rattle.cert_check.specs.Units as rule;
 ghost use Rattle.cert_check.specs.declared.refusal.Reason.TheVariants.{NoMemory as WantOfMemory};
@@ -12,6 +13,7 @@ ghost use Rattle.cert_check.specs.declared.refusal.Reason.TheVariants.{NoMemory 
 use crate::at::At;
 use crate::course::{Course, held};
 use crate::limits::MOST_DEPTH;
+use crate::making::{Loops, Unmade};
 use crate::refusal::{Refusal, Walk};
 use crate::scope::Scope;
 use crate::units::{body_of, place_of, target_entered};
@@ -33,8 +35,10 @@ pub(crate) fn loop_checked(scope: &Scope<'_>, alloc: Global, one: &Loop) -> Walk
     let body = body_of(scope.style(), one.body);
     let place = place_of(scope.style(), body);
     let mut course = Course::new(alloc, one.hints.as_slice());
+    let maker = Unmade::of(scope);
     let at = At {
         scope,
+        maker: &maker,
         place,
         more: MOST_DEPTH,
         known: 0,
@@ -44,18 +48,18 @@ pub(crate) fn loop_checked(scope: &Scope<'_>, alloc: Global, one: &Loop) -> Walk
 }
 
 /// A turn from each case.
-fn turned_from(
-    at: &At<'_>,
+fn turned_from<M: Loops>(
+    at: &At<'_, M>,
     alloc: Global,
     one: &Loop,
     cases: &[Piece],
     course: &mut Course<'_>,
 ) -> Walk
-    requires sound { AreSound at.now.scope.now.style at.now.scope.now.cert }
+    requires sound { CanWalk at.now.scope.now (M.style at.now.maker.now) (M.made at.now.maker.now) }
     requires one { IsLoopOf at.now.scope.now.style one.now }
     requires cases { All (IsPieceOf at.now.scope.now.style one.now.entry) cases.now }
     requires none { course.old.given ≡ [] }
-    ensures takes { Takes (rule.turned_from at.now.scope.now at.now.place one.now cases.now course.old) course.new result }
+    ensures takes { Takes (rule.turned_from (here M.made at.now) at.now.place one.now cases.now course.old) course.new result }
 {
     for case in cases {
         turn(at, alloc, one, case, course)?;
@@ -64,14 +68,14 @@ fn turned_from(
 }
 
 /// The state with which a turn starts from a case.
-pub(crate) fn case_state(
-    at: &At<'_>,
+pub(crate) fn case_state<M: Loops>(
+    at: &At<'_, M>,
     alloc: Global,
     whole: bool,
     entry: bool,
     case: &Piece,
 ) -> Result<State, Refusal>
-    requires sound { AreSound at.now.scope.now.style at.now.scope.now.cert }
+    requires sound { CanWalk at.now.scope.now (M.style at.now.maker.now) (M.made at.now.maker.now) }
     requires case { IsPieceOf at.now.scope.now.style entry case.now }
     ensures state { MatchResult result (λ state. state ≡ started at.now.scope.now.style at.now.scope.now.cert.cond (case.now ∷ []) whole entry)
         (λ refusal. refusal.reason ≡ WantOfMemory) }
@@ -92,27 +96,38 @@ pub(crate) fn case_state(
 }
 
 /// A turn from a case: the test is entered first.
-fn turn(at: &At<'_>, alloc: Global, one: &Loop, case: &Piece, course: &mut Course<'_>) -> Walk
-    requires sound { AreSound at.now.scope.now.style at.now.scope.now.cert }
+fn turn<M: Loops>(
+    at: &At<'_, M>,
+    alloc: Global,
+    one: &Loop,
+    case: &Piece,
+    course: &mut Course<'_>,
+) -> Walk
+    requires sound { CanWalk at.now.scope.now (M.style at.now.maker.now) (M.made at.now.maker.now) }
     requires one { IsLoopOf at.now.scope.now.style one.now }
     requires case { IsPieceOf at.now.scope.now.style one.now.entry case.now }
     requires none { course.old.given ≡ [] }
-    ensures takes { Takes (rule.turn at.now.scope.now at.now.place one.now (rule.turn_state at.now.scope.now one.now case.now) course.old) course.new result }
+    ensures takes { Takes (rule.turn (here M.made at.now) at.now.place one.now (rule.turn_state (here M.made at.now) one.now case.now) course.old) course.new result }
     ensures none { OnOk result (course.new.given ≡ []) }
 {
     let state = case_state(at, alloc, one.whole, one.entry, case)?;
-    target_entered(at.scope, at.place, one.test, state, course)?;
+    target_entered(at.scope, at.maker, at.place, one.test, state, course)?;
     let states = course.take_given();
     all_tested(at, one, states, course)
 }
 
 /// Each state at the test's end, in order.
-fn all_tested(at: &At<'_>, one: &Loop, states: Vec<State>, course: &mut Course<'_>) -> Walk
-    requires sound { AreSound at.now.scope.now.style at.now.scope.now.cert }
+fn all_tested<M: Loops>(
+    at: &At<'_, M>,
+    one: &Loop,
+    states: Vec<State>,
+    course: &mut Course<'_>,
+) -> Walk
+    requires sound { CanWalk at.now.scope.now (M.style at.now.maker.now) (M.made at.now.maker.now) }
     requires one { IsLoopOf at.now.scope.now.style one.now }
     requires room { All (HasRoom at.now.scope.now.style 65 course.old.count) states.items }
     requires none { course.old.given ≡ [] }
-    ensures takes { Takes (rule.all_tested at.now.scope.now at.now.place one.now states.items course.old) course.new result }
+    ensures takes { Takes (rule.all_tested (here M.made at.now) at.now.place one.now states.items course.old) course.new result }
     ensures none { OnOk result (course.new.given ≡ []) }
 {
     for state in states {
@@ -122,12 +137,12 @@ fn all_tested(at: &At<'_>, one: &Loop, states: Vec<State>, course: &mut Course<'
 }
 
 /// At the test's end a state gives up an integer, and is split on it.
-fn tested(at: &At<'_>, one: &Loop, state: &State, course: &mut Course<'_>) -> Walk
-    requires sound { AreSound at.now.scope.now.style at.now.scope.now.cert }
+fn tested<M: Loops>(at: &At<'_, M>, one: &Loop, state: &State, course: &mut Course<'_>) -> Walk
+    requires sound { CanWalk at.now.scope.now (M.style at.now.maker.now) (M.made at.now.maker.now) }
     requires one { IsLoopOf at.now.scope.now.style one.now }
     requires room { HasRoom at.now.scope.now.style 65 course.old.count state.now }
     requires none { course.old.given ≡ [] }
-    ensures takes { Takes (rule.tested at.now.scope.now at.now.place one.now state.now course.old) course.new result }
+    ensures takes { Takes (rule.tested (here M.made at.now) at.now.place one.now state.now course.old) course.new result }
     ensures none { OnOk result (course.new.given ≡ []) }
     ensures rises { OnOk result (course.old.count ≤ course.new.count) }
 {
@@ -136,12 +151,17 @@ fn tested(at: &At<'_>, one: &Loop, state: &State, course: &mut Course<'_>) -> Wa
 }
 
 /// The cases of the test's integer, in order.
-fn all_turned(at: &At<'_>, one: &Loop, cases: Vec<(bool, State)>, course: &mut Course<'_>) -> Walk
-    requires sound { AreSound at.now.scope.now.style at.now.scope.now.cert }
+fn all_turned<M: Loops>(
+    at: &At<'_, M>,
+    one: &Loop,
+    cases: Vec<(bool, State)>,
+    course: &mut Course<'_>,
+) -> Walk
+    requires sound { CanWalk at.now.scope.now (M.style at.now.maker.now) (M.made at.now.maker.now) }
     requires one { IsLoopOf at.now.scope.now.style one.now }
     requires cases { All (λ case. HasRoom at.now.scope.now.style 64 course.old.count case.1) cases.items }
     requires none { course.old.given ≡ [] }
-    ensures takes { Takes (rule.all_turned at.now.scope.now at.now.place one.now cases.items course.old) course.new result }
+    ensures takes { Takes (rule.all_turned (here M.made at.now) at.now.place one.now cases.items course.old) course.new result }
     ensures none { OnOk result (course.new.given ≡ []) }
     ensures rises { OnOk result (course.old.count ≤ course.new.count) }
 {
@@ -153,17 +173,23 @@ fn all_turned(at: &At<'_>, one: &Loop, cases: Vec<(bool, State)>, course: &mut C
 
 /// Above 0 the body of the loop is entered, and each state at its end entails a case. Else the loop ends, and the state entails
 /// an exit.
-fn turned(at: &At<'_>, one: &Loop, above: bool, state: State, course: &mut Course<'_>) -> Walk
-    requires sound { AreSound at.now.scope.now.style at.now.scope.now.cert }
+fn turned<M: Loops>(
+    at: &At<'_, M>,
+    one: &Loop,
+    above: bool,
+    state: State,
+    course: &mut Course<'_>,
+) -> Walk
+    requires sound { CanWalk at.now.scope.now (M.style at.now.maker.now) (M.made at.now.maker.now) }
     requires one { IsLoopOf at.now.scope.now.style one.now }
     requires room { HasRoom at.now.scope.now.style 64 course.old.count state }
     requires none { course.old.given ≡ [] }
-    ensures takes { Takes (rule.turned at.now.scope.now at.now.place one.now above state course.old) course.new result }
+    ensures takes { Takes (rule.turned (here M.made at.now) at.now.place one.now above state course.old) course.new result }
     ensures none { OnOk result (course.new.given ≡ []) }
     ensures rises { OnOk result (course.old.count ≤ course.new.count) }
 {
     if above {
-        target_entered(at.scope, at.place, one.body, state, course)?;
+        target_entered(at.scope, at.maker, at.place, one.body, state, course)?;
         let states = course.take_given();
         course.all_entail(at, one.cases.as_slice(), states.as_slice())
     } else {

@@ -5,10 +5,12 @@ ghost use Rattle.std.specs.List.{list_any};
 ghost use Rattle.name_table.specs.TypeTarget as target;
 ghost use Rattle.cert_check.specs.Courses as courses;
 ghost use Rattle.cert_check.specs.Given.{GoesOn};
+ghost use Rattle.cert_check.specs.Here.{here};
 ghost use Rattle.cert_check.specs.Walks as rule;
 
 use crate::at::At;
 use crate::course::{held, refuse};
+use crate::making::Loops;
 use crate::refusal::{Reason, Refusal};
 use bst_meaning::condition::Cond;
 use bv_base::memory::NoMemory;
@@ -21,9 +23,9 @@ use sym_state::demand::{Demand, DemandKind};
 use sym_state::state::State;
 
 /// The functions that `call.type$` enters from a state, which has to be at an entry.
-pub(crate) fn types_entered(at: &At<'_>, state: &State) -> Result<Vec<NameId>, Refusal>
-    ensures { (enter : rule.Enter) (course : courses.Course) → GoesOn (rule.typed at.now.scope.now enter at.now.place state.now course)
-        (λ names. rule.types_called at.now.scope.now enter at.now.place names.items state.now course) result }
+pub(crate) fn types_entered<M: Loops>(at: &At<'_, M>, state: &State) -> Result<Vec<NameId>, Refusal>
+    ensures { (enter : rule.Enter) (course : courses.Course) → GoesOn (rule.typed (here M.made at.now) enter at.now.place state.now course)
+        (λ names. rule.types_called (here M.made at.now) enter at.now.place names.items state.now course) result }
 {
     if !state.is_at_entry() {
         let missing = Demand {

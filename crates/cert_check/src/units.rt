@@ -6,14 +6,16 @@ ghost use Rattle.bv_base.specs.Answers.{Leaves};
 ghost use Rattle.sym_state.specs.Demands.{HasFewUses};
 ghost use Rattle.sym_state.specs.WellMade.{HasBounds};
 ghost use Rattle.sym_state.specs.declared.demand.EffectFault.TheVariants.{NoMemory as WantOfMemoryThere};
-ghost use Rattle.cert_check.specs.Certified.{AreSound, IsSummaryOf};
+ghost use Rattle.cert_check.specs.Certified.{AreSound, CanWalk, IsSummaryOf};
 ghost use Rattle.cert_check.specs.Given.{CanEnd, Takes};
 ghost use Rattle.cert_check.specs.Room.{GivesRoom, HasRoom};
 ghost use Rattle.cert_check.specs.Units as rule;
+ghost use Rattle.cert_check.specs.Walks as walks;
 
 use crate::at::At;
 use crate::course::{Course, held};
 use crate::limits::MOST_DEPTH;
+use crate::making::{Loops, Unmade};
 use crate::refusal::Walk;
 use crate::scope::Scope;
 use crate::walk::{body_entered, body_walked, name_entered, named};
@@ -55,26 +57,29 @@ pub(crate) fn summary_checked(scope: &Scope<'_>, alloc: Global, summary: &Summar
         ),
     )?;
     let mut course = Course::new(alloc, summary.hints.as_slice());
-    own_walked(scope, place, summary.body, body, state, &mut course)?;
+    let maker = Unmade::of(scope);
+    own_walked(scope, &maker, place, summary.body, body, state, &mut course)?;
     let kept = symbols_of(&summary.pre) as u32;
     course.ends(scope.cond(), place, kept, summary.posts.as_slice())
 }
 
 /// A unit's own body is walked from a state, of a name that isn't a function of the style its call.
-fn own_walked(
+fn own_walked<M: Loops>(
     scope: &Scope<'_>,
+    maker: &M,
     place: Place,
     target: Target,
     body: Option<BodyId>,
     state: State,
     course: &mut Course<'_>,
 ) -> Walk
-    requires sound { AreSound scope.now.style scope.now.cert }
+    requires sound { CanWalk scope.now (M.style maker.now) (M.made maker.now) }
     requires room { HasRoom scope.now.style 65 course.old.count state }
-    ensures takes { Takes (rule.own_walked scope.now place target body state course.old) course.new result }
+    ensures takes { Takes (rule.own_walked (walks.scope_of scope.now (M.made maker.now)) place target body state course.old) course.new result }
 {
     let at = At {
         scope,
+        maker,
         place,
         more: MOST_DEPTH,
         known: state.stack_len(),
@@ -87,19 +92,21 @@ fn own_walked(
 }
 
 /// A target is entered from a state: a name counts.
-pub(crate) fn target_entered(
+pub(crate) fn target_entered<M: Loops>(
     scope: &Scope<'_>,
+    maker: &M,
     place: Place,
     target: Target,
     state: State,
     course: &mut Course<'_>,
 ) -> Walk
-    requires sound { AreSound scope.now.style scope.now.cert }
+    requires sound { CanWalk scope.now (M.style maker.now) (M.made maker.now) }
     requires room { HasRoom scope.now.style 64 course.old.count state }
-    ensures takes { Takes (rule.target_entered scope.now place target state course.old) course.new result }
+    ensures takes { Takes (rule.target_entered (walks.scope_of scope.now (M.made maker.now)) place target state course.old) course.new result }
 {
     let at = At {
         scope,
+        maker,
         place,
         more: MOST_DEPTH,
         known: state.stack_len(),
@@ -111,20 +118,21 @@ pub(crate) fn target_entered(
 }
 
 /// It is entered from states, one after the other.
-pub(crate) fn target_from(
+pub(crate) fn target_from<M: Loops>(
     scope: &Scope<'_>,
+    maker: &M,
     place: Place,
     target: Target,
     states: Vec<State>,
     course: &mut Course<'_>,
 ) -> Walk
-    requires sound { AreSound scope.now.style scope.now.cert }
+    requires sound { CanWalk scope.now (M.style maker.now) (M.made maker.now) }
     requires room { All (HasRoom scope.now.style 64 course.old.count) states.items }
-    ensures takes { Takes (rule.target_from scope.now place target states.items course.old) course.new result }
+    ensures takes { Takes (rule.target_from (walks.scope_of scope.now (M.made maker.now)) place target states.items course.old) course.new result }
     ensures room { GivesRoom scope.now.style course.old → OnOk result (GivesRoom scope.now.style course.new) }
 {
     for state in states {
-        target_entered(scope, place, target, state, course)?;
+        target_entered(scope, maker, place, target, state, course)?;
     }
     Ok(())
 }

@@ -15,6 +15,7 @@ ghost use Rattle.sym_state.specs.Starting.{symbols_of as count_of};
 use crate::scope::is_among;
 use bst_meaning::condition::Cond;
 use bv_base::memory::NoMemory;
+use cert_format::cert::Loop;
 use lin_facts::row::Row;
 use name_table::names::NameId;
 use name_table::style::Style;
@@ -45,6 +46,19 @@ impl<'a> Model for Passage<'a> {
     ghost Value = { uses.Passage };
 
     ghost view = { λ p. record { entry = p.entry; whole = p.whole; writes = p.writes.now } };
+}
+
+impl<'a> Passage<'a> {
+    /// That of a loop.
+    pub(crate) fn around(one: &'a Loop) -> Passage<'a>
+        ensures { result ≡ rule.around one.now }
+    {
+        Passage {
+            entry: one.entry,
+            whole: one.whole,
+            writes: one.writes.as_slice(),
+        }
+    }
 }
 
 /// A state comes to a unit by the piece that stands before it, which the next hints show. The hints of a piece that isn't

@@ -8,9 +8,9 @@ ghost use Rattle.std.specs.Prelude.{◌≡◌, ◌+◌, ◌<◌, ◌≤◌, leng
 ghost use Rattle.std.specs.List.{All};
 ghost use Rattle.name_table.specs.Sound.{Each, IsTokenSound};
 ghost use Rattle.bst_meaning.specs.StyleParts as parts;
-ghost use Rattle.cert_check.specs.Certified.{AreSound};
+ghost use Rattle.cert_check.specs.Certified.{CanWalk};
 ghost use Rattle.cert_check.specs.Given.{Takes};
-ghost use Rattle.cert_check.specs.Here.{choosing, entering, inside};
+ghost use Rattle.cert_check.specs.Here.{choosing, entering, here, inside};
 ghost use Rattle.cert_check.specs.Room.{GivesRoom, HasRoom, IsCaseWithin};
 ghost use Rattle.cert_check.specs.Walks as rule;
 
@@ -18,11 +18,12 @@ use crate::at::At;
 use crate::choice::Three;
 use crate::course::{Course, held, refuse};
 use crate::literals::literal_state;
-use crate::loops::repeated;
+use crate::making::Loops;
 use crate::refusal::{Reason, Walk};
 use crate::summaries::comes_in;
 use crate::targets::{exact_target, is_function};
 use crate::types::types_entered;
+use crate::whiles::{makes_for, while_in, whiles};
 use bst_meaning::style_parts::{kind_of, tokens_of};
 use bst_meaning::value::Target;
 use name_table::builtin::Builtin;
@@ -33,10 +34,15 @@ use sym_state::state::State;
 /// A body is walked that a token at a place enters, where so many more may be walked one in the other. The token gives the
 /// states at the body's end.
 #[cycle(walk)]
-pub(crate) fn body_walked(at: &At<'_>, body: BodyId, state: State, course: &mut Course<'_>) -> Walk
-    requires sound { AreSound at.now.scope.now.style at.now.scope.now.cert }
+pub(crate) fn body_walked<M: Loops>(
+    at: &At<'_, M>,
+    body: BodyId,
+    state: State,
+    course: &mut Course<'_>,
+) -> Walk
+    requires sound { CanWalk at.now.scope.now (M.style at.now.maker.now) (M.made at.now.maker.now) }
     requires room { HasRoom at.now.scope.now.style 0 course.old.count state }
-    ensures takes { Takes (rule.body_walked at.now.scope.now at.now.more at.now.place body state course.old) course.new result }
+    ensures takes { Takes (rule.body_walked (here M.made at.now) at.now.more at.now.place body state course.old) course.new result }
 {
     if at.more == 0 {
         return refuse(at.place, Reason::WalkTooDeep);
@@ -52,11 +58,11 @@ pub(crate) fn body_walked(at: &At<'_>, body: BodyId, state: State, course: &mut 
 
 /// The tokens of a body, each from the states that the one before it gave.
 #[cycle(walk)]
-fn walked(at: &At<'_>, tokens: &[TokenAt], course: &mut Course<'_>) -> Walk
-    requires sound { AreSound at.now.scope.now.style at.now.scope.now.cert }
+fn walked<M: Loops>(at: &At<'_, M>, tokens: &[TokenAt], course: &mut Course<'_>) -> Walk
+    requires sound { CanWalk at.now.scope.now (M.style at.now.maker.now) (M.made at.now.maker.now) }
     requires tokens { Each (λ t. IsTokenSound at.now.scope.now.style.names at.now.scope.now.style.bodies at.now.scope.now.style.texts t.token) tokens.now }
     requires room { GivesRoom at.now.scope.now.style course.old }
-    ensures takes { Takes (rule.walked at.now.scope.now (inside at.now) tokens.now course.old) course.new result }
+    ensures takes { Takes (rule.walked (here M.made at.now) (inside M.made at.now) tokens.now course.old) course.new result }
 {
     for token in tokens {
         let states = course.take_given();
@@ -65,13 +71,42 @@ fn walked(at: &At<'_>, tokens: &[TokenAt], course: &mut Course<'_>) -> Walk
     Ok(())
 }
 
-/// A token is taken from states, one after the other.
+/// A token is taken from states: where it makes loops, from all at once.
 #[cycle(walk)]
-fn taken_from(at: &At<'_>, token: &TokenAt, states: Vec<State>, course: &mut Course<'_>) -> Walk
-    requires sound { AreSound at.now.scope.now.style at.now.scope.now.cert }
+fn taken_from<M: Loops>(
+    at: &At<'_, M>,
+    token: &TokenAt,
+    states: Vec<State>,
+    course: &mut Course<'_>,
+) -> Walk
+    requires sound { CanWalk at.now.scope.now (M.style at.now.maker.now) (M.made at.now.maker.now) }
     requires token { IsTokenSound at.now.scope.now.style.names at.now.scope.now.style.bodies at.now.scope.now.style.texts token.now.token }
     requires room { All (HasRoom at.now.scope.now.style 0 course.old.count) states.items }
-    ensures takes { Takes (rule.taken_from at.now.scope.now (inside at.now) token.now states.items course.old) course.new result }
+    ensures takes { Takes (rule.taken_from (here M.made at.now) (inside M.made at.now) token.now states.items course.old) course.new result }
+{
+    if makes_for(at, token.token) {
+        let here = At {
+            place: token.place,
+            ..*at
+        };
+        whiles(&here, states.as_slice(), course)
+    } else {
+        each_taken(at, token, states, course)
+    }
+}
+
+/// It is taken from each of them alone.
+#[cycle(walk)]
+fn each_taken<M: Loops>(
+    at: &At<'_, M>,
+    token: &TokenAt,
+    states: Vec<State>,
+    course: &mut Course<'_>,
+) -> Walk
+    requires sound { CanWalk at.now.scope.now (M.style at.now.maker.now) (M.made at.now.maker.now) }
+    requires token { IsTokenSound at.now.scope.now.style.names at.now.scope.now.style.bodies at.now.scope.now.style.texts token.now.token }
+    requires room { All (HasRoom at.now.scope.now.style 0 course.old.count) states.items }
+    ensures takes { Takes (rule.each_taken (here M.made at.now) (inside M.made at.now) token.now states.items course.old) course.new result }
 {
     for state in states {
         taken(at, token, state, course)?;
@@ -81,10 +116,10 @@ fn taken_from(at: &At<'_>, token: &TokenAt, states: Vec<State>, course: &mut Cou
 
 /// A token is taken from a state: it counts.
 #[cycle(walk)]
-fn taken(at: &At<'_>, token: &TokenAt, state: State, course: &mut Course<'_>) -> Walk
-    requires sound { AreSound at.now.scope.now.style at.now.scope.now.cert }
+fn taken<M: Loops>(at: &At<'_, M>, token: &TokenAt, state: State, course: &mut Course<'_>) -> Walk
+    requires sound { CanWalk at.now.scope.now (M.style at.now.maker.now) (M.made at.now.maker.now) }
     requires room { HasRoom at.now.scope.now.style 0 course.old.count state }
-    ensures takes { Takes (rule.taken at.now.scope.now (inside at.now) token.now state course.old) course.new result }
+    ensures takes { Takes (rule.taken (here M.made at.now) (inside M.made at.now) token.now state course.old) course.new result }
 {
     let place = token.place;
     course.counts(1, place)?;
@@ -103,16 +138,21 @@ fn taken(at: &At<'_>, token: &TokenAt, state: State, course: &mut Course<'_>) ->
 
 /// A name is called, in a state of which so many operands may be known.
 #[cycle(walk)]
-pub(crate) fn named(at: &At<'_>, name: NameId, state: State, course: &mut Course<'_>) -> Walk
-    requires sound { AreSound at.now.scope.now.style at.now.scope.now.cert }
+pub(crate) fn named<M: Loops>(
+    at: &At<'_, M>,
+    name: NameId,
+    state: State,
+    course: &mut Course<'_>,
+) -> Walk
+    requires sound { CanWalk at.now.scope.now (M.style at.now.maker.now) (M.made at.now.maker.now) }
     requires room { HasRoom at.now.scope.now.style 65 course.old.count state }
     requires known { length state.stack ≤ at.now.known }
-    ensures takes { Takes (rule.named at.now.scope.now (inside at.now) (choosing at.now) (parts.kind_of at.now.scope.now.style name) name at.now.place state course.old)
+    ensures takes { Takes (rule.named (here M.made at.now) (inside M.made at.now) (choosing M.made at.now) (parts.kind_of at.now.scope.now.style name) name at.now.place state course.old)
         course.new result }
 {
     match kind_of(at.scope.style(), name) {
         Some(Kind::Builtin(Builtin::IfElse)) => chosen_in(at, state, course),
-        Some(Kind::Builtin(Builtin::WhileDo)) => repeated(at, &state, course),
+        Some(Kind::Builtin(Builtin::WhileDo)) => while_in(at, &state, course),
         Some(Kind::Builtin(Builtin::CallType)) => typed(at, &state, course),
         Some(Kind::Builtin(op)) => course.entering_nothing(at, op, &state),
         Some(Kind::Wizard(body)) => body_entered(at, Target::Named(name), body, state, course),
@@ -123,10 +163,10 @@ pub(crate) fn named(at: &At<'_>, name: NameId, state: State, course: &mut Course
 /// `call.type$`: the functions of the listed types in order, and then the default function where an entry may have another
 /// type. Each is entered from the state.
 #[cycle(walk)]
-fn typed(at: &At<'_>, state: &State, course: &mut Course<'_>) -> Walk
-    requires sound { AreSound at.now.scope.now.style at.now.scope.now.cert }
+fn typed<M: Loops>(at: &At<'_, M>, state: &State, course: &mut Course<'_>) -> Walk
+    requires sound { CanWalk at.now.scope.now (M.style at.now.maker.now) (M.made at.now.maker.now) }
     requires room { HasRoom at.now.scope.now.style 0 course.old.count state.now }
-    ensures takes { Takes (rule.typed at.now.scope.now (inside at.now) at.now.place state.now course.old) course.new result }
+    ensures takes { Takes (rule.typed (here M.made at.now) (inside M.made at.now) at.now.place state.now course.old) course.new result }
 {
     for name in types_entered(at, state)? {
         let one = held(at.place, state.branch())?;
@@ -137,10 +177,15 @@ fn typed(at: &At<'_>, state: &State, course: &mut Course<'_>) -> Walk
 
 /// A function that `call.type$` enters counts. One that isn't of the style is `skip$`, which changes nothing.
 #[cycle(walk)]
-fn type_called(at: &At<'_>, name: NameId, state: State, course: &mut Course<'_>) -> Walk
-    requires sound { AreSound at.now.scope.now.style at.now.scope.now.cert }
+fn type_called<M: Loops>(
+    at: &At<'_, M>,
+    name: NameId,
+    state: State,
+    course: &mut Course<'_>,
+) -> Walk
+    requires sound { CanWalk at.now.scope.now (M.style at.now.maker.now) (M.made at.now.maker.now) }
     requires room { HasRoom at.now.scope.now.style 0 course.old.count state }
-    ensures takes { Takes (rule.type_called at.now.scope.now (inside at.now) at.now.place name state course.old) course.new result }
+    ensures takes { Takes (rule.type_called (here M.made at.now) (inside M.made at.now) at.now.place name state course.old) course.new result }
 {
     course.counts(1, at.place)?;
     let target = Target::Named(name);
@@ -156,16 +201,16 @@ fn type_called(at: &At<'_>, name: NameId, state: State, course: &mut Course<'_>)
 
 /// A body is entered: one without a summary is walked.
 #[cycle(walk)]
-pub(crate) fn body_entered(
-    at: &At<'_>,
+pub(crate) fn body_entered<M: Loops>(
+    at: &At<'_, M>,
     target: Target,
     body: BodyId,
     state: State,
     course: &mut Course<'_>,
 ) -> Walk
-    requires sound { AreSound at.now.scope.now.style at.now.scope.now.cert }
+    requires sound { CanWalk at.now.scope.now (M.style at.now.maker.now) (M.made at.now.maker.now) }
     requires room { HasRoom at.now.scope.now.style 64 course.old.count state }
-    ensures takes { Takes (rule.entered at.now.scope.now at.now.place target (inside at.now at.now.place body) state course.old) course.new result }
+    ensures takes { Takes (rule.entered (here M.made at.now) at.now.place target (inside M.made at.now at.now.place body) state course.old) course.new result }
 {
     if comes_in(at, target, &state, course)? {
         body_walked(at, body, state, course)
@@ -176,11 +221,11 @@ pub(crate) fn body_entered(
 
 /// `if$` in a state of which so many operands may be known.
 #[cycle(walk)]
-fn chosen_in(at: &At<'_>, state: State, course: &mut Course<'_>) -> Walk
-    requires sound { AreSound at.now.scope.now.style at.now.scope.now.cert }
+fn chosen_in<M: Loops>(at: &At<'_, M>, state: State, course: &mut Course<'_>) -> Walk
+    requires sound { CanWalk at.now.scope.now (M.style at.now.maker.now) (M.made at.now.maker.now) }
     requires room { HasRoom at.now.scope.now.style 65 course.old.count state }
     requires known { length state.stack ≤ at.now.known }
-    ensures takes { Takes (choosing at.now state course.old) course.new result }
+    ensures takes { Takes (choosing M.made at.now state course.old) course.new result }
 {
     let (three, cases) = course.chooses(at, &state)?;
     let known = at.known - 3;
@@ -189,15 +234,15 @@ fn chosen_in(at: &At<'_>, state: State, course: &mut Course<'_>) -> Walk
 
 /// The function of each case is entered, in order: the first function where the integer is above 0, else the second.
 #[cycle(walk)]
-fn cases_entered(
-    at: &At<'_>,
+fn cases_entered<M: Loops>(
+    at: &At<'_, M>,
     three: &Three,
     cases: Vec<(bool, State)>,
     course: &mut Course<'_>,
 ) -> Walk
-    requires sound { AreSound at.now.scope.now.style at.now.scope.now.cert }
+    requires sound { CanWalk at.now.scope.now (M.style at.now.maker.now) (M.made at.now.maker.now) }
     requires cases { All (IsCaseWithin at.now.scope.now.style at.now.known course.old.count) cases.items }
-    ensures takes { Takes (rule.cases_entered at.now.scope.now (inside at.now) (entering at.now) at.now.place three.now cases.items course.old) course.new result }
+    ensures takes { Takes (rule.cases_entered (here M.made at.now) (inside M.made at.now) (entering M.made at.now) at.now.place three.now cases.items course.old) course.new result }
 {
     for (above, state) in cases {
         let function = three.function(above);
@@ -209,16 +254,16 @@ fn cases_entered(
 
 /// What `if$` enters in a case: the exact function, of which a name counts.
 #[cycle(walk)]
-fn function_entered(
-    at: &At<'_>,
+fn function_entered<M: Loops>(
+    at: &At<'_, M>,
     target: Option<Target>,
     state: State,
     course: &mut Course<'_>,
 ) -> Walk
-    requires sound { AreSound at.now.scope.now.style at.now.scope.now.cert }
+    requires sound { CanWalk at.now.scope.now (M.style at.now.maker.now) (M.made at.now.maker.now) }
     requires room { HasRoom at.now.scope.now.style 64 course.old.count state }
     requires known { length state.stack ≤ at.now.known }
-    ensures takes { Takes (rule.function_entered at.now.scope.now (inside at.now) (entering at.now) at.now.place target state course.old) course.new result }
+    ensures takes { Takes (rule.function_entered (here M.made at.now) (inside M.made at.now) (entering M.made at.now) at.now.place target state course.old) course.new result }
 {
     match target {
         Some(Target::Named(name)) => name_entered(at, name, state, course),
@@ -230,11 +275,16 @@ fn function_entered(
 /// A name is entered that counts. What isn't a function of the style takes the hint of a summary here, since its token takes
 /// none.
 #[cycle(walk)]
-pub(crate) fn name_entered(at: &At<'_>, name: NameId, state: State, course: &mut Course<'_>) -> Walk
-    requires sound { AreSound at.now.scope.now.style at.now.scope.now.cert }
+pub(crate) fn name_entered<M: Loops>(
+    at: &At<'_, M>,
+    name: NameId,
+    state: State,
+    course: &mut Course<'_>,
+) -> Walk
+    requires sound { CanWalk at.now.scope.now (M.style at.now.maker.now) (M.made at.now.maker.now) }
     requires room { HasRoom at.now.scope.now.style 0 course.old.count state }
     requires known { length state.stack ≤ at.now.known }
-    ensures takes { Takes (entering at.now name state course.old) course.new result }
+    ensures takes { Takes (entering M.made at.now name state course.old) course.new result }
 {
     course.counts(1, at.place)?;
     if is_function(at.scope.style(), name) || comes_in(at, Target::Named(name), &state, course)? {

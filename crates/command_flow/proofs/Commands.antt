@@ -185,7 +185,7 @@ none_kept place (hint ∷ hints) left e = absurd (cc)
 
 checked_to_end : (style : Style) (cert : Cert) (summary : Summary) (left : List Hint) → summary_checked style cert summary ≡ Ok left → left ≡ []
 checked_to_end style cert summary left e =
-    let scope : Scope = record { style = style; cert = cert; writes = Some summary.writes } in
+    let scope : Scope = record { style = style; cert = cert; writes = Some summary.writes; make = None } in
     let body = body_of style summary.body in
     let place = place_of style body in
     let ended : Course → Left = λ course. placed place (all_end cert.cond (symbols_of summary.pre) summary.posts course.given course.hints) in
@@ -196,7 +196,7 @@ checked_to_end style cert summary left e =
 
 turned_to_end : (style : Style) (cert : Cert) (one : Loop) (left : List Hint) → loop_checked style cert one ≡ Ok left → left ≡ []
 turned_to_end style cert one left e =
-    let scope : Scope = record { style = style; cert = cert; writes = Some one.writes } in
+    let scope : Scope = record { style = style; cert = cert; writes = Some one.writes; make = None } in
     let place = place_of style (body_of style one.body) in
     let walk = then_ok (turned_from scope place one one.cases (beginning one.hints)) (λ (course : Course). none_left place course.hints) left e in
     none_kept place walk.0.hints left walk.2

@@ -148,7 +148,7 @@ is_lower : (a b : ℕ) → a < b → nat_lt a b ≡ true
 is_lower a b less = grind (arith, nat_tests)
 
 -- one more behind them keeps them rising
-rise_on : (index : ℕ) (parts : List CommandPart) (part : CommandPart) → Each (λ p. p.index < index) parts → part.index ≡ index
+pub rise_on : (index : ℕ) (parts : List CommandPart) (part : CommandPart) → Each (λ p. p.index < index) parts → part.index ≡ index
     → is_chain (λ a b. nat_lt a.index b.index) parts ≡ true → is_chain (λ a b. nat_lt a.index b.index) (parts ++ part ∷ []) ≡ true
 rise_on index [] part before is rise = refl
 rise_on index (a ∷ []) part before is rise =
@@ -159,7 +159,7 @@ rise_on index (a ∷ (b ∷ parts)) part before is rise =
     (rise_on index (b ∷ parts) part before.1 is both.1)
 
 -- none of them has the next number
-all_below : (index : ℕ) (parts : List CommandPart) → Each (λ part. part.index < index) parts → Each (λ part. part.index < suc index) parts
+pub all_below : (index : ℕ) (parts : List CommandPart) → Each (λ part. part.index < index) parts → Each (λ part. part.index < suc index) parts
 all_below index [] before = tt
 all_below index (part ∷ parts) before = let here = before.0 in (omega (arith, here), all_below index parts before.1)
 

@@ -6,3 +6,4 @@ pub mod Places
 pub mod Ready
 pub mod Records
 pub mod Finding
+pub mod Templates

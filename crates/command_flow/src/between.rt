@@ -197,7 +197,7 @@ fn opening_integer(name: NameId) -> i32
 }
 
 /// The piece that a record gives; one that it doesn't give says nothing.
-fn given(alloc: Global, piece: Option<&Piece>) -> Result<Piece, NoMemory>
+pub(crate) fn given(alloc: Global, piece: Option<&Piece>) -> Result<Piece, NoMemory>
     ensures { IfOk result (λ copy. copy ≡ commands.given (option_map (λ p. p.now) piece.entry)) }
 {
     match piece {

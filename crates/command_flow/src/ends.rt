@@ -2,6 +2,8 @@
 
 ghost use Rattle.std.specs.Prelude.{◌≡◌, [], Ok, Err, MatchResult};
 ghost use Rattle.std.specs.List.{All};
+ghost use Rattle.name_table.specs.Sound.{Each};
+ghost use Rattle.cert_format.specs.CertText.{IsHint};
 ghost use Rattle.sym_state.specs.Demands.{HasFewUses};
 ghost use Rattle.sym_state.specs.WellMade.{HasBounds};
 ghost use Rattle.cert_check.specs.Given.{CanEnd, Takes};
@@ -13,7 +15,7 @@ use bv_base::place::Place;
 use cert_check::refusal::{Reason, Walk};
 use cert_check::{placed, refuse};
 use sym_state::demand::{Demand, DemandKind};
-use sym_state::hint::Hints;
+use sym_state::hint::{Hint, Hints};
 use sym_state::piece::Piece;
 use sym_state::shown_by;
 use sym_state::state::State;
@@ -35,6 +37,15 @@ pub(crate) fn call_ends(
         state_ends(at, pieces, state, hints)?;
     }
     Ok(())
+}
+
+/// Each state at the end of a call has an empty stack, and no hint is taken there.
+pub(crate) fn all_emptied(at: &At<'_>, states: &[State], hints: &[Hint]) -> Walk
+    requires states { All HasBounds states.now }
+    requires written { Each IsHint hints.now }
+    ensures { Takes (rule.call_ends at.now.cond.now at.now.command.place [] states.now hints.now) hints.now result }
+{
+    call_ends(at, &[], states, &mut Hints::new(hints))
 }
 
 /// A state has an empty stack and entails the pieces.

@@ -8,17 +8,16 @@ ghost use Rattle.cert_format.specs.CertText.{IsHint};
 ghost use Rattle.sym_state.specs.Starting.{started};
 ghost use Rattle.sym_state.specs.WellMade.{HasBounds, HasSmallFields};
 ghost use Rattle.cert_check.specs.Certified.{IsCertified};
-ghost use Rattle.cert_check.specs.Given.{Finds, GoesOn, Refused, Takes};
+ghost use Rattle.cert_check.specs.Given.{Finds, GoesOn, Refused};
 ghost use Rattle.cert_check.specs.Room.{HasRoom};
 ghost use Rattle.cert_check.specs.Units.{call_found};
 ghost use Rattle.command_flow.specs.Between as between;
-ghost use Rattle.command_flow.specs.Commands as commands;
 ghost use Rattle.command_flow.specs.Finding as rule;
 ghost use Rattle.command_flow.specs.Ready.{Agrees, AreReady, Decides, IsReady};
 
 use crate::at::At;
 use crate::between::{Between, nothing, opened};
-use crate::ends::call_ends;
+use crate::ends::all_emptied;
 use crate::flow::{one, state_of};
 use bst_meaning::condition::Cond;
 use bst_meaning::laws::runs_are_well_formed;
@@ -26,7 +25,7 @@ use bst_meaning::value::Target;
 use bv_base::memory::NoMemory;
 use bv_base::place::Place;
 use bv_base::seq::Seq;
-use cert_check::refusal::{Refusal, Walk};
+use cert_check::refusal::Refusal;
 use cert_check::{Checker, held};
 use cert_format::cert::{Cert, CommandPart};
 use name_table::names::NameId;
@@ -34,7 +33,7 @@ use name_table::style::{Command, Style};
 use std::alloc::Global;
 use std::slice::from_ref;
 use straight_hints::Finding;
-use sym_state::hint::{Hint, Hints};
+use sym_state::hint::Hint;
 use sym_state::piece::Piece;
 use sym_state::state::State;
 
@@ -231,13 +230,4 @@ fn walked_finding(
     let states = held(place, one(at.alloc, state))?;
     at.checker
         .find_call(finding, states, Target::Named(name), place)
-}
-
-/// Each state at the end of a call has an empty stack, and no hint is taken there.
-fn all_emptied(at: &At<'_>, states: &[State], hints: &[Hint]) -> Walk
-    requires states { All HasBounds states.now }
-    requires written { Each IsHint hints.now }
-    ensures { Takes (commands.call_ends at.now.cond.now at.now.command.place [] states.now hints.now) hints.now result }
-{
-    call_ends(at, &[], states, &mut Hints::new(hints))
 }

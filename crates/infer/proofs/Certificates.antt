@@ -5,20 +5,18 @@ use Rattle.bv_base.specs.declared.limits.TheConstants.{STYLE_BYTES}
 use Rattle.name_table.specs.Sound.{Each, IsSound}
 use Rattle.name_table.specs.declared.style.Style.{Style}
 use Rattle.bst_meaning.specs.declared.condition.Cond.{Cond}
-use Rattle.cert_format.specs.CertText.{IsCert, IsCommandPart, IsHint}
+use Rattle.cert_format.specs.CertText.{IsCert, IsCommandPart}
 use Rattle.cert_format.specs.CondText.{IsCond}
 use Rattle.cert_format.specs.declared.cert.Cert.{Cert}
 use Rattle.cert_format.specs.declared.cert.CommandPart.{CommandPart}
-use Rattle.sym_state.specs.Demands.{HasFewUses}
-use Rattle.sym_state.specs.declared.hint.Hint.{Hint}
-use Rattle.sym_state.specs.declared.hint.Hint.TheVariants as hint
 use Rattle.sym_state.specs.declared.piece.Piece.{Piece}
 use Rattle.cert_check.specs.Certified.{IsCertified, IsCommandOf}
-use Rattle.cert_check.proofs.Certifying.{cond_limits}
+use Rattle.cert_check.proofs.Certifying.{cond_limits, hints_few}
 use Rattle.cert_check.proofs.ReadPieces.{each_all}
 use Rattle.command_flow.specs.Finding.{AreRecords, IsRecord}
 use Rattle.infer.specs.Infer.{bare}
 
+-- the bare certificate of a condition is one of the style
 pub bare_certified : (style : Style) (admits : Cond) → IsCond style.names admits → IsCertified style (bare admits)
 bare_certified style admits is =
     let limits = cond_limits style admits is in
@@ -36,6 +34,7 @@ bare_certified style admits is =
 no_piece : (P : Piece → Type 0) (piece : Option Piece) → piece ≡ None → IfSome piece P
 no_piece P piece none = subst (λ (o : Option Piece). IfSome o P) (sym none) tt
 
+-- the record of a command has a text
 record_written : (style : Style) (part : CommandPart) → length style.commands ≤ STYLE_BYTES → IsRecord style part → IsCommandPart style part
 record_written style part few is =
     let there = is.there in
@@ -48,10 +47,12 @@ record_written style part few is =
       hints = is.hints;
     }
 
+-- and so have records
 records_written : (style : Style) (parts : List CommandPart) → length style.commands ≤ STYLE_BYTES → Each (IsRecord style) parts → Each (IsCommandPart style) parts
 records_written style [] few are = tt
 records_written style (part ∷ parts) few are = (record_written style part few are.0, records_written style parts few are.1)
 
+-- the bare certificate with records has a text
 found_written : (style : Style) (admits : Cond) (parts : List CommandPart) → IsSound style → IsCond style.names admits → AreRecords style parts
     → IsCert style (record (bare admits) { commands = parts })
 found_written style admits parts sound is are = record {
@@ -73,17 +74,7 @@ written_as style admits begun parts commands sound is one two are =
     (sym (ap (λ (c : Cert). record c { commands = commands }) one ∙ ap (λ (l : List CommandPart). record (bare admits) { commands = l }) two))
     (found_written style admits parts sound is are)
 
--- a hint that has a text is short
-hint_few : (h : Hint) → IsHint h → HasFewUses h
-hint_few (hint.Step proof) is = is.few
-hint_few (hint.Drop proof) is = is.few
-hint_few (hint.Apply n) is = tt
-hint_few (hint.Loop n) is = tt
-hint_few (hint.Case n) is = tt
-hint_few hint.Walk is = tt
-hint_few hint.Keep is = tt
-hint_few hint.Plain is = tt
-
+-- the record of a command is one of the style
 record_certified : (style : Style) (part : CommandPart) → IsRecord style part → IsCommandOf style part
 record_certified style part is = record {
   there = is.there;
@@ -93,9 +84,10 @@ record_certified style part is = record {
   moves = no_piece _ part.visit is.visit;
   keeps = no_piece _ part.keeps is.keeps;
   keeps_pos = no_piece _ part.keeps is.keeps;
-  hints = each_all IsHint HasFewUses hint_few part.hints is.hints;
+  hints = hints_few part.hints is.hints;
 }
 
+-- the bare certificate with records is one of the style
 found_certified : (style : Style) (admits : Cond) (parts : List CommandPart) → IsCond style.names admits → AreRecords style parts
     → IsCertified style (record (bare admits) { commands = parts })
 found_certified style admits parts is are =
@@ -110,7 +102,7 @@ found_certified style admits parts is are =
       rise = are.rise;
     }
 
--- the bare certificate with records is one of the style, and so is one that begins as the bare one
+-- and so is one that begins as the bare one
 pub certified_as : (style : Style) (admits : Cond) (begun : Cert) (parts commands : List CommandPart) → IsCond style.names admits
     → begun ≡ bare admits → commands ≡ parts → AreRecords style parts → IsCertified style (record begun { commands = commands })
 certified_as style admits begun parts commands is one two are =

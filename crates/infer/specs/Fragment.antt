@@ -1,6 +1,6 @@
 -- The kind fragment (docs/ANALYSER.md, "The kind fragment"): styles for whose built-in functions kinds of values are enough.
-use Rattle.std.specs.Prelude.{Bool, true, false, ◌&&◌, not, if◌then◌else◌, Option, Some}
-use Rattle.std.specs.List.{list_all}
+use Rattle.std.specs.Prelude.{Bool, true, false, ◌&&◌, ◌||◌, not, if◌then◌else◌, Option, Some}
+use Rattle.std.specs.List.{list_all, list_any}
 use Rattle.name_table.specs.declared.builtin.Builtin.{Builtin}
 use Rattle.name_table.specs.declared.builtin.Builtin.TheVariants as op
 use Rattle.name_table.specs.declared.names.Kind.{Kind}
@@ -56,6 +56,26 @@ abbrev pub is_of_fragment : Style → Bool
 is_of_fragment style =
     list_all (is_body_within style) style.bodies && list_all (λ at. is_command_within style at.command) style.commands
 
--- how the hints of a style are found
-abbrev pub finding_of : Style → Finding
-finding_of style = if is_of_fragment style then Bare else Straight
+-- a name stands for `while$`
+abbrev pub is_while : Option Kind → Bool
+is_while (Some (BuiltinKind op.WhileDo)) = true
+is_while _ = false
+
+-- a token calls or quotes it
+abbrev pub is_while_token : Style → Token → Bool
+is_while_token style (Call name) = is_while (kind_of style name)
+is_while_token style (Quote name) = is_while (kind_of style name)
+is_while_token style _ = false
+
+-- a command calls it
+abbrev pub is_while_command : Style → Command → Bool
+is_while_command style (Execute name) = is_while (kind_of style name)
+is_while_command style (Iterate name) = is_while (kind_of style name)
+is_while_command style (Reverse name) = is_while (kind_of style name)
+is_while_command style _ = false
+
+-- it stands in a body of a style, entered or not, or in a command
+abbrev pub has_while : Style → Bool
+has_while style =
+    list_any (λ body. list_any (λ at. is_while_token style at.token) body.tokens) style.bodies
+    || list_any (λ at. is_while_command style at.command) style.commands

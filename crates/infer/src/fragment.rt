@@ -1,28 +1,16 @@
 //! The kind fragment (docs/ANALYSER.md, "The kind fragment").
 
 ghost use Rattle.std.specs.Prelude.{◌≡◌};
-ghost use Rattle.std.specs.List.{list_all};
+ghost use Rattle.std.specs.List.{list_all, list_any};
 ghost use Rattle.infer.specs.Fragment as rule;
 
 use bst_meaning::style_parts::kind_of;
 use name_table::builtin::Builtin;
 use name_table::names::Kind;
 use name_table::style::{Body, Command, Style, Token};
-use straight_hints::Finding;
-
-/// How the hints of a style are found.
-pub(crate) fn finding_of(style: &Style) -> Finding
-    ensures { result ≡ rule.finding_of style.now }
-{
-    if is_of_fragment(style) {
-        Finding::Bare
-    } else {
-        Finding::Straight
-    }
-}
 
 /// Whether no function beyond the fragment stands in a body of a style, entered or not, or in a command.
-fn is_of_fragment(style: &Style) -> bool
+pub(crate) fn is_of_fragment(style: &Style) -> bool
     ensures { result ≡ rule.is_of_fragment style.now }
 {
     bodies_within(style) && commands_within(style)
@@ -109,4 +97,72 @@ fn is_beyond(op: Builtin) -> bool
             | Builtin::WhileDo
             | Builtin::Width
     )
+}
+
+/// Whether `while$` stands in a body of a style, entered or not, or in a command.
+pub(crate) fn has_while(style: &Style) -> bool
+    ensures { result ≡ rule.has_while style.now }
+{
+    some_body_has(style) || some_command_has(style)
+}
+
+/// Whether it stands in a body.
+fn some_body_has(style: &Style) -> bool
+    ensures { result ≡ list_any (λ body. list_any (λ at. rule.is_while_token style.now at.token) body.tokens) style.now.bodies }
+{
+    style
+        .bodies
+        .as_slice()
+        .iter()
+        .any(|body| body_has(style, body))
+}
+
+/// Whether a command calls it.
+fn some_command_has(style: &Style) -> bool
+    ensures { result ≡ list_any (λ at. rule.is_while_command style.now at.command) style.now.commands }
+{
+    style
+        .commands
+        .as_slice()
+        .iter()
+        .any(|at| is_while_command(style, at.command))
+}
+
+/// Whether it stands in this body.
+fn body_has(style: &Style, body: &Body) -> bool
+    ensures { result ≡ list_any (λ at. rule.is_while_token style.now at.token) body.now.tokens }
+{
+    body.tokens
+        .as_slice()
+        .iter()
+        .any(|at| is_while_token(style, at.token))
+}
+
+/// Whether a token calls or quotes it.
+fn is_while_token(style: &Style, token: Token) -> bool
+    ensures { result ≡ rule.is_while_token style.now token }
+{
+    match token {
+        Token::Call(name) | Token::Quote(name) => is_while(kind_of(style, name)),
+        _ => false,
+    }
+}
+
+/// Whether a command calls it.
+fn is_while_command(style: &Style, command: Command) -> bool
+    ensures { result ≡ rule.is_while_command style.now command }
+{
+    match command {
+        Command::Execute(name) | Command::Iterate(name) | Command::Reverse(name) => {
+            is_while(kind_of(style, name))
+        }
+        _ => false,
+    }
+}
+
+/// Whether a name that stands for this is it.
+fn is_while(kind: Option<Kind>) -> bool
+    ensures { result ≡ rule.is_while kind }
+{
+    matches!(kind, Some(Kind::Builtin(Builtin::WhileDo)))
 }

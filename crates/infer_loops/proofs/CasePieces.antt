@@ -13,9 +13,9 @@ use Rattle.loop_templates.specs.declared.candidates.Candidate.{Candidate}
 use Rattle.cert_check.specs.Certified.{IsPieceOf}
 use Rattle.cert_check.proofs.ReadPieces.{piece_read}
 
-case_piece : (frame : Frame) (case : Piece) → IsSound frame.style → IsCase frame case → IsPieceOf frame.style frame.at_entry case
+pub case_piece : (frame : Frame) (case : Piece) → IsSound frame.style → IsCase frame case → IsPieceOf frame.style frame.at_entry case
 case_piece frame case sound is =
-    piece_read frame.style frame.at_entry frame.at_entry case (record { is = is.piece; texts = is.texts; small = omega arith; sound = sound })
+    piece_read frame.style frame.at_entry frame.has_pos case (record { is = is.piece; texts = is.texts; small = omega arith; sound = sound })
 
 first_there : (frame : Frame) (candidate : Candidate) → IsSound frame.style → HasCases frame candidate
     → All (IsPieceOf frame.style frame.at_entry) candidate.first

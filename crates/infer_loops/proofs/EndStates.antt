@@ -1,29 +1,32 @@
 -- The states at the ends of turns.
 use Rattle.std.proofs.Common.{◌≡◌, ℕ, ◌+◌, ◌<◌, Bool, true, false, cond, List, [], ◌∷◌, ◌++◌, drop, flat_map, get_or, length, ap, sym, subst, ◌∙◌, append_assoc}
 use Rattle.std.specs.List.{All}
-use Rattle.std.proofs.lemmas.List.Elements.{All-nil, All-cons, All-head, All-tail}
+use Rattle.std.proofs.lemmas.List.Elements.{All-nil, All-cons, All-head, All-tail, All-weaker}
 use Rattle.name_table.specs.declared.style.Style.{Style}
 use Rattle.sym_state.specs.State.{State}
 use Rattle.sym_state.specs.WellMade.{WellMade}
 use Rattle.sym_state.specs.declared.hint.Hint.{Hint}
 use Rattle.cert_check.specs.Tours.{IsEnded}
 use Rattle.cert_check.specs.declared.tours.Ended.{Ended}
-use Rattle.loop_templates.proofs.Wanted.{next_of}
+use Rattle.loop_templates.proofs.OneByOne.{next_left}
 use Rattle.infer_loops.specs.Invariants.{ended_states, is_behind}
 
 -- they are well made
-made_states : (style : Style) (turned : Bool) (ends : List Ended) → All (IsEnded style) ends → All (WellMade style) (ended_states turned ends)
+pub made_states : (style : Style) (turned : Bool) (ends : List Ended) → All (λ end. WellMade style end.state) ends → All (WellMade style) (ended_states turned ends)
 made_states style turned [] all = All-nil (WellMade style)
 made_states style turned (end ∷ ends) all =
-    let rest = made_states style turned ends (All-tail (IsEnded style) end ends all) in
+    let P = λ (it : Ended). WellMade style it.state in
+    let rest = made_states style turned ends (All-tail P end ends all) in
     elim (is_behind turned end) as (λ b. All (WellMade style) (cond b (end.state ∷ ended_states turned ends) (ended_states turned ends))) [
-      | true ↦ All-cons (WellMade style) end.state (ended_states turned ends) (All-head (IsEnded style) end ends all).state.made rest
+      | true ↦ All-cons (WellMade style) end.state (ended_states turned ends) (All-head P end ends all) rest
       | false ↦ rest
     ]
 
 pub ends_made : (style : Style) (turned : Bool) (ends : List Ended) (states : List State) → states ≡ ended_states turned ends → All (IsEnded style) ends
     → All (WellMade style) states
-ends_made style turned ends states is all = subst (λ (l : List State). All (WellMade style) l) (sym is) (made_states style turned ends all)
+ends_made style turned ends states is all =
+    subst (λ (l : List State). All (WellMade style) l) (sym is)
+    (made_states style turned ends (All-weaker (IsEnded style) (λ end. WellMade style end.state) (λ end one. one.state.made) ends all))
 
 -- those of the ends so far, of one more and of those that are left
 pub state_kept : (turned : Bool) (ends : List Ended) (k : ℕ) (end : Ended) (old new all : List State) → k < length ends → end ≡ get_or ends k end
@@ -34,7 +37,7 @@ state_kept turned ends k end old new all more is behind added before =
     ap (λ (l : List State). l ++ rest) added
     ∙ append_assoc old (end.state ∷ []) rest
     ∙ ap (λ (b : Bool). old ++ cond b (end.state ∷ rest) rest) (sym behind)
-    ∙ ap (λ (l : List Ended). old ++ ended_states turned l) (sym (next_of ends k end more is))
+    ∙ ap (λ (l : List Ended). old ++ ended_states turned l) (sym (next_left ends k end more is))
     ∙ before
 
 pub state_passed : (turned : Bool) (ends : List Ended) (k : ℕ) (end : Ended) (old all : List State) → k < length ends → end ≡ get_or ends k end
@@ -42,7 +45,7 @@ pub state_passed : (turned : Bool) (ends : List Ended) (k : ℕ) (end : Ended) (
 state_passed turned ends k end old all more is behind before =
     let rest = ended_states turned (drop (k + 1) ends) in
     ap (λ (b : Bool). old ++ cond b (end.state ∷ rest) rest) (sym behind)
-    ∙ ap (λ (l : List Ended). old ++ ended_states turned l) (sym (next_of ends k end more is))
+    ∙ ap (λ (l : List Ended). old ++ ended_states turned l) (sym (next_left ends k end more is))
     ∙ before
 
 -- the hints at the ends so far, at one more and at those that are left

@@ -9,6 +9,7 @@ use Rattle.cert_format.specs.declared.cert.Cert.{Cert}
 use Rattle.cert_format.specs.declared.cert.Loop.{Loop}
 use Rattle.sym_state.specs.State.{State}
 use Rattle.cert_check.specs.declared.tours.Turning.{Turning}
+use Rattle.loop_templates.specs.Bound.{all_bound}
 use Rattle.loop_templates.specs.Cases.{Frame}
 use Rattle.loop_templates.specs.Reaching.{Occurring}
 use Rattle.infer_loops.specs.Invariants.{found_in, frame_of, frame_over, invariant_of, occurring_in, sums_in, turning, written_in}
@@ -20,6 +21,8 @@ frame_with style admits one writes sums entering = record {
   admits = admits;
   whole = one.whole;
   at_entry = one.entry;
+  has_pos = one.entry;
+  bound = all_bound one.entry;
   writes = writes;
   sums = sums;
   entering = entering;

@@ -2,6 +2,8 @@ pub mod CasePieces
 pub mod EndStates
 pub mod FewCases
 pub mod FoundFrames
+pub mod HintsWritten
+pub mod LoopsMade
+pub mod LoopsTold
 pub mod NextTurns
 pub mod Sequences
-pub mod WrittenNames

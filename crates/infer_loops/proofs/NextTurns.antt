@@ -10,7 +10,7 @@ use Rattle.bv_base.specs.declared.memory.NoMemory.{NoMemory as Wanting}
 use Rattle.name_table.specs.declared.style.Style.{Style}
 use Rattle.sym_state.specs.declared.piece.Piece.{Piece}
 use Rattle.loop_templates.specs.declared.candidates.Added.{Added}
-use Rattle.loop_templates.proofs.Wanted.{next_of}
+use Rattle.loop_templates.proofs.OneByOne.{next_left}
 use Rattle.cert_check.specs.Given.{Refused, Takes}
 use Rattle.cert_check.specs.Tours.{HasEnds, KeepsTour, Toured, turn_of, turns_of}
 use Rattle.cert_check.specs.Walks.{Scope}
@@ -39,13 +39,13 @@ pub next_turn : (scope : Scope) (one : Turning) (cases : List Piece) (k : ℕ) (
     → k < length cases → case ≡ get_or cases k case → turns_of scope one (drop k cases) tour ≡ whole → turn_of scope one case tour ≡ Ok mid
     → turns_of scope one (drop (k + 1) cases) mid ≡ whole
 next_turn scope one cases k case tour mid whole more is before e =
-    went_on scope one case (drop (k + 1) cases) (drop k cases) tour mid whole (next_of cases k case more is) before e
+    went_on scope one case (drop (k + 1) cases) (drop k cases) tour mid whole (next_left cases k case more is) before e
 
 pub turn_stops : (scope : Scope) (one : Turning) (cases : List Piece) (k : ℕ) (case : Piece) (tour : Tour) (whole : Toured) (refusal : Refusal)
     → k < length cases → case ≡ get_or cases k case → turns_of scope one (drop k cases) tour ≡ whole → Refused (turn_of scope one case tour) refusal
     → Refused whole refusal
 turn_stops scope one cases k case tour whole refusal more is before refused =
-    stopped scope one case (drop (k + 1) cases) (drop k cases) tour whole refusal (next_of cases k case more is) before refused
+    stopped scope one case (drop (k + 1) cases) (drop k cases) tour whole refusal (next_left cases k case more is) before refused
 
 -- where no case is left
 pub turns_done : (scope : Scope) (one : Turning) (cases : List Piece) (k : ℕ) (tour : Tour) (whole : Toured) → length cases ≤ k
@@ -56,7 +56,7 @@ turns_done scope one cases k tour whole done before =
 -- the same of cases that were added
 next_added_is : (added : List Added) (k : ℕ) (case : Added) → k < length added → case ≡ get_or added k case
     → added_cases (drop k added) ≡ case.case ∷ added_cases (drop (k + 1) added)
-next_added_is added k case more is = ap added_cases (next_of added k case more is)
+next_added_is added k case more is = ap added_cases (next_left added k case more is)
 
 pub next_added : (scope : Scope) (one : Turning) (added : List Added) (k : ℕ) (case : Added) (tour mid : Tour) (whole : Toured)
     → k < length added → case ≡ get_or added k case → turns_of scope one (added_cases (drop k added)) tour ≡ whole → turn_of scope one case.case tour ≡ Ok mid

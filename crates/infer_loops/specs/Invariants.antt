@@ -5,27 +5,30 @@ use Rattle.std.specs.Option.{option_and_then}
 use Rattle.std.specs.Result.{result_ok}
 use Rattle.lin_facts.specs.declared.row.Part.{Part}
 use Rattle.name_table.specs.declared.names.NameId.{NameId}
-use Rattle.name_table.specs.declared.style.BodyId.{BodyId}
 use Rattle.name_table.specs.declared.style.Style.{Style}
-use Rattle.bst_meaning.specs.StyleParts.{kind_of}
 use Rattle.bst_meaning.specs.declared.condition.Cond.{Cond}
 use Rattle.bst_meaning.specs.declared.value.Target.{Target}
-use Rattle.bst_meaning.specs.declared.value.Target.TheVariants.{Named, Block}
+use Rattle.cert_format.specs.CertText.{reference_number}
 use Rattle.cert_format.specs.declared.cert.Cert.{Cert}
 use Rattle.cert_format.specs.declared.cert.Loop.{Loop}
+use Rattle.cert_format.specs.declared.cond_lines.TheConstants.{MOST}
+use Rattle.cert_format.specs.declared.items.TheConstants.{MOST_NUMBER}
 use Rattle.sym_state.specs.State.{State}
-use Rattle.sym_state.specs.WellMade.{is_variable}
 use Rattle.sym_state.specs.declared.hint.Hint.{Hint}
+use Rattle.sym_state.specs.declared.hint.Hint.TheVariants.{Apply, Case, Drop, Loop as LoopHint, Step as StepHint}
 use Rattle.sym_state.specs.declared.piece.Piece.{Piece}
+use Rattle.sym_state.specs.declared.proof.Proof.{Proof}
+use Rattle.sym_state.specs.declared.proof.Use.{Use}
 use Rattle.straight_hints.specs.declared.finding.Finding.TheVariants.{Straight}
 use Rattle.loop_templates.specs.declared.candidates.Added.{Added}
 use Rattle.loop_templates.specs.declared.candidates.Candidate.{Candidate}
 use Rattle.loop_templates.specs.declared.candidates.Next.{Next}
 use Rattle.loop_templates.specs.declared.candidates.Next.TheVariants.{Passes, Ends, Goes}
-use Rattle.loop_templates.specs.declared.limits.TheConstants.{MOST_PIECES}
+use Rattle.loop_templates.specs.declared.limits.TheConstants.{MOST_ITEMS, MOST_PIECES}
+use Rattle.loop_templates.specs.Bound.{all_bound, is_bound_variable}
 use Rattle.loop_templates.specs.Candidates.{HasCases, entailing_one, exits_of, first_candidate, is_short, next_after}
 use Rattle.loop_templates.specs.Cases.{Frame}
-use Rattle.loop_templates.specs.Reaching.{Occurring, bodies_entered, occurring, occurring_of, terms_over}
+use Rattle.loop_templates.specs.Reaching.{Occurring, occurring, occurring_of, roots_of, terms_over}
 use Rattle.loop_templates.specs.Sums.{sums}
 use Rattle.cert_check.specs.Tours.{found_since, setting_out, turns_of}
 use Rattle.cert_check.specs.declared.tours.Ended.{Ended}
@@ -45,11 +48,6 @@ added_cases added = map (λ one. one.case) added
 abbrev pub cases_of : Candidate → List Piece
 cases_of candidate = candidate.first ++ added_cases candidate.added
 
--- the bodies that a target enters
-abbrev pub roots_of : Style → List NameId → Target → List BodyId
-roots_of style types (Named name) = bodies_entered style types (kind_of style name)
-roots_of style types (Block body) = body ∷ []
-
 -- the two functions of a loop as these states enter it: at an entry, and with whole stacks, where each of them is
 abbrev pub turning : Target → Target → List State → Turning
 turning test body entering = record {
@@ -67,7 +65,7 @@ occurring_in style admits one =
 
 -- the variables that count as written, which are those that are quoted
 abbrev pub written_in : Style → Turning → Occurring → List NameId
-written_in style one found = occurring_of (is_variable one.entry) style found.quoted
+written_in style one found = occurring_of (is_bound_variable (all_bound one.entry)) style found.quoted
 
 -- the sums over the terms that occur
 abbrev pub sums_in : Style → Turning → Occurring → List (List Part)
@@ -80,6 +78,8 @@ frame_over style admits one found entering = record {
   admits = admits;
   whole = one.whole;
   at_entry = one.entry;
+  has_pos = one.entry;
+  bound = all_bound one.entry;
   writes = written_in style one found;
   sums = sums_in style one found;
   entering = entering;
@@ -136,11 +136,34 @@ abbrev pub may_be_written : Candidate → List Added → Bool
 may_be_written candidate exits =
     nat_le ((length candidate.first + length candidate.added) + length exits) MOST_PIECES && list_all (λ added. is_short added.case.stack) exits
 
+-- a number from 1 on, of 32 bits
+abbrev pub is_positive : ℕ → Bool
+is_positive n = nat_le 1 n && nat_le n MOST_NUMBER
+
+-- the numbers of a reference that is taken are within the limits
+abbrev pub is_use : Use → Bool
+is_use one = is_positive one.times && nat_le (reference_number one.reference) MOST_NUMBER
+
+-- those of a proof are
+abbrev pub is_proof : Proof → Bool
+is_proof proof = is_positive proof.divisor && (list_all is_use proof.uses && nat_le (length proof.uses) MOST_ITEMS)
+
+-- those of a hint are
+abbrev pub is_hint : Hint → Bool
+is_hint (Apply n) = nat_le n MOST
+is_hint (LoopHint n) = nat_le n MOST
+is_hint (Case n) = nat_le n MOST
+is_hint (Drop proof) = is_proof proof
+is_hint (StepHint proof) = is_proof proof
+is_hint _ = true
+
 -- the loop of a candidate that passes, where it is within the limits
 abbrev pub loop_of : Frame → Turning → Candidate → Tour → Option Loop
 loop_of frame one candidate tour =
     let exits = exits_of frame (ended_states false tour.ends) in
-    if may_be_written candidate exits then Some (loop_with frame one candidate tour exits) else None
+    if may_be_written candidate exits && list_all is_hint (hints_of frame candidate exits tour)
+    then Some (loop_with frame one candidate tour exits)
+    else None
 
 -- what comes of a candidate that was walked: its loop where it passes, and else what the next one gives
 abbrev pub settled_by : Frame → Turning → Candidate → Tour → (Candidate → Option Loop) → Next → Option Loop

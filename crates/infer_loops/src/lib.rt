@@ -3,9 +3,12 @@
 
 mod ends;
 mod frames;
+pub mod laws;
 pub mod limits;
 mod loops;
+mod making;
 mod sequence;
 mod turns;
 
+pub use crate::making::Invariants;
 pub use crate::sequence::invariant;

@@ -1,7 +1,9 @@
 //! The loop of a candidate that passes, with its exits and its hints.
 
-ghost use Rattle.std.specs.Prelude.{◌≡◌, ◌+◌, ◌<◌, ◌++◌, flat_map, length, map, IfOk, OnOk};
+ghost use Rattle.std.specs.Prelude.{◌≡◌, ◌+◌, ◌≤◌, ◌++◌, flat_map, length, map, IfOk, OnOk};
 ghost use Rattle.std.specs.List.{All, list_all};
+ghost use Rattle.name_table.specs.Sound.{Each};
+ghost use Rattle.cert_format.specs.CertText.{IsHint};
 ghost use Rattle.cert_check.specs.Tours.{HasEnds, IsEnded};
 ghost use Rattle.loop_templates.specs.Candidates.{IsMade, is_short};
 ghost use Rattle.loop_templates.specs.Cases.{IsFrame};
@@ -75,9 +77,10 @@ fn loop_with(
 ) -> Result<Loop, NoMemory>
     requires made { All IsMade candidate.added }
     requires exits { All IsMade exits.items }
-    requires few { (length candidate.first + length candidate.added) + length exits.items < 4294967296 }
+    requires few { (length candidate.first + length candidate.added) + length exits.items ≤ MOST_PIECES }
     requires ends { HasEnds frame.now.style tour }
-    ensures { IfOk result (λ found. found ≡ rule.loop_with frame.now one candidate tour.entry exits.items) }
+    ensures found { IfOk result (λ found. found ≡ rule.loop_with frame.now one candidate tour.entry exits.items) }
+    ensures written { IfOk result (λ found. Each IsHint found.hints) }
 {
     let hints = hints_of(alloc, frame, &candidate, exits.as_slice(), tour)?;
     Ok(Loop {
@@ -125,9 +128,10 @@ fn hints_of(
 ) -> Result<Vec<Hint>, NoMemory>
     requires made { All IsMade candidate.now.added }
     requires exits { All IsMade exits.now }
-    requires few { (length candidate.now.first + length candidate.now.added) + length exits.now < 4294967296 }
+    requires few { (length candidate.now.first + length candidate.now.added) + length exits.now ≤ MOST_PIECES }
     requires ends { HasEnds frame.now.style tour }
-    ensures { IfOk result (λ hints. hints.items ≡ rule.hints_of frame.now candidate.now exits.now tour.entry) }
+    ensures hints { IfOk result (λ hints. hints.items ≡ rule.hints_of frame.now candidate.now exits.now tour.entry) }
+    ensures written { IfOk result (λ hints. Each IsHint hints.items) }
 {
     let mut tour = tour;
     let mut last = tour.take_found();
@@ -150,9 +154,11 @@ fn push_hints(
 ) -> Result<(), NoMemory>
     requires made { All IsMade candidate.now.added }
     requires exits { All IsMade exits.now }
-    requires few { (length candidate.now.first + length candidate.now.added) + length exits.now < 4294967296 }
+    requires few { (length candidate.now.first + length candidate.now.added) + length exits.now ≤ MOST_PIECES }
     requires end { IsEnded frame.now.style end }
-    ensures { OnOk result (hints.new.items ≡ hints.old.items ++ rule.hints_at_end frame.now candidate.now exits.now end) }
+    requires written { Each IsHint hints.old.items }
+    ensures hints { OnOk result (hints.new.items ≡ hints.old.items ++ rule.hints_at_end frame.now candidate.now exits.now end) }
+    ensures written { OnOk result (Each IsHint hints.new.items) }
 {
     let mut shown = shown_at_end(alloc, frame, candidate, exits, &end)?;
     let mut found = end.hints.into_vec();
@@ -171,9 +177,10 @@ fn shown_at_end(
 ) -> Result<Vec<Hint>, NoMemory>
     requires made { All IsMade candidate.now.added }
     requires exits { All IsMade exits.now }
-    requires few { (length candidate.now.first + length candidate.now.added) + length exits.now < 4294967296 }
+    requires few { (length candidate.now.first + length candidate.now.added) + length exits.now ≤ MOST_PIECES }
     requires end { IsEnded frame.now.style end.now }
-    ensures { IfOk result (λ hints. hints.items ≡ rule.shown_at_end frame.now candidate.now exits.now end.now) }
+    ensures hints { IfOk result (λ hints. hints.items ≡ rule.shown_at_end frame.now candidate.now exits.now end.now) }
+    ensures written { IfOk result (λ hints. Each IsHint hints.items) }
 {
     if end.turned {
         let first = candidate.first.as_slice().len() as u32;

@@ -19,7 +19,7 @@ use bst_meaning::value::Target;
 use bv_base::memory::NoMemory;
 use cert_check::{Checker, Tour, Turning};
 use cert_format::cert::Loop;
-use loop_templates::{Candidate, Frame, Next, first_candidate, next_after};
+use loop_templates::{Bound, Candidate, Frame, Next, first_candidate, next_after};
 use std::alloc::Global;
 use std::marker::Model;
 use sym_state::state::State;
@@ -58,6 +58,11 @@ pub fn invariant(
         admits,
         whole: one.whole,
         at_entry: one.entry,
+        has_pos: one.entry,
+        bound: Bound {
+            globals: true,
+            entry: one.entry,
+        },
         writes: writes.as_slice(),
         sums: sums.as_slice(),
         entering,

@@ -1,5 +1,5 @@
 -- Cases without rows may start a state.
-use Rattle.std.proofs.Common.{◌≡◌, ℕ, zero, suc, ◌+◌, ◌<◌, ◌≤◌, Bool, ◌∙◌, ap, sym, subst, arith, List, [], ◌∷◌, ◌++◌, length, map, take, drop, Option, Some, None}
+use Rattle.std.proofs.Common.{◌≡◌, ℕ, zero, suc, ◌+◌, ◌<◌, ◌≤◌, ◌∙◌, ap, sym, subst, arith, List, [], ◌∷◌, ◌++◌, length, map, take, drop, Option, Some, None}
 use Rattle.std.specs.List.{All, range_with_len}
 use Rattle.std.proofs.lemmas.List.{length-append, length-map}
 use Rattle.std.proofs.lemmas.List.Elements.{All-nil, All-cons, All-append, All-drop, All-filter, All-map, All-take, All-weaker}
@@ -11,13 +11,15 @@ use Rattle.sym_state.specs.Facts.{subject}
 use Rattle.sym_state.specs.Fitting.{FactFits}
 use Rattle.sym_state.specs.Starting.{IsFit, IsNumbered, placed, symbols_of}
 use Rattle.sym_state.specs.State.{State}
-use Rattle.sym_state.specs.WellMade.{HasBounds, HasByteText, HasShortText, HasSmallInteger, IsBounded, IsOfStyle, IsTermBelow, WellMade, ids_from, is_field, is_variable}
+use Rattle.sym_state.specs.WellMade.{HasBounds, HasByteText, HasShortText, HasSmallInteger, IsBounded, IsOfStyle, IsTermBelow, WellMade, ids_from}
 use Rattle.sym_state.specs.declared.piece.Piece.{Piece}
 use Rattle.sym_state.specs.declared.symbol.Bind.{Bind}
 use Rattle.sym_state.specs.declared.symbol.Sym.{Sym}
 use Rattle.sym_state.proofs.Started.{ids_from-length}
+use Rattle.loop_templates.specs.Bound.{is_bound_field, is_bound_variable}
 use Rattle.loop_templates.specs.Cases.{CanStand, Frame, MayAdd, bare_case, facts_for, fields_of, given_facts, numbered, places_behind, places_for, seated, taken_symbols, variables_of}
 use Rattle.loop_templates.specs.Skeletons.{IsBoneOf, Skeleton, bone_of, same_skeleton, skeleton, states_of}
+use Rattle.loop_templates.specs.declared.cases.Bound.{Bound}
 use Rattle.loop_templates.specs.declared.places.Seats.{Seats}
 use Rattle.loop_templates.proofs.Fit.{count_within, facts_fit, places_within, skeleton_of_style, stack_within}
 use Rattle.loop_templates.proofs.Seated.{all_seated, ids_below, named_below, seated_names, seated_next}
@@ -32,8 +34,8 @@ places_named frame n =
     let P = λ (place : Bind). place.name.0 < length frame.style.names in
     let names = variables_of frame ++ fields_of frame in
     let within = All-append (λ name. name.0 < length frame.style.names) (variables_of frame) (fields_of frame)
-    (ids_below (is_variable frame.at_entry) (length frame.style.names) 0 frame.style.names (omega arith))
-    (ids_below (is_field frame.at_entry) (length frame.style.names) 0 frame.style.names (omega arith)) in
+    (ids_below (is_bound_variable frame.bound) (length frame.style.names) 0 frame.style.names (omega arith))
+    (ids_below (is_bound_field frame.bound) (length frame.style.names) 0 frame.style.names (omega arith)) in
     elim frame.entering as (λ (states : List State). All P (elim states as (λ _. List Bind) [ [] ↦ [] | first ∷ more ↦ places_behind frame.writes n first names ])) [
       | [] ↦ All-nil P
       | first ∷ more ↦
@@ -47,8 +49,8 @@ places_below frame n =
     let m = n + (length frame.style.names + length frame.style.names) in
     let P = λ (place : Bind). place.sym.0 < m in
     let names = variables_of frame ++ fields_of frame in
-    let vars = ids_from-length (is_variable frame.at_entry) 0 frame.style.names in
-    let fields = ids_from-length (is_field frame.at_entry) 0 frame.style.names in
+    let vars = ids_from-length (is_bound_variable frame.bound) 0 frame.style.names in
+    let fields = ids_from-length (is_bound_field frame.bound) 0 frame.style.names in
     let both = length-append (variables_of frame) (fields_of frame) in
     elim frame.entering as (λ (states : List State). All P (elim states as (λ _. List Bind) [ [] ↦ [] | first ∷ more ↦ places_behind frame.writes n first names ])) [
       | [] ↦ All-nil P
@@ -175,11 +177,11 @@ those_bounded style bones states those is made =
     (All-weaker (WellMade style) HasBounds (λ state h. h.bounds) states made))
 
 -- the names of a case are few behind a short stack
-pub names_few : (at_entry : Bool) (all : List (List ℕ × Kind)) (n : ℕ) (vars names : List NameId) → n < 2147483648 → length all ≤ MOST_NAMES
-    → vars ≡ ids_from (is_variable at_entry) 0 all → names ≡ vars ++ ids_from (is_field at_entry) 0 all → n + length names < 4294967296
-names_few at_entry all n vars names short few is more =
-    let first = ids_from-length (is_variable at_entry) 0 all in
-    let second = ids_from-length (is_field at_entry) 0 all in
+pub names_few : (bound : Bound) (all : List (List ℕ × Kind)) (n : ℕ) (vars names : List NameId) → n < 2147483648 → length all ≤ MOST_NAMES
+    → vars ≡ ids_from (is_bound_variable bound) 0 all → names ≡ vars ++ ids_from (is_bound_field bound) 0 all → n + length names < 4294967296
+names_few bound all n vars names short few is more =
+    let first = ids_from-length (is_bound_variable bound) 0 all in
+    let second = ids_from-length (is_bound_field bound) 0 all in
     let one = ap length is in
-    let both = ap length more ∙ length-append vars (ids_from (is_field at_entry) 0 all) in
+    let both = ap length more ∙ length-append vars (ids_from (is_bound_field bound) 0 all) in
     omega (arith, short, few, first, second, one, both)

@@ -28,12 +28,14 @@ use Rattle.sym_state.specs.Changes.{symbol_at}
 use Rattle.sym_state.specs.Renaming.{term_renamed}
 use Rattle.sym_state.specs.Starting.{started}
 use Rattle.sym_state.specs.State.{State}
-use Rattle.sym_state.specs.WellMade.{ids_from, is_field, is_variable, size, takes_part}
+use Rattle.sym_state.specs.WellMade.{ids_from, size}
 use Rattle.sym_state.specs.declared.piece.Piece.{Piece}
 use Rattle.sym_state.specs.declared.symbol.Bind.{Bind}
 use Rattle.sym_state.specs.declared.symbol.Sym.{Sym}
 use Rattle.straight_proofs.specs.Remainders.{turned}
+use Rattle.loop_templates.specs.Bound.{is_bound, is_bound_field, is_bound_variable}
 use Rattle.loop_templates.specs.Cases.{IsSumOver, IsTermOver, has_value}
+use Rattle.loop_templates.specs.declared.cases.Bound.{Bound}
 use Rattle.loop_templates.specs.Rows.{is_said, is_wanted, row_in_piece, rows_of_sum, rows_over, summed, symbol_of, with_part}
 use Rattle.loop_templates.specs.Sums.{IsSmallSum}
 use Rattle.loop_templates.proofs.Rowed.{kept_hold, parts_few, rows_hold}
@@ -224,10 +226,10 @@ id_in test at (suc k) (name ∷ names) id is e =
     or_right true b e = refl
     or_right false b e = e
 
--- a piece that binds each name that has a value, to symbols below a number
-pub record Binds (style : Style) (at_entry : Bool) (m : ℕ) (piece : Piece) : Type 0 where
-  pub vars : names_of piece.vars ≡ ids_from (is_variable at_entry) 0 style.names
-  pub fields : names_of piece.fields ≡ ids_from (is_field at_entry) 0 style.names
+-- a piece that binds each name that is to be bound, to symbols below a number
+pub record Binds (style : Style) (bound : Bound) (m : ℕ) (piece : Piece) : Type 0 where
+  pub vars : names_of piece.vars ≡ ids_from (is_bound_variable bound) 0 style.names
+  pub fields : names_of piece.fields ≡ ids_from (is_bound_field bound) 0 style.names
   pub vars_below : All (λ bind. bind.sym.0 < m) piece.vars
   pub fields_below : All (λ bind. bind.sym.0 < m) piece.fields
 
@@ -236,60 +238,60 @@ one_below m (Some s) b h k e = h
 one_below m None (Some s) h k e = k
 one_below m None None h k e = absurd (cc)
 
-by_kind : (at_entry : Bool) (kind : Option Kind) → option_map_or (takes_part at_entry) kind false ≡ true
-    → (option_map_or (is_variable at_entry) kind false || option_map_or (is_field at_entry) kind false) ≡ true
-by_kind at_entry None e = absurd (cc)
-by_kind at_entry (Some kind) e = e
+by_kind : (bound : Bound) (kind : Option Kind) → option_map_or (is_bound bound) kind false ≡ true
+    → (option_map_or (is_bound_variable bound) kind false || option_map_or (is_bound_field bound) kind false) ≡ true
+by_kind bound None e = absurd (cc)
+by_kind bound (Some kind) e = e
 
 either_some : (a b c d : Bool) → (a || b) ≡ true → (a ≡ true → c ≡ true) → (b ≡ true → d ≡ true) → (c || d) ≡ true
 either_some true b c d e f g = ap (λ (x : Bool). x || d) (f refl)
 either_some false b true d e f g = refl
 either_some false b false d e f g = g e
 
-symbol_of_below : (style : Style) (at_entry : Bool) (m : ℕ) (piece : Piece) (id : ℕ) → Binds style at_entry m piece → has_value style at_entry id ≡ true
+symbol_of_below : (style : Style) (bound : Bound) (m : ℕ) (piece : Piece) (id : ℕ) → Binds style bound m piece → has_value style bound id ≡ true
     → symbol_of piece id < m
-symbol_of_below style at_entry m piece id binds has =
+symbol_of_below style bound m piece id binds has =
     let name : NameId = record { 0 = id } in
     let kind = kind_at name style.names in
     one_below m (symbol_at name piece.vars) (symbol_at name piece.fields) (symbol_below m name piece.vars binds.vars_below)
     (symbol_below m name piece.fields binds.fields_below)
-    (either_some (option_map_or (is_variable at_entry) kind false) (option_map_or (is_field at_entry) kind false) (is_some (symbol_at name piece.vars))
-    (is_some (symbol_at name piece.fields)) (by_kind at_entry kind has)
-    (λ e. symbol_there name piece.vars (ap (is_in name) binds.vars ∙ id_in (is_variable at_entry) 0 id style.names name (omega arith) e))
-    (λ e. symbol_there name piece.fields (ap (is_in name) binds.fields ∙ id_in (is_field at_entry) 0 id style.names name (omega arith) e)))
+    (either_some (option_map_or (is_bound_variable bound) kind false) (option_map_or (is_bound_field bound) kind false) (is_some (symbol_at name piece.vars))
+    (is_some (symbol_at name piece.fields)) (by_kind bound kind has)
+    (λ e. symbol_there name piece.vars (ap (is_in name) binds.vars ∙ id_in (is_bound_variable bound) 0 id style.names name (omega arith) e))
+    (λ e. symbol_there name piece.fields (ap (is_in name) binds.fields ∙ id_in (is_bound_field bound) 0 id style.names name (omega arith) e)))
 
-term_placed : (style : Style) (at_entry : Bool) (m : ℕ) (piece : Piece) (term : Term) → Binds style at_entry m piece → IsTermOver style at_entry term
-    → IsTerm at_entry m (term_renamed (symbol_of piece) term)
-term_placed style at_entry m piece (Value id) binds over = symbol_of_below style at_entry m piece id binds over
-term_placed style at_entry m piece (Length id) binds over = symbol_of_below style at_entry m piece id binds over
-term_placed style at_entry m piece (Names id) binds over = symbol_of_below style at_entry m piece id binds over
-term_placed style at_entry m piece Pos binds over = over
-term_placed style at_entry m piece Count binds over = tt
+term_placed : (style : Style) (bound : Bound) (has_pos : Bool) (m : ℕ) (piece : Piece) (term : Term) → Binds style bound m piece → IsTermOver style bound has_pos term
+    → IsTerm has_pos m (term_renamed (symbol_of piece) term)
+term_placed style bound has_pos m piece (Value id) binds over = symbol_of_below style bound m piece id binds over
+term_placed style bound has_pos m piece (Length id) binds over = symbol_of_below style bound m piece id binds over
+term_placed style bound has_pos m piece (Names id) binds over = symbol_of_below style bound m piece id binds over
+term_placed style bound has_pos m piece Pos binds over = over
+term_placed style bound has_pos m piece Count binds over = tt
 
-taken_over : (style : Style) (at_entry : Bool) (name : ℕ → ℕ) (parts : List Part) → IsSumOver style at_entry parts → Each IsTaken (map (renamed name) parts)
-taken_over style at_entry name [] over = tt
-taken_over style at_entry name (part ∷ parts) over =
-    let P = λ (p : Part). (is_zero p.coefficient ≡ false) × IsTermOver style at_entry p.term in
-    ((All-head P part parts over).0, taken_over style at_entry name parts (All-tail P part parts over))
+taken_over : (style : Style) (bound : Bound) (has_pos : Bool) (name : ℕ → ℕ) (parts : List Part) → IsSumOver style bound has_pos parts → Each IsTaken (map (renamed name) parts)
+taken_over style bound has_pos name [] over = tt
+taken_over style bound has_pos name (part ∷ parts) over =
+    let P = λ (p : Part). (is_zero p.coefficient ≡ false) × IsTermOver style bound has_pos p.term in
+    ((All-head P part parts over).0, taken_over style bound has_pos name parts (All-tail P part parts over))
 
-terms_placed : (style : Style) (at_entry : Bool) (m : ℕ) (piece : Piece) (parts : List Part) → Binds style at_entry m piece → IsSumOver style at_entry parts
-    → Each (λ p. IsTerm at_entry m p.term) (map (renamed (symbol_of piece)) parts)
-terms_placed style at_entry m piece [] binds over = tt
-terms_placed style at_entry m piece (part ∷ parts) binds over =
-    let P = λ (p : Part). (is_zero p.coefficient ≡ false) × IsTermOver style at_entry p.term in
-    (term_placed style at_entry m piece part.term binds (All-head P part parts over).1, terms_placed style at_entry m piece parts binds (All-tail P part parts over))
+terms_placed : (style : Style) (bound : Bound) (has_pos : Bool) (m : ℕ) (piece : Piece) (parts : List Part) → Binds style bound m piece → IsSumOver style bound has_pos parts
+    → Each (λ p. IsTerm has_pos m p.term) (map (renamed (symbol_of piece)) parts)
+terms_placed style bound has_pos m piece [] binds over = tt
+terms_placed style bound has_pos m piece (part ∷ parts) binds over =
+    let P = λ (p : Part). (is_zero p.coefficient ≡ false) × IsTermOver style bound has_pos p.term in
+    (term_placed style bound has_pos m piece part.term binds (All-head P part parts over).1, terms_placed style bound has_pos m piece parts binds (All-tail P part parts over))
 
 -- a row over a small sum of such terms is one of a certificate, where its constant is within the limit
-row_placed : (style : Style) (at_entry : Bool) (m : ℕ) (piece : Piece) (row : Row) → Binds style at_entry m piece → IsSmallSum row.parts
-    → IsSumOver style at_entry row.parts → is_within ROW_SIZE ROW_SIZE row.constant ≡ true → IsRow at_entry m (row_in_piece piece row)
-row_placed style at_entry m piece row binds small over constant =
+row_placed : (style : Style) (bound : Bound) (has_pos : Bool) (m : ℕ) (piece : Piece) (row : Row) → Binds style bound m piece → IsSmallSum row.parts
+    → IsSumOver style bound has_pos row.parts → is_within ROW_SIZE ROW_SIZE row.constant ≡ true → IsRow has_pos m (row_in_piece piece row)
+row_placed style bound has_pos m piece row binds small over constant =
     let placed = parts_few piece row small in
     let few = placed.few in
-    let formed = all_formed (IsTerm at_entry m) [] (map (renamed (symbol_of piece)) row.parts) (record { taken = tt; terms = tt; order = tt })
-    (taken_over style at_entry (symbol_of piece) row.parts over) (terms_placed style at_entry m piece row.parts binds over) in
+    let formed = all_formed (IsTerm has_pos m) [] (map (renamed (symbol_of piece)) row.parts) (record { taken = tt; terms = tt; order = tt })
+    (taken_over style bound has_pos (symbol_of piece) row.parts over) (terms_placed style bound has_pos m piece row.parts binds over) in
     record {
       constant = constant;
-      parts = parts_are at_entry m (row_in_piece piece row).parts placed.within formed.taken formed.terms;
+      parts = parts_are has_pos m (row_in_piece piece row).parts placed.within formed.taken formed.terms;
       few = omega (arith, few);
       rise = chained (row_in_piece piece row).parts formed.order;
     }
@@ -300,30 +302,30 @@ turned_some (pos zero) e = absurd (cc)
 turned_some (pos (suc n)) e = e
 turned_some (negsuc n) e = e
 
-turned_over : (style : Style) (at_entry : Bool) (parts : List Part) → IsSumOver style at_entry parts → IsSumOver style at_entry (map turned parts)
-turned_over style at_entry [] over = All-nil (λ (p : Part). (is_zero p.coefficient ≡ false) × IsTermOver style at_entry p.term)
-turned_over style at_entry (part ∷ parts) over =
-    let P = λ (p : Part). (is_zero p.coefficient ≡ false) × IsTermOver style at_entry p.term in
+turned_over : (style : Style) (bound : Bound) (has_pos : Bool) (parts : List Part) → IsSumOver style bound has_pos parts → IsSumOver style bound has_pos (map turned parts)
+turned_over style bound has_pos [] over = All-nil (λ (p : Part). (is_zero p.coefficient ≡ false) × IsTermOver style bound has_pos p.term)
+turned_over style bound has_pos (part ∷ parts) over =
+    let P = λ (p : Part). (is_zero p.coefficient ≡ false) × IsTermOver style bound has_pos p.term in
     let here = All-head P part parts over in
-    All-cons P (turned part) (map turned parts) (turned_some part.coefficient here.0, here.1) (turned_over style at_entry parts (All-tail P part parts over))
+    All-cons P (turned part) (map turned parts) (turned_some part.coefficient here.0, here.1) (turned_over style bound has_pos parts (All-tail P part parts over))
 
 -- the sums of a frame
-abbrev pub IsSumOf : Style → Bool → List Part → Type 0
-IsSumOf style at_entry sum = IsSmallSum sum × IsSumOver style at_entry sum
+abbrev pub IsSumOf : Style → Bound → Bool → List Part → Type 0
+IsSumOf style bound has_pos sum = IsSmallSum sum × IsSumOver style bound has_pos sum
 
-sum_rows_placed : (style : Style) (admits : Cond) (at_entry : Bool) (m : ℕ) (start : State) (states : List State) (piece : Piece) → Binds style at_entry m piece
-    → (sum : List Part) → IsSumOf style at_entry sum
-    → All (IsRow at_entry m) (filter (is_wanted admits start) (map (row_in_piece piece) (rows_of_sum admits states sum)))
-sum_rows_placed style admits at_entry m start states piece binds sum is =
-    kept_hold (HasSum (IsSumOf style at_entry)) (IsRow at_entry m) (is_wanted admits start) (row_in_piece piece) (rows_of_sum admits states sum)
-    (λ row of_sum wanted. row_placed style at_entry m piece row binds of_sum.0 of_sum.1
+sum_rows_placed : (style : Style) (admits : Cond) (bound : Bound) (has_pos : Bool) (m : ℕ) (start : State) (states : List State) (piece : Piece) → Binds style bound m piece
+    → (sum : List Part) → IsSumOf style bound has_pos sum
+    → All (IsRow has_pos m) (filter (is_wanted admits start) (map (row_in_piece piece) (rows_of_sum admits states sum)))
+sum_rows_placed style admits bound has_pos m start states piece binds sum is =
+    kept_hold (HasSum (IsSumOf style bound has_pos)) (IsRow has_pos m) (is_wanted admits start) (row_in_piece piece) (rows_of_sum admits states sum)
+    (λ row of_sum wanted. row_placed style bound has_pos m piece row binds of_sum.0 of_sum.1
     ((and_parts (is_within ROW_SIZE ROW_SIZE row.constant) (not (is_said admits start (row_in_piece piece row))) wanted).0))
-    (rows_sums (IsSumOf style at_entry) admits states sum is (negated_small sum is.0, turned_over style at_entry sum is.1))
+    (rows_sums (IsSumOf style bound has_pos) admits states sum is (negated_small sum is.0, turned_over style bound has_pos sum is.1))
 
 -- the rows of a case
-pub rows_placed : (style : Style) (admits : Cond) (whole at_entry : Bool) (m : ℕ) (sums : List (List Part)) (states : List State) (piece : Piece)
-    → Binds style at_entry m piece → All (IsSumOf style at_entry) sums → All (IsRow at_entry m) (rows_over style admits whole at_entry sums states piece)
-rows_placed style admits whole at_entry m sums states piece binds all =
+pub rows_placed : (style : Style) (admits : Cond) (whole at_entry : Bool) (bound : Bound) (has_pos : Bool) (m : ℕ) (sums : List (List Part)) (states : List State) (piece : Piece)
+    → Binds style bound m piece → All (IsSumOf style bound has_pos) sums → All (IsRow has_pos m) (rows_over style admits whole at_entry sums states piece)
+rows_placed style admits whole at_entry bound has_pos m sums states piece binds all =
     let start = started style admits (piece ∷ []) whole at_entry in
-    All-take (IsRow at_entry m) MOST_ITEMS (filter (is_wanted admits start) (flat_map (λ sum. map (row_in_piece piece) (rows_of_sum admits states sum)) sums))
-    (rows_hold (IsRow at_entry m) (IsSumOf style at_entry) admits start states piece sums (sum_rows_placed style admits at_entry m start states piece binds) all)
+    All-take (IsRow has_pos m) MOST_ITEMS (filter (is_wanted admits start) (flat_map (λ sum. map (row_in_piece piece) (rows_of_sum admits states sum)) sums))
+    (rows_hold (IsRow has_pos m) (IsSumOf style bound has_pos) admits start states piece sums (sum_rows_placed style admits bound has_pos m start states piece binds) all)

@@ -14,19 +14,22 @@ use Rattle.name_table.specs.declared.style.Style.{Style}
 use Rattle.sym_state.specs.Entailing.{line_count}
 use Rattle.sym_state.specs.Starting.{started}
 use Rattle.sym_state.specs.State.{State}
-use Rattle.sym_state.specs.WellMade.{HasBounds, IsBounded, WellMade, is_field, is_variable}
+use Rattle.sym_state.specs.WellMade.{HasBounds, IsBounded, WellMade}
 use Rattle.sym_state.specs.declared.piece.Piece.{Piece}
 use Rattle.sym_state.specs.declared.symbol.Bind.{Bind}
 use Rattle.sym_state.specs.declared.symbol.Fact.{Fact}
 use Rattle.sym_state.proofs.Started.{ids_from-length}
+use Rattle.loop_templates.specs.Bound.{is_bound_field, is_bound_variable}
 use Rattle.loop_templates.specs.Candidates.{CanMatch, IsMade, grown, is_proved, lowered, next_by, settled}
 use Rattle.loop_templates.specs.Cases.{Frame, IsFrame, bare_case, case_of, common_facts, entering_case, facts_for, fields_of, further_facts, given_facts, numbered, ordered_facts, piece_of, places_behind, places_for, skeleton_facts, taken_symbols, variables_of, with_rows}
 use Rattle.loop_templates.specs.Rows.{is_wanted, row_in_piece, rows_of_sum, rows_over}
 use Rattle.loop_templates.specs.Skeletons.{IsBoneOf, Skeleton, bone_of, is_among, new_skeletons, same_bone, same_skeleton, skeleton, states_of, with_new}
+use Rattle.loop_templates.specs.Visits.{common_case}
 use Rattle.loop_templates.specs.declared.candidates.Added.{Added}
 use Rattle.loop_templates.specs.declared.candidates.Candidate.{Candidate}
 use Rattle.loop_templates.specs.declared.places.Seats.{Seats}
 use Rattle.loop_templates.proofs.Fit.{skeleton_of_style}
+use Rattle.loop_templates.proofs.OneByOne.{fewer}
 use Rattle.loop_templates.proofs.Rowed.{rows_bounded}
 use Rattle.loop_templates.proofs.Seated.{seated_names}
 
@@ -53,15 +56,6 @@ states_long bones n (state ∷ states) is all =
       | false ↦ λ _. rest
     ] refl
 
-pub fewer : {X : Type 0} (p : X → Bool) (xs : List X) → length (filter p xs) ≤ length xs
-fewer p [] = omega arith
-fewer {X} p (x ∷ xs) =
-    let rest = fewer p xs in
-    elim (p x) as (λ (b : Bool). length (cond b (x ∷ filter p xs) (filter p xs)) ≤ suc (length xs)) [
-      | true ↦ omega (arith, rest)
-      | false ↦ omega (arith, rest)
-    ]
-
 -- an added case without some of its rows
 pub lowered_made : (admits : Cond) (turned : List State) (one : Added) → IsMade one → IsMade (lowered admits turned one)
 lowered_made admits turned one made =
@@ -78,8 +72,8 @@ all_lowered_made admits turned added made =
 places_few : (frame : Frame) (n : ℕ) → length (places_for frame n) ≤ length frame.style.names + length frame.style.names
 places_few frame n =
     let names = variables_of frame ++ fields_of frame in
-    let vars = ids_from-length (is_variable frame.at_entry) 0 frame.style.names in
-    let fields = ids_from-length (is_field frame.at_entry) 0 frame.style.names in
+    let vars = ids_from-length (is_bound_variable frame.bound) 0 frame.style.names in
+    let fields = ids_from-length (is_bound_field frame.bound) 0 frame.style.names in
     let both = length-append (variables_of frame) (fields_of frame) in
     elim frame.entering as (λ (states : List State). length (elim states as (λ _. List Bind) [ [] ↦ [] | first ∷ more ↦ places_behind frame.writes n first names ])
     ≤ length frame.style.names + length frame.style.names) [
@@ -178,13 +172,6 @@ pub by_some : (frame : Frame) (candidate : Candidate) (turned : List State) (new
 by_some frame candidate turned [] some = absurd (some refl)
 by_some frame candidate turned (bones ∷ more) some = refl
 
--- a case may be matched in a state with its skeleton
-pub matched_long : (one : Added) (state : State) → IsMade one → same_skeleton one.bones (skeleton state) ≡ true → length one.case.stack ≤ length state.stack
-matched_long one state made has =
-    let long = as_long one.bones state has in
-    let stack = made.stack in
-    omega (arith, long, stack)
-
 -- the case of those of some states that have a skeleton, by its parts
 pub case_is : (frame : Frame) (states : List State) (bones : Skeleton) (common those : List State) (bare piece : Piece) → bare ≡ bare_case frame bones common None
     → common ≡ frame.entering → those ≡ states_of bones states → piece ≡ with_rows frame those bare → piece ≡ case_of frame states bones
@@ -192,6 +179,14 @@ case_is frame states bones common those bare piece is all found made =
     made
     ∙ ap (λ (them : List State). with_rows frame them bare) found
     ∙ ap (with_rows frame (states_of bones states)) (is ∙ ap (λ (them : List State). bare_case frame bones them None) all)
+
+-- that which states have in common
+pub common_is : (frame : Frame) (states common those : List State) (bare piece : Piece) → bare ≡ bare_case frame [] common None
+    → common ≡ frame.entering → those ≡ states → piece ≡ with_rows frame those bare → piece ≡ common_case frame states
+common_is frame states common those bare piece is all found made =
+    made
+    ∙ ap (λ (them : List State). with_rows frame them bare) found
+    ∙ ap (with_rows frame states) (is ∙ ap (λ (them : List State). bare_case frame [] them None) all)
 
 -- that of a state that enters
 pub entering_is : (frame : Frame) (state : State) (bones : Skeleton) (bare piece : Piece) → bones ≡ skeleton state

@@ -1,9 +1,9 @@
 -- Lists that are taken item by item.
-use Rattle.std.proofs.Common.{◌≡◌, ℕ, zero, suc, ◌+◌, ◌<◌, ◌≤◌, Bool, true, false, ◌&&◌, ◌||◌, min, List, [], ◌∷◌, ◌++◌, length, map, take, drop, get_or, slice_get, Option, ap, sym, subst, ◌∙◌, refl, arith, inl, inr, append_assoc}
-use Rattle.std.specs.List.{All, list_all, list_any}
+use Rattle.std.proofs.Common.{◌≡◌, ℕ, zero, suc, ◌+◌, ◌<◌, ◌≤◌, Bool, true, false, ◌&&◌, ◌||◌, cond, min, List, [], ◌∷◌, ◌++◌, length, map, take, drop, get_or, slice_get, Option, ap, sym, subst, ◌∙◌, refl, arith, inl, inr, append_assoc}
+use Rattle.std.specs.List.{All, filter, list_all, list_any}
 use Rattle.std.specs.Option.{option_to_list}
 use Rattle.std.proofs.lemmas.Bool.{cases_lt}
-use Rattle.std.proofs.lemmas.List.{append-nil, drop_all, drop_more, drop-map, take_all}
+use Rattle.std.proofs.lemmas.List.{append-nil, drop_all, drop_more, drop-map, length-map, take_all}
 use Rattle.std.proofs.lemmas.List.Elements.{All-drop, All-head, All-tail}
 
 more : {X : Type 0} (k : ℕ) (xs : List X) → take (suc k) xs ≡ take k xs ++ option_to_list (slice_get xs k)
@@ -50,9 +50,19 @@ one_added {X} {Y} f old new all y xs rest x is made grown before =
     ∙ before
 
 -- where none is left, what those before gave is all
-pub all_added : {X Y : Type 0} (f : X → Y) (old all : List Y) (k : ℕ) (xs : List X) → length xs ≤ k → old ++ map f (drop k xs) ≡ all → old ≡ all
-all_added {X} {Y} f old all k xs done before =
-    sym (append-nil old) ∙ ap (λ (left : List X). old ++ map f left) (sym (drop_all k xs done)) ∙ before
+pub all_added : {X Y : Type 0} (f : List X → List Y) (old all : List Y) (k : ℕ) (xs : List X) → f [] ≡ [] → length xs ≤ k → old ++ f (drop k xs) ≡ all → old ≡ all
+all_added {X} {Y} f old all k xs none done before =
+    sym (append-nil old) ∙ ap (λ (left : List Y). old ++ left) (sym none) ∙ ap (λ (left : List X). old ++ f left) (sym (drop_all k xs done)) ∙ before
+
+-- those that pass are no more than all
+pub fewer : {X : Type 0} (p : X → Bool) (xs : List X) → length (filter p xs) ≤ length xs
+fewer p [] = omega arith
+fewer {X} p (x ∷ xs) =
+    let rest = fewer p xs in
+    elim (p x) as (λ (b : Bool). length (cond b (x ∷ filter p xs) (filter p xs)) ≤ suc (length xs)) [
+      | true ↦ omega (arith, rest)
+      | false ↦ omega (arith, rest)
+    ]
 
 or_more : (a b d : Bool) → ((a || b) || d) ≡ (a || (b || d))
 or_more true b d = refl
@@ -76,6 +86,35 @@ pub one_of_all : {X Y : Type 0} (P : Y → Type 0) (f : X → Y) (xs : List X) (
 one_of_all {X} {Y} P f xs k x more is all =
     first_left P (map f (drop k xs)) (map f (drop (k + 1) xs)) (f x) (ap (map f) (next_left xs k x more is))
     (subst (λ (left : List Y). All P left) (drop-map f k xs) (All-drop P k (map f xs) all))
+
+-- what stands at a number in a list of images is the image of what stands there
+pub image_at : {X Y : Type 0} (f : X → Y) (xs : List X) (ys : List Y) (k : ℕ) (x : X) (y : Y) → k < length xs → ys ≡ map f xs → x ≡ get_or xs k x
+    → y ≡ get_or ys k y → y ≡ f x
+image_at {X} {Y} f xs ys k x y more images here there =
+    let same = ap length images ∙ length-map xs f in
+    let all : y ∷ drop (k + 1) ys ≡ f x ∷ map f (drop (k + 1) xs) =
+    sym (next_left ys k y (omega (arith, more, same)) there) ∙ ap (drop k) images ∙ drop-map f k xs ∙ ap (map f) (next_left xs k x more here) in
+    cc all
+
+-- one that passes is kept
+pub kept_here : {X : Type 0} (test : X → Bool) (xs old new all : List X) (k : ℕ) (x : X) → k < length xs → x ≡ get_or xs k x → test x ≡ true
+    → new ≡ old ++ x ∷ [] → old ++ filter test (drop k xs) ≡ all → new ++ filter test (drop (k + 1) xs) ≡ all
+kept_here {X} test xs old new all k x more is passes grown before =
+    let rest : List X = filter test (drop (k + 1) xs) in
+    ap (λ (front : List X). front ++ rest) grown
+    ∙ append_assoc old (x ∷ []) rest
+    ∙ ap (λ (b : Bool). old ++ cond b (x ∷ rest) rest) (sym passes)
+    ∙ ap (λ (left : List X). old ++ filter test left) (sym (next_left xs k x more is))
+    ∙ before
+
+-- one that fails is left out
+pub left_out : {X : Type 0} (test : X → Bool) (xs old all : List X) (k : ℕ) (x : X) → k < length xs → x ≡ get_or xs k x → test x ≡ false
+    → old ++ filter test (drop k xs) ≡ all → old ++ filter test (drop (k + 1) xs) ≡ all
+left_out {X} test xs old all k x more is fails before =
+    let rest : List X = filter test (drop (k + 1) xs) in
+    ap (λ (b : Bool). old ++ cond b (x ∷ rest) rest) (sym fails)
+    ∙ ap (λ (left : List X). old ++ filter test left) (sym (next_left xs k x more is))
+    ∙ before
 
 -- where one passes, all do where those that are left do
 pub passes_next : {X Y : Type 0} (test : Y → Bool) (f : X → Y) (xs : List X) (k : ℕ) (x : X) (all : Bool) → k < length xs → x ≡ get_or xs k x

@@ -1,20 +1,22 @@
 -- The sums over the terms of a loop are over names that have a value.
-use Rattle.std.proofs.Common.{◌≡◌, ℕ, zero, suc, Bool, true, false, ap, ◌∙◌, refl, List, [], ◌∷◌, ◌++◌, map, Option}
+use Rattle.std.proofs.Common.{◌≡◌, ℕ, zero, suc, Bool, true, false, ◌||◌, ap, ◌∙◌, refl, List, [], ◌∷◌, ◌++◌, map, Option}
 use Rattle.std.specs.List.{All}
 use Rattle.std.specs.Option.{option_map_or}
 use Rattle.std.proofs.lemmas.List.Elements.{All-nil, All-cons, All-head, All-tail, All-append, All-filter, All-map, All-weaker}
 use Rattle.lin_facts.specs.declared.row.Part.{Part}
 use Rattle.lin_facts.specs.declared.row.Term.{Term}
-use Rattle.lin_facts.specs.declared.row.Term.TheVariants.{Value, Length, Names}
+use Rattle.lin_facts.specs.declared.row.Term.TheVariants.{Value, Length, Names, Pos}
 use Rattle.name_table.specs.Sound.{Each}
 use Rattle.name_table.specs.declared.names.Kind.{Kind}
 use Rattle.name_table.specs.declared.names.Kind.TheVariants as kind
 use Rattle.name_table.specs.declared.names.NameId.{NameId}
 use Rattle.name_table.specs.declared.style.Style.{Style}
 use Rattle.cert_format.specs.PieceItems.{is_zero}
-use Rattle.sym_state.specs.WellMade.{ids_from, takes_part}
+use Rattle.sym_state.specs.WellMade.{ids_from}
+use Rattle.loop_templates.specs.Bound.{all_bound, is_bound}
 use Rattle.loop_templates.specs.Cases.{IsSumOver, IsTermOver, has_value}
-use Rattle.loop_templates.specs.Reaching.{Marks, Occurring, has_length, is_integer, is_marked, occurring_of, stays, strings_of, terms_over}
+use Rattle.loop_templates.specs.Reaching.{Marks, Occurring, command_terms, has_length, is_integer, is_marked, occurring_of, stays, strings_of, terms_over, values_over}
+use Rattle.loop_templates.specs.declared.cases.Bound.{Bound}
 use Rattle.loop_templates.specs.Sums.{choices, first_added, less, plus, signed, sums}
 use Rattle.loop_templates.proofs.Fit.{all_flat}
 use Rattle.loop_templates.proofs.Written.{ids_hold}
@@ -61,17 +63,16 @@ sums_hold P terms all =
     (All-append (All P) (choices 2 terms) (choices 3 terms) (choices_hold P 2 terms all) (choices_hold P 3 terms all)))
 
 -- integers and strings that occur have values
-integer_takes : (at_entry : Bool) (k : Kind) → is_integer at_entry k ≡ true → takes_part at_entry k ≡ true
-integer_takes true kind.IntEntry e = refl
-integer_takes false kind.IntEntry e = absurd (cc)
-integer_takes at_entry kind.IntGlobal e = refl
-integer_takes at_entry kind.StrEntry e = absurd (cc)
-integer_takes at_entry kind.StrGlobal e = absurd (cc)
-integer_takes at_entry kind.Field e = absurd (cc)
-integer_takes at_entry (kind.Builtin op) e = absurd (cc)
-integer_takes at_entry (kind.Wizard body) e = absurd (cc)
+integer_takes : (bound : Bound) (k : Kind) → is_integer bound k ≡ true → is_bound bound k ≡ true
+integer_takes bound kind.IntEntry e = ap (λ (b : Bool). b || false) e
+integer_takes bound kind.IntGlobal e = ap (λ (b : Bool). b || false) e
+integer_takes bound kind.StrEntry e = absurd (cc)
+integer_takes bound kind.StrGlobal e = absurd (cc)
+integer_takes bound kind.Field e = absurd (cc)
+integer_takes bound (kind.Builtin op) e = absurd (cc)
+integer_takes bound (kind.Wizard body) e = absurd (cc)
 
-string_takes : (at_entry : Bool) (k : Kind) → has_length at_entry k ≡ true → takes_part at_entry k ≡ true
+string_takes : (at_entry : Bool) (k : Kind) → has_length at_entry k ≡ true → is_bound (all_bound at_entry) k ≡ true
 string_takes true kind.StrEntry e = refl
 string_takes false kind.StrEntry e = absurd (cc)
 string_takes at_entry kind.StrGlobal e = refl
@@ -82,39 +83,57 @@ string_takes at_entry kind.IntGlobal e = absurd (cc)
 string_takes at_entry (kind.Builtin op) e = absurd (cc)
 string_takes at_entry (kind.Wizard body) e = absurd (cc)
 
--- a name has a value
-abbrev HasValue : Style → Bool → NameId → Type 0
-HasValue style at_entry name = has_value style at_entry name.0 ≡ true
+-- a name is bound
+abbrev HasValue : Style → Bound → NameId → Type 0
+HasValue style bound name = has_value style bound name.0 ≡ true
 
 all_of_each : {X : Type 0} (P : X → Type 0) (xs : List X) → Each P xs → All P xs
 all_of_each P [] each = All-nil P
 all_of_each P (x ∷ xs) each = All-cons P x xs each.0 (all_of_each P xs each.1)
 
-occurring_have : (style : Style) (at_entry : Bool) (test : Kind → Bool) (marks : Marks) → ((k : Kind) → test k ≡ true → takes_part at_entry k ≡ true)
-    → All (HasValue style at_entry) (occurring_of test style marks)
-occurring_have style at_entry test marks takes =
-    All-filter (λ name. is_marked marks name.0) (HasValue style at_entry) (ids_from test 0 style.names)
-    (all_of_each (HasValue style at_entry) (ids_from test 0 style.names)
-    (ids_hold test (HasValue style at_entry) style.names style.names 0
-    (λ name k is passes. ap (λ (found : Option Kind). option_map_or (takes_part at_entry) found false) is ∙ takes k passes) refl))
+occurring_have : (style : Style) (bound : Bound) (test : Kind → Bool) (marks : Marks) → ((k : Kind) → test k ≡ true → is_bound bound k ≡ true)
+    → All (HasValue style bound) (occurring_of test style marks)
+occurring_have style bound test marks takes =
+    All-filter (λ name. is_marked marks name.0) (HasValue style bound) (ids_from test 0 style.names)
+    (all_of_each (HasValue style bound) (ids_from test 0 style.names)
+    (ids_hold test (HasValue style bound) style.names style.names 0
+    (λ name k is passes. ap (λ (found : Option Kind). option_map_or (is_bound bound) found false) is ∙ takes k passes) refl))
 
-named : (style : Style) (at_entry : Bool) (term : ℕ → Term) (names : List NameId) → ((id : ℕ) → has_value style at_entry id ≡ true → IsTermOver style at_entry (term id))
-    → All (HasValue style at_entry) names → All (IsTermOver style at_entry) (map (λ name. term name.0) names)
-named style at_entry term names shows have =
-    All-map (IsTermOver style at_entry) (λ (name : NameId). term name.0) names
-    (All-weaker (HasValue style at_entry) (λ name. IsTermOver style at_entry (term name.0)) (λ name h. shows name.0 h) names have)
+named : (style : Style) (bound : Bound) (has_pos : Bool) (term : ℕ → Term) (names : List NameId) → ((id : ℕ) → has_value style bound id ≡ true → IsTermOver style bound has_pos (term id))
+    → All (HasValue style bound) names → All (IsTermOver style bound has_pos) (map (λ name. term name.0) names)
+named style bound has_pos term names shows have =
+    All-map (IsTermOver style bound has_pos) (λ (name : NameId). term name.0) names
+    (All-weaker (HasValue style bound) (λ name. IsTermOver style bound has_pos (term name.0)) (λ name h. shows name.0 h) names have)
 
-terms_have : (style : Style) (found : Occurring) (at_entry : Bool) → All (IsTermOver style at_entry) (terms_over style found at_entry)
-terms_have style found at_entry =
-    let integers = occurring_of (is_integer at_entry) style found.named in
+values_have : (style : Style) (found : Occurring) (bound : Bound) (has_pos : Bool) → All (IsTermOver style bound has_pos) (values_over style found bound)
+values_have style found bound has_pos =
+    let integers = occurring_of (is_integer bound) style found.named in
+    named style bound has_pos (λ id. Value id) integers (λ id h. h) (occurring_have style bound (is_integer bound) found.named (integer_takes bound))
+
+terms_have : (style : Style) (found : Occurring) (at_entry has_pos : Bool) → All (IsTermOver style (all_bound at_entry) has_pos) (terms_over style found at_entry)
+terms_have style found at_entry has_pos =
+    let bound = all_bound at_entry in
     let strings = strings_of style found at_entry in
-    let values = occurring_have style at_entry (is_integer at_entry) found.named (integer_takes at_entry) in
-    let lengths = All-filter (stays style found.quoted at_entry) (HasValue style at_entry) (occurring_of (has_length at_entry) style found.named)
-    (occurring_have style at_entry (has_length at_entry) found.named (string_takes at_entry)) in
-    All-append (IsTermOver style at_entry) (map (λ name. Value name.0) integers) (map (λ name. Length name.0) strings ++ map (λ name. Names name.0) strings)
-    (named style at_entry (λ id. Value id) integers (λ id h. h) values)
-    (All-append (IsTermOver style at_entry) (map (λ name. Length name.0) strings) (map (λ name. Names name.0) strings)
-    (named style at_entry (λ id. Length id) strings (λ id h. h) lengths) (named style at_entry (λ id. Names id) strings (λ id h. h) lengths))
+    let lengths = All-filter (stays style found.quoted at_entry) (HasValue style bound) (occurring_of (has_length at_entry) style found.named)
+    (occurring_have style bound (has_length at_entry) found.named (string_takes at_entry)) in
+    All-append (IsTermOver style bound has_pos) (values_over style found bound) (map (λ name. Length name.0) strings ++ map (λ name. Names name.0) strings)
+    (values_have style found bound has_pos)
+    (All-append (IsTermOver style bound has_pos) (map (λ name. Length name.0) strings) (map (λ name. Names name.0) strings)
+    (named style bound has_pos (λ id. Length id) strings (λ id h. h) lengths) (named style bound has_pos (λ id. Names id) strings (λ id h. h) lengths))
 
-pub sums_over_names : (style : Style) (found : Occurring) (at_entry : Bool) → All (IsSumOver style at_entry) (sums (terms_over style found at_entry))
-sums_over_names style found at_entry = sums_hold (IsTermOver style at_entry) (terms_over style found at_entry) (terms_have style found at_entry)
+pub sums_over_names : (style : Style) (found : Occurring) (at_entry has_pos : Bool)
+    → All (IsSumOver style (all_bound at_entry) has_pos) (sums (terms_over style found at_entry))
+sums_over_names style found at_entry has_pos =
+    sums_hold (IsTermOver style (all_bound at_entry) has_pos) (terms_over style found at_entry) (terms_have style found at_entry has_pos)
+
+command_terms_have : (style : Style) (found : Occurring) (bound : Bound) (has_pos : Bool) → All (IsTermOver style bound has_pos) (command_terms style found bound has_pos)
+command_terms_have style found bound true =
+    All-append (IsTermOver style bound true) (values_over style found bound) (Pos ∷ []) (values_have style found bound true)
+    (All-cons (IsTermOver style bound true) Pos [] refl (All-nil (IsTermOver style bound true)))
+command_terms_have style found bound false =
+    All-append (IsTermOver style bound false) (values_over style found bound) [] (values_have style found bound false) (All-nil (IsTermOver style bound false))
+
+pub command_sums_over : (style : Style) (found : Occurring) (bound : Bound) (has_pos : Bool)
+    → All (IsSumOver style bound has_pos) (sums (command_terms style found bound has_pos))
+command_sums_over style found bound has_pos =
+    sums_hold (IsTermOver style bound has_pos) (command_terms style found bound has_pos) (command_terms_have style found bound has_pos)

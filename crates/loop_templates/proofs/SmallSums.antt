@@ -1,8 +1,8 @@
 -- Sums of a few terms stay within their bounds.
-use Rattle.std.proofs.Common.{◌≡◌, ℕ, suc, ◌+◌, ◌≤◌, true, false, cond, List, [], ◌∷◌, ◌++◌, length, map, ap, refl, arith, ℤ, ◌+ℤ◌}
-use Rattle.std.specs.List.{All}
+use Rattle.std.proofs.Common.{◌≡◌, ℕ, suc, ◌+◌, ◌≤◌, Bool, true, false, cond, List, [], ◌∷◌, ◌++◌, length, map, ap, refl, arith, ℤ, ◌+ℤ◌}
+use Rattle.std.specs.List.{All, filter}
 use Rattle.std.proofs.lemmas.Int.{ints}
-use Rattle.std.proofs.lemmas.List.Elements.{All-nil, All-cons, All-head, All-tail}
+use Rattle.std.proofs.lemmas.List.Elements.{All-nil, All-cons, All-filter, All-head, All-tail}
 use Rattle.lin_facts.specs.Rows.{IsWithin, same_term}
 use Rattle.lin_facts.specs.declared.row.Part.{Part}
 use Rattle.cert_format.specs.PieceItems.{is_before, is_zero}
@@ -12,6 +12,7 @@ use Rattle.sym_state.specs.WellMade.{IsBounded}
 use Rattle.straight_proofs.specs.Remainders.{turned}
 use Rattle.loop_templates.specs.Rows.{row_of_parts, summed, with_part}
 use Rattle.loop_templates.specs.Sums.{IsSmallSum}
+use Rattle.loop_templates.proofs.OneByOne.{fewer}
 
 -- each coefficient is within a size
 abbrev pub AreWithin : ℕ → List Part → Type 0
@@ -106,3 +107,13 @@ with_part_within n part (first ∷ parts) one h =
             (All-head (λ (p : Part). IsWithin (n + 1) p.coefficient) first parts more) (with_part_within n part parts one rest)
       ]
     ]
+
+-- a sum with parts left out is small too
+pub kept_small : (test : Part → Bool) (sum : List Part) → IsSmallSum sum → IsSmallSum (filter test sum)
+kept_small test sum h =
+    let few = h.few in
+    let kept = fewer test sum in
+    record {
+      few = omega (arith, few, kept);
+      units = All-filter test (λ part. IsWithin 1 part.coefficient) sum h.units;
+    }

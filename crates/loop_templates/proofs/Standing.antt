@@ -18,23 +18,28 @@ use Rattle.name_table.specs.declared.style.Style.{Style}
 use Rattle.sym_state.proofs.Started.{ids_from-length}
 use Rattle.sym_state.specs.Fitting.{FactFits}
 use Rattle.sym_state.specs.State.{State}
-use Rattle.sym_state.specs.WellMade.{WellMade, is_field, is_variable}
+use Rattle.sym_state.specs.WellMade.{WellMade}
+use Rattle.sym_state.specs.declared.piece.Piece.{Piece}
 use Rattle.sym_state.specs.declared.symbol.Bind.{Bind}
 use Rattle.sym_state.specs.declared.symbol.Fact.{Fact}
 use Rattle.sym_state.specs.declared.symbol.Sym.{Sym}
 use Rattle.loop_templates.specs.Candidates.{HasCases, HasNextCases, IsCase, IsMade, added_for, exits_of, first_candidate, goes, grown, has_room, is_lower, is_met, is_proved, is_short, lowered, may_enter, may_grow, next_after, next_by, passes, settled}
+use Rattle.loop_templates.specs.Bound.{is_bound_field, is_bound_variable}
 use Rattle.loop_templates.specs.Cases.{CanStand, Frame, IsFrame, IsSumOver, bare_case, case_of, common_facts, entering_case, facts_for, fields_of, further_facts, given_facts, numbered, ordered_facts, places_behind, places_for, seated, skeleton_facts, taken_symbols, variables_of, with_rows}
 use Rattle.loop_templates.specs.Skeletons.{IsBoneOf, Skeleton, bone_of, new_skeletons, skeleton, states_of}
 use Rattle.loop_templates.specs.Sums.{IsSmallSum}
+use Rattle.loop_templates.specs.Visits.{common_case}
 use Rattle.loop_templates.specs.declared.candidates.Added.{Added}
 use Rattle.loop_templates.specs.declared.candidates.Candidate.{Candidate}
 use Rattle.loop_templates.specs.declared.candidates.Next.{Next}
 use Rattle.loop_templates.specs.declared.candidates.Next.TheVariants as next
+use Rattle.loop_templates.specs.declared.cases.Bound.{Bound}
 use Rattle.loop_templates.specs.declared.places.Seats.{Seats}
 use Rattle.loop_templates.proofs.Cased.{case_fit, entering_stands, later_stands, more_added}
 use Rattle.loop_templates.proofs.Fit.{facts_fit}
 use Rattle.loop_templates.proofs.Formed.{Binds, IsSumOf, rows_placed}
-use Rattle.loop_templates.proofs.Made.{all_lowered_made, case_stack, facts_few, fewer, made_of, new_of_style, rows_few}
+use Rattle.loop_templates.proofs.Made.{all_lowered_made, case_stack, facts_few, made_of, new_of_style, rows_few}
+use Rattle.loop_templates.proofs.OneByOne.{fewer}
 use Rattle.loop_templates.proofs.Seated.{AreSeated, all_seated, names_of, seated_names}
 use Rattle.loop_templates.proofs.Written.{SaysSome, all_taken, behind_least, binds_each, binds_rise, each_of_all, fields_are, is_fact, kept_says, names_rise, numbers_behind, numbers_placed, syms_of, variables_are}
 
@@ -49,8 +54,8 @@ places_are : (frame : Frame) (n : ℕ) → n + (length frame.style.names + lengt
     → (m : ℕ) × ArePlaces frame n m (places_for frame n)
 places_are frame n few some =
     let names = variables_of frame ++ fields_of frame in
-    let vars = ids_from-length (is_variable frame.at_entry) 0 frame.style.names in
-    let fields = ids_from-length (is_field frame.at_entry) 0 frame.style.names in
+    let vars = ids_from-length (is_bound_variable frame.bound) 0 frame.style.names in
+    let fields = ids_from-length (is_bound_field frame.bound) 0 frame.style.names in
     let both = length-append (variables_of frame) (fields_of frame) in
     let none : Seats = record { places = []; seen = []; next = n } in
     elim frame.entering as (λ (states : List State). 1 ≤ length states
@@ -101,20 +106,22 @@ facts_say frame bones places common further =
     All-take SaysSome 64 (ordered_facts given facts) (kept_says given [] facts (All-nil SaysSome))
 
 -- the rows of a case
-both_sums : (style : Style) (at_entry : Bool) (sums : List (List Part)) → All IsSmallSum sums → All (IsSumOver style at_entry) sums → All (IsSumOf style at_entry) sums
-both_sums style at_entry [] small over = All-nil (IsSumOf style at_entry)
-both_sums style at_entry (sum ∷ sums) small over =
-    All-cons (IsSumOf style at_entry) sum sums (All-head IsSmallSum sum sums small, All-head (IsSumOver style at_entry) sum sums over)
-    (both_sums style at_entry sums (All-tail IsSmallSum sum sums small) (All-tail (IsSumOver style at_entry) sum sums over))
+both_sums : (style : Style) (bound : Bound) (has_pos : Bool) (sums : List (List Part)) → All IsSmallSum sums → All (IsSumOver style bound has_pos) sums → All (IsSumOf style bound has_pos) sums
+both_sums style bound has_pos [] small over = All-nil (IsSumOf style bound has_pos)
+both_sums style bound has_pos (sum ∷ sums) small over =
+    All-cons (IsSumOf style bound has_pos) sum sums (All-head IsSmallSum sum sums small, All-head (IsSumOver style bound has_pos) sum sums over)
+    (both_sums style bound has_pos sums (All-tail IsSmallSum sum sums small) (All-tail (IsSumOver style bound has_pos) sum sums over))
 
 -- a case of these parts may stand in a certificate
 written : (frame : Frame) (bones : Skeleton) (common : List State) (further : Option State) (states : List State) (m : ℕ)
     → IsFrame frame → CanStand frame bones common further → length bones ≤ 64 → ArePlaces frame (length bones) m (places_for frame (length bones))
-    → IsPiece frame.style frame.at_entry frame.at_entry 0 (with_rows frame states (bare_case frame bones common further))
+    → IsPiece frame.style frame.at_entry frame.has_pos 0 (with_rows frame states (bare_case frame bones common further))
 written frame bones common further states m ready can short are =
     let n = length bones in
     let style = frame.style in
     let at = frame.at_entry in
+    let bound = frame.bound in
+    let has_pos = frame.has_pos in
     let vars = variables_of frame in
     let fields = fields_of frame in
     let v = length vars in
@@ -131,7 +138,7 @@ written frame bones common further states m ready can short are =
     let few : n ≤ m = subst (λ (k : ℕ). n ≤ k) are.next (behind_least n (syms_of places) (omega (arith, short))) in
     let fits = facts_fit style m (given_facts style frame.admits places) bones frame.writes places common further few can.each_bone are.below can.each_state
     (more_added frame n m further few can.may_add) in
-    let binds : Binds style at m bare = record {
+    let binds : Binds style bound m bare = record {
       vars = vars_named vars fields places are.names;
       fields = fields_named vars fields places are.names;
       vars_below = All-take (λ (place : Bind). place.sym.0 < m) v places are.below;
@@ -143,17 +150,17 @@ written frame bones common further states m ready can short are =
     record {
       placed = ap (are_placed 0) split ∙ numbers_placed 0 n (syms_of places) (omega (arith, short)) placed;
       few_symbols = omega (arith, stacked, short);
-      vars = binds_each (IsVariable at style.names) (take v places) (subst (λ (names : List NameId). Each (IsVariable at style.names) names) (sym named) (variables_are at style.names));
-      vars_rise = sym (binds_rise (take v places)) ∙ ap (λ (names : List NameId). is_chain is_below names) named ∙ names_rise (is_variable at) 0 style.names;
+      vars = binds_each (IsVariable at style.names) (take v places) (subst (λ (names : List NameId). Each (IsVariable at style.names) names) (sym named) (variables_are bound at style.names ready.there));
+      vars_rise = sym (binds_rise (take v places)) ∙ ap (λ (names : List NameId). is_chain is_below names) named ∙ names_rise (is_bound_variable bound) 0 style.names;
       fields = binds_each (λ name. IsField style.names name × (at ≡ true)) (drop v places)
-          (subst (λ (names : List NameId). Each (λ name. IsField style.names name × (at ≡ true)) names) (sym told) (fields_are at style.names));
-      fields_rise = sym (binds_rise (drop v places)) ∙ ap (λ (names : List NameId). is_chain is_below names) told ∙ names_rise (is_field at) 0 style.names;
+          (subst (λ (names : List NameId). Each (λ name. IsField style.names name × (at ≡ true)) names) (sym told) (fields_are bound at style.names ready.there));
+      fields_rise = sym (binds_rise (drop v places)) ∙ ap (λ (names : List NameId). is_chain is_below names) told ∙ names_rise (is_bound_field bound) 0 style.names;
       facts = subst (λ (k : ℕ). Each (IsFact style k) facts) (sym behind)
           (all_facts style m facts (λ it f s. is_fact style m it ready.sound f s) fits (facts_say frame bones places common further));
       few_facts = facts_few frame bones places common further;
-      rows = subst (λ (k : ℕ). Each (IsRow at k) case.rows) (sym behind)
-          (each_of_all (IsRow at m) case.rows
-          (rows_placed style frame.admits frame.whole at m frame.sums states bare binds (both_sums style at frame.sums ready.sums ready.over)));
+      rows = subst (λ (k : ℕ). Each (IsRow has_pos k) case.rows) (sym behind)
+          (each_of_all (IsRow has_pos m) case.rows
+          (rows_placed style frame.admits frame.whole at bound has_pos m frame.sums states bare binds (both_sums style bound has_pos frame.sums ready.sums ready.over)));
       few_rows = rows_few style frame.admits frame.whole at frame.sums states bare;
     }
 
@@ -193,6 +200,7 @@ first_has_cases frame found is ready =
     (elim (may_enter frame.entering) as (λ (b : Bool). may_enter frame.entering ≡ b
     → IfSome (cond b (Some (record { first = map (entering_case frame) frame.entering; added = [] })) None) (HasCases frame)) [
       | true ↦ λ may. record {
+        some = let mapped = length-map frame.entering (entering_case frame) in let enter = ready.some in omega (arith, mapped, enter);
         first = all_entering frame frame.entering ready ready.entering
             ((and_parts (nat_le (length frame.entering) 64) (list_all (λ (s : State). is_short s.stack) frame.entering) may).1);
         added = All-nil (λ (one : Added). IsCase frame one.case);
@@ -223,7 +231,7 @@ added_made frame states (bones ∷ new) ready =
     (made_of frame bones frame.entering None (states_of bones states) (case_of frame states bones) refl ready) (added_made frame states new ready)
 
 -- a case without some of its rows
-each_kept : {X : Type 0} (P : X → Type 0) (test : X → Bool) (xs : List X) → Each P xs → Each P (filter test xs)
+pub each_kept : {X : Type 0} (P : X → Type 0) (test : X → Bool) (xs : List X) → Each P xs → Each P (filter test xs)
 each_kept P test [] each = tt
 each_kept {X} P test (x ∷ xs) each =
     elim (test x) as (λ (b : Bool). Each P (cond b (x ∷ filter test xs) (filter test xs))) [
@@ -247,7 +255,7 @@ lowered_is_case frame turned one is =
         fields_rise = piece.fields_rise;
         facts = piece.facts;
         few_facts = piece.few_facts;
-        rows = each_kept (IsRow frame.at_entry (next_behind 0 (places_of one.case))) test one.case.rows piece.rows;
+        rows = each_kept (IsRow frame.has_pos (next_behind 0 (places_of one.case))) test one.case.rows piece.rows;
         few_rows = omega (arith, few, most);
       };
       texts = is.texts;
@@ -272,6 +280,7 @@ settled_cases frame candidate turned has =
     elim (list_any (is_lower frame.admits turned) candidate.added) as (λ (b : Bool). HasNextCases frame
     (cond b (goes candidate added) (passes frame.admits added turned))) [
       | true ↦ record {
+        some = has.some;
         first = has.first;
         added = all_lowered frame turned candidate.added has.added;
         made = all_lowered_made frame.admits turned candidate.added has.made;
@@ -286,6 +295,7 @@ grown_cases frame candidate turned new ready boned has =
     elim (may_grow candidate new) as (λ (b : Bool). may_grow candidate new ≡ b → HasNextCases frame
     (cond b (goes candidate (candidate.added ++ map (added_for frame turned) new)) next.Ends)) [
       | true ↦ λ may. record {
+        some = has.some;
         first = has.first;
         added = All-append P candidate.added (map (added_for frame turned) new) has.added
             (all_added frame turned new ready boned ((and_parts (has_room candidate (length new)) (list_all is_short new) may).1));
@@ -326,3 +336,11 @@ exits_are_cases frame left exits is ready made =
 
 pub exits_made : (frame : Frame) (left : List State) (exits : List Added) → exits ≡ exits_of frame left → IsFrame frame → All IsMade exits
 exits_made frame left exits is ready = subst (λ (them : List Added). All IsMade them) (sym is) (added_made frame left (new_skeletons [] left) ready)
+
+-- the case that states have in common
+pub common_is_case : (frame : Frame) (states : List State) (case : Piece) → case ≡ common_case frame states → IsFrame frame → IsCase frame case
+common_is_case frame states case is ready =
+    let none : Skeleton = [] in
+    subst (IsCase frame) (sym is)
+    (case_stands frame none frame.entering None states ready (later_stands frame none frame.entering refl (All-nil (IsBoneOf frame.style)) ready.entering)
+    (short_is none refl))

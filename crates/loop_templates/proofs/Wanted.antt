@@ -4,15 +4,12 @@ use Rattle.std.specs.List.{filter}
 use Rattle.std.proofs.Math.Seq.{drop-cons}
 use Rattle.std.proofs.lemmas.List.{append-nil, drop_all, length-append}
 use Rattle.std.proofs.lemmas.List.Elements.{filter-append}
+use Rattle.loop_templates.proofs.OneByOne.{next_left}
 use Rattle.loop_templates.proofs.Taken.{take_full, take_more, take_room}
 
 -- what is left is the next one and what is left then
 pub next_at : {X : Type 0} (xs : List X) (k : ℕ) (d : X) → k < length xs → drop k xs ≡ get_or xs k d ∷ drop (k + 1) xs
 next_at {X} xs k d more = drop-cons xs k d more ∙ ap (λ (n : ℕ). get_or xs k d ∷ drop n xs) (sym (add-one k))
-
--- the same, where the next one has a name
-pub next_of : {X : Type 0} (xs : List X) (k : ℕ) (x : X) → k < length xs → x ≡ get_or xs k x → drop k xs ≡ x ∷ drop (k + 1) xs
-next_of {X} xs k x more is = next_at xs k x more ∙ ap (λ (y : X). y ∷ drop (k + 1) xs) (sym is)
 
 -- of those so far, of one and of those that are left
 pub kept_next : {X Y : Type 0} (test : Y → Bool) (f : X → Y) (n k : ℕ) (xs : List X) (x : X) (old new all : List Y)
@@ -21,7 +18,7 @@ pub kept_next : {X Y : Type 0} (test : Y → Bool) (f : X → Y) (n k : ℕ) (xs
 kept_next {X} {Y} test f n k xs x old new all more is added before =
     let rest : List Y = map f (drop (k + 1) xs) in
     take_more n old (filter test (f x ∷ [])) (filter test rest) all new (filter test (map f (drop k xs))) added
-    (ap (λ (left : List X). filter test (map f left)) (next_of xs k x more is) ∙ filter-append test (f x ∷ []) rest) before
+    (ap (λ (left : List X). filter test (map f left)) (next_left xs k x more is) ∙ filter-append test (f x ∷ []) rest) before
 
 -- of those so far, of those that one gives and of those that the ones that are left give
 pub gathered_next : {X Y : Type 0} (test : Y → Bool) (f : X → List Y) (n k : ℕ) (xs : List X) (x : X) (found old new all : List Y)
@@ -31,7 +28,7 @@ gathered_next {X} {Y} test f n k xs x found old new all more is said added befor
     let rest : List Y = flat_map f (drop (k + 1) xs) in
     take_more n old (filter test (f x)) (filter test rest) all new (filter test (flat_map f (drop k xs)))
     (added ∙ ap (λ (here : List Y). take n (old ++ filter test here)) said)
-    (ap (λ (left : List X). filter test (flat_map f left)) (next_of xs k x more is) ∙ filter-append test (f x) rest) before
+    (ap (λ (left : List X). filter test (flat_map f left)) (next_left xs k x more is) ∙ filter-append test (f x) rest) before
 
 -- where none is left, those so far are all
 pub kept_all : {X Y : Type 0} (test : Y → Bool) (f : List X → List Y) (n k : ℕ) (xs : List X) (old all : List Y)

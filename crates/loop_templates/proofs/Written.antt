@@ -25,14 +25,16 @@ use Rattle.cert_format.proofs.CertTargets.{block_number_found}
 use Rattle.sym_state.specs.Decided.{says_nothing}
 use Rattle.sym_state.specs.Fitting.{FactFits}
 use Rattle.sym_state.specs.State.{State}
-use Rattle.sym_state.specs.WellMade.{ids_from, is_field, is_variable}
+use Rattle.sym_state.specs.WellMade.{ids_from}
 use Rattle.sym_state.specs.declared.symbol.Bind.{Bind}
 use Rattle.sym_state.specs.declared.symbol.Fact.{Fact}
 use Rattle.sym_state.specs.declared.symbol.Fact.TheVariants as fact
 use Rattle.sym_state.specs.declared.symbol.Kinds.TheVariants as kinds
 use Rattle.sym_state.specs.declared.symbol.Sym.{Sym}
+use Rattle.loop_templates.specs.Bound.{is_bound_field, is_bound_variable}
 use Rattle.loop_templates.specs.Cases.{is_given, is_own, keep, numbered, same_fact, seat, seated, shared, stands_before, with_fact, with_own, with_place}
 use Rattle.loop_templates.specs.Rows.{symbol_in}
+use Rattle.loop_templates.specs.declared.cases.Bound.{Bound}
 use Rattle.loop_templates.specs.declared.places.Seats.{Seats}
 use Rattle.loop_templates.proofs.Seated.{AreSeated, names_of, seat_next, seat_seated, shared_below}
 
@@ -66,36 +68,40 @@ ids_hold test P all (name ∷ names) id shows is =
       | false ↦ λ _. rest
     ] refl
 
--- a variable that has a value is one of a certificate
-variable_of : (at_entry : Bool) (names : List (List ℕ × Kind)) (name : NameId) (k : Kind) → kind_at name names ≡ Some k → is_variable at_entry k ≡ true
-    → IsVariable at_entry names name
-variable_of true names name kind.IntEntry is passes = (rw is refl, rw is refl)
-variable_of true names name kind.StrEntry is passes = (rw is refl, rw is refl)
-variable_of false names name kind.IntEntry is passes = absurd (cc)
-variable_of false names name kind.StrEntry is passes = absurd (cc)
-variable_of at_entry names name kind.IntGlobal is passes = (rw is refl, rw is refl)
-variable_of at_entry names name kind.StrGlobal is passes = (rw is refl, rw is refl)
-variable_of at_entry names name kind.Field is passes = absurd (cc)
-variable_of at_entry names name (kind.Builtin op) is passes = absurd (cc)
-variable_of at_entry names name (kind.Wizard body) is passes = absurd (cc)
+-- a variable that is bound is one of a certificate
+variable_of : (bound : Bound) (at_entry : Bool) (names : List (List ℕ × Kind)) (name : NameId) (k : Kind) → (bound.entry ≡ true → at_entry ≡ true)
+    → kind_at name names ≡ Some k → is_bound_variable bound k ≡ true → IsVariable at_entry names name
+variable_of bound true names name kind.IntEntry there is passes = (rw is refl, rw is refl)
+variable_of bound true names name kind.StrEntry there is passes = (rw is refl, rw is refl)
+variable_of bound false names name kind.IntEntry there is passes = (let there_is : false ≡ true = there passes in absurd (cc))
+variable_of bound false names name kind.StrEntry there is passes = (let there_is : false ≡ true = there passes in absurd (cc))
+variable_of bound at_entry names name kind.IntGlobal there is passes = (rw is refl, rw is refl)
+variable_of bound at_entry names name kind.StrGlobal there is passes = (rw is refl, rw is refl)
+variable_of bound at_entry names name kind.Field there is passes = absurd (cc)
+variable_of bound at_entry names name (kind.Builtin op) there is passes = absurd (cc)
+variable_of bound at_entry names name (kind.Wizard body) there is passes = absurd (cc)
 
-pub variables_are : (at_entry : Bool) (names : List (List ℕ × Kind)) → Each (IsVariable at_entry names) (ids_from (is_variable at_entry) 0 names)
-variables_are at_entry names = ids_hold (is_variable at_entry) (IsVariable at_entry names) names names 0 (variable_of at_entry names) refl
+pub variables_are : (bound : Bound) (at_entry : Bool) (names : List (List ℕ × Kind)) → (bound.entry ≡ true → at_entry ≡ true)
+    → Each (IsVariable at_entry names) (ids_from (is_bound_variable bound) 0 names)
+variables_are bound at_entry names there =
+    ids_hold (is_bound_variable bound) (IsVariable at_entry names) names names 0 (λ name k is passes. variable_of bound at_entry names name k there is passes) refl
 
 -- so is a field
-field_of : (at_entry : Bool) (names : List (List ℕ × Kind)) (name : NameId) (k : Kind) → kind_at name names ≡ Some k → is_field at_entry k ≡ true
-    → IsField names name × (at_entry ≡ true)
-field_of at_entry names name kind.Field is passes = (rw is refl, passes)
-field_of at_entry names name kind.IntEntry is passes = absurd (cc)
-field_of at_entry names name kind.StrEntry is passes = absurd (cc)
-field_of at_entry names name kind.IntGlobal is passes = absurd (cc)
-field_of at_entry names name kind.StrGlobal is passes = absurd (cc)
-field_of at_entry names name (kind.Builtin op) is passes = absurd (cc)
-field_of at_entry names name (kind.Wizard body) is passes = absurd (cc)
+field_of : (bound : Bound) (at_entry : Bool) (names : List (List ℕ × Kind)) (name : NameId) (k : Kind) → (bound.entry ≡ true → at_entry ≡ true)
+    → kind_at name names ≡ Some k → is_bound_field bound k ≡ true → IsField names name × (at_entry ≡ true)
+field_of bound at_entry names name kind.Field there is passes = (rw is refl, there passes)
+field_of bound at_entry names name kind.IntEntry there is passes = absurd (cc)
+field_of bound at_entry names name kind.StrEntry there is passes = absurd (cc)
+field_of bound at_entry names name kind.IntGlobal there is passes = absurd (cc)
+field_of bound at_entry names name kind.StrGlobal there is passes = absurd (cc)
+field_of bound at_entry names name (kind.Builtin op) there is passes = absurd (cc)
+field_of bound at_entry names name (kind.Wizard body) there is passes = absurd (cc)
 
-pub fields_are : (at_entry : Bool) (names : List (List ℕ × Kind)) → Each (λ name. IsField names name × (at_entry ≡ true)) (ids_from (is_field at_entry) 0 names)
-fields_are at_entry names =
-    ids_hold (is_field at_entry) (λ name. IsField names name × (at_entry ≡ true)) names names 0 (field_of at_entry names) refl
+pub fields_are : (bound : Bound) (at_entry : Bool) (names : List (List ℕ × Kind)) → (bound.entry ≡ true → at_entry ≡ true)
+    → Each (λ name. IsField names name × (at_entry ≡ true)) (ids_from (is_bound_field bound) 0 names)
+fields_are bound at_entry names there =
+    ids_hold (is_bound_field bound) (λ name. IsField names name × (at_entry ≡ true)) names names 0
+    (λ name k is passes. field_of bound at_entry names name k there is passes) refl
 
 -- names rise
 below_next : (i id : ℕ) → i < id → nat_lt i id ≡ true

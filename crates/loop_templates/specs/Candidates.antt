@@ -135,11 +135,12 @@ CanMatch n state = HasBounds state × (n ≤ length state.stack)
 
 -- a case that a certificate may have where it is walked, with texts that states may have
 pub record IsCase (frame : Frame) (case : Piece) : Type 0 where
-  pub piece : IsPiece frame.style frame.at_entry frame.at_entry 0 case
+  pub piece : IsPiece frame.style frame.at_entry frame.has_pos 0 case
   pub texts : All HasShortText case.facts
 
--- the cases of a candidate are such, and those that were added are made so
+-- a state enters, and the cases of a candidate are such; those that were added are made so
 pub record HasCases (frame : Frame) (candidate : Candidate) : Type 0 where
+  pub some : 1 ≤ length candidate.first
   pub first : All (IsCase frame) candidate.first
   pub added : All (λ one. IsCase frame one.case) candidate.added
   pub made : All IsMade candidate.added

@@ -19,53 +19,59 @@ use Rattle.sym_state.specs.Facts.{subject}
 use Rattle.sym_state.specs.Renaming.{fact_renamed}
 use Rattle.sym_state.specs.Starting.{own_facts}
 use Rattle.sym_state.specs.State.{State}
-use Rattle.sym_state.specs.WellMade.{WellMade, ids_from, is_field, is_variable, takes_part}
+use Rattle.sym_state.specs.WellMade.{WellMade, ids_from}
 use Rattle.sym_state.specs.declared.piece.Piece.{Piece}
 use Rattle.sym_state.specs.declared.symbol.Bind.{Bind}
 use Rattle.sym_state.specs.declared.symbol.Fact.{Fact}
 use Rattle.sym_state.specs.declared.symbol.Fact.TheVariants.{Is, Int, Text, Call, Block, Blank, Nonblank, Wellformed}
 use Rattle.sym_state.specs.declared.symbol.Sym.{Sym}
+use Rattle.loop_templates.specs.Bound.{is_bound, is_bound_field, is_bound_variable}
 use Rattle.loop_templates.specs.Rows.{rows_over, symbol_in}
 use Rattle.loop_templates.specs.Skeletons.{IsBoneOf, Skeleton, same_kind, skeleton, states_of}
 use Rattle.loop_templates.specs.Sums.{IsSmallSum}
+use Rattle.loop_templates.specs.declared.cases.Bound.{Bound}
 use Rattle.loop_templates.specs.declared.limits.TheConstants.{MOST_ITEMS}
 use Rattle.loop_templates.specs.declared.places.Seats.{Seats}
 use Rattle.loop_templates.specs.declared.skeletons.Bone.{Bone}
 
--- what the cases of a loop have in common: the style and the condition, whether their stacks are whole and whether an entry is
--- visited, the variables that count as written, the sums, and the states that enter
+-- what cases have in common: the style and the condition, whether their stacks are whole, whether an entry is visited, whether their
+-- rows may have `pos`, which names they bind, the variables that count as written, the sums, and the states that enter
 pub record Frame : Type 0 where
   pub style : Style
   pub admits : Cond
   pub whole : Bool
   pub at_entry : Bool
+  pub has_pos : Bool
+  pub bound : Bound
   pub writes : List NameId
   pub sums : List (List Part)
   pub entering : List State
 
--- the name of a number has a value where a case stands
-abbrev pub has_value : Style → Bool → ℕ → Bool
-has_value style at_entry id = option_map_or (takes_part at_entry) (kind_of style (record { 0 = id })) false
+-- the name of a number is bound
+abbrev pub has_value : Style → Bound → ℕ → Bool
+has_value style bound id = option_map_or (is_bound bound) (kind_of style (record { 0 = id })) false
 
--- a term over such a name; `pos` stands at an entry alone
-abbrev pub IsTermOver : Style → Bool → Term → Type 0
-IsTermOver style at_entry (Value id) = has_value style at_entry id ≡ true
-IsTermOver style at_entry (Length id) = has_value style at_entry id ≡ true
-IsTermOver style at_entry (Names id) = has_value style at_entry id ≡ true
-IsTermOver style at_entry Pos = at_entry ≡ true
-IsTermOver style at_entry Count = Unit {0}
+-- a term over such a name; `pos` stands only where it may
+abbrev pub IsTermOver : Style → Bound → Bool → Term → Type 0
+IsTermOver style bound has_pos (Value id) = has_value style bound id ≡ true
+IsTermOver style bound has_pos (Length id) = has_value style bound id ≡ true
+IsTermOver style bound has_pos (Names id) = has_value style bound id ≡ true
+IsTermOver style bound has_pos Pos = has_pos ≡ true
+IsTermOver style bound has_pos Count = Unit {0}
 
 -- a sum of such terms, none of them taken 0 times
-abbrev pub IsSumOver : Style → Bool → List Part → Type 0
-IsSumOver style at_entry sum = All (λ part. (is_zero part.coefficient ≡ false) × IsTermOver style at_entry part.term) sum
+abbrev pub IsSumOver : Style → Bound → Bool → List Part → Type 0
+IsSumOver style bound has_pos sum = All (λ part. (is_zero part.coefficient ≡ false) × IsTermOver style bound has_pos part.term) sum
 
--- the style is sound, the states that enter are well made and there is one, and the sums are small ones over names that have a value
+-- the style is sound, the states that enter are well made and there is one, what an entry has is bound at an entry alone, and the sums
+-- are small ones over names that are bound
 pub record IsFrame (frame : Frame) : Type 0 where
   pub sound : IsSound frame.style
   pub entering : All (WellMade frame.style) frame.entering
   pub some : 1 ≤ length frame.entering
+  pub there : frame.bound.entry ≡ true → frame.at_entry ≡ true
   pub sums : All IsSmallSum frame.sums
-  pub over : All (IsSumOver frame.style frame.at_entry) frame.sums
+  pub over : All (IsSumOver frame.style frame.bound frame.has_pos) frame.sums
 
 -- a variable counts as written
 abbrev pub is_written : List NameId → NameId → Bool
@@ -265,11 +271,11 @@ kept_facts given facts = take MOST_ITEMS (ordered_facts given facts)
 
 -- the variables that a case binds
 abbrev pub variables_of : Frame → List NameId
-variables_of frame = ids_from (is_variable frame.at_entry) 0 frame.style.names
+variables_of frame = ids_from (is_bound_variable frame.bound) 0 frame.style.names
 
 -- the fields that it binds
 abbrev pub fields_of : Frame → List NameId
-fields_of frame = ids_from (is_field frame.at_entry) 0 frame.style.names
+fields_of frame = ids_from (is_bound_field frame.bound) 0 frame.style.names
 
 -- their places behind a stack of this length, shared as in the first state that enters
 abbrev pub places_for : Frame → ℕ → List Bind

@@ -4,7 +4,7 @@ use Rattle.std.specs.Prelude.{ℕ, zero, suc, Bool, true, false, ◌&&◌, not, 
 use Rattle.std.specs.List.{filter}
 use Rattle.std.specs.Option.{option_map_or, unwrap_or}
 use Rattle.lin_facts.specs.declared.row.Term.{Term}
-use Rattle.lin_facts.specs.declared.row.Term.TheVariants.{Value, Length, Names}
+use Rattle.lin_facts.specs.declared.row.Term.TheVariants.{Value, Length, Names, Pos}
 use Rattle.name_table.specs.Names.{kind_at}
 use Rattle.name_table.specs.declared.builtin.Builtin.TheVariants as op
 use Rattle.name_table.specs.declared.names.Kind.{Kind}
@@ -17,7 +17,11 @@ use Rattle.name_table.specs.declared.style.Token.{Token}
 use Rattle.name_table.specs.declared.style.Token.TheVariants.{Int, Str, Quote, Call, Block}
 use Rattle.name_table.specs.declared.style.TokenAt.{TokenAt}
 use Rattle.bst_meaning.specs.StyleParts.{kind_of}
+use Rattle.bst_meaning.specs.declared.value.Target.{Target}
+use Rattle.bst_meaning.specs.declared.value.Target.TheVariants.{Named, Block as BlockTarget}
 use Rattle.sym_state.specs.WellMade.{ids_from, is_field}
+use Rattle.loop_templates.specs.Bound.{all_bound}
+use Rattle.loop_templates.specs.declared.cases.Bound.{Bound}
 
 -- a mark for each of some things, by its number
 abbrev pub Marks : Type 0
@@ -40,6 +44,11 @@ own_body _ = []
 abbrev pub bodies_entered : Style → List NameId → Option Kind → List BodyId
 bodies_entered style types (Some (Builtin op.CallType)) = flat_map (λ name. own_body (kind_of style name)) types
 bodies_entered style types found = own_body found
+
+-- the bodies that a target enters
+abbrev pub roots_of : Style → List NameId → Target → List BodyId
+roots_of style types (Named name) = bodies_entered style types (kind_of style name)
+roots_of style types (BlockTarget body) = body ∷ []
 
 -- the bodies behind a token, entered there or quoted
 abbrev pub bodies_behind : Style → List NameId → Token → List BodyId
@@ -107,11 +116,16 @@ abbrev pub occurring : Style → List NameId → List BodyId → Occurring
 occurring style types roots =
     let reach = reached style types roots in record { named = names_in named_in style reach; quoted = names_in quoted_in style reach }
 
--- an integer variable that has a value
-abbrev pub is_integer : Bool → Kind → Bool
-is_integer at_entry IntGlobal = true
-is_integer at_entry IntEntry = at_entry
-is_integer at_entry _ = false
+-- those of all bodies
+abbrev pub occurring_anywhere : Style → Occurring
+occurring_anywhere style =
+    let all = replicate (length style.bodies) true in record { named = names_in named_in style all; quoted = names_in quoted_in style all }
+
+-- an integer variable that is bound
+abbrev pub is_integer : Bound → Kind → Bool
+is_integer bound IntGlobal = bound.globals
+is_integer bound IntEntry = bound.entry
+is_integer bound _ = false
 
 -- a string variable that has one
 abbrev pub is_string : Bool → Kind → Bool
@@ -137,10 +151,18 @@ abbrev pub strings_of : Style → Occurring → Bool → List NameId
 strings_of style found at_entry =
     filter (stays style found.quoted at_entry) (occurring_of (has_length at_entry) style found.named)
 
+-- the value of each integer variable that occurs
+abbrev pub values_over : Style → Occurring → Bound → List Term
+values_over style found bound = map (λ name. Value name.0) (occurring_of (is_integer bound) style found.named)
+
 -- the terms over the names that occur, in the order of terms, where a name stands for its symbol: the value of each integer variable,
 -- the length and the names of each string that stays
 abbrev pub terms_over : Style → Occurring → Bool → List Term
 terms_over style found at_entry =
     let strings = strings_of style found at_entry in
-    map (λ name. Value name.0) (occurring_of (is_integer at_entry) style found.named)
+    values_over style found (all_bound at_entry)
     ++ (map (λ name. Length name.0) strings ++ map (λ name. Names name.0) strings)
+
+-- the terms of what commands leave: those values, and behind them the number of visited entries where it may stand
+abbrev pub command_terms : Style → Occurring → Bound → Bool → List Term
+command_terms style found bound has_pos = values_over style found bound ++ (if has_pos then Pos ∷ [] else [])

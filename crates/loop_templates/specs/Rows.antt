@@ -8,6 +8,7 @@ use Rattle.lin_facts.specs.Rows.{same_term}
 use Rattle.lin_facts.specs.declared.row.Part.{Part}
 use Rattle.lin_facts.specs.declared.row.Row.{Row}
 use Rattle.lin_facts.specs.declared.row.Term.{Term}
+use Rattle.lin_facts.specs.declared.row.Term.TheVariants.{Pos}
 use Rattle.name_table.specs.declared.names.NameId.{NameId}
 use Rattle.name_table.specs.declared.style.Style.{Style}
 use Rattle.bst_meaning.specs.declared.condition.Cond.{Cond}
@@ -40,9 +41,22 @@ symbol_of piece id =
     let name : NameId = record { 0 = id } in
     option_map_or (λ s. s.0) (option_or (symbol_at name piece.vars) (symbol_at name piece.fields)) 0
 
+-- the number of visited entries
+abbrev pub is_pos : Term → Bool
+is_pos Pos = true
+is_pos _ = false
+
+-- a sum with that number left out
+abbrev pub without_pos : List Part → List Part
+without_pos sum = filter (λ part. not (is_pos part.term)) sum
+
+-- what a sum is in a state: at no entry none was visited yet
+abbrev pub seen_in : State → List Part → List Part
+seen_in state sum = if state.at_entry then sum else without_pos sum
+
 -- the floor of a sum over names in a state
 abbrev pub floor_in : Cond → State → List Part → Option ℤ
-floor_in admits state sum = floor admits state (row_renamed (symbol_in state) (row_of_parts sum))
+floor_in admits state sum = floor admits state (row_renamed (symbol_in state) (row_of_parts (seen_in state sum)))
 
 -- the lesser of two numbers
 abbrev pub lesser : ℤ → ℤ → ℤ

@@ -4,7 +4,8 @@ ghost use Rattle.std.specs.Prelude.{◌≡◌, ◌+◌, ◌<◌, [], ◌++◌, l
 ghost use Rattle.std.specs.List.{All, range_with_len};
 ghost use Rattle.name_table.specs.Sound.{IsSound};
 ghost use Rattle.sym_state.specs.Starting.{IsFit, IsNumbered, symbols_of};
-ghost use Rattle.sym_state.specs.WellMade.{HasBounds, WellMade, ids_from, is_field};
+ghost use Rattle.sym_state.specs.WellMade.{HasBounds, WellMade, ids_from};
+ghost use Rattle.loop_templates.specs.Bound.{is_bound_field};
 ghost use Rattle.loop_templates.specs.Cases as rule;
 ghost use Rattle.loop_templates.specs.Skeletons.{IsBoneOf};
 ghost use Rattle.loop_templates.specs.Sums.{IsSmallSum};
@@ -29,7 +30,14 @@ use sym_state::start::add_own_facts;
 use sym_state::state::State;
 use sym_state::symbol::{Bind, Fact, Sym};
 
-/// What the cases of a loop have in common. Contracts see the record of `specs/Cases.antt`.
+/// Which names a case binds: the global variables, and the variables and fields of an entry.
+#[derive(Clone, Copy)]
+pub struct Bound {
+    pub globals: bool,
+    pub entry: bool,
+}
+
+/// What cases have in common. Contracts see the record of `specs/Cases.antt`.
 #[derive(Drop)]
 pub struct Frame<'a> {
     pub style: &'a Style,
@@ -39,6 +47,10 @@ pub struct Frame<'a> {
     pub whole: bool,
     /// Whether an entry is visited.
     pub at_entry: bool,
+    /// Whether rows may have `pos`.
+    pub has_pos: bool,
+    /// The names that cases bind.
+    pub bound: Bound,
     /// The variables that count as written.
     pub writes: &'a [NameId],
     /// The sums whose floors are rows.
@@ -57,6 +69,8 @@ impl<'a> Model for Frame<'a> {
       admits = f.admits.now;
       whole = f.whole;
       at_entry = f.at_entry;
+      has_pos = f.has_pos;
+      bound = f.bound;
       writes = f.writes.now;
       sums = f.sums.now;
       entering = f.entering.now;
@@ -100,7 +114,7 @@ pub(crate) fn case_of(
 }
 
 /// Some states, each behind a reference.
-fn each<'a>(alloc: Global, states: &'a [State]) -> Result<Vec<&'a State>, NoMemory>
+pub(crate) fn each<'a>(alloc: Global, states: &'a [State]) -> Result<Vec<&'a State>, NoMemory>
     ensures { IfOk result (λ all. map (λ state. state.now) all.items ≡ states.now) }
 {
     let mut all = Vec::new(alloc);
@@ -111,7 +125,7 @@ fn each<'a>(alloc: Global, states: &'a [State]) -> Result<Vec<&'a State>, NoMemo
 }
 
 /// A case with the rows of a list of states.
-fn with_rows(
+pub(crate) fn with_rows(
     alloc: Global,
     frame: &Frame<'_>,
     states: &[&State],
@@ -141,7 +155,7 @@ fn with_rows(
 
 /// A case without rows, which may start a state. A stack that can't be numbered is want of memory.
 #[tactic(auto, using(crate::proofs::Cased::has_few, crate::proofs::Cased::is_fit, crate::proofs::Cased::is_numbered))]
-fn bare_case(
+pub(crate) fn bare_case(
     alloc: Global,
     frame: &Frame<'_>,
     bones: &[Bone],
@@ -177,7 +191,7 @@ fn short_case(
     ensures { IfOk result (λ piece. piece
         ≡ rule.bare_case frame.now bones.now (map (λ state. state.now) common.now) (option_map (λ state. state.now) further.entry)) }
 {
-    let names = variables(alloc, frame.style, frame.at_entry)?;
+    let names = variables(alloc, frame.style, frame.bound)?;
     let places = places_for(alloc, frame, bones.len() as u32, names.as_slice())?;
     let facts = facts_for(alloc, frame, bones, places.as_slice(), common, further)?;
     piece_of(
@@ -204,7 +218,7 @@ fn places_for(
     match frame.entering {
         [] => Ok(Vec::new(alloc)),
         [first, ..] => {
-            let names = names_of(alloc, frame.style, frame.at_entry, variables)?;
+            let names = names_of(alloc, frame.style, frame.bound, variables)?;
             places_behind(alloc, frame.writes, n, first, names.as_slice())
         }
     }
@@ -214,13 +228,13 @@ fn places_for(
 fn names_of(
     alloc: Global,
     style: &Style,
-    at_entry: bool,
+    bound: Bound,
     variables: &[NameId],
 ) -> Result<Vec<NameId>, NoMemory>
-    ensures { IfOk result (λ names. names.items ≡ variables.now ++ ids_from (is_field at_entry) 0 style.now.names) }
+    ensures { IfOk result (λ names. names.items ≡ variables.now ++ ids_from (is_bound_field bound) 0 style.now.names) }
 {
     let mut names = variables.to_vec(alloc)?;
-    let fields = fields(alloc, style, at_entry)?;
+    let fields = fields(alloc, style, bound)?;
     names.extend_from_slice(fields.as_slice())?;
     Ok(names)
 }

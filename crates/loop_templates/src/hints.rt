@@ -14,7 +14,7 @@ use bv_base::memory::NoMemory;
 use bv_base::seq::Seq;
 use lin_facts::row::Row;
 use std::alloc::Global;
-use straight_proofs::straight_proof;
+use straight_proofs::Search;
 use sym_state::Matching;
 use sym_state::hint::Hint;
 use sym_state::piece::Piece;
@@ -57,22 +57,23 @@ pub fn entailing(
     ensures { IfOk result (λ hints. hints.items ≡ rule.entailing cond.now state.now number case.now) }
 {
     let matching = Matching::new(alloc, state, case, 0)?;
+    let mut search = Search::new(alloc, state, cond)?;
     let mut hints = Vec::new(alloc);
     hints.push(Hint::Case(number))?;
     for row in case.rows.as_slice() {
         let goal = matching.row(alloc, row)?;
-        hints.push(step(alloc, cond, state, &goal)?)?;
+        hints.push(step(alloc, &mut search, &goal)?)?;
     }
     Ok(hints)
 }
 
 /// The step for a row, by its straight proof where it has one.
-fn step(alloc: Global, cond: &Cond, state: &State, row: &Row) -> Result<Hint, NoMemory>
-    requires state { HasBounds state.now }
-    requires row { IsBounded row.now }
-    ensures { IfOk result (λ hint. hint ≡ step_found Straight cond.now state.now row.now) }
+fn step(alloc: Global, search: &mut Search<'_>, row: &Row) -> Result<Hint, NoMemory>
+    requires { IsBounded row.now }
+    ensures hint { IfOk result (λ hint. hint ≡ step_found Straight search.old.cond search.old.state row.now) }
+    ensures stays { search.new ≡ search.old }
 {
-    match straight_proof(alloc, state, cond, row)? {
+    match search.straight_proof(row)? {
         Some(proof) => Ok(Hint::Step(proof)),
         None => Ok(Hint::Step(no_proof(alloc))),
     }

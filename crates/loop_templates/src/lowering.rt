@@ -1,9 +1,12 @@
 //! Rows of added cases that have no proof are left out (docs/ANALYSER.md, "Loops").
 
-ghost use Rattle.std.specs.Prelude.{◌≡◌, ◌&&◌, ◌||◌, ◌++◌, ◌∷◌, [], ◌≤◌, length, map, IfOk, OnOk};
-ghost use Rattle.std.specs.List.{All, list_all, list_any};
+ghost use Rattle.std.specs.Prelude.{◌≡◌, Bool, true, ◌&&◌, ◌||◌, ◌++◌, ◌∷◌, [], ◌≤◌, is_some, length, map, IfOk, OnOk};
+ghost use Rattle.std.specs.List.{All, filter, list_all, list_any};
 ghost use Rattle.sym_state.specs.Entailing.{line_count};
+ghost use Rattle.sym_state.specs.Matches.{matched_by};
+ghost use Rattle.sym_state.specs.Renaming.{row_renamed};
 ghost use Rattle.sym_state.specs.WellMade.{HasBounds, IsBounded};
+ghost use Rattle.straight_proofs.specs.Straight as straight;
 ghost use Rattle.loop_templates.specs.Candidates as rule;
 ghost use Rattle.loop_templates.specs.Skeletons.{skeleton as skeleton_of, same_skeleton};
 
@@ -16,7 +19,7 @@ use bv_base::memory::NoMemory;
 use bv_base::seq::Seq;
 use lin_facts::row::Row;
 use std::alloc::Global;
-use straight_proofs::straight_proof;
+use straight_proofs::Search;
 use sym_state::Matching;
 use sym_state::entails::entails;
 use sym_state::piece::Piece;
@@ -101,52 +104,96 @@ fn proved_rows(
     requires rows { All IsBounded case.now.rows }
     ensures { IfOk result (λ rows. rows.items ≡ rule.proved_rows cond.now case.now (map (λ state. state.now) states.now) case.now.rows) }
 {
-    let mut rows = Vec::new(alloc);
-    for row in case.rows.as_slice() {
-        if is_proved_in_all(alloc, cond, case, row, states)? {
-            rows.push(row.copied(alloc)?)?;
-        }
-    }
-    Ok(rows)
+    let rows = case.rows.as_slice();
+    let proved = proved_in_all(alloc, cond, case, rows, states)?;
+    marked_rows(alloc, rows, proved.as_slice())
 }
 
-/// Whether a row of a case has a straight proof in each of some states.
-fn is_proved_in_all(
+/// Whether each of some rows over the symbols of a case has a straight proof in each of some states. It takes one state after the
+/// other, with one search for all rows.
+pub(crate) fn proved_in_all(
     alloc: Global,
     cond: &Cond,
     case: &Piece,
-    row: &Row,
+    rows: &[Row],
     states: &[&State],
-) -> Result<bool, NoMemory>
+) -> Result<Vec<bool>, NoMemory>
     requires states { All (rule.CanMatch (length case.now.stack)) (map (λ state. state.now) states.now) }
-    requires row { IsBounded row.now }
-    ensures { IfOk result (λ proved. proved ≡ list_all (rule.is_proved cond.now case.now row.now) (map (λ state. state.now) states.now)) }
+    requires rows { All IsBounded rows.now }
+    ensures { IfOk result (λ proved. proved.items
+        ≡ map (λ row. list_all (rule.is_proved cond.now case.now row) (map (λ state. state.now) states.now)) rows.now) }
 {
+    let mut proved = all_marked(alloc, rows)?;
     for state in states {
-        if !is_proved(alloc, cond, case, row, state)? {
-            return Ok(false);
-        }
+        mark_proved(alloc, cond, case, state, rows, proved.as_mut_slice())?;
     }
-    Ok(true)
+    Ok(proved)
 }
 
-/// Whether a row of a case has a straight proof in a state.
-fn is_proved(
+/// A mark for each of some rows.
+fn all_marked(alloc: Global, rows: &[Row]) -> Result<Vec<bool>, NoMemory>
+    ensures { IfOk result (λ marks. marks.items ≡ map (λ _. true) rows.now) }
+{
+    Ok(rows.iter().map(|_| true).collect(alloc)?)
+}
+
+/// Keeps the marks of the rows that have a straight proof in a state. A row without a mark isn't looked at.
+fn mark_proved(
     alloc: Global,
     cond: &Cond,
     case: &Piece,
-    row: &Row,
     state: &State,
-) -> Result<bool, NoMemory>
+    rows: &[Row],
+    marks: &mut [bool],
+) -> Result<(), NoMemory>
     requires state { HasBounds state.now }
     requires stack { length case.now.stack ≤ length state.now.stack }
-    requires row { IsBounded row.now }
-    ensures { IfOk result (λ proved. proved ≡ rule.is_proved cond.now case.now row.now state.now) }
+    requires rows { All IsBounded rows.now }
+    requires marks { length marks.old ≡ length rows.now }
+    ensures { (before : Row → Bool) → marks.old ≡ map before rows.now
+        → OnOk result (marks.new ≡ map (λ row. before row && rule.is_proved cond.now case.now row state.now) rows.now) }
 {
     let matching = Matching::new(alloc, state, case, 0)?;
+    let mut search = Search::new(alloc, state, cond)?;
+    for (k, row) in rows.iter().enumerate() {
+        marks[k] = is_still_proved(alloc, &mut search, &matching, row, marks[k])?;
+    }
+    Ok(())
+}
+
+/// Whether a row with a mark has a straight proof in a state, its symbols matched.
+fn is_still_proved(
+    alloc: Global,
+    search: &mut Search<'_>,
+    matching: &Matching,
+    row: &Row,
+    marked: bool,
+) -> Result<bool, NoMemory>
+    requires { IsBounded row.now }
+    ensures proved { IfOk result (λ proved. proved
+        ≡ (marked && is_some (straight.straight_proof search.old.cond search.old.state (row_renamed (matched_by matching.now) row.now)))) }
+    ensures stays { search.new ≡ search.old }
+{
+    if !marked {
+        return Ok(false);
+    }
     let goal = matching.row(alloc, row)?;
-    let found = straight_proof(alloc, state, cond, &goal)?;
+    let found = search.straight_proof(&goal)?;
     Ok(found.is_some())
+}
+
+/// The rows that have a mark.
+pub(crate) fn marked_rows(alloc: Global, rows: &[Row], marks: &[bool]) -> Result<Vec<Row>, NoMemory>
+    requires { length marks.now ≡ length rows.now }
+    ensures { (test : Row → Bool) → marks.now ≡ map test rows.now → IfOk result (λ left. left.items ≡ filter test rows.now) }
+{
+    let mut left = Vec::new(alloc);
+    for (k, row) in rows.iter().enumerate() {
+        if marks[k] {
+            left.push(row.copied(alloc)?)?;
+        }
+    }
+    Ok(left)
 }
 
 /// Whether a state entails, but for the rows, an added case of its skeleton.

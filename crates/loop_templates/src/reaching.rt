@@ -46,6 +46,19 @@ pub fn occurring(
     Ok(found)
 }
 
+/// Which names occur in any body, and which of them are quoted.
+pub fn occurring_anywhere(alloc: Global, style: &Style) -> Result<Occurrences, NoMemory>
+    ensures { IfOk result (λ found. found ≡ rule.occurring_anywhere style.now) }
+{
+    let all = vec![in alloc; true; style.bodies.as_slice().len()]?;
+    let mut found = Occurrences {
+        named: vec![in alloc; false; style.names.len() as usize]?,
+        quoted: vec![in alloc; false; style.names.len() as usize]?,
+    };
+    mark_names(&mut found, style, all.as_slice());
+    Ok(found)
+}
+
 /// The marks of the bodies that are reachable from some.
 fn reached(
     alloc: Global,

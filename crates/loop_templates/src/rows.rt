@@ -21,7 +21,7 @@ use lin_facts::row::{Part, Row};
 use name_table::style::Style;
 use std::alloc::Global;
 use std::slice::from_ref;
-use straight_proofs::rows_on;
+use straight_proofs::{Search, rows_on};
 use sym_state::piece::Piece;
 use sym_state::start::start;
 use sym_state::state::State;
@@ -48,7 +48,26 @@ pub fn rows_over(
     ensures few { IfOk result (λ rows. length rows.items ≤ MOST_ITEMS) }
 {
     let start = started(alloc, style, cond, whole, at_entry, piece)?;
-    gathered(alloc, cond, &start, piece, sums, states)
+    let mut all = searches(alloc, cond, states)?;
+    let searches = all.as_mut_slice();
+    gathered(alloc, cond, &start, piece, sums, searches)
+}
+
+/// A search for each of some states: what it finds for one sum, it has at hand for the next.
+fn searches<'a>(
+    alloc: Global,
+    cond: &'a Cond,
+    states: &[&'a State],
+) -> Result<Vec<Search<'a>>, NoMemory>
+    requires { All HasBounds (map (λ state. state.now) states.now) }
+    ensures states { IfOk result (λ all. map (λ search. search.state) all.items ≡ map (λ state. state.now) states.now) }
+    ensures cond { IfOk result (λ all. All (λ search. search.cond ≡ cond.now) all.items) }
+{
+    let mut all = Vec::new(alloc);
+    for state in states {
+        all.push(Search::new(alloc, *state, cond)?)?;
+    }
+    Ok(all)
 }
 
 /// The rows of sums that may stand in a piece, the first of them.
@@ -58,13 +77,13 @@ fn gathered(
     start: &State,
     piece: &Piece,
     sums: &[Seq<Part>],
-    states: &[&State],
+    searches: &mut [Search<'_>],
 ) -> Result<Vec<Row>, NoMemory>
-    requires states { All HasBounds (map (λ state. state.now) states.now) }
+    requires searches { All (λ search. search.cond ≡ cond.now) searches.old }
     requires sums { All IsSmallSum sums.now }
     requires bounds { HasBounds start.now }
     ensures rows { IfOk result (λ rows. rows.items
-        ≡ rule.gathered cond.now start.now piece.now sums.now (map (λ state. state.now) states.now)) }
+        ≡ rule.gathered cond.now start.now piece.now sums.now (map (λ search. search.state) searches.old)) }
     ensures few { IfOk result (λ rows. length rows.items ≤ MOST_ITEMS) }
 {
     let mut rows = Vec::new(alloc);
@@ -73,7 +92,7 @@ fn gathered(
             return Ok(rows);
         }
         let parts = sum.as_slice();
-        keep_of_sum(alloc, &mut rows, cond, start, piece, states, parts)?;
+        keep_of_sum(alloc, &mut rows, cond, start, piece, searches, parts)?;
     }
     Ok(rows)
 }
@@ -104,18 +123,19 @@ fn keep_of_sum(
     cond: &Cond,
     start: &State,
     piece: &Piece,
-    states: &[&State],
+    searches: &mut [Search<'_>],
     sum: &[Part],
 ) -> Result<(), NoMemory>
-    requires states { All HasBounds (map (λ state. state.now) states.now) }
+    requires searches { All (λ search. search.cond ≡ cond.now) searches.old }
     requires sum { IsSmallSum sum.now }
     requires bounds { HasBounds start.now }
     requires few { length rows.old.items ≤ MOST_ITEMS }
     ensures kept { OnOk result (rows.new.items ≡ take MOST_ITEMS (rows.old.items ++ filter (rule.is_wanted cond.now start.now)
-        (map (rule.row_in_piece piece.now) (rule.rows_of_sum cond.now (map (λ state. state.now) states.now) sum.now)))) }
+        (map (rule.row_in_piece piece.now) (rule.rows_of_sum cond.now (map (λ search. search.state) searches.old) sum.now)))) }
     ensures few { OnOk result (length rows.new.items ≤ MOST_ITEMS) }
+    ensures stays { searches.new ≡ searches.old }
 {
-    let found = rows_of_sum(alloc, cond, states, sum)?;
+    let found = rows_of_sum(alloc, cond, searches, sum)?;
     let list = found.as_slice();
     keep_wanted(alloc, rows, cond, start, piece, list)
 }

@@ -4,6 +4,7 @@ ghost use Rattle.std.specs.Prelude.{◌≡◌, ◌&&◌, ◌++◌, [], ◌∷◌
 ghost use Rattle.bst_meaning.specs.StyleParts.{kind_of};
 ghost use Rattle.loop_templates.specs.Reaching as rule;
 
+use crate::cases::Bound;
 use crate::reaching::{Occurrences, is_marked};
 use bv_base::memory::NoMemory;
 use lin_facts::row::Term;
@@ -24,9 +25,32 @@ pub fn terms_over(
 {
     let strings = strings_of(alloc, style, found, at_entry)?;
     let mut terms = Vec::new(alloc);
-    push_values(&mut terms, style, found, at_entry)?;
+    let bound = Bound {
+        globals: true,
+        entry: at_entry,
+    };
+    push_values(&mut terms, style, found, bound)?;
     push_lengths(&mut terms, strings.as_slice())?;
     push_names(&mut terms, strings.as_slice())?;
+    Ok(terms)
+}
+
+/// The terms of what commands leave: the value of each integer variable of these that occurs, and behind them, where it may stand, the
+/// number of visited entries.
+pub fn command_terms(
+    alloc: Global,
+    style: &Style,
+    found: &Occurrences,
+    bound: Bound,
+    has_pos: bool,
+) -> Result<Vec<Term>, NoMemory>
+    ensures { IfOk result (λ terms. terms.items ≡ rule.command_terms style.now found.now bound has_pos) }
+{
+    let mut terms = Vec::new(alloc);
+    push_values(&mut terms, style, found, bound)?;
+    if has_pos {
+        terms.push(Term::Pos)?;
+    }
     Ok(terms)
 }
 
@@ -35,13 +59,12 @@ fn push_values(
     terms: &mut Vec<Term>,
     style: &Style,
     found: &Occurrences,
-    at_entry: bool,
+    bound: Bound,
 ) -> Result<(), NoMemory>
-    ensures { OnOk result (terms.new.items ≡ terms.old.items
-        ++ map (λ name. Term.Value name.0) (rule.occurring_of (rule.is_integer at_entry) style.now found.now.named)) }
+    ensures { OnOk result (terms.new.items ≡ terms.old.items ++ rule.values_over style.now found.now bound) }
 {
     for id in 0..style.names.len() {
-        push_value(terms, found, at_entry, id, style.names.kind(NameId(id)))?;
+        push_value(terms, found, bound, id, style.names.kind(NameId(id)))?;
     }
     Ok(())
 }
@@ -50,14 +73,14 @@ fn push_values(
 fn push_value(
     terms: &mut Vec<Term>,
     found: &Occurrences,
-    at_entry: bool,
+    bound: Bound,
     id: u32,
     kind: Kind,
 ) -> Result<(), NoMemory>
     ensures { OnOk result (terms.new.items ≡ terms.old.items
-        ++ (if rule.is_integer at_entry kind && rule.is_marked found.now.named id then Term.Value id ∷ [] else [])) }
+        ++ (if rule.is_integer bound kind && rule.is_marked found.now.named id then Term.Value id ∷ [] else [])) }
 {
-    if is_integer(at_entry, kind) && is_marked(found.named.as_slice(), id as usize) {
+    if is_integer(bound, kind) && is_marked(found.named.as_slice(), id as usize) {
         terms.push(Term::Value(id))?;
     }
     Ok(())
@@ -130,13 +153,13 @@ fn push_names(terms: &mut Vec<Term>, names: &[NameId]) -> Result<(), NoMemory>
     Ok(())
 }
 
-/// Whether an integer variable of a kind has a value.
-fn is_integer(at_entry: bool, kind: Kind) -> bool
-    ensures { result ≡ rule.is_integer at_entry kind }
+/// Whether an integer variable of a kind is bound.
+fn is_integer(bound: Bound, kind: Kind) -> bool
+    ensures { result ≡ rule.is_integer bound kind }
 {
     match kind {
-        Kind::IntGlobal => true,
-        Kind::IntEntry => at_entry,
+        Kind::IntGlobal => bound.globals,
+        Kind::IntEntry => bound.entry,
         _ => false,
     }
 }

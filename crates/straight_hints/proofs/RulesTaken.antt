@@ -1,6 +1,5 @@
 -- What is found for a rule is what the rule takes: with whatever hints behind these it gives the same, and leaves those.
-use Rattle.std.proofs.Common.{◌≡◌, Bool, true, false, cond, List, [], ◌∷◌, ◌++◌, Option, None, Some, Result, Ok, Err, sym, ap, ◌∙◌}
-use Rattle.std.proofs.lemmas.List.{append-nil}
+use Rattle.std.proofs.Common.{◌≡◌, Bool, true, false, cond, List, ◌∷◌, ◌++◌, Option, None, Some, Result, Ok, Err, sym, ap}
 use Rattle.bv_base.specs.Answers.{then_do}
 use Rattle.bv_base.proofs.ThenLemmas.{ok_is}
 use Rattle.lin_facts.specs.declared.row.Row.{Row}
@@ -25,11 +24,6 @@ Leaving X = X → List Hint → X
 -- a rule takes these hints: where it gives a value with them alone, it gives that value with others behind them, which it leaves
 abbrev pub Takes : {X : Type 0} → Leaving X → (List Hint → Result X EffectFault) → List Hint → Type 0
 Takes {X} leaving rule hints = (x : X) → rule hints ≡ Ok x → (rest : List Hint) → rule (hints ++ rest) ≡ Ok (leaving x rest)
-
--- so none is left of them
-pub all_taken : {X : Type 0} (leaving : Leaving X) (rule : List Hint → Result X EffectFault) (hints : List Hint) (x : X) → Takes leaving rule hints
-    → rule hints ≡ Ok x → leaving x [] ≡ x
-all_taken leaving rule hints x takes e = ok_is x (leaving x []) (sym e ∙ ap rule (sym (append-nil hints)) ∙ takes x e [])
 
 -- behind a demand
 pub taken_where : {X : Type 0} (leaving : Leaving X) (t : Bool) (fault : EffectFault) (rule : List Hint → Result X EffectFault) (hints : List Hint)

@@ -1,9 +1,10 @@
 -- The hints that are found have short proofs.
-use Rattle.std.proofs.Common.{◌≡◌, ◌≤◌, List, length, map, Option, None, Some, Result, Ok, Err, IfOk, refl, arith, subst, sym}
+use Rattle.std.proofs.Common.{◌≡◌, ◌≤◌, List, length, map, Option, None, Some, Result, Ok, Err, IfOk, refl, arith, subst, sym, [], ◌∷◌}
 use Rattle.std.specs.Prelude.{slice_index_or}
 use Rattle.std.specs.Global.{Vec}
 use Rattle.std.specs.List.{All}
 use Rattle.std.specs.Option.{IfSome, option_map_or}
+use Rattle.std.proofs.lemmas.List.Elements.{All-cons, All-nil}
 use Rattle.bv_base.specs.declared.memory.NoMemory.{NoMemory}
 use Rattle.lin_facts.specs.declared.row.Row.{Row}
 use Rattle.name_table.specs.declared.builtin.Builtin.{Builtin}
@@ -17,12 +18,15 @@ use Rattle.sym_state.specs.declared.hint.Hint.TheVariants.{Drop, Keep, Step}
 use Rattle.sym_state.specs.declared.proof.Proof.{Proof}
 use Rattle.sym_state.specs.declared.symbol.Sym.{Sym}
 use Rattle.sym_state.specs.declared.test.Test.{Test}
+use Rattle.sym_state.specs.declared.piece.Piece.{Piece}
+use Rattle.sym_state.specs.Entailing.{match_of}
+use Rattle.sym_state.specs.Renaming.{row_renamed}
 use Rattle.straight_proofs.specs.Straight.{drop_proof, straight_proof}
 use Rattle.straight_proofs.specs.declared.straight.TheConstants.{MOST_REFERENCES}
 use Rattle.straight_proofs.proofs.AddingUp.{drop_is_short, straight_is_short}
 use Rattle.straight_hints.specs.declared.finding.Finding.{Finding}
 use Rattle.straight_hints.specs.declared.finding.Finding.TheVariants.{Bare, Straight}
-use Rattle.straight_hints.specs.Found.{above_hints, case_hints, drop_found, no_proof, plain_hints, proof_found, test_hints}
+use Rattle.straight_hints.specs.Found.{above_hints, case_hints, drop_found, no_proof, piece_hints, plain_hints, proof_found, step_found, test_hints}
 use Rattle.straight_hints.proofs.Every.{Has, above_has, cases_have, rule_has, test_has}
 
 -- a proof that is found is short
@@ -74,6 +78,16 @@ test_short finding admits state test = test_has HasFewUses finding admits state 
 pub above_short : (finding : Finding) (admits : Cond) (state : State) (s : Sym) → All HasFewUses (above_hints finding admits state s)
 above_short finding admits state s =
     above_has HasFewUses finding admits state s (λ labelled e none. all_short finding admits (map (λ case. case.1) labelled.cases))
+
+rows_short : (finding : Finding) (admits : Cond) (state : State) (named : Row → Row) (rows : List Row)
+    → All HasFewUses (map (λ row. step_found finding admits state (named row)) rows)
+rows_short finding admits state named [] = All-nil HasFewUses
+rows_short finding admits state named (row ∷ rows) =
+    All-cons HasFewUses (step_found finding admits state (named row)) (map (λ row. step_found finding admits state (named row)) rows)
+    ((every_short finding admits state).step (named row)) (rows_short finding admits state named rows)
+
+pub piece_short : (finding : Finding) (admits : Cond) (state : State) (piece : Piece) → All HasFewUses (piece_hints finding admits state piece)
+piece_short finding admits state piece = rows_short finding admits state (row_renamed (match_of state piece 0)) piece.rows
 
 -- what is found by a definition whose hints are short is short
 pub found_short : {E : Type 0} (wanted : List Hint) (result : Result (Vec Hint) E) → All HasFewUses wanted → IfOk result (λ hints. hints.items ≡ wanted)

@@ -4,7 +4,7 @@ use Rattle.std.specs.Prelude.{pos, int_lt}
 use Rattle.std.specs.Global.{Vec}
 use Rattle.std.specs.List.{All, flat_map, range_with_len}
 use Rattle.std.specs.Option.{IfSome, option_and_then, option_map, option_map_or}
-use Rattle.std.proofs.lemmas.List.Elements.{All-head, All-map, All-tail, All-weaker}
+use Rattle.std.proofs.lemmas.List.Elements.{All-head, All-tail, All-weaker}
 use Rattle.lin_facts.specs.declared.row.Row.{Row}
 use Rattle.lin_facts.specs.declared.row.Term.{Term}
 use Rattle.name_table.specs.Sound.{Each}
@@ -25,15 +25,18 @@ use Rattle.sym_state.specs.declared.proof.Reference.{Reference}
 use Rattle.sym_state.specs.declared.proof.Reference.TheVariants as ref
 use Rattle.sym_state.specs.declared.symbol.Sym.{Sym}
 use Rattle.sym_state.specs.declared.test.Test.{Test}
-use Rattle.refinements.proofs.Framing.{above_left, split_left}
+use Rattle.sym_state.specs.declared.piece.Piece.{Piece}
+use Rattle.sym_state.specs.Entailing.{match_of}
+use Rattle.sym_state.specs.Renaming.{row_renamed}
+use Rattle.refinements.proofs.Framing.{split_left}
 use Rattle.straight_proofs.specs.Remainders.{lead}
 use Rattle.straight_proofs.specs.Straight.{drop_list, ended, first_list, kinds, left_behind, list_within, on_symbols, once, proof_of, references, rows_named}
 use Rattle.straight_proofs.specs.declared.straight.TheConstants.{MOST_REFERENCES}
 use Rattle.straight_proofs.proofs.Lists.{at_end, none_left, one_more}
 use Rattle.straight_hints.specs.declared.finding.Finding.{Finding}
 use Rattle.straight_hints.specs.declared.finding.Finding.TheVariants.{Bare, Straight}
-use Rattle.straight_hints.specs.Found.{above_hints, both_kept, case_hints, drop_found, no_proof, plain_hints, proof_found, test_hints}
-use Rattle.straight_hints.proofs.Every.{Has, above_has, cases_have, rule_has, test_has}
+use Rattle.straight_hints.specs.Found.{case_hints, drop_found, no_proof, piece_hints, plain_hints, proof_found, step_found}
+use Rattle.straight_hints.proofs.Every.{Has, cases_have, rule_has}
 use Rattle.straight_hints.proofs.Short.{HasShort, drop_short, proof_short}
 
 -- the number of a reference has 32 bits
@@ -204,16 +207,14 @@ split_written finding c state test cases kept few e =
     each_of_all IsHint (case_hints finding c cases.states cases.hints)
     (cases_have IsHint finding c cases.states cases.hints (λ none. cases_written finding c state cases.states few (split_left c state test kept cases e)))
 
-pub test_written : (finding : Finding) (c : Cond) (state : State) (test : Test) → suc state.next ≤ 4294967296 → Each IsHint (test_hints finding c state test)
-test_written finding c state test few =
-    each_of_all IsHint (test_hints finding c state test)
-    (test_has IsHint finding c state test (λ cases e none. cases_written finding c state cases.states few (split_left c state test both_kept cases e)))
+-- those by which a state shows a piece
+pub rows_written : (finding : Finding) (c : Cond) (state : State) (named : Row → Row) (rows : List Row) → state.next ≤ 4294967296
+    → Each IsHint (map (λ row. step_found finding c state (named row)) rows)
+rows_written finding c state named [] few = tt
+rows_written finding c state named (row ∷ rows) few = ((every_written finding c state few).step (named row), rows_written finding c state named rows few)
 
-pub above_written : (finding : Finding) (c : Cond) (state : State) (s : Sym) → suc state.next ≤ 4294967296 → Each IsHint (above_hints finding c state s)
-above_written finding c state s few =
-    each_of_all IsHint (above_hints finding c state s)
-    (above_has IsHint finding c state s (λ labelled e none. cases_written finding c state (map (λ case. case.1) labelled.cases) few
-    (All-map (LeavesVariables state) (λ (case : Bool × State). case.1) labelled.cases (above_left c state s both_kept labelled e))))
+pub piece_written : (finding : Finding) (c : Cond) (state : State) (piece : Piece) → state.next ≤ 4294967296 → Each IsHint (piece_hints finding c state piece)
+piece_written finding c state piece few = rows_written finding c state (row_renamed (match_of state piece 0)) piece.rows few
 
 -- what is found by a definition whose hints can be written can be
 pub found_written_by : {E : Type 0} (wanted : List Hint) (result : Result (Vec Hint) E) → Each IsHint wanted → IfOk result (λ hints. hints.items ≡ wanted)

@@ -15,6 +15,9 @@ use Rattle.sym_state.specs.declared.hint.Hint.TheVariants.{Drop, Keep, Plain, St
 use Rattle.sym_state.specs.declared.proof.Proof.{Proof}
 use Rattle.sym_state.specs.declared.symbol.Sym.{Sym}
 use Rattle.sym_state.specs.declared.test.Test.{Test}
+use Rattle.sym_state.specs.Entailing.{match_of}
+use Rattle.sym_state.specs.Renaming.{row_renamed}
+use Rattle.sym_state.specs.declared.piece.Piece.{Piece}
 use Rattle.straight_proofs.specs.Straight.{drop_proof, proof_of, straight_proof}
 use Rattle.straight_hints.specs.declared.finding.Finding.{Finding}
 use Rattle.straight_hints.specs.declared.finding.Finding.TheVariants.{Bare, Straight}
@@ -95,3 +98,8 @@ test_hints finding admits state asked =
 abbrev pub above_hints : Finding → Cond → State → Sym → List Hint
 above_hints finding admits state s =
     on_operands (above_of admits state s both_kept) (λ labelled. case_hints finding admits (map (λ case. case.1) labelled.cases) labelled.hints)
+
+-- those by which a state shows a piece with symbols of its own: a step for each of its rows
+abbrev pub piece_hints : Finding → Cond → State → Piece → List Hint
+piece_hints finding admits state piece =
+    map (λ row. step_found finding admits state (row_renamed (match_of state piece 0) row)) piece.rows

@@ -38,7 +38,7 @@ pub fn one_step(at: &At<'_>, row: &Row) -> Result<Vec<Hint>, NoMemory>
 }
 
 /// The step for a row: with no proof its demand isn't met.
-fn step(at: &At<'_>, row: &Row) -> Result<Hint, NoMemory>
+pub fn step(at: &At<'_>, row: &Row) -> Result<Hint, NoMemory>
     requires state { HasBounds at.now.state.now }
     requires row { IsBounded row.now }
     ensures { IfOk result (λ hint. hint ≡ rule.step_found at.now.finding at.now.cond.now at.now.state.now row.now) }

@@ -38,7 +38,7 @@ pub record AddUp (remainder : Row) (rows : List Row) : Type 0 where
   pub constant : total (λ row. row.constant) rows ≤ℤ remainder.constant
   pub terms : (t : Term) → coefficient_of remainder.parts t ≡ total (λ row. coefficient_of row.parts t) rows
 
-turned_coefficient : (parts : List Part) (t : Term) → coefficient_of (map turned parts) t ≡ neg_ℤ (coefficient_of parts t)
+pub turned_coefficient : (parts : List Part) (t : Term) → coefficient_of (map turned parts) t ≡ neg_ℤ (coefficient_of parts t)
 turned_coefficient [] t = refl
 turned_coefficient (part ∷ parts) t =
     let rest = turned_coefficient parts t in
@@ -58,7 +58,7 @@ one_row remainder row rows h = record {
 abbrev pub next_highest : List Part → Option Term → Part → Option Term
 next_highest all highest part = counted_in (coefficient_of all part.term) part.term highest
 
-still_some : (all parts : List Part) (t : Term) → fold (next_highest all) (Some t) parts ≡ None → ⊥
+pub still_some : (all parts : List Part) (t : Term) → fold (next_highest all) (Some t) parts ≡ None → ⊥
 still_some all [] t e = cc
 still_some all (part ∷ parts) t e =
     elim (int_eq (coefficient_of all part.term) (pos 0)) as (λ (b : Bool). fold (next_highest all) (cond b (Some t) (Some (higher part.term (Some t)))) parts ≡ None → ⊥) [
@@ -84,7 +84,7 @@ no_term all (part ∷ parts) t e =
       | false ↦ λ z f. absurd (still_some all parts (higher part.term None) f)
     ] refl e
 
-no_lead : (remainder : Row) (t : Term) → lead remainder ≡ None → coefficient_of remainder.parts t ≡ pos 0
+pub no_lead : (remainder : Row) (t : Term) → lead remainder ≡ None → coefficient_of remainder.parts t ≡ pos 0
 no_lead remainder t e = elim (no_term remainder.parts remainder.parts t e) [ inl none ↦ none | inr none ↦ none ]
 
 -- a list of at most so many references, whose rows are there and add up to a remainder

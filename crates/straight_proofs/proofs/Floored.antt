@@ -1,6 +1,6 @@
 -- The floor by its cases, and that it is the greatest number that straight proofs show.
-use Rattle.std.proofs.Common.{◌≡◌, ℕ, zero, suc, ◌+◌, ◌<◌, Bool, true, false, cond, not, ◌||◌, List, [], ◌∷◌, length, drop, get_or, Option, None, Some, ap, sym, ◌∙◌, refl, arith}
-use Rattle.std.specs.Prelude.{ℤ, pos, ◌-ℤ◌, ◌≤ℤ◌, int_lt, is_some, IsSome, IsSomeAnd, ◌↔◌}
+use Rattle.std.proofs.Common.{◌≡◌, ℕ, zero, suc, ◌+◌, ◌-◌, ◌<◌, Bool, true, false, cond, not, ◌||◌, List, [], ◌∷◌, length, drop, get_or, Option, None, Some, ap, sym, ◌∙◌, refl, arith}
+use Rattle.std.specs.Prelude.{ℤ, pos, ◌-ℤ◌, ◌≤ℤ◌, ◌<ℤ◌, int_lt, is_some, IsSome, IsSomeAnd, ◌↔◌}
 use Rattle.std.specs.Int.{int_max}
 use Rattle.std.specs.List.{filter}
 use Rattle.std.specs.Option.{option_and_then, option_map}
@@ -18,7 +18,7 @@ use Rattle.straight_proofs.specs.Remainders.{fits, lead, minus}
 use Rattle.straight_proofs.specs.Straight.{ended, first_list, left_behind, list_within, proof_of, references, straight_proof}
 use Rattle.straight_proofs.proofs.Lists.{at_end, none_behind, none_left, one_more}
 use Rattle.straight_proofs.proofs.Looked.{finds, leaves}
-use Rattle.straight_proofs.proofs.Searched.{next_reference}
+use Rattle.straight_proofs.proofs.Searched.{next_item}
 
 -- a remainder without a lead
 pub floor_at_end : (n : ℕ) (c : Cond) (state : State) (remainder : Row) → lead remainder ≡ None → floor_within n c state remainder ≡ Some remainder.constant
@@ -40,7 +40,7 @@ abbrev pub floor_behind : ℕ → Cond → State → Row → Term → Reference 
 floor_behind n c state remainder t r = option_and_then (floor_within n c state) (left_behind c state (Some t) remainder r)
 
 -- a lead with references to come
-floor_further : (n : ℕ) (c : Cond) (state : State) (remainder : Row) (t : Term) → lead remainder ≡ Some t
+pub floor_further : (n : ℕ) (c : Cond) (state : State) (remainder : Row) (t : Term) → lead remainder ≡ Some t
     → floor_within (suc n) c state remainder ≡ greatest_behind (floor_behind n c state remainder t) (references state)
 unfolding floor_within
 floor_further n c state remainder t e =
@@ -49,9 +49,9 @@ floor_further n c state remainder t e =
       | Some term ↦ greatest_behind (λ r. option_and_then (floor_within n c state) (left_behind c state (Some term) remainder r)) (references state)
     ]) e
 
--- the greatest is that of the references that are kept, where none is behind each other
-greatest_kept : (keeps : Reference → Bool) (behind : Reference → Option ℤ) → ((r : Reference) → keeps r ≡ false → behind r ≡ None)
-    → (all : List Reference) → greatest_behind behind all ≡ greatest_behind behind (filter keeps all)
+-- the greatest is that of the references or rows that are kept, where none is behind each other
+pub greatest_kept : {X : Type 0} (keeps : X → Bool) (behind : X → Option ℤ) → ((x : X) → keeps x ≡ false → behind x ≡ None)
+    → (all : List X) → greatest_behind behind all ≡ greatest_behind behind (filter keeps all)
 greatest_kept keeps behind h [] = refl
 greatest_kept keeps behind h (r ∷ all) =
     elim (keeps r) as (λ (b : Bool). keeps r ≡ b → greatest_behind behind (r ∷ all) ≡ greatest_behind behind (cond b (r ∷ filter keeps all) (filter keeps all))) [
@@ -60,7 +60,7 @@ greatest_kept keeps behind h (r ∷ all) =
     ] refl
 
 -- the floor behind a lead is the greatest behind the references to it
-pub floor_looked_up : (n : ℕ) (c : Cond) (state : State) (remainder : Row) (t : Term) → lead remainder ≡ Some t
+floor_looked_up : (n : ℕ) (c : Cond) (state : State) (remainder : Row) (t : Term) → lead remainder ≡ Some t
     → floor_within (suc n) c state remainder ≡ greatest_behind (floor_behind n c state remainder t) (references_to state remainder t)
 floor_looked_up n c state remainder t e =
     let b = floor_behind n c state remainder t in
@@ -71,6 +71,16 @@ floor_looked_up n c state remainder t e =
     ∙ ap (greatest_behind b) (finds c state t remainder)
     ∙ sym (greatest_kept (leaves c state t remainder) b none (references_to state remainder t))
 
+pub found_behind : (most : ℕ) (c : Cond) (state : State) (remainder : Row) (t : Term) (there : List Reference) (floor : Option ℤ) → 0 < most → lead remainder ≡ Some t
+    → there ≡ references_to state remainder t → floor ≡ greatest_behind (floor_behind (most - 1) c state remainder t) there
+    → floor ≡ floor_within most c state remainder
+found_behind most c state remainder t there floor h e are is =
+    let more : suc (most - 1) ≡ most = omega (arith, h) in
+    is
+    ∙ ap (greatest_behind (floor_behind (most - 1) c state remainder t)) are
+    ∙ sym (floor_looked_up (most - 1) c state remainder t e)
+    ∙ ap (λ (m : ℕ). floor_within m c state remainder) more
+
 -- the greatest of three
 grouped : (x y z : Option ℤ) → greatest (greatest x y) z ≡ greatest x (greatest y z)
 grouped None y z = refl
@@ -80,13 +90,13 @@ grouped (Some m) (Some n) (Some k) =
     let same : int_max (int_max m n) k ≡ int_max m (int_max n k) = omega (arith, ints, clamps) in
     ap (λ (most : ℤ). Some most) same
 
--- one reference less, whose floor is among those so far
-pub one_further : (behind : Reference → Option ℤ) (all : List Reference) (i : ℕ) (d : Reference) (so_far : Option ℤ) → i < length all
+-- one row less, whose floor is among those so far
+pub one_further : (behind : Row → Option ℤ) (all : List Row) (i : ℕ) (d : Row) (so_far : Option ℤ) → i < length all
     → greatest (greatest so_far (behind (get_or all i d))) (greatest_behind behind (drop (i + 1) all)) ≡ greatest so_far (greatest_behind behind (drop i all))
 one_further behind all i d so_far h =
-    let r = get_or all i d in
-    grouped so_far (behind r) (greatest_behind behind (drop (i + 1) all))
-    ∙ ap (λ (rest : List Reference). greatest so_far (greatest_behind behind rest)) (sym (next_reference all i d h))
+    let row = get_or all i d in
+    grouped so_far (behind row) (greatest_behind behind (drop (i + 1) all))
+    ∙ ap (λ (rest : List Row). greatest so_far (greatest_behind behind rest)) (sym (next_item all i d h))
 
 -- whether a floor is there and a number is at most it
 abbrev pub reaches : ℤ → Option ℤ → Bool
@@ -132,7 +142,7 @@ found_where k lists floors h (r ∷ all) =
     either (Some list) = refl
 
 -- what is left of a sum less a number is what is left of the sum, less the number
-left_of_less : (c : Cond) (state : State) (t : Term) (remainder : Row) (k : ℤ) (r : Reference)
+pub left_of_less : (c : Cond) (state : State) (t : Term) (remainder : Row) (k : ℤ) (r : Reference)
     → left_behind c state (Some t) (lessened remainder k) r ≡ option_map (λ left. lessened left k) (left_behind c state (Some t) remainder r)
 left_of_less c state t remainder k r = by (row_said c state r)
   where
@@ -194,6 +204,37 @@ listed_where (suc n) c state k remainder =
           ∙ behind_where n c state k (listed_where n c state k) (left_behind c state (Some t) remainder r)) (references state)
           ∙ ap (reaches k) (sym (floor_further n c state remainder t e))
     ] refl
+
+less_nothing : (row : Row) → lessened row (pos 0) ≡ row
+less_nothing row =
+    let same : (row.constant -ℤ pos 0) ≡ row.constant = omega (arith, ints) in
+    ap (λ (n : ℤ). record { constant = n; parts = row.parts }) same
+
+-- a list shows a remainder where its floor is at least 0
+list_where : (n : ℕ) (c : Cond) (state : State) (remainder : Row) → is_some (list_within n c state remainder) ≡ reaches (pos 0) (floor_within n c state remainder)
+list_where n c state remainder =
+    ap (λ (row : Row). is_some (list_within n c state row)) (sym (less_nothing remainder)) ∙ listed_where n c state (pos 0) remainder
+
+-- nothing is there where it isn't so that something is
+none_there : {X : Type 0} (o : Option X) → is_some o ≡ false → None ≡ o
+none_there None e = refl
+none_there (Some x) e = absurd (cc)
+
+-- so none does where it is below 0, or where it has none
+pub none_below : (n : ℕ) (c : Cond) (state : State) (remainder : Row) (floor : ℤ) → Some floor ≡ floor_within n c state remainder → floor <ℤ pos 0
+    → None ≡ list_within n c state remainder
+none_below n c state remainder floor e h =
+    none_there (list_within n c state remainder) (list_where n c state remainder ∙ ap (reaches (pos 0)) (sym e) ∙ by (int_lt floor (pos 0)) refl)
+  where
+    by : (b : Bool) → int_lt floor (pos 0) ≡ b → not b ≡ false
+    by true f = refl
+    by false f = absurd (omega (arith, ints, h))
+
+pub none_floored : (n : ℕ) (c : Cond) (state : State) (remainder : Row) (floor : Option ℤ) → ((k : ℤ) → floor ≡ Some k → ⊥) → floor ≡ floor_within n c state remainder
+    → None ≡ list_within n c state remainder
+none_floored n c state remainder None h e =
+    none_there (list_within n c state remainder) (list_where n c state remainder ∙ ap (reaches (pos 0)) (sym e))
+none_floored n c state remainder (Some k) h e = absurd (h k refl)
 
 mapped : {X Y : Type 0} (f : X → Y) (o : Option X) → is_some (option_map f o) ≡ is_some o
 mapped f None = refl

@@ -1,7 +1,12 @@
 pub mod AddingUp
+pub mod Alike
+pub mod Bare
+pub mod Canonical
 pub mod Floored
+pub mod Gathered
 pub mod Lists
 pub mod Looked
 pub mod Numbered
+pub mod Remembering
 pub mod Rooms
 pub mod Searched

@@ -1,49 +1,63 @@
 -- What is left of a remainder has room for one row less.
-use Rattle.std.proofs.Common.{◌≡◌, ℕ, suc, ◌+◌, ◌≤◌, ◌^◌, List, [], ◌∷◌, ◌++◌, length, map, ap, sym, subst, refl, arith, length-append}
-use Rattle.std.specs.List.{All}
+use Rattle.std.proofs.Common.{◌≡◌, ℕ, suc, ◌+◌, ◌-◌, ◌*◌, ◌<◌, ◌≤◌, ◌^◌, Bool, true, false, cond, List, [], ◌∷◌, length, get_or, sym, subst, arith}
+use Rattle.std.specs.Prelude.{ℤ, pos, ◌+ℤ◌}
+use Rattle.std.specs.List.{fold}
 use Rattle.std.proofs.lemmas.Int.{ints}
-use Rattle.std.proofs.lemmas.List.Elements.{All-nil, All-cons, All-head, All-tail}
-use Rattle.lin_facts.specs.Rows.{IsWithin, IsSmall}
+use Rattle.std.proofs.lemmas.List.Elements.{All-nil, All-head, All-tail}
+use Rattle.lin_facts.specs.Rows.{IsWithin, IsSmall, same_term}
 use Rattle.lin_facts.specs.declared.row.Part.{Part}
 use Rattle.lin_facts.specs.declared.row.Row.{Row}
-use Rattle.straight_proofs.specs.Remainders.{HasRoom, minus, turned}
+use Rattle.lin_facts.specs.declared.row.Term.{Term}
+use Rattle.lin_facts.proofs.Steps.{added as share, no_part}
+use Rattle.straight_proofs.specs.Remainders.{HasRoom, added, canonical, less, turned}
+use Rattle.straight_proofs.proofs.Canonical.{AreWithin, added_few, added_within, wider}
 
--- the parts of a remainder and of a row are within the bounds
-abbrev pub AreSmall : List Part → Type 0
-AreSmall parts = All (λ part. IsWithin (2 ^ 45) part.coefficient) parts
+-- each part that is added, or taken away, makes the coefficients greater by its own at most
+all_within : (size : ℕ) (parts others : List Part) → AreWithin size parts → AreWithin (2 ^ 45) others
+    → AreWithin (size + length others * 2 ^ 45) (fold (λ parts part. added part parts) parts others)
+all_within size parts [] h k = wider size (size + 0 * 2 ^ 45) parts (omega arith) h
+all_within size parts (part ∷ others) h k =
+    let here = All-head (λ (p : Part). IsWithin (2 ^ 45) p.coefficient) part others k in
+    let behind = All-tail (λ (p : Part). IsWithin (2 ^ 45) p.coefficient) part others k in
+    wider ((size + 2 ^ 45) + length others * 2 ^ 45) (size + suc (length others) * 2 ^ 45) (fold (λ parts part. added part parts) (added part parts) others) (omega arith)
+    (all_within (size + 2 ^ 45) (added part parts) others (added_within size (2 ^ 45) part parts here h) behind)
 
-turned_small : (parts : List Part) → AreSmall parts → AreSmall (map turned parts)
-turned_small [] h = All-nil (λ part. IsWithin (2 ^ 45) part.coefficient)
-turned_small (part ∷ parts) h =
-    let here = All-head (λ (p : Part). IsWithin (2 ^ 45) p.coefficient) part parts h in
-    All-cons (λ p. IsWithin (2 ^ 45) p.coefficient) (turned part) (map turned parts)
-    (record { low = omega (arith, ints, here.high); high = omega (arith, ints, here.low) })
-    (turned_small parts (All-tail (λ (p : Part). IsWithin (2 ^ 45) p.coefficient) part parts h))
+pub turned_within : (size : ℕ) (part : Part) → IsWithin size part.coefficient → IsWithin size (turned part).coefficient
+turned_within size part h = record { low = omega (arith, ints, h.high); high = omega (arith, ints, h.low) }
 
-joined_small : (parts more : List Part) → AreSmall parts → AreSmall more → AreSmall (parts ++ more)
-joined_small [] more h k = k
-joined_small (part ∷ parts) more h k =
-    All-cons (λ p. IsWithin (2 ^ 45) p.coefficient) part (parts ++ more)
-    (All-head (λ (p : Part). IsWithin (2 ^ 45) p.coefficient) part parts h)
-    (joined_small parts more (All-tail (λ (p : Part). IsWithin (2 ^ 45) p.coefficient) part parts h) k)
+all_left_within : (size : ℕ) (parts others : List Part) → AreWithin size parts → AreWithin (2 ^ 45) others
+    → AreWithin (size + length others * 2 ^ 45) (fold (λ parts part. added (turned part) parts) parts others)
+all_left_within size parts [] h k = wider size (size + 0 * 2 ^ 45) parts (omega arith) h
+all_left_within size parts (part ∷ others) h k =
+    let here = All-head (λ (p : Part). IsWithin (2 ^ 45) p.coefficient) part others k in
+    let behind = All-tail (λ (p : Part). IsWithin (2 ^ 45) p.coefficient) part others k in
+    wider ((size + 2 ^ 45) + length others * 2 ^ 45) (size + suc (length others) * 2 ^ 45) (fold (λ parts part. added (turned part) parts) (added (turned part) parts) others)
+    (omega arith)
+    (all_left_within (size + 2 ^ 45) (added (turned part) parts) others (added_within size (2 ^ 45) (turned part) parts (turned_within (2 ^ 45) part here) h) behind)
 
-turned_length : (parts : List Part) → length (map turned parts) ≡ length parts
-turned_length [] = refl
-turned_length (part ∷ parts) = ap (λ (n : ℕ). suc n) (turned_length parts)
+all_few : (parts others : List Part) → length (fold (λ parts part. added part parts) parts others) ≤ length parts + length others
+all_few parts [] = omega arith
+all_few parts (part ∷ others) = omega (arith, added_few part parts, all_few (added part parts) others)
 
-pub room_left : (more : ℕ) (remainder row : Row) → HasRoom (more + 1) remainder → IsSmall row → HasRoom more (minus remainder row)
+all_left_few : (parts others : List Part) → length (fold (λ parts part. added (turned part) parts) parts others) ≤ length parts + length others
+all_left_few parts [] = omega arith
+all_left_few parts (part ∷ others) = omega (arith, added_few (turned part) parts, all_left_few (added (turned part) parts) others)
+
+room_left : (more : ℕ) (remainder row : Row) → HasRoom (more + 1) remainder → IsSmall row → HasRoom more (less remainder row)
 room_left more remainder row h k =
     let few = h.few in
     let first = h.parts in
     let second = k.parts in
     record {
       few = omega arith;
-      parts = omega (arith, length-append remainder.parts (map turned row.parts), turned_length row.parts);
+      parts = omega (arith, all_left_few remainder.parts row.parts);
       constant = record {
         low = omega (arith, ints, h.constant.low, k.constant.high);
         high = omega (arith, ints, h.constant.high, k.constant.low);
       };
-      coefficients = joined_small remainder.parts (map turned row.parts) h.coefficients (turned_small row.parts k.coefficients);
+      coefficients =
+          wider (2 ^ 50 * (9 - (more + 1)) + length row.parts * 2 ^ 45) (2 ^ 50 * (9 - more)) (less remainder row).parts (omega arith)
+          (all_left_within (2 ^ 50 * (9 - (more + 1))) remainder.parts row.parts h.coefficients k.coefficients);
     }
 
 -- room for rows is room for fewer
@@ -55,9 +69,39 @@ room_for_fewer fewer more remainder e h =
       few = omega arith;
       parts = omega arith;
       constant = record { low = omega (arith, ints, h.constant.low); high = omega (arith, ints, h.constant.high) };
-      coefficients = h.coefficients;
+      coefficients = wider (2 ^ 50 * (9 - more)) (2 ^ 50 * (9 - fewer)) remainder.parts (omega arith) h.coefficients;
     }
 
 -- the same of what is the remainder less the row
-pub room_of : (more : ℕ) (remainder row left : Row) → left ≡ minus remainder row → HasRoom (more + 1) remainder → IsSmall row → HasRoom more left
+pub room_of : (more : ℕ) (remainder row left : Row) → left ≡ less remainder row → HasRoom (more + 1) remainder → IsSmall row → HasRoom more left
 room_of more remainder row left e h k = subst (HasRoom more) (sym e) (room_left more remainder row h k)
+
+-- a row has room in its form
+pub room_at_first : (row same : Row) → same ≡ canonical row → IsSmall row → HasRoom 8 same
+room_at_first row same e k =
+    let few = k.parts in
+    subst (HasRoom 8) (sym e)
+    (record {
+      few = omega arith;
+      parts = omega (arith, all_few [] row.parts);
+      constant = record { low = omega (arith, ints, k.constant.low); high = omega (arith, ints, k.constant.high) };
+      coefficients =
+          wider (0 + length row.parts * 2 ^ 45) (2 ^ 50 * (9 - 8)) (canonical row).parts (omega arith)
+          (all_within 0 [] row.parts (All-nil (λ (p : Part). IsWithin 0 p.coefficient)) k.coefficients);
+    })
+
+share_within : (part : Part) (t : Term) → IsWithin (2 ^ 50 * 9) part.coefficient → IsWithin (2 ^ 50 * 9) (share part t)
+share_within part t small = elim (same_term part.term t) as (λ (b : Bool). IsWithin (2 ^ 50 * 9) (cond b part.coefficient (pos 0))) [
+  | true ↦ small
+  | false ↦ record { low = omega (arith, ints); high = omega (arith, ints) }
+]
+
+-- a sum of so many coefficients is within so many times their bound
+pub sum_size : (parts : List Part) (t : Term) (i : ℕ) (sum next : ℤ) → i < length parts → next ≡ (sum +ℤ share (get_or parts i no_part) t)
+    → AreWithin (2 ^ 50 * 9) parts → IsWithin (i * 10133099161583616) sum → IsWithin ((i + 1) * 10133099161583616) next
+sum_size parts t i sum next h is small so_far =
+    let here = share_within (get_or parts i no_part) t (small i no_part h) in
+    record {
+      low = omega (arith, ints, is, here.low, so_far.low);
+      high = omega (arith, ints, is, here.high, so_far.high);
+    }

@@ -27,9 +27,9 @@ looked_up n c state remainder t e =
     ∙ ap (first_list b) (finds c state t remainder)
     ∙ sym (first_kept (leaves c state t remainder) b none (references_to state remainder t))
 
--- one reference of those that are left
-pub next_reference : (all : List Reference) (i : ℕ) (d : Reference) → i < length all → drop i all ≡ get_or all i d ∷ drop (i + 1) all
-next_reference all i d h = rw (add-one, drop-cons all i d h)
+-- one item of those that are left
+pub next_item : {X : Type 0} (all : List X) (i : ℕ) (d : X) → i < length all → drop i all ≡ get_or all i d ∷ drop (i + 1) all
+next_item all i d h = rw (add-one, drop-cons all i d h)
 
 -- one reference more, behind which a list goes on
 pub goes_on : (behind : Reference → Option (List Reference)) (all : List Reference) (i : ℕ) (d : Reference) (list new : List Reference)
@@ -40,7 +40,7 @@ goes_on behind all i d list new h so_far e f =
     ap (λ (l : List Reference). Some (reverse l)) f
     ∙ ap (λ (l : List Reference). Some l) (reverse-append list (r ∷ []))
     ∙ sym (first_found behind r (drop (i + 1) all) (reverse list) (sym e))
-    ∙ ap (first_list behind) (sym (next_reference all i d h))
+    ∙ ap (first_list behind) (sym (next_item all i d h))
     ∙ so_far
 
 -- one reference less, behind which none goes on
@@ -48,4 +48,4 @@ pub goes_past : (behind : Reference → Option (List Reference)) (all : List Ref
     → i < length all → first_list behind (drop i all) ≡ first_list behind all → None ≡ behind (get_or all i d)
     → first_list behind (drop (i + 1) all) ≡ first_list behind all
 goes_past behind all i d h so_far e =
-    sym (first_passed behind (get_or all i d) (drop (i + 1) all) (sym e)) ∙ ap (first_list behind) (sym (next_reference all i d h)) ∙ so_far
+    sym (first_passed behind (get_or all i d) (drop (i + 1) all) (sym e)) ∙ ap (first_list behind) (sym (next_item all i d h)) ∙ so_far

@@ -4,7 +4,6 @@ use Rattle.std.specs.Int.{int_max}
 use Rattle.std.specs.Option.{option_and_then}
 use Rattle.lin_facts.specs.declared.row.Row.{Row}
 use Rattle.bst_meaning.specs.declared.condition.Cond.{Cond}
-use Rattle.sym_state.specs.declared.proof.Reference.{Reference}
 use Rattle.sym_state.specs.State.{State}
 use Rattle.straight_proofs.specs.declared.straight.TheConstants.{MOST_REFERENCES}
 use Rattle.straight_proofs.specs.Remainders.{lead}
@@ -20,10 +19,10 @@ greatest None other = other
 greatest (Some m) None = Some m
 greatest (Some m) (Some n) = Some (int_max m n)
 
--- the greatest of the floors behind some references
-abbrev pub greatest_behind : (Reference → Option ℤ) → List Reference → Option ℤ
+-- the greatest of the floors behind some references, or behind some rows
+abbrev pub greatest_behind : {X : Type 0} → (X → Option ℤ) → List X → Option ℤ
 greatest_behind behind [] = None
-greatest_behind behind (reference ∷ more) = greatest (behind reference) (greatest_behind behind more)
+greatest_behind behind (x ∷ more) = greatest (behind x) (greatest_behind behind more)
 
 -- the floor by at most so many references: the constant of what has no lead, and else the greatest floor of what is left
 -- behind a reference

@@ -1,12 +1,15 @@
 -- Where the references are that may lead to a proof (docs/STATES.md, "Straight proofs"): those whose rows have a term.
-use Rattle.std.specs.Prelude.{ℕ, suc, if◌then◌else◌, List, [], ◌∷◌, ◌++◌, map, take, Some}
-use Rattle.std.specs.List.{range_with_len}
+use Rattle.std.specs.Prelude.{ℕ, suc, Bool, if◌then◌else◌, List, [], ◌∷◌, ◌++◌, map, take, pos, int_lt, Some}
+use Rattle.std.specs.List.{filter, filter_map, range_with_len}
+use Rattle.lin_facts.specs.Rows.{coefficient_of}
 use Rattle.lin_facts.specs.declared.row.Row.{Row}
 use Rattle.lin_facts.specs.declared.row.Term.{Term}
 use Rattle.lin_facts.specs.declared.row.Term.TheVariants.{Value, Length, Names, Pos, Count}
+use Rattle.bst_meaning.specs.declared.condition.Cond.{Cond}
 use Rattle.sym_state.specs.declared.proof.Reference.{Reference}
 use Rattle.sym_state.specs.declared.proof.Reference.TheVariants as ref
 use Rattle.sym_state.specs.declared.symbol.Sym.{Sym}
+use Rattle.sym_state.specs.References.{row_said}
 use Rattle.sym_state.specs.State.{State}
 use Rattle.straight_proofs.specs.declared.lookup.Kind.{Kind}
 use Rattle.straight_proofs.specs.declared.lookup.Kind.TheVariants as kind
@@ -42,6 +45,18 @@ rows_in_reach state = take (rows_named state) state.rows
 -- the references that may lead to a proof where a term leads, in their order
 abbrev pub references_to : State → Row → Term → List Reference
 references_to state remainder term = rows_on term remainder 0 (rows_in_reach state) ++ on_term term
+
+-- whether a row has a term with this sign, above 0 or below
+abbrev pub has : Bool → Term → Row → Bool
+has above term row = if above then int_lt (pos 0) (coefficient_of row.parts term) else int_lt (coefficient_of row.parts term) (pos 0)
+
+-- the rows of a state and those that references say of a term
+abbrev pub rows_about : Cond → State → Term → List Row
+rows_about cond state term = rows_in_reach state ++ filter_map (row_said cond state) (on_term term)
+
+-- those that have the term with a sign: where the term leads with it, one of them is subtracted
+abbrev pub rows_with : Cond → State → Bool → Term → List Row
+rows_with cond state above term = filter (has above term) (rows_about cond state term)
 
 -- the reference of a kind to a symbol
 abbrev pub reference_of : Kind → Sym → Reference

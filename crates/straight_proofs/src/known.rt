@@ -6,10 +6,10 @@ use std::alloc::Global;
 use sym_state::state::State;
 
 /// The state and the condition of a search, with the rows of the state that references can name.
-#[derive(Clone, Copy)]
+#[derive(Drop)]
 pub(crate) struct Known<'a> {
     pub alloc: Global,
     pub state: &'a State,
     pub cond: &'a Cond,
-    pub rows: &'a [Row],
+    pub rows: Vec<Row>,
 }

@@ -48,12 +48,12 @@ pub(crate) fn references_to(
     term: Term,
 ) -> Result<Vec<Reference>, NoMemory>
     requires state { HasBounds known.now.state.now }
-    requires rows { known.now.rows.now ≡ rule.rows_in_reach known.now.state.now }
+    requires rows { known.now.rows.items ≡ rule.rows_in_reach known.now.state.now }
     requires room { HasRoom 0 remainder.now }
     ensures { IfOk result (λ all. all.items ≡ rule.references_to known.now.state.now remainder.now term) }
 {
     let mut all = Vec::new(known.alloc);
-    push_rows_on(&mut all, known.rows, remainder, term)?;
+    push_rows_on(&mut all, known.rows.as_slice(), remainder, term)?;
     push_on_term(&mut all, term)?;
     Ok(all)
 }

@@ -1,8 +1,9 @@
 //! The rows that references say of a term (docs/STATES.md, "References").
 
-ghost use Rattle.std.specs.Prelude.{◌≡◌, ◌++◌, IfOk, OnOk};
-ghost use Rattle.std.specs.List.{filter_map};
+ghost use Rattle.std.specs.Prelude.{◌≡◌, ◌++◌, IfOk, IfSome, OnOk};
+ghost use Rattle.std.specs.List.{All, filter_map};
 ghost use Rattle.std.specs.Option.{option_to_list};
+ghost use Rattle.lin_facts.specs.Rows.{IsSmall};
 ghost use Rattle.sym_state.specs.References as said;
 ghost use Rattle.sym_state.specs.WellMade.{HasBounds};
 ghost use Rattle.straight_proofs.specs.Lookup as rule;
@@ -19,7 +20,8 @@ use sym_state::state::State;
 /// The rows that references say of a term in a state, in the order of the references. A row of the state isn't among them.
 pub fn rows_on(alloc: Global, state: &State, cond: &Cond, term: Term) -> Result<Vec<Row>, NoMemory>
     requires { HasBounds state.now }
-    ensures { IfOk result (λ rows. rows.items ≡ filter_map (said.row_said cond.now state.now) (rule.on_term term)) }
+    ensures said { IfOk result (λ rows. rows.items ≡ filter_map (said.row_said cond.now state.now) (rule.on_term term)) }
+    ensures small { IfOk result (λ rows. All IsSmall rows.items) }
 {
     let mut references = Vec::new(alloc);
     push_on_term(&mut references, term)?;
@@ -34,7 +36,8 @@ fn rows_said(
     references: &[Reference],
 ) -> Result<Vec<Row>, NoMemory>
     requires { HasBounds state.now }
-    ensures { IfOk result (λ rows. rows.items ≡ filter_map (said.row_said cond.now state.now) references.now) }
+    ensures said { IfOk result (λ rows. rows.items ≡ filter_map (said.row_said cond.now state.now) references.now) }
+    ensures small { IfOk result (λ rows. All IsSmall rows.items) }
 {
     let mut rows = Vec::new(alloc);
     for reference in references {
@@ -45,7 +48,10 @@ fn rows_said(
 
 /// Adds a row, where there is one.
 fn push_said(rows: &mut Vec<Row>, row: Option<Row>) -> Result<(), NoMemory>
-    ensures { OnOk result (rows.new.items ≡ rows.old.items ++ option_to_list row) }
+    requires rows { All IsSmall rows.old.items }
+    requires row { IfSome row IsSmall }
+    ensures added { OnOk result (rows.new.items ≡ rows.old.items ++ option_to_list row) }
+    ensures small { OnOk result (All IsSmall rows.new.items) }
 {
     if let Some(row) = row {
         rows.push(row)?;

@@ -1,15 +1,18 @@
 //! The search for the first list of references that shows a remainder.
 
-ghost use Rattle.std.specs.Prelude.{◌≡◌, ℕ, ◌+◌, None, Some, reverse, option_map, if◌then◌else◌, IfOk, IfSome};
+ghost use Rattle.std.specs.Prelude.{◌≡◌, ℕ, ◌+◌, ◌<◌, ◌^◌, ◌-ℤ◌, Some, reverse, option_map, IfOk, IfSome, OnOk};
 ghost use Rattle.std.specs.Option.{option_and_then};
-ghost use Rattle.lin_facts.specs.Rows.{IsSmall};
+ghost use Rattle.lin_facts.specs.Rows.{IsSmall, IsWithin};
 ghost use Rattle.sym_state.specs.WellMade.{HasBounds};
+ghost use Rattle.straight_proofs.specs.Asked.{IsReady};
 ghost use Rattle.straight_proofs.specs.Lookup.{rows_in_reach};
 ghost use Rattle.straight_proofs.specs.Remainders as subtracting;
-ghost use Rattle.straight_proofs.specs.Remainders.{HasRoom};
+ghost use Rattle.straight_proofs.specs.Remainders.{AreAlike, HasRoom};
 ghost use Rattle.straight_proofs.specs.Straight as rule;
 
+use crate::floors::floor_within;
 use crate::known::Known;
+use crate::learnt::Learnt;
 use crate::lookup::references_to;
 use crate::remainders::{fits, lead, minus};
 use crate::said::row_said;
@@ -22,13 +25,15 @@ use sym_state::proof::Reference;
 #[cycle(search)]
 pub(crate) fn list_within(
     known: &Known,
+    learnt: &mut Learnt,
     remainder: &Row,
     most: u32,
 ) -> Result<Option<Vec<Reference>>, NoMemory>
-    requires state { HasBounds known.now.state.now }
-    requires rows { known.now.rows.now ≡ rows_in_reach known.now.state.now }
+    requires ready { IsReady known.now.cond.now known.now.state.now known.now.rows.items learnt.old }
     requires room { HasRoom most remainder.now }
-    ensures { IfOk result (λ found. option_map (λ list. reverse list.items) found ≡ rule.list_within most known.now.cond.now known.now.state.now remainder.now) }
+    ensures found { IfOk result (λ found. option_map (λ list. reverse list.items) found
+        ≡ rule.list_within most known.now.cond.now known.now.state.now remainder.now) }
+    ensures ready { IsReady known.now.cond.now known.now.state.now known.now.rows.items learnt.new }
 {
     match lead(remainder) {
         None => Ok(ended(known.alloc, remainder)),
@@ -36,31 +41,65 @@ pub(crate) fn list_within(
             if most == 0 {
                 Ok(None)
             } else {
-                let there = references_to(known, remainder, term)?;
-                first_list(known, Some(term), remainder, most - 1, there.as_slice())
+                list_if_there(known, learnt, remainder, term, most)
             }
         }
     }
+}
+
+/// The same where a term leads and a reference may follow. There is a list where the floor is at least 0.
+#[cycle(search)]
+fn list_if_there(
+    known: &Known,
+    learnt: &mut Learnt,
+    remainder: &Row,
+    term: Term,
+    most: u32,
+) -> Result<Option<Vec<Reference>>, NoMemory>
+    requires ready { IsReady known.now.cond.now known.now.state.now known.now.rows.items learnt.old }
+    requires room { HasRoom most remainder.now }
+    requires leads { subtracting.lead remainder.now ≡ Some term }
+    requires more { 0 < most }
+    ensures found { IfOk result (λ found. option_map (λ list. reverse list.items) found
+        ≡ rule.list_within most known.now.cond.now known.now.state.now remainder.now) }
+    ensures ready { IsReady known.now.cond.now known.now.state.now known.now.rows.items learnt.new }
+{
+    let Some(floor) = floor_within(known, learnt, remainder, most)? else {
+        return Ok(None);
+    };
+    if floor < 0 {
+        return Ok(None);
+    }
+    let there = references_to(known, remainder, term)?;
+    first_list(
+        known,
+        learnt,
+        Some(term),
+        remainder,
+        most - 1,
+        there.as_slice(),
+    )
 }
 
 /// The list of the first of some references behind which a list goes on, its last reference first.
 #[cycle(search)]
 pub(crate) fn first_list(
     known: &Known,
+    learnt: &mut Learnt,
     leads: Option<Term>,
     remainder: &Row,
     most: u32,
     references: &[Reference],
 ) -> Result<Option<Vec<Reference>>, NoMemory>
-    requires state { HasBounds known.now.state.now }
-    requires rows { known.now.rows.now ≡ rows_in_reach known.now.state.now }
+    requires ready { IsReady known.now.cond.now known.now.state.now known.now.rows.items learnt.old }
     requires room { HasRoom (most + 1) remainder.now }
-    ensures { IfOk result (λ found. option_map (λ list. reverse list.items) found
+    ensures found { IfOk result (λ found. option_map (λ list. reverse list.items) found
         ≡ rule.first_list (λ r. option_and_then (rule.list_within most known.now.cond.now known.now.state.now)
         (rule.left_behind known.now.cond.now known.now.state.now leads remainder.now r)) references.now) }
+    ensures ready { IsReady known.now.cond.now known.now.state.now known.now.rows.items learnt.new }
 {
     for reference in references {
-        if let Some(list) = list_behind(known, leads, remainder, most, *reference)? {
+        if let Some(list) = list_behind(known, learnt, leads, remainder, most, *reference)? {
             let mut list = list;
             list.push(*reference)?;
             return Ok(Some(list));
@@ -73,20 +112,21 @@ pub(crate) fn first_list(
 #[cycle(search)]
 fn list_behind(
     known: &Known,
+    learnt: &mut Learnt,
     leads: Option<Term>,
     remainder: &Row,
     most: u32,
     reference: Reference,
 ) -> Result<Option<Vec<Reference>>, NoMemory>
-    requires state { HasBounds known.now.state.now }
-    requires rows { known.now.rows.now ≡ rows_in_reach known.now.state.now }
+    requires ready { IsReady known.now.cond.now known.now.state.now known.now.rows.items learnt.old }
     requires room { HasRoom (most + 1) remainder.now }
-    ensures { IfOk result (λ found. option_map (λ list. reverse list.items) found
+    ensures found { IfOk result (λ found. option_map (λ list. reverse list.items) found
         ≡ option_and_then (rule.list_within most known.now.cond.now known.now.state.now)
         (rule.left_behind known.now.cond.now known.now.state.now leads remainder.now reference)) }
+    ensures ready { IsReady known.now.cond.now known.now.state.now known.now.rows.items learnt.new }
 {
     match left_behind(known, leads, remainder, reference)? {
-        Some(left) => list_within(known, &left, most),
+        Some(left) => list_within(known, learnt, &left, most),
         None => Ok(None),
     }
 }
@@ -110,19 +150,20 @@ pub(crate) fn left_behind(
     reference: Reference,
 ) -> Result<Option<Row>, NoMemory>
     requires state { HasBounds known.now.state.now }
-    requires rows { known.now.rows.now ≡ rows_in_reach known.now.state.now }
+    requires rows { known.now.rows.items ≡ rows_in_reach known.now.state.now }
     requires room { HasRoom 1 remainder.now }
-    ensures said { IfOk result (λ left. left ≡ rule.left_behind known.now.cond.now known.now.state.now leads remainder.now reference) }
+    ensures said { IfOk result (λ left. AreAlike left (rule.left_behind known.now.cond.now known.now.state.now leads remainder.now reference)) }
+    ensures near { IfOk result (λ left. IfSome left (λ row. IsWithin (2 ^ 45) (row.constant -ℤ remainder.now.constant))) }
     ensures room { (more : ℕ) → HasRoom (more + 1) remainder.now → IfOk result (λ left. IfSome left (HasRoom more)) }
 {
     match row_said(known.alloc, known.state, known.cond, reference)? {
-        Some(row) => less(known.alloc, leads, remainder, &row),
+        Some(row) => left_of(known.alloc, leads, remainder, &row),
         None => Ok(None),
     }
 }
 
 /// What is left of a remainder where a row may be subtracted.
-fn less(
+pub(crate) fn left_of(
     alloc: Global,
     leads: Option<Term>,
     remainder: &Row,
@@ -130,8 +171,8 @@ fn less(
 ) -> Result<Option<Row>, NoMemory>
     requires remainder { HasRoom 1 remainder.now }
     requires row { IsSmall row.now }
-    ensures said { IfOk result (λ left. left ≡ (if subtracting.fits leads remainder.now row.now
-        then Some (subtracting.minus remainder.now row.now) else None)) }
+    ensures said { IfOk result (λ left. AreAlike left (subtracting.left_of leads remainder.now row.now)) }
+    ensures near { IfOk result (λ left. IfSome left (λ row. IsWithin (2 ^ 45) (row.constant -ℤ remainder.now.constant))) }
     ensures room { (more : ℕ) → HasRoom (more + 1) remainder.now → IfOk result (λ left. IfSome left (HasRoom more)) }
 {
     if fits(leads, remainder, row) {

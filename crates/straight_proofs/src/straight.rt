@@ -4,12 +4,14 @@ ghost use Rattle.std.specs.Prelude.{◌≡◌, ◌≤◌, true, length, map, opt
 ghost use Rattle.sym_state.specs.Cases.{absurdity};
 ghost use Rattle.sym_state.specs.References.{shows};
 ghost use Rattle.sym_state.specs.WellMade.{HasBounds, IsBounded};
-ghost use Rattle.straight_proofs.specs.Lookup as reach;
+ghost use Rattle.straight_proofs.specs.Asked.{IsReady};
 ghost use Rattle.straight_proofs.specs.Straight as rule;
 
+use crate::asked::Search;
 use crate::known::Known;
-use crate::lookup::{references, rows_in_reach};
-use crate::remainders::never;
+use crate::learnt::Learnt;
+use crate::lookup::references;
+use crate::remainders::{canonical, never};
 use crate::search::{first_list, list_within};
 use bst_meaning::condition::Cond;
 use bv_base::memory::NoMemory;
@@ -36,7 +38,8 @@ pub fn straight_proof(
     ensures shown { IfOk result (λ found. IfSome found (λ proof. shows cond.now state.now proof goal.now ≡ true)) }
     ensures few { IfOk result (λ found. IfSome found (λ proof. length proof.uses ≤ MOST_REFERENCES)) }
 {
-    first_proof(alloc, state, cond, goal)
+    let mut search = Search::new(alloc, state, cond)?;
+    search.straight_proof(goal)
 }
 
 /// The straight proof that a case can't come about, which shows that -1 is at least 0: its first reference may be any that
@@ -47,84 +50,72 @@ pub fn drop_proof(alloc: Global, state: &State, cond: &Cond) -> Result<Option<Pr
     ensures shown { IfOk result (λ found. IfSome found (λ proof. shows cond.now state.now proof absurdity ≡ true)) }
     ensures few { IfOk result (λ found. IfSome found (λ proof. length proof.uses ≤ MOST_REFERENCES)) }
 {
-    first_drop(alloc, state, cond)
+    let mut search = Search::new(alloc, state, cond)?;
+    search.drop_proof()
 }
 
 /// The proof of the first list that shows a goal.
-fn first_proof(
-    alloc: Global,
-    state: &State,
-    cond: &Cond,
+pub(crate) fn first_proof(
+    known: &Known,
+    learnt: &mut Learnt,
     goal: &Row,
 ) -> Result<Option<Proof>, NoMemory>
-    requires state { HasBounds state.now }
+    requires ready { IsReady known.now.cond.now known.now.state.now known.now.rows.items learnt.old }
     requires goal { IsBounded goal.now }
-    ensures { IfOk result (λ found. found ≡ rule.straight_proof cond.now state.now goal.now) }
+    ensures first { IfOk result (λ found. found ≡ rule.straight_proof known.now.cond.now known.now.state.now goal.now) }
+    ensures ready { IsReady known.now.cond.now known.now.state.now known.now.rows.items learnt.new }
 {
-    match first_list_of(alloc, state, cond, goal)? {
-        Some(list) => Ok(Some(proof_of(alloc, list.as_slice())?)),
+    match first_list_of(known, learnt, goal)? {
+        Some(list) => Ok(Some(proof_of(known.alloc, list.as_slice())?)),
         None => Ok(None),
     }
 }
 
 /// The first list that shows a goal, its last reference first.
 fn first_list_of(
-    alloc: Global,
-    state: &State,
-    cond: &Cond,
+    known: &Known,
+    learnt: &mut Learnt,
     goal: &Row,
 ) -> Result<Option<Vec<Reference>>, NoMemory>
-    requires state { HasBounds state.now }
+    requires ready { IsReady known.now.cond.now known.now.state.now known.now.rows.items learnt.old }
     requires goal { IsBounded goal.now }
-    ensures { IfOk result (λ found. option_map (λ list. reverse list.items) found
-        ≡ rule.list_within MOST_REFERENCES cond.now state.now goal.now) }
+    ensures found { IfOk result (λ found. option_map (λ list. reverse list.items) found
+        ≡ rule.list_within MOST_REFERENCES known.now.cond.now known.now.state.now goal.now) }
+    ensures ready { IsReady known.now.cond.now known.now.state.now known.now.rows.items learnt.new }
 {
-    let rows = rows_in_reach(alloc, state)?;
-    let known = Known {
-        alloc,
-        state,
-        cond,
-        rows: rows.as_slice(),
-    };
-    list_within(&known, goal, MOST_REFERENCES)
+    let remainder = canonical(known.alloc, goal)?;
+    list_within(known, learnt, &remainder, MOST_REFERENCES)
 }
 
 /// The proof of the first list that shows that a case can't come about.
-fn first_drop(alloc: Global, state: &State, cond: &Cond) -> Result<Option<Proof>, NoMemory>
-    requires { HasBounds state.now }
-    ensures { IfOk result (λ found. found ≡ rule.drop_proof cond.now state.now) }
+pub(crate) fn first_drop(known: &Known, learnt: &mut Learnt) -> Result<Option<Proof>, NoMemory>
+    requires { IsReady known.now.cond.now known.now.state.now known.now.rows.items learnt.old }
+    ensures first { IfOk result (λ found. found ≡ rule.drop_proof known.now.cond.now known.now.state.now) }
+    ensures ready { IsReady known.now.cond.now known.now.state.now known.now.rows.items learnt.new }
 {
-    match drop_list(alloc, state, cond)? {
-        Some(list) => Ok(Some(proof_of(alloc, list.as_slice())?)),
+    match list_among_all(known, learnt)? {
+        Some(list) => Ok(Some(proof_of(known.alloc, list.as_slice())?)),
         None => Ok(None),
     }
 }
 
 /// The list that shows that a case can't come about, its last reference first.
-fn drop_list(alloc: Global, state: &State, cond: &Cond) -> Result<Option<Vec<Reference>>, NoMemory>
-    requires { HasBounds state.now }
-    ensures { IfOk result (λ found. option_map (λ list. reverse list.items) found ≡ rule.drop_list cond.now state.now) }
-{
-    let rows = rows_in_reach(alloc, state)?;
-    let known = Known {
-        alloc,
-        state,
-        cond,
-        rows: rows.as_slice(),
-    };
-    list_among_all(&known)
-}
-
-/// The same, where the rows are known.
-fn list_among_all(known: &Known) -> Result<Option<Vec<Reference>>, NoMemory>
-    requires state { HasBounds known.now.state.now }
-    requires rows { known.now.rows.now ≡ reach.rows_in_reach known.now.state.now }
-    ensures { IfOk result (λ found. option_map (λ list. reverse list.items) found
+fn list_among_all(known: &Known, learnt: &mut Learnt) -> Result<Option<Vec<Reference>>, NoMemory>
+    requires { IsReady known.now.cond.now known.now.state.now known.now.rows.items learnt.old }
+    ensures found { IfOk result (λ found. option_map (λ list. reverse list.items) found
         ≡ rule.drop_list known.now.cond.now known.now.state.now) }
+    ensures ready { IsReady known.now.cond.now known.now.state.now known.now.rows.items learnt.new }
 {
     let goal = never(known.alloc);
     let all = references(known.alloc, known.state)?;
-    first_list(known, None, &goal, MOST_REFERENCES - 1, all.as_slice())
+    first_list(
+        known,
+        learnt,
+        None,
+        &goal,
+        MOST_REFERENCES - 1,
+        all.as_slice(),
+    )
 }
 
 /// The proof that takes each of these references once, the last of them first.

@@ -5,7 +5,7 @@ ghost use Rattle.std.specs.List.{All};
 ghost use Rattle.sym_state.specs.WellMade.{HasBounds, HasShortText, IsBounded};
 
 use crate::tests::Known::{Integer, Nonblank, TwoLetters};
-use crate::{drop_proof, floor, straight_proof};
+use crate::{Search, drop_proof, floor, straight_proof};
 use bst_meaning::condition::Cond;
 use bv_base::memory::NoMemory;
 use bv_base::seq::Seq;
@@ -266,6 +266,37 @@ static CHAINS: [Example; 12] = [
     ),
 ];
 
+/// Rows by which one integer is at least another with up to 11 more, and that is at least up to 11.
+const STEPS: [Line; 24] = [
+    line!(0, 1 Value(1), -1 Value(0)),
+    line!(-1, 1 Value(1), -1 Value(0)),
+    line!(-2, 1 Value(1), -1 Value(0)),
+    line!(-3, 1 Value(1), -1 Value(0)),
+    line!(-4, 1 Value(1), -1 Value(0)),
+    line!(-5, 1 Value(1), -1 Value(0)),
+    line!(-6, 1 Value(1), -1 Value(0)),
+    line!(-7, 1 Value(1), -1 Value(0)),
+    line!(-8, 1 Value(1), -1 Value(0)),
+    line!(-9, 1 Value(1), -1 Value(0)),
+    line!(-10, 1 Value(1), -1 Value(0)),
+    line!(-11, 1 Value(1), -1 Value(0)),
+    line!(0, 1 Value(0)),
+    line!(-1, 1 Value(0)),
+    line!(-2, 1 Value(0)),
+    line!(-3, 1 Value(0)),
+    line!(-4, 1 Value(0)),
+    line!(-5, 1 Value(0)),
+    line!(-6, 1 Value(0)),
+    line!(-7, 1 Value(0)),
+    line!(-8, 1 Value(0)),
+    line!(-9, 1 Value(0)),
+    line!(-10, 1 Value(0)),
+    line!(-11, 1 Value(0)),
+];
+
+/// A goal that takes ten of these rows, five of each kind.
+static FAR: [Example; 1] = [open!(false, [], STEPS, line!(0, 5 Value(1)))];
+
 /// Cases that can't come about, and one that may.
 static DROPS: [Example; 5] = [
     shown!(
@@ -325,7 +356,7 @@ macro_rules! floored {
 }
 
 /// Sums with floors, and some without.
-static FLOORS: [Floored; 12] = [
+static FLOORS: [Floored; 13] = [
     floored!([], [], line!(7), Some(7)),
     floored!([], [], line!(0, 1 Value(0)), Some(-2147483648)),
     floored!([Integer(0, 5)], [], line!(0, 1 Value(0)), Some(5)),
@@ -361,6 +392,7 @@ static FLOORS: [Floored; 12] = [
     ),
     floored!([], [line!(-1, 1 Value(0))], line!(0, 8 Value(0)), Some(8)),
     floored!([], [line!(-1, 1 Value(0))], line!(0, 9 Value(0)), None),
+    floored!([], STEPS, line!(0, 5 Value(1)), Some(-4294967230)),
     floored!([], [], line!(0, 1 Value(3)), None),
     floored!([], [], line!(0, 1 Pos), None),
 ];
@@ -373,10 +405,28 @@ fn the_floor_is_the_greatest_number_shown(rt: HostRuntime) {
     }
 }
 
+/// Sums of one state with their floors: some have the same parts.
+static ASKED: [(Line, Option<i64>); 7] = [
+    (line!(0, 1 Value(1)), Some(22)),
+    (line!(-4, 1 Value(1)), Some(18)),
+    (line!(-30, 1 Value(1)), Some(-8)),
+    (line!(-50, 2 Value(1)), Some(-6)),
+    (line!(-44, 2 Value(1)), Some(0)),
+    (line!(0, -1 Value(1)), Some(-2147483647)),
+    (line!(0, 1 Value(3)), None),
+];
+
+#[test]
+fn one_search_remembers_what_new_ones_find(rt: HostRuntime) {
+    let told = all_told(rt.alloc());
+    assert!(rt; matches!(told, Ok(true)), "{told:?}");
+}
+
 #[test]
 fn the_first_list_shows_the_goal(rt: HostRuntime) {
     compare(&rt, rt.alloc(), &GOALS);
     compare(&rt, rt.alloc(), &CHAINS);
+    compare(&rt, rt.alloc(), &FAR);
 }
 
 #[test]
@@ -415,6 +465,42 @@ fn has_floor(alloc: Global, example: &Floored) -> Result<bool, NoMemory> {
     let state = state(alloc, example.given)?;
     let sum = row(alloc, example.sum)?;
     Ok(floor(alloc, &state, &condition(alloc), &sum)? == example.floor)
+}
+
+/// Whether one search of a state gives the floors of sums that are wanted.
+fn all_told(alloc: Global) -> Result<bool, NoMemory> {
+    let given = Given {
+        at_entry: false,
+        facts: &[],
+        rows: &STEPS,
+    };
+    let state = state(alloc, given)?;
+    let cond = condition(alloc);
+    let mut search = Search::new(alloc, &state, &cond)?;
+    are_told(alloc, &mut search, ASKED.as_slice())
+}
+
+/// Whether a search that is asked for one sum after the other gives the floors that are wanted.
+fn are_told(
+    alloc: Global,
+    search: &mut Search<'_>,
+    asked: &[(Line, Option<i64>)],
+) -> Result<bool, NoMemory> {
+    for (sum, floor) in asked {
+        let sum = row(alloc, *sum)?;
+        if !is_told(search, &sum, *floor)? {
+            return Ok(false);
+        }
+    }
+    Ok(search.drop_proof()?.is_none())
+}
+
+/// Whether the floor of a sum is the one that is wanted, and the sum has a straight proof where that is at least 0.
+fn is_told(search: &mut Search<'_>, sum: &Row, floor: Option<i64>) -> Result<bool, NoMemory>
+    requires { IsBounded sum.now }
+{
+    let proof = search.straight_proof(sum)?;
+    Ok(search.floor(sum)? == floor && proof.is_some() == matches!(floor, Some(0..)))
 }
 
 /// Whether a proof takes these references, once each.

@@ -3,7 +3,7 @@
 
 use crate::command::command;
 use crate::tests::check::{BOTH, JOINS, NO_STYLE};
-use crate::tests::{Example, Failing, File, compare, judged_by, owned};
+use crate::tests::{Example, Failing, File, compare, judged_by, owned, run};
 use bv_base::mem_files::MemFiles;
 use bv_base::mem_sink::MemSink;
 use bv_base::status::Status;
@@ -25,6 +25,24 @@ macro_rules! found {
             style: $style,
             lists: $lists,
             lines: $lines,
+        }
+    };
+}
+
+/// A style and a condition, and whether a certificate is found.
+#[derive(Clone, Copy)]
+struct Sought {
+    style: &'static [u8],
+    cond: &'static [u8],
+    status: Status,
+}
+
+macro_rules! sought {
+    ($style:expr, $cond:expr => $status:ident) => {
+        Sought {
+            style: $style,
+            cond: $cond,
+            status: Status::$status,
         }
     };
 }
@@ -98,7 +116,7 @@ static STRAIGHT: [Found; 21] = [
 ];
 
 /// Styles for which no certificate is found, with the place and the reason.
-static UNFOUND: [Example; 31] = [
+static UNFOUND: [Example; 26] = [
     unfound!(b"READ" => BadStyle, "bad style 1:1 ReadBeforeEntry\n"),
     // Operands and kinds.
     unfound!(b"ENTRY{title}{}{} FUNCTION{f}{title write$} READ ITERATE{f}" => Unknown, "unknown 1:36 WrongKind 1\n"),
@@ -110,8 +128,6 @@ static UNFOUND: [Example; 31] = [
     unfound!(b"ENTRY{}{}{} INTEGERS{n} FUNCTION{f}{\"a\" 'n :=} READ EXECUTE{f}" => Unknown, "unknown 1:44 WrongKind 2\n"),
     unfound!(b"ENTRY{}{}{} FUNCTION{f}{\"a\" \"x\" change.case$ pop$} READ EXECUTE{f}" => Unknown, "unknown 1:33 BadCase 1\n"),
     // Steps without a straight proof.
-    unfound!(b"ENTRY{}{}{} INTEGERS{n} FUNCTION{f}{n #1 + pop$} READ ITERATE{f}" => Unknown, "unknown 1:42 IntRange\n"),
-    unfound!(b"ENTRY{}{}{} INTEGERS{n} FUNCTION{f}{n #1 - pop$} READ ITERATE{f}" => Unknown, "unknown 1:42 IntRange\n"),
     unfound!(b"ENTRY{}{}{} FUNCTION{f}{#2147483647 #1 + pop$} READ EXECUTE{f}" => Unknown, "unknown 1:40 IntRange\n"),
     unfound!(b"ENTRY{}{}{} FUNCTION{f}{#128 int.to.chr$ pop$} READ EXECUTE{f}" => Unknown, "unknown 1:30 NotAscii 1\n"),
     unfound!(b"ENTRY{}{}{} FUNCTION{f}{#0 #1 - int.to.chr$ pop$} READ EXECUTE{f}" => Unknown, "unknown 1:33 NotAscii 1\n"),
@@ -124,19 +140,58 @@ static UNFOUND: [Example; 31] = [
     unfound!(b"ENTRY{author}{}{} FUNCTION{f}{author empty$ 'skip$ {author #2 \"{ll}\" format.name$ write$} if$} READ ITERATE{f}" => Unknown, "unknown 1:70 BadNameIndex 2\n"),
     unfound!(b"ENTRY{title}{}{} FUNCTION{f}{title empty$ 'skip$ {title #1 \"{ll}\" format.name$ write$} if$} READ ITERATE{f}" => Unknown, "unknown 1:67 BadName 3\n"),
     unfound!(b"ENTRY{}{}{} FUNCTION{f}{\"A B\" #1 \"{ff~}{xx}\" format.name$ write$} READ EXECUTE{f}" => Unknown, "unknown 1:46 BadPattern 1\n"),
-    // Nothing is known of variables behind a command that may change them.
-    unfound!(b"ENTRY{}{}{} INTEGERS{n} FUNCTION{f}{n int.to.chr$ pop$} READ EXECUTE{f} EXECUTE{f}" => Unknown, "unknown 1:39 NotAscii 1\n"),
-    unfound!(b"ENTRY{}{m}{} FUNCTION{f}{m int.to.chr$ pop$} READ ITERATE{f} ITERATE{f}" => Unknown, "unknown 1:28 NotAscii 1\n"),
     // The first command at fault is told, and of it the first token.
     unfound!(b"ENTRY{}{}{} FUNCTION{f}{*} FUNCTION{g}{\"a\"} READ EXECUTE{g} EXECUTE{f}" => Unknown, "unknown 1:50 StackLeft\n"),
     // Loops, and functions that are still running.
     unfound!(b"ENTRY{}{}{} FUNCTION{f}{{#1} {\"a\"} while$} READ EXECUTE{f}" => Unknown, "unknown 1:36 Loop\n"),
     unfound!(b"ENTRY{}{}{} READ EXECUTE{while$}" => Unknown, "unknown 1:18 EmptyPop 1\n"),
-    unfound!(b"ENTRY{}{}{} FUNCTION{f}{{#0} 'skip$ while$} READ EXECUTE{f}" => Unknown, "unknown 1:37 Loop\n"),
     unfound!(b"ENTRY{}{}{} FUNCTION{misc}{call.type$} READ ITERATE{call.type$}" => Unknown, "unknown 1:28 WalkTooDeep\n"),
     // Nine fields that may be missing are 512 cases, and eight are 256.
     unfound!(b"ENTRY{a b c d e f g h i}{}{} FUNCTION{o}{duplicate$ missing$ 'pop$ 'write$ if$} FUNCTION{p}{a o b o c o d o e o f o g o h o i o} READ ITERATE{p}" => Unknown, "unknown 1:127 TooManyCases\n"),
     unfound!(b"ENTRY{a b c d e f g h}{}{} FUNCTION{o}{duplicate$ missing$ 'pop$ 'write$ if$} FUNCTION{p}{a o b o c o d o e o f o g o h o pop$} READ ITERATE{p}" => Unknown, "unknown 1:123 EmptyPop 1\n"),
+];
+
+/// Writes a letter for each entry.
+const LETTERS: &[u8] = b"INTEGERS{n} ENTRY{}{}{} FUNCTION{init}{\"a\" chr.to.int$ 'n :=}
+FUNCTION{next}{n int.to.chr$ write$ n #1 + 'n :=}
+READ EXECUTE{init} ITERATE{next}
+";
+
+/// Nine fields that may be missing, in a style for which kinds aren't enough.
+const WIDE: &[u8] =
+    b"ENTRY{a b c d e f g h i}{}{} FUNCTION{o}{duplicate$ missing$ 'pop$ 'write$ if$} FUNCTION{p}{a o b o c o d o e o f o g o h o i o #1 #1 + pop$} READ ITERATE{p}";
+
+/// Writes the names of a field, the last of them behind `and`, or `et al.` where that is `others`.
+const LIST: &[u8] = b"ENTRY{author}{}{}
+INTEGERS{nameptr namesleft numnames}
+STRINGS{s t}
+FUNCTION{format.names}
+{ 's := #1 'nameptr := s num.names$ 'numnames := numnames 'namesleft :=
+  { namesleft #0 > }
+  { s nameptr \"{ff~}{vv~}{ll}{, jj}\" format.name$ 't :=
+    nameptr #1 >
+    { namesleft #1 > { \", \" * t * }
+      { numnames #2 > { \",\" * } 'skip$ if$
+        t \"others\" = { \" et~al.\" * } { \" and \" * t * } if$ } if$ }
+    't if$
+    nameptr #1 + 'nameptr := namesleft #1 - 'namesleft := }
+  while$ }
+FUNCTION{misc}{author empty$ 'skip$ {author format.names write$ newline$} if$}
+READ
+ITERATE{call.type$}
+";
+
+/// Styles whose loops and pieces are found.
+static SOUGHT: [Sought; 6] = [
+    // A field that is never cut has the names that the condition allows, and one that may be cut any number.
+    sought!(LIST, b"entries 10000\nkey 250\npreamble 20000\nlength 20000\nnames author 1000\ntype misc\nothertype yes\nend\n" => Done),
+    sought!(LIST, b"entries 10000\nkey 250\npreamble 20000\nlength 30000\nnames author 1000\ntype misc\nothertype yes\nend\n" => Unknown),
+    // The letters from `a` on end behind the 31st.
+    sought!(LETTERS, b"entries 31\nkey 9\npreamble 0\nlength 0\nothertype yes\nend\n" => Done),
+    sought!(LETTERS, b"entries 32\nkey 9\npreamble 0\nlength 0\nothertype yes\nend\n" => Unknown),
+    // A loop that never turns.
+    sought!(b"ENTRY{}{}{} FUNCTION{f}{{#0} 'skip$ while$} READ EXECUTE{f}", b"entries 9\nkey 9\npreamble 9\nlength 9\nothertype yes\nend\n" => Done),
+    sought!(WIDE, b"entries 9\nkey 9\npreamble 9\nlength 9\nothertype yes\nend\n" => Unknown),
 ];
 
 /// Assigns a field to a global variable, in a style for which kinds aren't enough.
@@ -176,7 +231,8 @@ static GIVEN: [Example; 15] = [
     given!(HOLDS, b"entries 9\nkey 9\npreamble 20001\nlength 9\nothertype yes\nend\n" => Done, "bstcert 1\nentries 9\nkey 9\npreamble 20001\nlength 9\nothertype yes\nend\ncommand 5\nhints\nplain\nend\ndone\n", ""),
     // Where no entry is let in nothing can come about at one.
     given!(TAKES, b"entries 0\nkey 9\npreamble 9\nlength 9\nothertype yes\nend\n" => Done, "bstcert 1\nentries 0\nkey 9\npreamble 9\nlength 9\nothertype yes\nend\ncommand 5\nhints\ndrop 1 1:p 1:q 1:z\ndrop 1 1:p 1:q 1:z\nend\ndone\n", ""),
-    given!(TAKES, b"entries 1\nkey 9\npreamble 9\nlength 9\nothertype yes\nend\n" => Unknown, "", "unknown 1:55 EmptyPop 1\n"),
+    // Before the first visit the integer is 0, and the second block is entered.
+    given!(TAKES, b"entries 1\nkey 9\npreamble 9\nlength 9\nothertype yes\nend\n" => Unknown, "", "unknown 1:62 EmptyPop 1\n"),
     given!(TYPES, b"entries 9\nkey 9\npreamble 9\nlength 9\nothertype no\nend\n" => Done, "bstcert 1\nentries 9\nkey 9\npreamble 9\nlength 9\nothertype no\nend\ndone\n", ""),
     given!(TYPES, b"entries 9\nkey 9\npreamble 9\nlength 9\ntype misc\nothertype no\nend\n" => Unknown, "", "unknown 1:28 EmptyPop 1\n"),
 ];
@@ -224,6 +280,11 @@ fn no_certificate_is_found_for_a_reason(rt: HostRuntime) -> Result<(), Fail> {
 }
 
 #[test]
+fn loops_and_visits_are_found(rt: HostRuntime) -> Result<(), Fail> {
+    compare_sought(&rt, rt.alloc(), &SOUGHT)
+}
+
+#[test]
 fn a_condition_that_is_given_is_kept(rt: HostRuntime) -> Result<(), Fail> {
     compare(&rt, rt.alloc(), &GIVEN)
 }
@@ -239,6 +300,38 @@ fn compare_found(rt: &impl Abort, alloc: Global, rows: &[Found]) -> Result<(), F
     for row in rows {
         let cert = certificate(alloc, row.lists, row.lines)?;
         compare_certificate(rt, alloc, row.style.as_bytes(), cert.as_bytes())?;
+    }
+    Ok(())
+}
+
+/// Asserts for each style and condition whether a certificate is found, and that it is accepted.
+fn compare_sought(rt: &impl Abort, alloc: Global, rows: &[Sought]) -> Result<(), Fail> {
+    for row in rows {
+        let mut files = MemFiles::new(alloc);
+        files.add("a.bst", row.style)?;
+        files.add("c.cond", row.cond)?;
+        compare_sought_one(rt, alloc, &mut files, row.status)?;
+    }
+    Ok(())
+}
+
+/// Asserts what is found for the style and the condition in these files.
+fn compare_sought_one(
+    rt: &impl Abort,
+    alloc: Global,
+    files: &mut MemFiles,
+    status: Status,
+) -> Result<(), Fail> {
+    let words = owned(alloc, &["infer", "a.bst", "c.cond"])?;
+    let mut out = MemSink::new(alloc);
+    let mut err = MemSink::new(alloc);
+    let answered = command(alloc, words.as_slice(), files, &mut out, &mut err);
+    assert_eq!(rt; answered, status);
+    if status == Status::Done {
+        files.add("b.cert", out.bytes())?;
+        compare_accepted(rt, alloc, files)?;
+    } else {
+        assert_eq!(rt; out.bytes(), b"".as_slice());
     }
     Ok(())
 }

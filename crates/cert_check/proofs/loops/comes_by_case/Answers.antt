@@ -1,13 +1,11 @@
-use Rattle.std.proofs.Common.{◌≡◌, List, Ok, ap, ◌∙◌, rules}
 use Rattle.std.proofs.lemmas.Result.{err_from_is_err_and}
-use Rattle.sym_state.specs.declared.hint.Hint.{Hint}
 use Rattle.cert_check.specs.Uses.{comes_by}
 use Rattle.cert_check.proofs.LoopSteps.{step_refused}
 use Rattle.cert_check.proofs.loops.comes_by_case.Goals as goal
 
 -- the piece isn't shown
 pub returns-in_err-comes-in-Some-clause-comes : goal.returns-in_err-comes-in-Some-clause-comes
-returns-in_err-comes-in-Some-clause-comes c =
+returns-in_err-comes-in-Some-clause-comes g c =
     let p = err_from_is_err_and c.from_residual.result c.from_residual.ensures.1 in
     rw (p.1, p.2, c.in-Some.is)
     (step_refused c.args.at.now.place

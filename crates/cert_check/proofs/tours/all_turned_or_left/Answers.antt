@@ -1,12 +1,13 @@
 use Rattle.std.specs.Vec.Iter.{into_iter_items}
+use Rattle.cert_check.specs.Here.{here}
 use Rattle.cert_check.proofs.TourSteps.{kept_on, next_case}
 use Rattle.cert_check.proofs.TurnSteps.{rest_signs}
 use Rattle.cert_check.proofs.tours.all_turned_or_left.Goals as goal
 
 -- the next case
 pub loop-above-preserved : goal.loop-above-preserved
-loop-above-preserved c = record {
-  turned = next_case c.args.at.now.scope.now c.args.at.now.place c.args.one (into_iter_items c.loop-above.above-iterator) (into_iter_items c.next.new.self) c.in-Some.above
+loop-above-preserved g c = record {
+  turned = next_case (here g.M.Loops.made c.args.at.now) c.args.at.now.place c.args.one (into_iter_items c.loop-above.above-iterator) (into_iter_items c.next.new.self) c.in-Some.above
       c.in-Some.state c.loop-above.tour c.turned_or_left.new.tour _ c.in-Some.ensures.steps.0 c.loop-above.invariant.turned c.in_ok-turned_or_left.ensures.takes;
   cases = rest_signs c.args.at.now.scope.now.style c.loop-above.tour.course.count c.turned_or_left.new.tour.course.count (into_iter_items c.loop-above.above-iterator)
       (into_iter_items c.next.new.self) (c.in-Some.above, c.in-Some.state) c.in-Some.ensures.steps.0 c.in_ok-turned_or_left.ensures.keeps.count

@@ -3,13 +3,14 @@ use Rattle.std.specs.List.{All}
 use Rattle.std.specs.Vec.Iter.{into_iter_items}
 use Rattle.cert_check.specs.Room.{HasRoom}
 use Rattle.cert_check.specs.Tours as rule
+use Rattle.cert_check.specs.Here.{here}
 use Rattle.cert_check.proofs.tours.all_turned_or_left.Given as goal
 
 -- the cases that are left give what all of them do
 abbrev pub invariant-loop-above : goal.invariant-loop-above
-invariant-loop-above l = record {
-  turned : rule.all_turned_or_left l.at.scope.now l.at.place l.one (into_iter_items l.above-iterator) l.tour
-      ≡ rule.all_turned_or_left l.at.scope.now l.at.place l.one l.fn.cases.items l.initial.tour;
+invariant-loop-above g l = record {
+  turned : rule.all_turned_or_left (here g.M.Loops.made l.at) l.at.place l.one (into_iter_items l.above-iterator) l.tour
+      ≡ rule.all_turned_or_left (here g.M.Loops.made l.at) l.at.place l.one l.fn.cases.items l.initial.tour;
   cases : All (λ case. HasRoom l.at.scope.now.style 64 l.tour.course.count case.1) (into_iter_items l.above-iterator);
   keeps : rule.KeepsTour l.at.scope.now.style l.initial.tour l.tour;
 }

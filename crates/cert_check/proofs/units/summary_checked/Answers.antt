@@ -1,21 +1,17 @@
-use Rattle.std.proofs.Common.{◌≡◌, List, [], ◌∷◌, Some, Ok, refl, sym, ap, subst, ◌∙◌}
+use Rattle.std.proofs.Common.{List, refl, ap, subst, ◌∙◌, None}
 use Rattle.std.proofs.lemmas.Result.{err_from_is_err_and}
 use Rattle.name_table.specs.declared.style.Style.{Style}
 use Rattle.bst_meaning.specs.declared.condition.Cond.{Cond}
-use Rattle.cert_format.specs.declared.cert.Summary.{Summary}
-use Rattle.sym_state.specs.State.{State}
-use Rattle.sym_state.specs.Starting.{started}
-use Rattle.sym_state.specs.declared.hint.Hint.{Hint}
 use Rattle.sym_state.specs.declared.piece.Piece.{Piece}
-use Rattle.cert_check.specs.Courses.{Course}
 use Rattle.cert_check.specs.Units.{beginning, body_of, place_of}
-use Rattle.cert_check.proofs.UnitSteps.{AreParts, Checks, at_end, own_ends, own_room, started_is, unit_checks, unit_refused}
+use Rattle.cert_check.specs.Walks.{scope_of}
+use Rattle.cert_check.proofs.UnitSteps.{Checks, at_end, own_ends, own_room, started_is, unit_checks, unit_refused}
 use Rattle.cert_check.proofs.units.summary_checked.Goals as goal
 
 -- the walk begins in the state that the pre starts
 pub own_walked-requires-clause-room : goal.own_walked-requires-clause-room
 own_walked-requires-clause-room c =
-    own_room c.args.scope.now c.args.summary.now c.in_ok-state.state c.new-course.result c.requires.sound.sound c.requires.sound.certified c.requires.summary
+    own_room (scope_of c.args.scope.now None) c.args.summary.now c.in_ok-state.state c.new-course.result c.requires.sound.sound c.requires.sound.certified tt c.requires.summary
     (started_is c.args.scope.now.style c.style-3.result.now c.args.scope.now.cert.cond c.cond.result.now c.from_ref-pieces.result.now c.args.summary.now.pre
     c.args.summary.now.whole c.args.summary.now.entry c.start.result c.in_ok-state.state c.in_ok-state.ensures c.start.ensures.started c.style-3.ensures c.cond.ensures
     c.from_ref-pieces.ensures.value)
@@ -26,10 +22,11 @@ pub returns-in_err-own_walked : goal.returns-in_err-own_walked
 returns-in_err-own_walked c =
     let p = err_from_is_err_and c.from_residual-in_err-own_walked.result c.from_residual-in_err-own_walked.ensures.1 in
     rw (p.1, p.2)
-    (unit_refused c.args.scope.now c.args.summary.now c.body_of-body.result c.place_of-place.result c.in_ok-state.state _ c.new-course.result
+    (unit_refused (scope_of c.args.scope.now None) c.args.summary.now c.body_of-body.result c.place_of-place.result c.in_ok-state.state _ c.new-course.result
     c.in_err-own_walked.field-0.0
     (record {
       writes = c.requires.writes;
+      unmade = refl;
       body_is = c.body_of-body.ensures ∙ ap (λ (style : Style). body_of style c.args.summary.now.body) c.style.ensures;
       place_is = c.place_of-place.ensures ∙ ap (λ (style : Style). place_of style c.body_of-body.result) c.style-2.ensures;
       state_is = started_is c.args.scope.now.style c.style-3.result.now c.args.scope.now.cert.cond c.cond.result.now c.from_ref-pieces.result.now
@@ -42,9 +39,9 @@ returns-in_err-own_walked c =
 -- the states at its end
 pub ends-requires-clause-states : goal.ends-requires-clause-states
 ends-requires-clause-states c =
-    own_ends c.args.scope.now c.place_of-place.result c.args.summary.now.body c.body_of-body.result c.in_ok-state.state c.new-course.result c.own_walked.new.course
-    c.args.summary.now.hints c.requires.sound.sound c.requires.sound.certified
-    (own_room c.args.scope.now c.args.summary.now c.in_ok-state.state c.new-course.result c.requires.sound.sound c.requires.sound.certified c.requires.summary
+    own_ends (scope_of c.args.scope.now None) c.place_of-place.result c.args.summary.now.body c.body_of-body.result c.in_ok-state.state c.new-course.result c.own_walked.new.course
+    c.args.summary.now.hints c.requires.sound.sound c.requires.sound.certified tt
+    (own_room (scope_of c.args.scope.now None) c.args.summary.now c.in_ok-state.state c.new-course.result c.requires.sound.sound c.requires.sound.certified tt c.requires.summary
     (started_is c.args.scope.now.style c.style-3.result.now c.args.scope.now.cert.cond c.cond.result.now c.from_ref-pieces.result.now c.args.summary.now.pre
     c.args.summary.now.whole c.args.summary.now.entry c.start.result c.in_ok-state.state c.in_ok-state.ensures c.start.ensures.started c.style-3.ensures c.cond.ensures
     c.from_ref-pieces.ensures.value)
@@ -53,10 +50,11 @@ ends-requires-clause-states c =
 
 pub returns : goal.returns
 returns c =
-    unit_checks c.args.scope.now c.args.summary.now c.body_of-body.result c.place_of-place.result c.in_ok-state.state c.symbols_of-kept.result c.new-course.result
+    unit_checks (scope_of c.args.scope.now None) c.args.summary.now c.body_of-body.result c.place_of-place.result c.in_ok-state.state c.symbols_of-kept.result c.new-course.result
     c.own_walked.new.course c.ends.result
     (record {
       writes = c.requires.writes;
+      unmade = refl;
       body_is = c.body_of-body.ensures ∙ ap (λ (style : Style). body_of style c.args.summary.now.body) c.style.ensures;
       place_is = c.place_of-place.ensures ∙ ap (λ (style : Style). place_of style c.body_of-body.result) c.style-2.ensures;
       state_is = started_is c.args.scope.now.style c.style-3.result.now c.args.scope.now.cert.cond c.cond.result.now c.from_ref-pieces.result.now

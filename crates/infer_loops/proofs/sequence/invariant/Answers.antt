@@ -5,6 +5,7 @@ use Rattle.lin_facts.specs.declared.row.Part.{Part}
 use Rattle.name_table.specs.Sound.{IsSound}
 use Rattle.name_table.specs.declared.style.Style.{Style}
 use Rattle.sym_state.specs.WellMade.{WellMade}
+use Rattle.loop_templates.specs.Bound.{all_bound}
 use Rattle.loop_templates.specs.Cases.{IsSumOver}
 use Rattle.loop_templates.specs.Sums.{IsSmallSum}
 use Rattle.loop_templates.proofs.Over.{sums_over_names}
@@ -20,8 +21,9 @@ found_in-requires-clause-frame c =
       entering = subst (λ (s : Style). All (WellMade s) c.args.entering.now) (sym c.style-style.ensures.style) c.requires.made;
       some = c.requires.some;
       sums = subst (λ (sums : List (List Part)). All IsSmallSum sums) (sym c.as_slice-2.ensures.value) c.in_ok-sums.ensures.small;
-      over = subst (λ (sums : List (List Part)). All (IsSumOver style entry) sums) (sym (c.as_slice-2.ensures.value ∙ c.in_ok-sums.ensures.sums))
-          (sums_over_names style _ entry);
+      over = subst (λ (sums : List (List Part)). All (IsSumOver style (all_bound entry) entry) sums) (sym (c.as_slice-2.ensures.value ∙ c.in_ok-sums.ensures.sums))
+          (sums_over_names style _ entry entry);
+      there = λ at_entry. at_entry;
     }
 
 pub returns : goal.returns

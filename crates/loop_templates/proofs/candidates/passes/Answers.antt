@@ -1,5 +1,5 @@
 -- Each of the states has bounds.
-use Rattle.std.proofs.Common.{subst, sym, arith}
+use Rattle.std.proofs.Common.{subst, sym}
 use Rattle.sym_state.specs.WellMade.{HasBounds}
 use Rattle.loop_templates.proofs.candidates.passes.Goals as goal
 

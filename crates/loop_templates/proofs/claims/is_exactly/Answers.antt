@@ -4,5 +4,5 @@ use Rattle.loop_templates.specs.Sums.{IsSmallSum}
 use Rattle.loop_templates.proofs.SmallSums.{negated_small}
 use Rattle.loop_templates.proofs.claims.is_exactly.Goals as goal
 
-pub is_floor-requires-2-clause-sum : goal.is_floor-requires-2-clause-sum
-is_floor-requires-2-clause-sum c = subst IsSmallSum (sym c.requires.negative) (negated_small c.args.sum.now c.requires.sum)
+pub is_floor-requires-2 : goal.is_floor-requires-2
+is_floor-requires-2 c = record { sum = subst IsSmallSum (sym c.requires.negative) (negated_small c.args.sum.now c.requires.sum) }

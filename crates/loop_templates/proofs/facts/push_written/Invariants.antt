@@ -1,5 +1,5 @@
 -- The facts of the places so far, and of those that are left.
-use Rattle.std.proofs.Common.{◌≡◌, ◌++◌, drop, map}
+use Rattle.std.proofs.Common.{◌≡◌, ◌++◌, drop}
 use Rattle.std.specs.List.{flat_map}
 use Rattle.loop_templates.specs.Cases.{written_facts}
 use Rattle.loop_templates.proofs.facts.push_written.Given as goal

@@ -8,5 +8,8 @@ use Rattle.loop_templates.specs.Candidates.{entailing}
 use Rattle.loop_templates.proofs.hints.entailing.Given as goal
 
 abbrev pub invariant-loop-row : goal.invariant-loop-row
-invariant-loop-row l = l.hints.items ++ map (λ row. step_found Straight l.cond l.state (row_renamed (match_of l.state l.case 0) row)) (drop l.row-index l.row-items)
-    ≡ entailing l.cond l.state l.number l.case
+invariant-loop-row l = record {
+  stays : l.search ≡ record { state = l.state; cond = l.cond };
+  steps : l.hints.items ++ map (λ row. step_found Straight l.cond l.state (row_renamed (match_of l.state l.case 0) row)) (drop l.row-index l.row-items)
+      ≡ entailing l.cond l.state l.number l.case;
+}

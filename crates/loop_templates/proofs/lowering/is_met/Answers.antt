@@ -1,5 +1,5 @@
 -- Each of them is made so.
-use Rattle.std.proofs.Common.{subst, sym, arith}
+use Rattle.std.proofs.Common.{subst, sym}
 use Rattle.loop_templates.specs.Candidates.{IsMade}
 use Rattle.loop_templates.proofs.lowering.is_met.Goals as goal
 

@@ -1,5 +1,5 @@
 -- The next case is added.
-use Rattle.std.proofs.Common.{ap, subst, sym, drop, refl, arith}
+use Rattle.std.proofs.Common.{ap, subst, sym, drop, map, refl, arith}
 use Rattle.loop_templates.specs.Candidates.{IsMade, is_lower, lowered}
 use Rattle.loop_templates.proofs.Made.{lowered_all}
 use Rattle.loop_templates.proofs.OneByOne.{all_added, next_left, one_added, one_tried}
@@ -21,5 +21,6 @@ loop-one-preserved c =
 pub returns-clause-made : goal.returns-clause-made
 returns-clause-made c =
     lowered_all c.args.cond.now c.args.turned.now c.args.added.now c.loop-one.after.added
-    (all_added (lowered c.args.cond.now c.args.turned.now) c.loop-one.after.added _ c.loop-one.one-index c.args.added.now (omega arith) c.loop-one.invariant.added)
+    (all_added (map (lowered c.args.cond.now c.args.turned.now)) c.loop-one.after.added _ c.loop-one.one-index c.args.added.now refl (omega arith)
+    c.loop-one.invariant.added)
     c.requires.made

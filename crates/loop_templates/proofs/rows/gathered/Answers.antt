@@ -1,10 +1,16 @@
 -- The rows of one sum more are looked at.
-use Rattle.std.proofs.Common.{◌<◌, ◌≤◌, length, map, flat_map, ap, drop, sym, subst, ◌∙◌, arith, refl}
-use Rattle.std.specs.List.{filter}
+use Rattle.std.proofs.Common.{◌≡◌, ◌<◌, ◌≤◌, ◌++◌, List, length, map, flat_map, ap, drop, take, sym, subst, ◌∙◌, arith, refl}
+use Rattle.std.specs.List.{All, filter}
+use Rattle.straight_proofs.specs.Asked.{Asked}
 use Rattle.loop_templates.specs.Rows.{is_wanted, row_in_piece, rows_of_sum}
 use Rattle.loop_templates.specs.Sums.{IsSmallSum}
+use Rattle.loop_templates.proofs.Sought.{sought}
 use Rattle.loop_templates.proofs.Wanted.{gathered_next, kept_all, kept_full}
 use Rattle.loop_templates.proofs.rows.gathered.Goals as goal
+
+pub keep_of_sum-requires-clause-searches : goal.keep_of_sum-requires-clause-searches
+keep_of_sum-requires-clause-searches c =
+    subst (λ (them : List Asked). All (λ search. search.cond ≡ c.args.cond.now) them) (sym c.loop-sum.invariant.stays) c.requires.searches
 
 pub keep_of_sum-requires-clause-sum : goal.keep_of_sum-requires-clause-sum
 keep_of_sum-requires-clause-sum c =
@@ -15,24 +21,30 @@ returns-then-len-ge-MOST_ITEMS-clause-rows c =
     let full : 64 ≤ length c.loop-sum.rows.items = omega arith in
     kept_full 64 c.loop-sum.rows.items
     (filter (is_wanted c.args.cond.now c.args.start.now)
-    (flat_map (λ sum. map (row_in_piece c.args.piece.now) (rows_of_sum c.args.cond.now (map (λ state. state.now) c.args.states.now) sum))
+    (flat_map (λ sum. map (row_in_piece c.args.piece.now) (rows_of_sum c.args.cond.now (sought c.args.searches.now) sum))
     (drop c.loop-sum.sum-index c.args.sums.now)))
     _ full c.loop-sum.invariant.few c.loop-sum.invariant.kept
 
 pub loop-sum-preserved : goal.loop-sum-preserved
 loop-sum-preserved c =
     let more : c.loop-sum.sum-index < length c.args.sums.now = omega arith in
+    let parts = c.as_slice-parts.result.now in
     record {
       kept = gathered_next (is_wanted c.args.cond.now c.args.start.now)
-          (λ sum. map (row_in_piece c.args.piece.now) (rows_of_sum c.args.cond.now (map (λ state. state.now) c.args.states.now) sum)) 64 c.loop-sum.sum-index
+          (λ sum. map (row_in_piece c.args.piece.now) (rows_of_sum c.args.cond.now (sought c.args.searches.now) sum)) 64 c.loop-sum.sum-index
           c.args.sums.now c.sum-item.result _ c.loop-sum.rows.items c.keep_of_sum.new.rows.items _ more c.sum-item.is
-          (ap (λ sum. map (row_in_piece c.args.piece.now) (rows_of_sum c.args.cond.now (map (λ state. state.now) c.args.states.now) sum)) c.as_slice-parts.ensures)
-          c.in_ok-keep_of_sum.ensures.kept c.loop-sum.invariant.kept;
+          (ap (λ sum. map (row_in_piece c.args.piece.now) (rows_of_sum c.args.cond.now (sought c.args.searches.now) sum)) c.as_slice-parts.ensures)
+          (c.in_ok-keep_of_sum.ensures.kept
+          ∙ ap (λ (them : List Asked). take 64 (c.loop-sum.rows.items
+          ++ filter (is_wanted c.args.cond.now c.args.start.now) (map (row_in_piece c.args.piece.now) (rows_of_sum c.args.cond.now (sought them) parts))))
+          c.loop-sum.invariant.stays)
+          c.loop-sum.invariant.kept;
       few = c.in_ok-keep_of_sum.ensures.few;
+      stays = c.in_ok-keep_of_sum.ensures.stays ∙ c.loop-sum.invariant.stays;
     }
 
 pub returns-clause-rows : goal.returns-clause-rows
 returns-clause-rows c =
     kept_all (is_wanted c.args.cond.now c.args.start.now)
-    (λ sums. flat_map (λ sum. map (row_in_piece c.args.piece.now) (rows_of_sum c.args.cond.now (map (λ state. state.now) c.args.states.now) sum)) sums)
+    (λ sums. flat_map (λ sum. map (row_in_piece c.args.piece.now) (rows_of_sum c.args.cond.now (sought c.args.searches.now) sum)) sums)
     64 c.loop-sum.sum-index c.args.sums.now c.loop-sum.rows.items _ (omega arith) c.loop-sum.invariant.few refl c.loop-sum.invariant.kept

@@ -1,5 +1,5 @@
 -- One piece is numbered, fits and has few symbols as a list of it does.
-use Rattle.std.proofs.Common.{◌≡◌, [], ◌∷◌, List, IfOk, ap, sym, subst, arith}
+use Rattle.std.proofs.Common.{◌≡◌, [], List, IfOk, ap, sym, subst, arith}
 use Rattle.std.specs.List.{All}
 use Rattle.std.proofs.lemmas.List.Elements.{All-nil, All-cons}
 use Rattle.std.proofs.lemmas.List.Sums.{sum_by-cons}

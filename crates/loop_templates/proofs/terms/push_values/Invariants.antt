@@ -8,6 +8,6 @@ use Rattle.loop_templates.proofs.terms.push_values.Given as goal
 
 abbrev pub invariant-loop-id : goal.invariant-loop-id
 invariant-loop-id l =
-    l.terms.items ++ map (λ name. Value name.0) (filter (λ name. is_marked l.found.named name.0) (ids_from (is_integer l.at_entry) l.id (drop l.id l.style.names)))
+    l.terms.items ++ map (λ name. Value name.0) (filter (λ name. is_marked l.found.named name.0) (ids_from (is_integer l.bound) l.id (drop l.id l.style.names)))
     ≡ l.initial.terms.items
-    ++ map (λ name. Value name.0) (filter (λ name. is_marked l.found.named name.0) (ids_from (is_integer l.at_entry) 0 l.style.names))
+    ++ map (λ name. Value name.0) (filter (λ name. is_marked l.found.named name.0) (ids_from (is_integer l.bound) 0 l.style.names))

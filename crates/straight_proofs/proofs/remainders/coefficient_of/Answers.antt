@@ -2,7 +2,8 @@
 use Rattle.std.proofs.Common.{◌≡◌, cond, ap, sym, ◌∙◌, get_or, arith, to_z, w64}
 use Rattle.std.specs.Prelude.{pos, ◌+ℤ◌}
 use Rattle.std.proofs.lemmas.Int.{ints}
-use Rattle.lin_facts.proofs.Steps.{no_part, added, coefficient_kept, coefficient_size}
+use Rattle.lin_facts.proofs.Steps.{no_part, added, coefficient_kept}
+use Rattle.straight_proofs.proofs.Rooms.{sum_size}
 use Rattle.straight_proofs.proofs.remainders.coefficient_of.Goals as goal
 use Rattle.straight_proofs.proofs.remainders.coefficient_of.Goals.{then-same_term, else-same_term}
 
@@ -23,5 +24,5 @@ loop-part-preserved c =
     ] in
     record {
       left = coefficient_kept parts c.args.term i _ _ c.loop-part-test.true is c.loop-part.invariant.left;
-      size = coefficient_size parts c.args.term i _ _ c.loop-part-test.true is c.requires.small c.loop-part.invariant.size;
+      size = sum_size parts c.args.term i _ _ c.loop-part-test.true is c.requires.small c.loop-part.invariant.size;
     }

@@ -7,5 +7,5 @@ use Rattle.straight_proofs.proofs.remainders.coefficient_of.Given as goal
 abbrev pub invariant-loop-part : goal.invariant-loop-part
 invariant-loop-part l = record {
   left : coefficient_of l.parts l.term ≡ (l.sum +ℤ coefficient_of (drop l.part-index l.parts) l.term);
-  size : IsWithin (l.part-index * 35184372088832) l.sum;
+  size : IsWithin (l.part-index * 10133099161583616) l.sum;
 }

@@ -7,8 +7,8 @@ use Rattle.sym_state.specs.declared.proof.Reference.{Reference}
 use Rattle.straight_proofs.specs.Straight.{first_list, left_behind, list_within}
 use Rattle.straight_proofs.proofs.straight.list_among_all.Goals as goal
 
-pub returns : goal.returns
-returns c =
+pub returns-clause-found : goal.returns-clause-found
+returns-clause-found c =
     let found : Row → List Reference → Option (List Reference) =
     λ row. first_list (λ r. option_and_then (list_within 7 c.args.known.now.cond.now c.args.known.now.state.now)
     (left_behind c.args.known.now.cond.now c.args.known.now.state.now None row r)) in
@@ -16,4 +16,4 @@ returns c =
     (λ result. option_map (λ (list : Vec Reference Global). reverse list.items) result ≡ wanted))
     (ap (λ (row : Row). found row c.as_slice.result.now) c.never-goal.ensures.said
     ∙ ap (found absurdity) (c.as_slice.ensures.value ∙ c.in_ok-all.ensures))
-    c.first_list.ensures
+    c.first_list.ensures.found

@@ -9,7 +9,7 @@ use Rattle.cert_check.proofs.Placing.{placed_leaves}
 use Rattle.cert_check.proofs.course.Course.comes.Goals as goal
 
 pub returns-clause-comes : goal.returns-clause-comes
-returns-clause-comes c =
+returns-clause-comes g c =
     subst (λ (hints : List Hint). MatchResult c.placed.result
     (λ _. comes_by c.args.unit.now c.args.at.now.scope.now.cert.cond c.args.pre.now c.args.state.now hints ≡ Ok c.comes_by.new.hints)
     (Refused (placed c.args.at.now.place (comes_by c.args.unit.now c.args.at.now.scope.now.cert.cond c.args.pre.now c.args.state.now hints))))

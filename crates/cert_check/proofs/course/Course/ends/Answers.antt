@@ -1,4 +1,4 @@
-use Rattle.std.proofs.Common.{◌≡◌, List, sym, ap, subst, ◌∙◌}
+use Rattle.std.proofs.Common.{List, sym, ap, subst, ◌∙◌}
 use Rattle.std.specs.List.{All}
 use Rattle.sym_state.specs.State.{State}
 use Rattle.sym_state.specs.WellMade.{HasBounds}
