@@ -4,7 +4,7 @@ use Rattle.bst_meaning.specs.Config.{Config}
 use Rattle.bst_meaning.specs.Machine.{outer_step, return_step, token_step}
 use Rattle.bst_step.specs.declared.frames.Next.{Next}
 use Rattle.bst_step.specs.declared.frames.Next.TheVariants.{Token, Return, Outer}
-use Rattle.bst_step.specs.Outcome.{part_of}
+use Rattle.bst_step.specs.State.{part_of}
 
 -- what is left of a step, where the innermost frame has lost its first token, or is gone since it had none
 abbrev pub with_next : Style → Next → Config → Config

@@ -1,7 +1,12 @@
-pub mod Outcome
+pub mod Held
+pub mod Stack
 pub mod Operands
-pub mod Surroundings
 pub mod Variables
+pub mod EntryStates
+pub mod Values
+pub mod Effects
+pub mod Assignments
+pub mod Surroundings
 pub mod Places
 pub mod State
 pub mod Moves

@@ -3,15 +3,14 @@
 ghost use Rattle.std.specs.Prelude.{◌≡◌, map, OnErr, OnOk};
 ghost use Rattle.name_table.specs.declared.style.Style.{Style};
 ghost use Rattle.bst_meaning.specs.Machine as rule;
-ghost use Rattle.bst_step.specs.Outcome.{part_of};
-ghost use Rattle.bst_step.specs.State.{config_of, frame_of};
+ghost use Rattle.bst_step.specs.State.{config_of, frame_of, part_of};
 ghost use Rattle.bst_step.specs.Frames.{with_next};
 
 use crate::effects::entered_at;
-use crate::outcome::Part;
-use crate::state::{Frame, Rest, State};
+use crate::held::Operand;
+use crate::state::{Frame, Part, Rest, State};
 use bst_meaning::fault::Fault;
-use bst_meaning::value::{Target, Value};
+use bst_meaning::value::Target;
 use bv_base::memory::NoMemory;
 use bv_base::place::Place;
 use name_table::style::{Style, Token};
@@ -29,8 +28,8 @@ pub enum Next {
 impl<'a> State<'a> {
     /// A step of the innermost frame, or of the first command where no frame is left.
     pub fn going_step(&mut self, style: &'a Style) -> Result<(), NoMemory>
-        ensures moved { OnOk result (config_of self.new ≡ rule.going_step style.now (map frame_of self.old.frames) (config_of self.old)) }
-        ensures entries { OnErr result (self.new.entries.items ≡ self.old.entries.items) }
+        ensures moved { OnOk result (config_of self.new ≡ rule.going_step style.now (map frame_of self.old.frames.items) (config_of self.old)) }
+        ensures entries { OnErr result (self.new.values.entries ≡ self.old.values.entries) }
     {
         match self.next() {
             Next::Token(token, place) => self.token_step(style, token, place),
@@ -40,14 +39,14 @@ impl<'a> State<'a> {
     }
 
     /// Moves the innermost frame on in its place, past its first token, or takes it away where it has none left.
+    #[inline(always)]
     fn next(&mut self) -> Next
-        ensures moved { (style : Style) → with_next style result (config_of self.new) ≡ rule.going_step style (map frame_of self.old.frames) (config_of self.old) }
-        ensures entries { self.new.entries.items ≡ self.old.entries.items }
+        ensures moved { (style : Style) → with_next style result (config_of self.new) ≡ rule.going_step style (map frame_of self.old.frames.items) (config_of self.old) }
+        ensures entries { self.new.values.entries ≡ self.old.values.entries }
     {
-        let Some(frame) = self.frames.top() else {
+        let Some(Frame { rest, place, part }) = self.frames.top() else {
             return Next::Outer;
         };
-        let Frame { rest, place, part } = *frame;
         match rest {
             Rest::Tokens([first, tokens @ ..]) => {
                 let rest = Rest::Tokens(tokens);
@@ -69,7 +68,7 @@ impl<'a> State<'a> {
     /// Returns from a frame.
     fn return_step(&mut self, style: &'a Style, part: Part, place: Place) -> Result<(), NoMemory>
         ensures moved { OnOk result (config_of self.new ≡ rule.return_step style.now (part_of part) place (config_of self.old)) }
-        ensures entries { OnErr result (self.new.entries.items ≡ self.old.entries.items) }
+        ensures entries { OnErr result (self.new.values.entries ≡ self.old.values.entries) }
     {
         match part {
             Part::Whole => Ok(()),
@@ -92,11 +91,12 @@ impl<'a> State<'a> {
         body: Target,
         place: Place,
     ) -> Result<(), NoMemory>
-        ensures moved { OnOk result (config_of self.new ≡ rule.test_ended style.now test body place self.old.stack (config_of self.old)) }
-        ensures entries { OnErr result (self.new.entries.items ≡ self.old.entries.items) }
+        ensures moved { OnOk result (config_of self.new ≡ rule.test_ended style.now test body place self.old.values.stack (config_of self.old)) }
+        ensures entries { OnErr result (self.new.values.entries ≡ self.old.values.entries) }
     {
-        match self.stack.pop() {
-            Some(Value::Int(n)) => {
+        match self.values.top() {
+            Some(Operand::Int(n)) => {
+                self.values.drop_top(1);
                 if n > 0 {
                     self.enter(
                         entered_at(style, body, place),
@@ -107,8 +107,7 @@ impl<'a> State<'a> {
                     Ok(())
                 }
             }
-            Some(other) => {
-                self.push(other)?;
+            Some(_) => {
                 self.stop(Fault::WrongKind, place);
                 Ok(())
             }

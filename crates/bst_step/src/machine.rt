@@ -1,16 +1,16 @@
 //! The machine that runs a style over a list of entries.
 
-ghost use Rattle.std.specs.Prelude.{◌≡◌, true, false, map, IfOk, OnOk, OnErr};
+ghost use Rattle.std.specs.Prelude.{◌≡◌, true, false, IfOk, OnOk, OnErr};
 ghost use Rattle.bst_meaning.specs.Config as config;
 ghost use Rattle.bst_meaning.specs.Lines as rule;
 ghost use Rattle.bst_meaning.specs.Machine.{step, steps};
-ghost use Rattle.bst_step.specs.State.{state_of};
 ghost use Rattle.bst_step.specs.Machine.{HasEntriesOf, configuration, style_of, is_broken, turn_of, log_of, key_at};
 
+use crate::commands::first_step;
 use crate::lines::{lines_of, with_ends};
 use crate::opening::opening;
 pub use crate::state::Site;
-use crate::state::{EntryState, State};
+use crate::state::State;
 use bst_meaning::entry::EntryList;
 use bst_meaning::fault::Fault;
 use bv_base::memory::NoMemory;
@@ -28,7 +28,8 @@ pub enum Turn {
     Faulted(Fault, Site),
 }
 
-/// A run of a style over a list of entries, step by step (docs/MACHINE.md).
+/// A run of a style over a list of entries, step by step (docs/MACHINE.md). The list is borrowed, and nothing of it is
+/// copied.
 #[derive(Drop)]
 pub struct Machine<'a> {
     style: &'a Style,
@@ -39,8 +40,12 @@ pub struct Machine<'a> {
 
 impl<'a> Machine<'a> {
     /// The machine before its first step. It isn't broken.
-    pub fn new(alloc: Global, style: &'a Style, list: EntryList) -> Result<Machine<'a>, NoMemory>
-        ensures opening { IfOk result (λ machine. configuration machine ≡ config.opening style.now list) }
+    pub fn new(
+        alloc: Global,
+        style: &'a Style,
+        list: &'a EntryList,
+    ) -> Result<Machine<'a>, NoMemory>
+        ensures opening { IfOk result (λ machine. configuration machine ≡ config.opening style.now list.now) }
         ensures style { IfOk result (λ machine. style_of machine ≡ style.now) }
         ensures whole { IfOk result (λ machine. is_broken machine ≡ false) }
     {
@@ -91,7 +96,7 @@ impl<'a> Machine<'a> {
     {
         match self.state.stopped {
             Some(stopped) => Turn::Faulted(stopped.fault, stopped.site),
-            None => match self.state.commands.top() {
+            None => match first_step(self.state.commands) {
                 Some(_) => Turn::Went,
                 None => Turn::Ended,
             },
@@ -124,18 +129,6 @@ impl<'a> Machine<'a> {
     pub fn key(&self, entry: u64) -> &[u8]
         ensures { result.now ≡ key_at entry (configuration self.now).entries }
     {
-        key_in(self.state.entries.as_slice(), entry)
+        self.state.values.key(entry)
     }
-}
-
-/// The key of the entry with this position.
-fn key_in(entries: &[EntryState], position: u64) -> &[u8]
-    ensures { result.now ≡ key_at position (map state_of entries.now) }
-{
-    for state in entries {
-        if state.position == position {
-            return state.entry.entry().key.as_slice();
-        }
-    }
-    &[]
 }

@@ -7,6 +7,7 @@ use crate::tests::operands::add_kinds;
 use crate::tests::program::{add_words, empty_style};
 use crate::tests::runs::{add_state, step_by_step};
 use crate::tests::writing::add_lengths;
+use bst_meaning::entry::EntryList;
 use bv_base::memory::NoMemory;
 use bv_base::place::Place;
 use bv_base::runs::{after_white, digits_length, number};
@@ -145,13 +146,22 @@ fn add_run(
     style: &Style,
     last: Place,
 ) -> Result<(), NoMemory> {
-    let mut machine = machine_of(*told.allocator(), style)?;
-    add_steps(told, telling, n, &mut machine, last)
+    let alloc = *told.allocator();
+    let list = list(alloc)?;
+    add_run_over(told, telling, n, style, &list, last)
 }
 
-/// The machine before its first step.
-fn machine_of<'a>(alloc: Global, style: &'a Style) -> Result<Machine<'a>, NoMemory> {
-    Machine::new(alloc, style, list(alloc)?)
+/// Adds what is told of a run of so many steps over a list.
+fn add_run_over(
+    told: &mut String,
+    telling: Telling,
+    n: u64,
+    style: &Style,
+    list: &EntryList,
+    last: Place,
+) -> Result<(), NoMemory> {
+    let mut machine = Machine::new(*told.allocator(), style, list)?;
+    add_steps(told, telling, n, &mut machine, last)
 }
 
 /// Adds what is told of so many steps of a machine.
