@@ -23,3 +23,6 @@ pub mod LateBreaks
 pub mod CutSteps
 pub mod KeySteps
 pub mod PlaceSteps
+pub mod RoomSteps
+pub mod MarkSteps
+pub mod MarkMoves

@@ -8,6 +8,7 @@ use Rattle.bst_step.specs.declared.held.Held.{Held}
 use Rattle.bst_step.specs.declared.variables.Variable.{Variable}
 use Rattle.bst_step.specs.EntryStates.{EntriesWithin, state_in}
 use Rattle.bst_step.specs.Held.{end_of, value_in}
+use Rattle.bst_step.specs.Marks.{marks_in}
 use Rattle.bst_step.specs.Values.{Holding, IsHeld, holding_in}
 use Rattle.bst_step.specs.Variables.{VariablesWithin, names_in, variable_in}
 use Rattle.bst_meaning.specs.declared.value.Value.{Value}
@@ -119,9 +120,9 @@ none_renewed pool later (h ∷ hs) none = absurd (omega (arith, none))
 pub same_holding : (pool front : List ℕ) (kept room : ℕ) (hs : List Held) (gs : List Variable) (es : List EntryState) → front ≡ take kept pool
     → length hs ≤ 0 → IsHeld pool kept hs gs es → holding_in front hs room gs es ≡ holding_in pool hs room gs es
 same_holding pool front kept room hs gs es is none held =
-    ap (λ (stack : List Value). let h : Holding = record { stack = stack; room = room; globals = map (variable_in front) gs; entries = map (state_in front) es } in h)
+    ap (λ (stack : List Value). let h : Holding = record { stack = stack; room = room; globals = map (variable_in front) gs; entries = map (state_in front) es; marks = marks_in hs gs es } in h)
     (none_renewed pool front hs none)
-    ∙ ap (λ (globals : List config.Variable). let h : Holding = record { stack = map (value_in pool) hs; room = room; globals = globals; entries = map (state_in front) es } in h)
+    ∙ ap (λ (globals : List config.Variable). let h : Holding = record { stack = map (value_in pool) hs; room = room; globals = globals; entries = map (state_in front) es; marks = marks_in hs gs es } in h)
     (globals_trimmed pool front kept hs gs es is held)
-    ∙ ap (λ (entries : List config.EntryState). let h : Holding = record { stack = map (value_in pool) hs; room = room; globals = map (variable_in pool) gs; entries = entries } in h)
+    ∙ ap (λ (entries : List config.EntryState). let h : Holding = record { stack = map (value_in pool) hs; room = room; globals = map (variable_in pool) gs; entries = entries; marks = marks_in hs gs es } in h)
     (entries_trimmed pool front kept hs gs es is held)

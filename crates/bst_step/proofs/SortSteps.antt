@@ -12,6 +12,7 @@ use Rattle.bst_meaning.specs.Config as config
 use Rattle.bst_meaning.specs.Sorting.{sort_key, inserted, sorted}
 use Rattle.bst_step.specs.declared.entry_states.EntryState.{EntryState}
 use Rattle.bst_step.specs.EntryStates.{EntriesWithin, state_in}
+use Rattle.bst_step.specs.Marks.{Marked, inserted_marks, marked_in, sorted_marks}
 use Rattle.bst_step.specs.Variables.{VariablesWithin}
 use Rattle.bst_step.proofs.StableOrder.{insert_by, sort_of, sorted_stable}
 
@@ -51,6 +52,32 @@ module _ (pool : List ℕ) where
 
   pub sorted_entries : (xs ys : List EntryState) → IsSortedBy key_lt ys → IsStableBy key_lt xs ys → map (state_in pool) ys ≡ sorted (map (state_in pool) xs)
   sorted_entries xs ys up stays = ap (map (state_in pool)) (sorted_stable key_lt key_order xs ys up stays) ∙ sorted_same xs
+
+  marks_chosen : (b : Bool) (x y : EntryState) (ys : List EntryState) (later : List (List Marked))
+      → map marked_in (insert_by key_lt key_order x ys) ≡ later
+      → map marked_in (cond b (y ∷ insert_by key_lt key_order x ys) (x ∷ y ∷ ys)) ≡ cond (not b) (marked_in x ∷ marked_in y ∷ map marked_in ys) (marked_in y ∷ later)
+  marks_chosen true x y ys later e = ap (λ l. marked_in y ∷ l) e
+  marks_chosen false x y ys later e = refl
+
+  marks_inserted : (x : EntryState) (ys : List EntryState)
+      → map marked_in (insert_by key_lt key_order x ys) ≡ inserted_marks (state_in pool x) (marked_in x) (map (state_in pool) ys) (map marked_in ys)
+  marks_inserted x [] = refl
+  marks_inserted x (y ∷ ys) =
+      marks_chosen (key_lt y x) x y ys (inserted_marks (state_in pool x) (marked_in x) (map (state_in pool) ys) (map marked_in ys)) (marks_inserted x ys)
+      ∙ ap (λ b. cond b (marked_in x ∷ marked_in y ∷ map marked_in ys)
+      (marked_in y ∷ inserted_marks (state_in pool x) (marked_in x) (map (state_in pool) ys) (map marked_in ys))) (sym (not_above x y))
+
+  marks_sorted : (xs : List EntryState) → map marked_in (sort_of key_lt key_order xs) ≡ sorted_marks (map (state_in pool) xs) (map marked_in xs)
+  marks_sorted [] = refl
+  marks_sorted (x ∷ xs) =
+      marks_inserted x (sort_of key_lt key_order xs)
+      ∙ ap (λ es. inserted_marks (state_in pool x) (marked_in x) es (map marked_in (sort_of key_lt key_order xs))) (sorted_same xs)
+      ∙ ap (λ ms. inserted_marks (state_in pool x) (marked_in x) (sorted (map (state_in pool) xs)) ms) (marks_sorted xs)
+
+  -- the variables of each entry go with it
+  pub sorted_with_marks : (xs ys : List EntryState) → IsSortedBy key_lt ys → IsStableBy key_lt xs ys
+      → map marked_in ys ≡ sorted_marks (map (state_in pool) xs) (map marked_in xs)
+  sorted_with_marks xs ys up stays = ap (map marked_in) (sorted_stable key_lt key_order xs ys up stays) ∙ marks_sorted xs
 
 all_within : (end : ℕ) (es : List EntryState) → EntriesWithin end es → All (λ (e : EntryState). VariablesWithin end e.variables) es
 all_within end [] within = All-nil (λ (e : EntryState). VariablesWithin end e.variables)

@@ -18,7 +18,8 @@ use Rattle.bst_step.specs.declared.held.Held.TheVariants.{Int, Str as LentStr, M
 use Rattle.bst_step.specs.declared.variables.Variable.{Variable}
 use Rattle.bst_step.specs.EntryStates.{state_in, with_held_in}
 use Rattle.bst_step.specs.Held.{end_of, lent_of, part_from, value_in}
-use Rattle.bst_step.specs.Values.{cut, doubled, given_globally, given_in_entry, joined, swapped}
+use Rattle.bst_step.specs.Stack.{doubled, swapped}
+use Rattle.bst_step.specs.Values.{cut, given_globally, given_in_entry, joined}
 use Rattle.bst_step.specs.Variables.{variable_in, with_held}
 use Rattle.bst_step.proofs.HeldSteps.{same_value}
 use Rattle.bst_step.proofs.ValueSteps.{with_entry_held, with_variable_held}

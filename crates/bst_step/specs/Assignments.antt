@@ -26,6 +26,11 @@ abbrev pub effect_of : Assignment → List Value → Result Effect Fault
 effect_of (Whole name) stack = assigned name (slice_get stack 1) (drop 2 stack)
 effect_of (Cut name size line) stack = assigned_cut name size line (slice_get stack 1) (drop 2 stack)
 
+-- the variable to which it assigns
+abbrev pub name_of : Assignment → NameId
+name_of (Whole name) = name
+name_of (Cut name size line) = name
+
 -- the assignment has the effect that is wanted, or the fault is the one that is wanted
 abbrev pub Gives : Result Assignment Stop → List Value → Result Effect Fault → Type 0
 Gives (Ok assignment) stack wanted = effect_of assignment stack ≡ wanted

@@ -3,6 +3,7 @@ pub mod Stack
 pub mod Operands
 pub mod Variables
 pub mod EntryStates
+pub mod Marks
 pub mod Values
 pub mod Effects
 pub mod Assignments
@@ -10,6 +11,8 @@ pub mod Surroundings
 pub mod Places
 pub mod State
 pub mod Moves
+pub mod MarkRules
+pub mod Room
 pub mod Frames
 pub mod Lines
 pub mod Machine

@@ -10,16 +10,19 @@ use Rattle.bst_meaning.specs.Sorting.{string_of}
 use Rattle.bst_step.specs.declared.entry_states.EntryState.{EntryState}
 use Rattle.bst_step.specs.declared.held.Held.{Held}
 use Rattle.bst_step.specs.declared.variables.Variable.{Variable}
+use Rattle.bst_step.specs.Marks.{Marks, marks_in}
 use Rattle.bst_step.specs.EntryStates.{EntriesWithin, state_in}
 use Rattle.bst_step.specs.Held.{end_of, part_from, value_in}
 use Rattle.bst_step.specs.Variables.{VariablesWithin, variable_in}
 
--- the literal stack, its top first, with the room that it has, the variables of the whole style, and the entries with theirs
+-- the literal stack, its top first, with the room that it has, the variables of the whole style, and the entries with theirs; and the
+-- marks of all of these
 pub record Holding : Type 0 where
   pub stack : List Value
   pub room : ℕ
   pub globals : List config.Variable
   pub entries : List config.EntryState
+  pub marks : Marks
 
 -- what is held over a pool of bytes
 abbrev pub holding_in : List ℕ → List Held → ℕ → List Variable → List EntryState → Holding
@@ -28,6 +31,7 @@ holding_in pool stack room globals entries = record {
   room = room;
   globals = map (variable_in pool) globals;
   entries = map (state_in pool) entries;
+  marks = marks_in stack globals entries;
 }
 
 -- the bytes of values end there at the latest
@@ -50,16 +54,6 @@ Kept old new = (new.globals ≡ old.globals) × (new.entries ≡ old.entries)
 abbrev pub with_pushed : Option Value → List Value → List Value
 with_pushed None stack = stack
 with_pushed (Some value) stack = value ∷ stack
-
--- the top once more
-abbrev pub doubled : List Value → List Value
-doubled [] = []
-doubled (a ∷ stack) = a ∷ a ∷ stack
-
--- the two topmost values are exchanged
-abbrev pub swapped : List Value → List Value
-swapped (b ∷ a ∷ stack) = a ∷ b ∷ stack
-swapped stack = stack
 
 -- the two topmost strings are joined, the lower one first
 abbrev pub joined : List Value → List Value

@@ -1,11 +1,14 @@
 //! `:=`
 
-ghost use Rattle.std.specs.Prelude.{◌≡◌, ℕ, Some, drop, slice_get, IfOk};
+ghost use Rattle.std.specs.Prelude.{◌≡◌, ℕ, true, Some, drop, slice_get, IfOk};
 ghost use Rattle.bst_meaning.specs.Operands.{as_string, as_integer};
 ghost use Rattle.bst_meaning.specs.StyleParts as parts;
 ghost use Rattle.bst_meaning.specs.Builtins as rule;
 ghost use Rattle.bst_step.specs.Held.{value_of};
-ghost use Rattle.bst_step.specs.Assignments.{Gives};
+ghost use Rattle.bst_meaning.specs.declared.value.Target.TheVariants.{Named};
+ghost use Rattle.bst_meaning.specs.declared.value.Value.TheVariants.{Func};
+ghost use Rattle.bst_step.specs.Assignments.{Gives, name_of};
+ghost use Rattle.bst_step.specs.Room.{Fits, cuts_nothing};
 ghost use Rattle.bst_step.specs.Surroundings.{context_in};
 
 use crate::held::Operand;
@@ -35,7 +38,9 @@ pub enum Assignment {
 
 /// What `:=` comes to.
 pub fn assignment_of<'a>(around: Surroundings<'a>, values: &Values<'a>) -> Result<Assignment, Stop>
-    ensures { Gives result values.now.stack (rule.assign (context_in around.entry) values.now.stack) }
+    ensures effect { Gives result values.now.stack (rule.assign (context_in around.entry) values.now.stack) }
+    ensures named { IfOk result (λ assignment. slice_get values.now.stack 0 ≡ Some (Func (Named (name_of assignment)))) }
+    ensures fits { cuts_nothing (rule.assign (context_in around.entry) values.now.stack) ≡ true → Fits result }
 {
     let (value, target) = two(values)?;
     match target {
@@ -53,8 +58,11 @@ fn assign_to<'a>(
     values: &Values<'a>,
 ) -> Result<Assignment, Stop>
     requires { slice_get values.now.stack 1 ≡ Some (value_of value) }
-    ensures { Gives result values.now.stack
+    ensures effect { Gives result values.now.stack
         (rule.assign_to (context_in around.entry) (parts.kind_of around.entry.style.now name) name (value_of value.entry) (drop 2 values.now.stack)) }
+    ensures named { IfOk result (λ assignment. name_of assignment ≡ name) }
+    ensures fits { cuts_nothing (rule.assign_to (context_in around.entry) (parts.kind_of around.entry.style.now name) name (value_of value.entry)
+        (drop 2 values.now.stack)) ≡ true → Fits result }
 {
     let visits = around.entry.is_some();
     match kind_of(around.style, name) {
@@ -74,7 +82,9 @@ fn assign_integer<'a>(
     values: &Values<'a>,
 ) -> Result<Assignment, Stop>
     requires { slice_get values.now.stack 1 ≡ Some (value_of value) }
-    ensures { Gives result values.now.stack (as_integer (value_of value.entry) (λ n. rule.assigned_integer name n (drop 2 values.now.stack))) }
+    ensures effect { Gives result values.now.stack (as_integer (value_of value.entry) (λ n. rule.assigned_integer name n (drop 2 values.now.stack))) }
+    ensures named { IfOk result (λ assignment. name_of assignment ≡ name) }
+    ensures fits { Fits result }
 {
     let _ = values;
     match value {
@@ -92,8 +102,11 @@ fn assign_string<'a>(
     values: &Values<'a>,
 ) -> Result<Assignment, Stop>
     requires { slice_get values.now.stack 1 ≡ Some (value_of value) }
-    ensures { Gives result values.now.stack
+    ensures effect { Gives result values.now.stack
         (as_string (value_of value.entry) (λ bytes. rule.assigned_string around.entry.style.now name size bytes (drop 2 values.now.stack))) }
+    ensures named { IfOk result (λ assignment. name_of assignment ≡ name) }
+    ensures fits { cuts_nothing (as_string (value_of value.entry)
+        (λ bytes. rule.assigned_string around.entry.style.now name size bytes (drop 2 values.now.stack))) ≡ true → Fits result }
 {
     let _ = values;
     let Operand::Str(bytes) = value else {

@@ -1,9 +1,11 @@
 //! The built-in functions.
 
-ghost use Rattle.std.specs.Prelude.{◌≡◌, OnErr};
+ghost use Rattle.std.specs.Prelude.{◌≡◌, true, OnErr};
 ghost use Rattle.bst_meaning.specs.Builtins as rule;
 ghost use Rattle.bst_meaning.specs.Machine.{context_of};
 ghost use Rattle.bst_step.specs.Effects.{Makes};
+ghost use Rattle.bst_step.specs.MarkRules.{built_in_marks};
+ghost use Rattle.bst_step.specs.Room.{Fits, HasRoom, built_in_takes_room};
 ghost use Rattle.bst_step.specs.State.{config_of};
 
 use crate::held::Operand;
@@ -18,8 +20,10 @@ impl<'a> State<'a> {
     /// Calls a built-in function that stands at a place. A fault leaves all as it was.
     #[tactic(auto, using(crate::proofs::EffectSteps::left_makes))]
     pub fn built_in(&mut self, style: &'a Style, op: Builtin, place: Place) -> Result<(), Stop>
-        ensures made { Makes style.now place result (config_of self.old) (config_of self.new)
-            (rule.built_in op (context_of style.now (config_of self.old)) self.old.values.stack) }
+        ensures made { Makes style.now place result self.old self.new
+            (rule.built_in op (context_of style.now (config_of self.old)) self.old.values.stack) (built_in_marks op style.now (config_of self.old)) }
+        ensures fits { built_in_takes_room op (rule.built_in op (context_of style.now (config_of self.old)) self.old.values.stack) ≡ true
+            → HasRoom self.old → Fits result }
         ensures entries { OnErr result (self.new.values.entries ≡ self.old.values.entries) }
     {
         match op {

@@ -1,10 +1,12 @@
 //! The steps of commands.
 
-ghost use Rattle.std.specs.Prelude.{◌≡◌, [], ◌∷◌, drop, filter, MatchOption, OnErr, OnOk};
+ghost use Rattle.std.specs.Prelude.{◌≡◌, ◌≤◌, true, [], ◌∷◌, drop, filter, IsOk, MatchOption, OnErr, OnOk};
 ghost use Rattle.bst_meaning.specs.Config.{is_step as takes_step};
 ghost use Rattle.bst_meaning.specs.Machine as rule;
 ghost use Rattle.bst_step.specs.State.{config_of, visit_in};
 ghost use Rattle.bst_step.specs.Machine.{HasEntriesOf, at_rest};
+ghost use Rattle.bst_step.specs.MarkRules as rules;
+ghost use Rattle.bst_step.specs.Room.{HasRoom, LeavesRoom, TakeRoom, step_takes_room};
 
 use crate::state::{Part, Rest, State, Visit};
 use bst_meaning::fault::Fault;
@@ -18,6 +20,9 @@ impl<'a> State<'a> {
     pub fn advance_by(&mut self, style: &'a Style, n: u64) -> Result<(), NoMemory>
         ensures moved { OnOk result (config_of self.new ≡ rule.steps style.now n (config_of self.old)) }
         ensures places { HasEntriesOf (config_of self.old) (config_of self.new) }
+        ensures marks { OnOk result (self.new.values.marks ≡ rules.marks_after_steps style.now n (config_of self.old) self.old.values.marks) }
+        ensures fits { TakeRoom style.now n (config_of self.old) → n ≤ self.old.frames.room → n ≤ self.old.values.room → IsOk result }
+        ensures room { OnOk result (LeavesRoom n self.old self.new) }
     {
         let mut left = n;
         while left > 0 {
@@ -37,7 +42,7 @@ impl<'a> State<'a> {
         if self.stopped.is_some() {
             return true;
         }
-        if self.frames.len() > 0 {
+        if !self.frames.is_empty() {
             return false;
         }
         first_step(self.commands).is_none()
@@ -47,6 +52,9 @@ impl<'a> State<'a> {
     fn advance(&mut self, style: &'a Style) -> Result<(), NoMemory>
         ensures moved { OnOk result (config_of self.new ≡ rule.step style.now (config_of self.old)) }
         ensures entries { OnErr result (self.new.values.entries ≡ self.old.values.entries) }
+        ensures marks { OnOk result (self.new.values.marks ≡ rules.marks_after style.now (config_of self.old) self.old.values.marks) }
+        ensures fits { step_takes_room style.now (config_of self.old) ≡ true → HasRoom self.old → IsOk result }
+        ensures room { OnOk result (LeavesRoom 1 self.old self.new) }
     {
         if self.stopped.is_some() {
             return Ok(());
@@ -58,6 +66,8 @@ impl<'a> State<'a> {
     pub fn outer_step(&mut self) -> Result<(), NoMemory>
         ensures moved { OnOk result (config_of self.new ≡ rule.outer_step self.old.running (config_of self.old).commands (config_of self.old)) }
         ensures entries { OnErr result (self.new.values.entries ≡ self.old.values.entries) }
+        ensures marks { OnOk result (self.new.values.marks ≡ rules.outer_marks self.old.running (config_of self.old).commands (config_of self.old) self.old.values.marks) }
+        ensures room { OnOk result (LeavesRoom 1 self.old self.new) }
     {
         match first_step(self.commands) {
             Some(first) if self.running => self.call_end_step(first.place),
@@ -70,6 +80,8 @@ impl<'a> State<'a> {
     fn command_step(&mut self, command: Command, place: Place) -> Result<(), NoMemory>
         ensures moved { OnOk result (config_of self.new ≡ rule.command_step command place (drop 1 (config_of self.old).commands) (config_of self.old)) }
         ensures entries { OnErr result (self.new.values.entries ≡ self.old.values.entries) }
+        ensures marks { OnOk result (self.new.values.marks ≡ rules.command_marks command (config_of self.old) self.old.values.marks) }
+        ensures room { OnOk result (LeavesRoom 1 self.old self.new) }
     {
         match command {
             Command::Execute(name) => self.begin_call(name, place),
@@ -90,6 +102,8 @@ impl<'a> State<'a> {
     fn begin_call(&mut self, name: NameId, place: Place) -> Result<(), NoMemory>
         ensures moved { OnOk result (config_of self.new ≡ rule.with_call name place (config_of self.old)) }
         ensures entries { OnErr result (self.new.values.entries ≡ self.old.values.entries) }
+        ensures marks { OnOk result (self.new.values.marks ≡ self.old.values.marks) }
+        ensures room { OnOk result (LeavesRoom 1 self.old self.new) }
     {
         self.values.renew()?;
         self.running = true;
@@ -101,6 +115,8 @@ impl<'a> State<'a> {
         ensures moved { OnOk result (config_of self.new ≡
             rule.visit_step name place (drop 1 (config_of self.old).commands) (rule.visit_of backwards (config_of self.old).visit) (config_of self.old)) }
         ensures entries { OnErr result (self.new.values.entries ≡ self.old.values.entries) }
+        ensures marks { OnOk result (self.new.values.marks ≡ self.old.values.marks) }
+        ensures room { OnOk result (LeavesRoom 1 self.old self.new) }
     {
         let visit = match self.visit {
             Some(visit) => visit,
@@ -124,6 +140,8 @@ impl<'a> State<'a> {
         ensures moved { OnOk result (config_of self.new ≡
             rule.call_end_step self.old.values.stack place (drop 1 (config_of self.old).commands) (config_of self.old)) }
         ensures entries { OnErr result (self.new.values.entries ≡ self.old.values.entries) }
+        ensures marks { OnOk result (self.new.values.marks ≡ self.old.values.marks) }
+        ensures room { OnOk result (LeavesRoom 1 self.old self.new) }
     {
         if self.values.len() > 0 {
             self.stop(Fault::StackLeft, place);
@@ -137,7 +155,8 @@ impl<'a> State<'a> {
     fn call_ended(&mut self) -> Result<(), NoMemory>
         ensures moved { OnOk result (config_of self.new ≡
             rule.call_ended (config_of self.old).visit (drop 1 (config_of self.old).commands) (config_of self.old)) }
-        ensures entries { OnErr result (self.new.values.entries ≡ self.old.values.entries) }
+        ensures frames { self.new.frames ≡ self.old.frames }
+        ensures values { self.new.values ≡ self.old.values }
     {
         self.running = false;
         match self.visit {

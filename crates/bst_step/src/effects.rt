@@ -1,6 +1,6 @@
 //! What built-in functions do beside what they leave on the literal stack: they enter functions, assign, write and log.
 
-ghost use Rattle.std.specs.Prelude.{◌≡◌, ◌∷◌, [], drop, map, OnErr, OnOk};
+ghost use Rattle.std.specs.Prelude.{◌≡◌, ◌≤◌, true, ◌∷◌, [], drop, map, OnErr, OnOk};
 ghost use Rattle.bv_base.specs.declared.place.Place.{Place};
 ghost use Rattle.name_table.specs.declared.style.Style.{Style};
 ghost use Rattle.bst_meaning.specs.Config as config;
@@ -9,9 +9,13 @@ ghost use Rattle.bst_meaning.specs.StyleParts as parts;
 ghost use Rattle.bst_meaning.specs.Builtins as rule;
 ghost use Rattle.bst_meaning.specs.Builtins.{string};
 ghost use Rattle.bst_meaning.specs.Operands.{one_operand};
-ghost use Rattle.bst_meaning.specs.Machine.{context_of};
+ghost use Rattle.bst_meaning.specs.Machine.{context_of, visited_index};
 ghost use Rattle.bst_step.specs.Effects.{Makes, Tells};
 ghost use Rattle.bst_step.specs.Held.{value_of};
+ghost use Rattle.bst_step.specs.MarkRules as rules;
+ghost use Rattle.bst_step.specs.Marks as mark;
+ghost use Rattle.bst_step.specs.Marks.{lent_mark};
+ghost use Rattle.bst_step.specs.Room.{Fits, LeavesRoom, cuts_nothing};
 ghost use Rattle.bst_step.specs.State.{config_of, event_of, part_of, tokens_left};
 ghost use Rattle.bst_step.specs.Moves as change;
 ghost use Rattle.bst_step.specs.Moves.{with_event, with_log, with_second_assigned, with_second_cut, with_entry_assigned, with_stack, with_top_assigned};
@@ -51,7 +55,8 @@ impl<'a> State<'a> {
         place: Place,
         part: Part,
     ) -> Result<(), Stop>
-        ensures made { Makes style.now place result (config_of self.old) (config_of self.new) (with_entered target (part_of part) (drop taken self.old.values.stack)) }
+        ensures made { Makes style.now place result self.old self.new (with_entered target (part_of part) (drop taken self.old.values.stack)) (mark.taken taken) }
+        ensures fits { 1 ≤ self.old.frames.room → Fits result }
         ensures entries { OnErr result (self.new.values.entries ≡ self.old.values.entries) }
     {
         self.values.drop_top(taken);
@@ -62,7 +67,8 @@ impl<'a> State<'a> {
     /// Pushes a value whose bytes are lent.
     #[inline(always)]
     pub fn push_lent(&mut self, value: Operand<'a>) -> Result<(), Stop>
-        ensures made { (style : Style) (place : Place) → Makes style place result (config_of self.old) (config_of self.new) (pushed (value_of value.entry) self.old.values.stack) }
+        ensures made { (style : Style) (place : Place) → Makes style place result self.old self.new (pushed (value_of value.entry) self.old.values.stack) (mark.pushed (lent_mark (value_of value.entry))) }
+        ensures fits { 1 ≤ self.old.values.room → Fits result }
         ensures entries { OnErr result (self.new.values.entries ≡ self.old.values.entries) }
     {
         self.push(value)?;
@@ -72,7 +78,8 @@ impl<'a> State<'a> {
     /// Logs a line.
     fn log_line(&mut self, line: Text) -> Result<(), NoMemory>
         ensures moved { OnOk result (config_of self.new ≡ with_log (line ∷ []) (config_of self.old)) }
-        ensures entries { OnErr result (self.new.values.entries ≡ self.old.values.entries) }
+        ensures frames { self.new.frames ≡ self.old.frames }
+        ensures values { self.new.values ≡ self.old.values }
     {
         self.log.push(line)?;
         Ok(())
@@ -80,7 +87,7 @@ impl<'a> State<'a> {
 
     /// Takes the top off, and logs a line.
     fn log_over(&mut self, line: Text) -> Result<(), Stop>
-        ensures made { (style : Style) (place : Place) → Makes style place result (config_of self.old) (config_of self.new) (with_logged (line ∷ []) (drop 1 self.old.values.stack)) }
+        ensures made { (style : Style) (place : Place) → Makes style place result self.old self.new (with_logged (line ∷ []) (drop 1 self.old.values.stack)) (mark.taken 1) }
         ensures entries { OnErr result (self.new.values.entries ≡ self.old.values.entries) }
     {
         self.values.drop_top(1);
@@ -90,8 +97,8 @@ impl<'a> State<'a> {
 
     /// `top$`
     pub fn log_top(&mut self, style: &Style) -> Result<(), Stop>
-        ensures made { (place : Place) → Makes style.now place result (config_of self.old) (config_of self.new)
-            (one_operand self.old.values.stack (λ a rest. with_logged (rule.shown style.now a ∷ []) rest)) }
+        ensures made { (place : Place) → Makes style.now place result self.old self.new
+            (one_operand self.old.values.stack (λ a rest. with_logged (rule.shown style.now a ∷ []) rest)) (mark.taken 1) }
         ensures entries { OnErr result (self.new.values.entries ≡ self.old.values.entries) }
     {
         let line = shown(self.alloc, style, one(&self.values)?)?;
@@ -100,8 +107,8 @@ impl<'a> State<'a> {
 
     /// `warning$`
     pub fn warn(&mut self) -> Result<(), Stop>
-        ensures made { (style : Style) (place : Place) → Makes style place result (config_of self.old) (config_of self.new)
-            (string (λ a rest. with_logged (rule.warning a ∷ []) rest) self.old.values.stack) }
+        ensures made { (style : Style) (place : Place) → Makes style place result self.old self.new
+            (string (λ a rest. with_logged (rule.warning a ∷ []) rest) self.old.values.stack) (mark.taken 1) }
         ensures entries { OnErr result (self.new.values.entries ≡ self.old.values.entries) }
     {
         let line = warning_of(self.alloc, one_string(&self.values)?)?;
@@ -110,8 +117,8 @@ impl<'a> State<'a> {
 
     /// `stack$`
     pub fn log_all(&mut self, style: &Style) -> Result<(), Stop>
-        ensures made { (place : Place) → Makes style.now place result (config_of self.old) (config_of self.new)
-            (with_logged (map (rule.shown style.now) self.old.values.stack) []) }
+        ensures made { (place : Place) → Makes style.now place result self.old self.new
+            (with_logged (map (rule.shown style.now) self.old.values.stack) []) mark.cleared }
         ensures entries { OnErr result (self.new.values.entries ≡ self.old.values.entries) }
     {
         let mut lines = all_shown(self.alloc, style, &self.values)?;
@@ -123,7 +130,8 @@ impl<'a> State<'a> {
     /// Writes a text or a line's end.
     fn write(&mut self, event: Event<'a>) -> Result<(), NoMemory>
         ensures moved { OnOk result (config_of self.new ≡ with_event (event_of event.entry) (config_of self.old)) }
-        ensures entries { OnErr result (self.new.values.entries ≡ self.old.values.entries) }
+        ensures frames { self.new.frames ≡ self.old.frames }
+        ensures values { self.new.values ≡ self.old.values }
     {
         self.events.push(event)?;
         Ok(())
@@ -131,7 +139,7 @@ impl<'a> State<'a> {
 
     /// `newline$`
     pub fn end_line(&mut self) -> Result<(), Stop>
-        ensures made { (style : Style) (place : Place) → Makes style place result (config_of self.old) (config_of self.new) (with_written config.EndedLine self.old.values.stack) }
+        ensures made { (style : Style) (place : Place) → Makes style place result self.old self.new (with_written config.EndedLine self.old.values.stack) (λ m. m) }
         ensures entries { OnErr result (self.new.values.entries ≡ self.old.values.entries) }
     {
         self.write(Event::EndedLine)?;
@@ -140,8 +148,8 @@ impl<'a> State<'a> {
 
     /// `write$`
     pub fn write_top(&mut self) -> Result<(), Stop>
-        ensures made { (style : Style) (place : Place) → Makes style place result (config_of self.old) (config_of self.new)
-            (string (λ a rest. with_written (config.Wrote a) rest) self.old.values.stack) }
+        ensures made { (style : Style) (place : Place) → Makes style place result self.old self.new
+            (string (λ a rest. with_written (config.Wrote a) rest) self.old.values.stack) (mark.taken 1) }
         ensures entries { OnErr result (self.new.values.entries ≡ self.old.values.entries) }
     {
         let event = self.top_event()?;
@@ -163,8 +171,9 @@ impl<'a> State<'a> {
 
     /// `:=`
     pub fn assign(&mut self, style: &'a Style) -> Result<(), Stop>
-        ensures made { (place : Place) → Makes style.now place result (config_of self.old) (config_of self.new)
-            (rule.assign (context_of style.now (config_of self.old)) self.old.values.stack) }
+        ensures made { (place : Place) → Makes style.now place result self.old self.new
+            (rule.assign (context_of style.now (config_of self.old)) self.old.values.stack) (rules.assigned style.now self.old.values.stack (visited_index (config_of self.old))) }
+        ensures fits { cuts_nothing (rule.assign (context_of style.now (config_of self.old)) self.old.values.stack) ≡ true → Fits result }
         ensures entries { OnErr result (self.new.values.entries ≡ self.old.values.entries) }
     {
         match assignment_of(self.surroundings(style), &self.values)? {
@@ -181,7 +190,9 @@ impl<'a> State<'a> {
 
     /// Assigns the second value from the top, and takes both away.
     fn assign_second(&mut self, style: &Style, name: NameId)
-        ensures { config_of self.new ≡ with_second_assigned style.now name self.old.values.stack (config_of self.old) }
+        ensures moved { config_of self.new ≡ with_second_assigned style.now name self.old.values.stack (config_of self.old) }
+        ensures marks { self.new.values.marks ≡ rules.given (parts.kind_of style.now name) name (visited_index (config_of self.old)) (mark.taken 1 self.old.values.marks) }
+        ensures room { LeavesRoom 0 self.old self.new }
     {
         self.values.drop_top(1);
         self.assign_top(style, name);
@@ -198,6 +209,9 @@ impl<'a> State<'a> {
         ensures moved { OnOk result (config_of self.new ≡
             with_second_cut style.now name size self.old.values.stack (with_log (line ∷ []) (config_of self.old))) }
         ensures entries { OnErr result (self.new.values.entries ≡ self.old.values.entries) }
+        ensures marks { OnOk result (self.new.values.marks ≡
+            rules.given (parts.kind_of style.now name) name (visited_index (config_of self.old)) (mark.taken 1 self.old.values.marks)) }
+        ensures room { LeavesRoom 0 self.old self.new }
     {
         self.log_line(line)?;
         self.values.drop_top(1);
@@ -208,7 +222,9 @@ impl<'a> State<'a> {
 
     /// Takes the top off, and gives it to a variable.
     fn assign_top(&mut self, style: &Style, name: NameId)
-        ensures { config_of self.new ≡ with_top_assigned (parts.kind_of style.now name) name self.old.values.stack (config_of self.old) }
+        ensures moved { config_of self.new ≡ with_top_assigned (parts.kind_of style.now name) name self.old.values.stack (config_of self.old) }
+        ensures marks { self.new.values.marks ≡ rules.given (parts.kind_of style.now name) name (visited_index (config_of self.old)) self.old.values.marks }
+        ensures room { LeavesRoom 0 self.old self.new }
     {
         if is_of_entry(kind_of(style, name)) {
             self.assign_in_entry(name);
@@ -219,7 +235,10 @@ impl<'a> State<'a> {
 
     /// Takes the top off, and gives it to a variable of the visited entry.
     fn assign_in_entry(&mut self, name: NameId)
-        ensures { config_of self.new ≡ with_entry_assigned name self.old.values.stack (config_of self.old) }
+        ensures moved { config_of self.new ≡ with_entry_assigned name self.old.values.stack (config_of self.old) }
+        ensures marks { self.new.values.marks ≡
+            mark.given_in_entry name (visited_index (config_of self.old)) self.old.values.marks.stack self.old.values.marks }
+        ensures room { LeavesRoom 0 self.old self.new }
     {
         let Some(at) = self.visited_index() else {
             self.values.drop_top(1);

@@ -1,11 +1,13 @@
 //! The built-in functions that read the visited entry.
 
-ghost use Rattle.std.specs.Prelude.{◌≡◌, OnErr};
+ghost use Rattle.std.specs.Prelude.{◌≡◌, ◌≤◌, OnErr};
 ghost use Rattle.bv_base.specs.declared.place.Place.{Place};
 ghost use Rattle.name_table.specs.declared.style.Style.{Style};
 ghost use Rattle.bst_meaning.specs.Builtins.{built_in, type_name};
 ghost use Rattle.bst_meaning.specs.Machine.{context_of};
 ghost use Rattle.bst_step.specs.Effects.{Makes};
+ghost use Rattle.bst_step.specs.Marks as mark;
+ghost use Rattle.bst_step.specs.Room.{Fits};
 ghost use Rattle.bst_step.specs.State.{config_of};
 
 use crate::held::Operand;
@@ -18,8 +20,9 @@ use name_table::style::{Style, TypeTarget};
 impl<'a> State<'a> {
     /// `cite$`
     pub fn cite(&mut self) -> Result<(), Stop>
-        ensures made { (style : Style) (place : Place) → Makes style place result (config_of self.old) (config_of self.new)
-            (built_in Builtin.Cite (context_of style (config_of self.old)) self.old.values.stack) }
+        ensures made { (style : Style) (place : Place) → Makes style place result self.old self.new
+            (built_in Builtin.Cite (context_of style (config_of self.old)) self.old.values.stack) (mark.pushed mark.Lent) }
+        ensures fits { 1 ≤ self.old.values.room → Fits result }
         ensures entries { OnErr result (self.new.values.entries ≡ self.old.values.entries) }
     {
         match self.visited_entry() {
@@ -30,8 +33,9 @@ impl<'a> State<'a> {
 
     /// `type$`
     pub fn type_of(&mut self, style: &Style) -> Result<(), Stop>
-        ensures made { (place : Place) → Makes style.now place result (config_of self.old) (config_of self.new)
-            (built_in Builtin.TypeName (context_of style.now (config_of self.old)) self.old.values.stack) }
+        ensures made { (place : Place) → Makes style.now place result self.old self.new
+            (built_in Builtin.TypeName (context_of style.now (config_of self.old)) self.old.values.stack) (mark.pushed mark.Lent) }
+        ensures fits { 1 ≤ self.old.values.room → Fits result }
         ensures entries { OnErr result (self.new.values.entries ≡ self.old.values.entries) }
     {
         match self.visited_entry() {

@@ -3,6 +3,7 @@
 ghost use Rattle.std.specs.Prelude.{◌≡◌, ℕ, List, length, map, take, IfOk};
 ghost use Rattle.bst_step.specs.EntryStates.{EntriesWithin, state_in, with_held_in};
 ghost use Rattle.bst_step.specs.Machine.{key_at};
+ghost use Rattle.bst_step.specs.Marks.{marked_in};
 ghost use Rattle.bst_step.specs.Variables.{with_held};
 
 use crate::fields::PlacedEntry;
@@ -38,6 +39,7 @@ pub fn entries_renewed<'a>(
     ensures same { IfOk result (λ renewed. map (state_in fresh.new.items) renewed.items ≡ map (state_in pool.now) entries.now) }
     ensures within { IfOk result (λ renewed. EntriesWithin (length fresh.new.items) renewed.items) }
     ensures grown { take (length fresh.old.items) fresh.new.items ≡ fresh.old.items }
+    ensures marks { IfOk result (λ renewed. map marked_in renewed.items ≡ map marked_in entries.now) }
 {
     let mut renewed = Vec::new(*fresh.allocator());
     for state in entries {

@@ -1,10 +1,12 @@
 //! The built-in functions that enter others.
 
-ghost use Rattle.std.specs.Prelude.{◌≡◌, OnErr};
+ghost use Rattle.std.specs.Prelude.{◌≡◌, ◌≤◌, OnErr};
 ghost use Rattle.bst_meaning.specs.Builtins as rule;
 ghost use Rattle.bst_meaning.specs.Builtins.{built_in};
 ghost use Rattle.bst_meaning.specs.Machine.{context_of};
 ghost use Rattle.bst_step.specs.Effects.{Makes};
+ghost use Rattle.bst_step.specs.Marks as mark;
+ghost use Rattle.bst_step.specs.Room.{Fits};
 ghost use Rattle.bst_step.specs.State.{config_of};
 
 use crate::held::Operand;
@@ -21,7 +23,8 @@ use name_table::style::{Style, TypeTarget};
 impl<'a> State<'a> {
     /// `if$`
     pub fn if_else(&mut self, style: &'a Style, place: Place) -> Result<(), Stop>
-        ensures made { Makes style.now place result (config_of self.old) (config_of self.new) (rule.if_else self.old.values.stack) }
+        ensures made { Makes style.now place result self.old self.new (rule.if_else self.old.values.stack) (mark.taken 3) }
+        ensures fits { 1 ≤ self.old.frames.room → Fits result }
         ensures entries { OnErr result (self.new.values.entries ≡ self.old.values.entries) }
     {
         match three(&self.values)? {
@@ -35,7 +38,8 @@ impl<'a> State<'a> {
 
     /// `while$`
     pub fn while_do(&mut self, style: &'a Style, place: Place) -> Result<(), Stop>
-        ensures made { Makes style.now place result (config_of self.old) (config_of self.new) (rule.while_do self.old.values.stack) }
+        ensures made { Makes style.now place result self.old self.new (rule.while_do self.old.values.stack) (mark.taken 2) }
+        ensures fits { 1 ≤ self.old.frames.room → Fits result }
         ensures entries { OnErr result (self.new.values.entries ≡ self.old.values.entries) }
     {
         match two(&self.values)? {
@@ -48,8 +52,8 @@ impl<'a> State<'a> {
 
     /// `call.type$`, for the visited entry.
     pub fn call_type(&mut self, style: &'a Style, place: Place) -> Result<(), Stop>
-        ensures made { Makes style.now place result (config_of self.old) (config_of self.new)
-            (built_in Builtin.CallType (context_of style.now (config_of self.old)) self.old.values.stack) }
+        ensures made { Makes style.now place result self.old self.new
+            (built_in Builtin.CallType (context_of style.now (config_of self.old)) self.old.values.stack) (λ m. m) }
         ensures entries { OnErr result (self.new.values.entries ≡ self.old.values.entries) }
     {
         let Some(entry) = self.visited_entry() else {

@@ -4,6 +4,8 @@ ghost use Rattle.std.specs.Prelude.{◌≡◌, ◌≤◌, ℕ, List, ◌++◌, d
 ghost use Rattle.bst_meaning.specs.declared.value.Value.TheVariants.{Str};
 ghost use Rattle.bst_meaning.specs.Sorting.{string_of};
 ghost use Rattle.bst_step.specs.Held.{end_of, lent_of, part_from, value_in, value_of};
+ghost use Rattle.bst_step.specs.Marks as mark;
+ghost use Rattle.bst_step.specs.Marks.{lent_mark, mark_of};
 
 use bst_meaning::value::Target;
 use bv_base::memory::NoMemory;
@@ -45,6 +47,7 @@ impl<'a> Operand<'a> {
     pub fn held(self) -> Held<'a>
         ensures value { (pool : List ℕ) → value_in pool result ≡ value_of self.entry }
         ensures within { end_of result ≡ 0 }
+        ensures mark { mark_of result ≡ lent_mark (value_of self.entry) }
     {
         match self {
             Operand::Int(n) => Held::Int(n),
@@ -100,6 +103,7 @@ impl<'a> Held<'a> {
         requires { end_of self ≤ length pool.now }
         ensures value { value_in pool.now result ≡ part_from from count (value_in pool.now self.entry) }
         ensures within { end_of result ≤ end_of self.entry }
+        ensures mark { mark_of result ≡ mark_of self.entry }
     {
         match self {
             Held::Str(bytes) => Held::Str(bytes_at(bytes, from, count)),
@@ -116,6 +120,7 @@ impl<'a> Held<'a> {
         ensures same { IfOk result (λ renewed. value_in fresh.new.items renewed ≡ value_in pool.now self.entry) }
         ensures within { IfOk result (λ renewed. end_of renewed ≤ length fresh.new.items) }
         ensures grown { take (length fresh.old.items) fresh.new.items ≡ fresh.old.items }
+        ensures mark { IfOk result (λ renewed. mark_of renewed ≡ mark_of self.entry) }
     {
         match self {
             Held::Made(start, count) => made_in(bytes_at(pool, start, count), fresh),
@@ -142,6 +147,7 @@ impl<'a> Held<'a> {
 pub fn made_in<'a>(bytes: &[u8], pool: &mut Vec<u8>) -> Result<Held<'a>, NoMemory>
     ensures value { IfOk result (λ made. value_in pool.new.items made ≡ Str bytes.now) }
     ensures within { IfOk result (λ made. end_of made ≤ length pool.new.items) }
+    ensures mark { IfOk result (λ made. mark_of made ≡ mark.Made) }
     ensures grown { take (length pool.old.items) pool.new.items ≡ pool.old.items }
 {
     let start = pool.as_slice().len();
@@ -156,6 +162,7 @@ pub fn joined_in<'a>(a: Held<'a>, b: Held<'a>, pool: &mut Vec<u8>) -> Result<Hel
     ensures value { IfOk result (λ joined. value_in pool.new.items joined ≡
         Str (string_of (value_in pool.old.items a.entry) ++ string_of (value_in pool.old.items b.entry))) }
     ensures within { IfOk result (λ joined. end_of joined ≤ length pool.new.items) }
+    ensures mark { IfOk result (λ joined. mark_of joined ≡ mark.Made) }
     ensures grown { take (length pool.old.items) pool.new.items ≡ pool.old.items }
 {
     let start = brought_to_end(a, pool)?;

@@ -9,6 +9,7 @@ mod entries;
 mod entry_states;
 mod fields;
 mod flow;
+mod frame_list;
 mod frames;
 mod held;
 pub mod laws;

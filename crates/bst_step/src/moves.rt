@@ -1,9 +1,11 @@
 //! The built-in functions that only move values.
 
-ghost use Rattle.std.specs.Prelude.{◌≡◌, ◌∷◌, Ok};
+ghost use Rattle.std.specs.Prelude.{◌≡◌, ◌≤◌, ◌∷◌, Ok};
 ghost use Rattle.bst_meaning.specs.Effect.{left, pushed};
 ghost use Rattle.bst_meaning.specs.Operands.{one_operand, two_operands};
 ghost use Rattle.bst_step.specs.Effects.{Leaves};
+ghost use Rattle.bst_step.specs.Marks as mark;
+ghost use Rattle.bst_step.specs.Room.{Fits};
 
 use crate::operands::{one, two};
 use crate::stop::Stop;
@@ -11,7 +13,8 @@ use crate::values::Values;
 
 /// `duplicate$`
 pub fn duplicate(values: &mut Values<'_>) -> Result<(), Stop>
-    ensures { Leaves result values.old values.new (one_operand values.old.stack (λ a rest. pushed a (a ∷ rest))) }
+    ensures left { Leaves result values.old values.new (one_operand values.old.stack (λ a rest. pushed a (a ∷ rest))) mark.doubled }
+    ensures fits { 1 ≤ values.old.room → Fits result }
 {
     let _ = one(values)?;
     values.double()?;
@@ -20,7 +23,8 @@ pub fn duplicate(values: &mut Values<'_>) -> Result<(), Stop>
 
 /// `pop$`
 pub fn pop(values: &mut Values<'_>) -> Result<(), Stop>
-    ensures { Leaves result values.old values.new (one_operand values.old.stack (λ a rest. Ok (left rest))) }
+    ensures left { Leaves result values.old values.new (one_operand values.old.stack (λ a rest. Ok (left rest))) (mark.taken 1) }
+    ensures fits { Fits result }
 {
     let _ = one(values)?;
     values.drop_top(1);
@@ -29,7 +33,8 @@ pub fn pop(values: &mut Values<'_>) -> Result<(), Stop>
 
 /// `swap$`
 pub fn swap(values: &mut Values<'_>) -> Result<(), Stop>
-    ensures { Leaves result values.old values.new (two_operands values.old.stack (λ a b rest. Ok (left (a ∷ b ∷ rest)))) }
+    ensures left { Leaves result values.old values.new (two_operands values.old.stack (λ a b rest. Ok (left (a ∷ b ∷ rest)))) mark.swapped }
+    ensures fits { Fits result }
 {
     let _ = two(values)?;
     values.swap();

@@ -6,6 +6,8 @@ ghost use Rattle.bst_meaning.specs.Operands.{ranged};
 ghost use Rattle.bst_meaning.specs.Builtins as rule;
 ghost use Rattle.bst_meaning.specs.Builtins.{string};
 ghost use Rattle.bst_step.specs.Effects.{Leaves};
+ghost use Rattle.bst_step.specs.Marks as mark;
+ghost use Rattle.bst_step.specs.Room.{Fits};
 
 use crate::held::Operand;
 use crate::numbers::count;
@@ -18,7 +20,8 @@ use std::alloc::Global;
 
 /// `num.names$`
 pub fn num_names(values: &mut Values<'_>) -> Result<(), Stop>
-    ensures { Leaves result values.old values.new (string (λ a rest. ranged (pos (length (names_of a))) rest) values.old.stack) }
+    ensures left { Leaves result values.old values.new (string (λ a rest. ranged (pos (length (names_of a))) rest) values.old.stack) (mark.resulting 1 mark.NoString) }
+    ensures fits { Fits result }
 {
     let names = name_split::names::count(one_string(values)?) as u128;
     count(names, values)
@@ -26,7 +29,7 @@ pub fn num_names(values: &mut Values<'_>) -> Result<(), Stop>
 
 /// `format.name$`
 pub fn format_name(alloc: Global, values: &mut Values<'_>) -> Result<(), Stop>
-    ensures { Leaves result values.old values.new (rule.format_name values.old.stack) }
+    ensures { Leaves result values.old values.new (rule.format_name values.old.stack) (mark.resulting 3 mark.Made) }
 {
     match three(values)? {
         (Operand::Str(text), Operand::Int(index), Operand::Str(pattern)) => {

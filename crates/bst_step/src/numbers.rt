@@ -9,6 +9,8 @@ ghost use Rattle.bst_meaning.specs.Builtins as rule;
 ghost use Rattle.bst_meaning.specs.Builtins.{integers, string, byte_number, byte_string};
 ghost use Rattle.bst_step.specs.Operands.{integer};
 ghost use Rattle.bst_step.specs.Effects.{Leaves};
+ghost use Rattle.bst_step.specs.Marks as mark;
+ghost use Rattle.bst_step.specs.Room.{Fits};
 
 use crate::held::Operand;
 use crate::operands::{one_integer, one_string, truth, two, two_integers};
@@ -21,7 +23,8 @@ use text_ops::int_to_str::int_to_str;
 
 /// `=`
 pub fn equal(values: &mut Values<'_>) -> Result<(), Stop>
-    ensures { Leaves result values.old values.new (two_operands values.old.stack rule.equal) }
+    ensures left { Leaves result values.old values.new (two_operands values.old.stack rule.equal) (mark.resulting 2 mark.NoString) }
+    ensures fits { Fits result }
 {
     let holds = match two(values)? {
         (Operand::Int(a), Operand::Int(b)) => a == b,
@@ -34,7 +37,8 @@ pub fn equal(values: &mut Values<'_>) -> Result<(), Stop>
 
 /// `>`
 pub fn greater(values: &mut Values<'_>) -> Result<(), Stop>
-    ensures { Leaves result values.old values.new (integers (λ a b rest. pushed (truth (is_positive (a -ℤ b))) rest) values.old.stack) }
+    ensures left { Leaves result values.old values.new (integers (λ a b rest. pushed (truth (is_positive (a -ℤ b))) rest) values.old.stack) (mark.resulting 2 mark.NoString) }
+    ensures fits { Fits result }
 {
     let (a, b) = two_integers(values)?;
     values.put(2, truth(a > b));
@@ -43,7 +47,8 @@ pub fn greater(values: &mut Values<'_>) -> Result<(), Stop>
 
 /// `<`
 pub fn less(values: &mut Values<'_>) -> Result<(), Stop>
-    ensures { Leaves result values.old values.new (integers (λ a b rest. pushed (truth (is_positive (b -ℤ a))) rest) values.old.stack) }
+    ensures left { Leaves result values.old values.new (integers (λ a b rest. pushed (truth (is_positive (b -ℤ a))) rest) values.old.stack) (mark.resulting 2 mark.NoString) }
+    ensures fits { Fits result }
 {
     let (a, b) = two_integers(values)?;
     values.put(2, truth(a < b));
@@ -52,7 +57,8 @@ pub fn less(values: &mut Values<'_>) -> Result<(), Stop>
 
 /// `+`
 pub fn plus(values: &mut Values<'_>) -> Result<(), Stop>
-    ensures { Leaves result values.old values.new (integers (λ a b rest. ranged (a +ℤ b) rest) values.old.stack) }
+    ensures left { Leaves result values.old values.new (integers (λ a b rest. ranged (a +ℤ b) rest) values.old.stack) (mark.resulting 2 mark.NoString) }
+    ensures fits { Fits result }
 {
     let (a, b) = two_integers(values)?;
     match a.checked_add(b) {
@@ -66,7 +72,8 @@ pub fn plus(values: &mut Values<'_>) -> Result<(), Stop>
 
 /// `-`
 pub fn minus(values: &mut Values<'_>) -> Result<(), Stop>
-    ensures { Leaves result values.old values.new (integers (λ a b rest. ranged (a -ℤ b) rest) values.old.stack) }
+    ensures left { Leaves result values.old values.new (integers (λ a b rest. ranged (a -ℤ b) rest) values.old.stack) (mark.resulting 2 mark.NoString) }
+    ensures fits { Fits result }
 {
     let (a, b) = two_integers(values)?;
     match a.checked_sub(b) {
@@ -80,7 +87,7 @@ pub fn minus(values: &mut Values<'_>) -> Result<(), Stop>
 
 /// `chr.to.int$`
 pub fn chr_to_int(values: &mut Values<'_>) -> Result<(), Stop>
-    ensures { Leaves result values.old values.new (string byte_number values.old.stack) }
+    ensures { Leaves result values.old values.new (string byte_number values.old.stack) (mark.resulting 1 mark.NoString) }
 {
     match one_string(values)? {
         [b] => {
@@ -94,7 +101,7 @@ pub fn chr_to_int(values: &mut Values<'_>) -> Result<(), Stop>
 
 /// `int.to.chr$`
 pub fn int_to_chr(values: &mut Values<'_>) -> Result<(), Stop>
-    ensures { Leaves result values.old values.new (integer byte_string values.old.stack) }
+    ensures { Leaves result values.old values.new (integer byte_string values.old.stack) (mark.resulting 1 mark.Made) }
 {
     let n = one_integer(values)?;
     if 0 <= n && n < 128 {
@@ -106,7 +113,7 @@ pub fn int_to_chr(values: &mut Values<'_>) -> Result<(), Stop>
 
 /// `int.to.str$`
 pub fn int_to_str_of(alloc: Global, values: &mut Values<'_>) -> Result<(), Stop>
-    ensures { Leaves result values.old values.new (integer (λ n rest. pushed (Str (numeral n)) rest) values.old.stack) }
+    ensures { Leaves result values.old values.new (integer (λ n rest. pushed (Str (numeral n)) rest) values.old.stack) (mark.resulting 1 mark.Made) }
 {
     let digits = int_to_str(alloc, one_integer(values)?)?;
     values.make(1, digits.as_slice())?;
@@ -116,7 +123,8 @@ pub fn int_to_str_of(alloc: Global, values: &mut Values<'_>) -> Result<(), Stop>
 /// Puts a count in the place of the top, where it has 32 bits.
 pub fn count(n: u128, values: &mut Values<'_>) -> Result<(), Stop>
     requires { 1 ≤ length values.old.stack }
-    ensures { Leaves result values.old values.new (ranged (pos n) (drop 1 values.old.stack)) }
+    ensures left { Leaves result values.old values.new (ranged (pos n) (drop 1 values.old.stack)) (mark.resulting 1 mark.NoString) }
+    ensures fits { Fits result }
 {
     if n <= GREATEST_INTEGER as u128 {
         values.put(1, Operand::Int(n as i32));

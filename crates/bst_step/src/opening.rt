@@ -5,14 +5,15 @@ ghost use Rattle.bst_meaning.specs.Config as config;
 ghost use Rattle.bst_meaning.specs.Entries.{field_ids_at, field_ids_from};
 ghost use Rattle.bst_step.specs.EntryStates.{EntriesWithin, state_in};
 ghost use Rattle.bst_step.specs.Held.{value_of};
+ghost use Rattle.bst_step.specs.Marks.{AreLent, AreLentIn, lent_marks};
 ghost use Rattle.bst_step.specs.Places.{StandAt};
 ghost use Rattle.bst_step.specs.State.{config_of};
 ghost use Rattle.bst_step.specs.Variables.{VariablesWithin, variable_in};
 
 use crate::entry_states::EntryState;
 use crate::fields::PlacedEntry;
+use crate::frame_list::Frames;
 use crate::held::Operand;
-use crate::stack::Stack;
 use crate::state::State;
 use crate::values::Values;
 use crate::variables::{Variable, Variables};
@@ -31,7 +32,8 @@ pub fn opening<'a>(
     style: &'a Style,
     list: &'a EntryList,
 ) -> Result<State<'a>, NoMemory>
-    ensures { IfOk result (λ state. config_of state ≡ config.opening style.now list.now) }
+    ensures opened { IfOk result (λ state. config_of state ≡ config.opening style.now list.now) }
+    ensures marks { IfOk result (λ state. state.values.marks ≡ lent_marks (config.opening style.now list.now)) }
 {
     let variables = entry_variables(alloc, &style.names)?;
     let places = field_places(alloc, &style.names)?;
@@ -42,7 +44,7 @@ pub fn opening<'a>(
         preamble: list.preamble.as_slice(),
         commands: style.commands.as_slice(),
         running: false,
-        frames: Stack::new(alloc),
+        frames: Frames::new(alloc),
         values: Values::new(alloc, globals, entries),
         visit: None,
         events: Vec::new(alloc),
@@ -67,6 +69,7 @@ fn opening_integer(id: u32) -> i32
 /// The variables of the whole style, as a run opens.
 fn globals<'a>(alloc: Global, names: &Names) -> Result<Variables<'a>, NoMemory>
     ensures within { IfOk result (VariablesWithin 0) }
+    ensures marks { IfOk result AreLent }
     ensures opened { IfOk result (λ variables. map (variable_in []) variables ≡ config.opening_variables config.opening_global 0 names.now) }
 {
     let mut places = Vec::new(alloc);
@@ -81,6 +84,7 @@ fn globals<'a>(alloc: Global, names: &Names) -> Result<Variables<'a>, NoMemory>
 /// Appends the variable of the whole style that a name of a kind is, if it is one.
 fn push_global(variables: &mut Vec<Variable<'_>>, name: NameId, kind: Kind) -> Result<(), NoMemory>
     ensures within { OnOk result (VariablesWithin 0 variables.old.items → VariablesWithin 0 variables.new.items) }
+    ensures marks { OnOk result (AreLent variables.old.items → AreLent variables.new.items) }
     ensures opened { OnOk result ((later : List config.Variable) →
         map (variable_in []) variables.new.items ++ later ≡ map (variable_in []) variables.old.items ++ config.opening_global name.0 kind later) }
 {
@@ -94,6 +98,7 @@ fn push_global(variables: &mut Vec<Variable<'_>>, name: NameId, kind: Kind) -> R
 /// The variables of an entry, as a run opens.
 fn entry_variables<'a>(alloc: Global, names: &Names) -> Result<Variables<'a>, NoMemory>
     ensures within { IfOk result (VariablesWithin 0) }
+    ensures marks { IfOk result AreLent }
     ensures opened { IfOk result (λ variables. map (variable_in []) variables ≡ config.opening_variables config.opening_entry_variable 0 names.now) }
 {
     let mut places = Vec::new(alloc);
@@ -112,6 +117,7 @@ fn push_entry_variable(
     kind: Kind,
 ) -> Result<(), NoMemory>
     ensures within { OnOk result (VariablesWithin 0 variables.old.items → VariablesWithin 0 variables.new.items) }
+    ensures marks { OnOk result (AreLent variables.old.items → AreLent variables.new.items) }
     ensures opened { OnOk result ((later : List config.Variable) →
         map (variable_in []) variables.new.items ++ later ≡ map (variable_in []) variables.old.items ++ config.opening_entry_variable name.0 kind later) }
 {
@@ -129,6 +135,7 @@ fn push_variable<'a>(
     value: Operand<'a>,
 ) -> Result<(), NoMemory>
     ensures within { OnOk result (VariablesWithin 0 variables.old.items → VariablesWithin 0 variables.new.items) }
+    ensures marks { OnOk result (AreLent variables.old.items → AreLent variables.new.items) }
     ensures opened { OnOk result ((later : List config.Variable) →
         map (variable_in []) variables.new.items ++ later ≡ map (variable_in []) variables.old.items ++ record { name = name; value = value_of value.entry } ∷ later) }
 {
@@ -168,8 +175,10 @@ fn entry_states<'a>(
     variables: &Variables<'a>,
     entries: &'a [Entry],
 ) -> Result<Vec<EntryState<'a>>, NoMemory>
-    requires { VariablesWithin 0 variables.now }
+    requires within { VariablesWithin 0 variables.now }
+    requires marks { AreLent variables.now }
     ensures within { IfOk result (λ states. EntriesWithin 0 states.items) }
+    ensures marks { IfOk result (λ states. AreLentIn states.items) }
     ensures opened { IfOk result (λ states. map (state_in []) states.items ≡ config.opening_entries (map (variable_in []) variables.now) 0 entries.now) }
 {
     let mut states = Vec::new(alloc);

@@ -4,6 +4,7 @@ ghost use Rattle.std.specs.Prelude.{◌≡◌, ℕ, map, OnErr, OnOk};
 ghost use Rattle.bst_meaning.specs.Sorting as rule;
 ghost use Rattle.bst_step.specs.EntryStates.{EntriesWithin, state_in};
 ghost use Rattle.bst_step.specs.Held.{value_of};
+ghost use Rattle.bst_step.specs.Marks.{marked_in, sorted_marks};
 
 use crate::entry_states::EntryState;
 use crate::held::Operand;
@@ -14,6 +15,7 @@ use name_table::opening::SORT_KEY;
 pub fn sort_entries(pool: &[u8], entries: &mut Vec<EntryState<'_>>) -> Result<(), NoMemory>
     ensures sorted { OnOk result (map (state_in pool.now) entries.new.items ≡ rule.sorted (map (state_in pool.now) entries.old.items)) }
     ensures within { (end : ℕ) → EntriesWithin end entries.old.items → EntriesWithin end entries.new.items }
+    ensures marks { OnOk result (map marked_in entries.new.items ≡ sorted_marks (map (state_in pool.now) entries.old.items) (map marked_in entries.old.items)) }
     ensures kept { OnErr result (entries.new.items ≡ entries.old.items) }
 {
     entries.sort_by(|a, b| sort_key(pool, a).cmp(sort_key(pool, b)))?;

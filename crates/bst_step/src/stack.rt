@@ -61,6 +61,16 @@ impl<T: Copy + Default> Stack<T> {
         Ok(())
     }
 
+    /// Makes room for so many items more. Where it is refused, the items stay.
+    pub fn reserve(&mut self, count: usize) -> Result<(), NoMemory>
+        ensures room { OnOk result (count ≤ self.new.room) }
+        ensures more { self.old.room ≤ self.new.room }
+        ensures items { self.new.items ≡ self.old.items }
+    {
+        self.slots.reserve(count)?;
+        Ok(())
+    }
+
     /// Puts an item in the place of the one so far below the top.
     #[inline(always)]
     pub fn replace(&mut self, depth: usize, item: T)

@@ -1,13 +1,16 @@
 //! What changes while a style runs.
 
-ghost use Rattle.std.specs.Prelude.{◌≡◌, [], ◌∷◌, option_map, OnOk};
+ghost use Rattle.std.specs.Prelude.{◌≡◌, ◌+◌, ◌≤◌, [], ◌∷◌, option_map, IsOk, OnOk};
 ghost use Rattle.bst_meaning.specs.Machine as rule;
 ghost use Rattle.bst_step.specs.Held.{value_of};
+ghost use Rattle.bst_step.specs.Marks as mark;
+ghost use Rattle.bst_step.specs.Marks.{lent_mark};
+ghost use Rattle.bst_step.specs.Room.{LeavesRoom};
 ghost use Rattle.bst_step.specs.State.{config_of, part_of, tokens_left, visit_in};
 ghost use Rattle.bst_step.specs.Surroundings.{context_in};
 
+use crate::frame_list::Frames;
 use crate::held::Operand;
-use crate::stack::Stack;
 use crate::surroundings::Surroundings;
 use crate::values::Values;
 use bst_meaning::entry::Entry;
@@ -86,7 +89,7 @@ pub struct State<'a> {
     pub commands: &'a [CommandAt],
     /// Whether a call of the first command runs.
     pub running: bool,
-    pub frames: Stack<Frame<'a>>,
+    pub frames: Frames<'a>,
     pub values: Values<'a>,
     pub visit: Option<Visit>,
     pub events: Vec<Event<'a>>,
@@ -161,9 +164,24 @@ impl<'a> State<'a> {
         }
     }
 
+    /// Makes room for so many frames and values more. Where it is refused, there may be more room for frames, and all else is
+    /// as it was.
+    pub fn reserve(&mut self, count: usize) -> Result<(), NoMemory>
+        ensures frames { OnOk result (count ≤ self.new.frames.room) }
+        ensures values { OnOk result (count ≤ self.new.values.room) }
+        ensures same { config_of self.new ≡ config_of self.old }
+        ensures marks { self.new.values.marks ≡ self.old.values.marks }
+        ensures room { LeavesRoom 0 self.old self.new }
+    {
+        self.frames.reserve(count)?;
+        self.values.reserve(count)
+    }
+
     /// Stops by an execution error at a place.
     pub fn stop(&mut self, fault: Fault, place: Place)
-        ensures { config_of self.new ≡ rule.stopped_by fault place (config_of self.old) }
+        ensures moved { config_of self.new ≡ rule.stopped_by fault place (config_of self.old) }
+        ensures frames { self.new.frames ≡ self.old.frames }
+        ensures values { self.new.values ≡ self.old.values }
     {
         let entry = self.visited_position();
         self.stopped = Some(Stopped {
@@ -177,6 +195,9 @@ impl<'a> State<'a> {
     pub fn push(&mut self, value: Operand<'a>) -> Result<(), NoMemory>
         ensures moved { OnOk result (config_of self.new ≡ rule.with_value (value_of value.entry) (config_of self.old)) }
         ensures entries { self.new.values.entries ≡ self.old.values.entries }
+        ensures marks { OnOk result (self.new.values.marks ≡ mark.pushed (lent_mark (value_of value.entry)) self.old.values.marks) }
+        ensures fits { 1 ≤ self.old.values.room → IsOk result }
+        ensures room { LeavesRoom 1 self.old self.new }
     {
         self.values.push(value)
     }
@@ -185,7 +206,9 @@ impl<'a> State<'a> {
     #[inline(always)]
     pub fn enter(&mut self, rest: Rest<'a>, place: Place, part: Part) -> Result<(), NoMemory>
         ensures moved { OnOk result (config_of self.new ≡ rule.with_frame (tokens_left rest.entry) place (part_of part) (config_of self.old)) }
-        ensures entries { self.new.values.entries ≡ self.old.values.entries }
+        ensures values { self.new.values ≡ self.old.values }
+        ensures fits { 1 ≤ self.old.frames.room → IsOk result }
+        ensures room { LeavesRoom 1 self.old self.new }
     {
         self.frames.push(Frame { rest, place, part })
     }

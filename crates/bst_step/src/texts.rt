@@ -13,6 +13,8 @@ ghost use Rattle.bst_meaning.specs.Builtins as rule;
 ghost use Rattle.bst_meaning.specs.Builtins.{string, is_empty, case_of, change_case_in};
 ghost use Rattle.bst_step.specs.Operands.{field, strings};
 ghost use Rattle.bst_step.specs.Effects.{Leaves};
+ghost use Rattle.bst_step.specs.Marks as mark;
+ghost use Rattle.bst_step.specs.Room.{Fits};
 
 use crate::held::Operand;
 use crate::numbers::count;
@@ -35,7 +37,7 @@ pub fn joined(alloc: Global, a: &[u8], b: &[u8]) -> Result<Vec<u8>, NoMemory>
 
 /// `*`
 pub fn join(values: &mut Values<'_>) -> Result<(), Stop>
-    ensures { Leaves result values.old values.new (strings (λ a b rest. pushed (Str (a ++ b)) rest) values.old.stack) }
+    ensures { Leaves result values.old values.new (strings (λ a b rest. pushed (Str (a ++ b)) rest) values.old.stack) (mark.resulting 2 mark.Made) }
 {
     let _ = two_strings(values)?;
     values.join()?;
@@ -44,7 +46,7 @@ pub fn join(values: &mut Values<'_>) -> Result<(), Stop>
 
 /// `add.period$`
 pub fn add_period(alloc: Global, values: &mut Values<'_>) -> Result<(), Stop>
-    ensures { Leaves result values.old values.new (string (λ a rest. pushed (Str (with_period a)) rest) values.old.stack) }
+    ensures { Leaves result values.old values.new (string (λ a rest. pushed (Str (with_period a)) rest) values.old.stack) (mark.resulting 1 mark.Made) }
 {
     let text = text_ops::add_period::add_period(alloc, one_string(values)?)?;
     values.make(1, text.as_slice())?;
@@ -65,7 +67,7 @@ fn case_named(text: &[u8]) -> Option<Case>
 
 /// `change.case$`
 pub fn change_case(alloc: Global, values: &mut Values<'_>) -> Result<(), Stop>
-    ensures { Leaves result values.old values.new (strings (λ a mode rest. change_case_in (case_of mode) a rest) values.old.stack) }
+    ensures { Leaves result values.old values.new (strings (λ a mode rest. change_case_in (case_of mode) a rest) values.old.stack) (mark.resulting 2 mark.Made) }
 {
     let (text, mode) = two_strings(values)?;
     match case_named(mode) {
@@ -80,7 +82,8 @@ pub fn change_case(alloc: Global, values: &mut Values<'_>) -> Result<(), Stop>
 
 /// `empty$`
 pub fn empty(values: &mut Values<'_>) -> Result<(), Stop>
-    ensures { Leaves result values.old values.new (field (λ bytes rest. pushed (truth (is_empty bytes)) rest) values.old.stack) }
+    ensures left { Leaves result values.old values.new (field (λ bytes rest. pushed (truth (is_empty bytes)) rest) values.old.stack) (mark.resulting 1 mark.NoString) }
+    ensures fits { Fits result }
 {
     let holds = match one_field(values)? {
         Some(bytes) => text_ops::is_blank::is_blank(bytes),
@@ -92,7 +95,8 @@ pub fn empty(values: &mut Values<'_>) -> Result<(), Stop>
 
 /// `missing$`
 pub fn missing(values: &mut Values<'_>) -> Result<(), Stop>
-    ensures { Leaves result values.old values.new (field (λ bytes rest. pushed (truth (is_none bytes)) rest) values.old.stack) }
+    ensures left { Leaves result values.old values.new (field (λ bytes rest. pushed (truth (is_none bytes)) rest) values.old.stack) (mark.resulting 1 mark.NoString) }
+    ensures fits { Fits result }
 {
     let holds = one_field(values)?.is_none();
     values.put(1, truth(holds));
@@ -101,7 +105,7 @@ pub fn missing(values: &mut Values<'_>) -> Result<(), Stop>
 
 /// `purify$`
 pub fn purify(alloc: Global, values: &mut Values<'_>) -> Result<(), Stop>
-    ensures { Leaves result values.old values.new (string (λ a rest. pushed (Str (purified a)) rest) values.old.stack) }
+    ensures { Leaves result values.old values.new (string (λ a rest. pushed (Str (purified a)) rest) values.old.stack) (mark.resulting 1 mark.Made) }
 {
     let text = text_ops::purify::purify(alloc, one_string(values)?)?;
     values.make(1, text.as_slice())?;
@@ -134,7 +138,8 @@ fn last_place(text: &[u8], end: usize, count: usize) -> (usize, usize)
 
 /// `substring$`
 pub fn substring(values: &mut Values<'_>) -> Result<(), Stop>
-    ensures { Leaves result values.old values.new (rule.substring values.old.stack) }
+    ensures left { Leaves result values.old values.new (rule.substring values.old.stack) (mark.taken 2) }
+    ensures fits { Fits result }
 {
     let (from, count) = match three(values)? {
         (Operand::Str(text), Operand::Int(start), Operand::Int(length)) => {
@@ -149,7 +154,8 @@ pub fn substring(values: &mut Values<'_>) -> Result<(), Stop>
 
 /// `text.length$`
 pub fn text_length(values: &mut Values<'_>) -> Result<(), Stop>
-    ensures { Leaves result values.old values.new (string (λ a rest. ranged (pos (text_length_of a)) rest) values.old.stack) }
+    ensures left { Leaves result values.old values.new (string (λ a rest. ranged (pos (text_length_of a)) rest) values.old.stack) (mark.resulting 1 mark.NoString) }
+    ensures fits { Fits result }
 {
     let length = text_ops::text_length::text_length(one_string(values)?) as u128;
     count(length, values)
@@ -157,7 +163,7 @@ pub fn text_length(values: &mut Values<'_>) -> Result<(), Stop>
 
 /// `text.prefix$`
 pub fn text_prefix(alloc: Global, values: &mut Values<'_>) -> Result<(), Stop>
-    ensures { Leaves result values.old values.new (rule.text_prefix values.old.stack) }
+    ensures { Leaves result values.old values.new (rule.text_prefix values.old.stack) (mark.resulting 2 mark.Made) }
 {
     match two(values)? {
         (Operand::Str(text), Operand::Int(count)) => {
@@ -171,7 +177,8 @@ pub fn text_prefix(alloc: Global, values: &mut Values<'_>) -> Result<(), Stop>
 
 /// `width$`
 pub fn width(values: &mut Values<'_>) -> Result<(), Stop>
-    ensures { Leaves result values.old values.new (string (λ a rest. ranged (pos (width_of a)) rest) values.old.stack) }
+    ensures left { Leaves result values.old values.new (string (λ a rest. ranged (pos (width_of a)) rest) values.old.stack) (mark.resulting 1 mark.NoString) }
+    ensures fits { Fits result }
 {
     let width = text_ops::width::width(one_string(values)?);
     count(width, values)

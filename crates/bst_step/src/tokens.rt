@@ -1,10 +1,14 @@
 //! The execution of a token.
 
-ghost use Rattle.std.specs.Prelude.{◌≡◌, is_some, IfOk, OnErr, OnOk};
+ghost use Rattle.std.specs.Prelude.{◌≡◌, true, is_some, option_map, IfOk, IsOk, OnErr, OnOk};
 ghost use Rattle.std.specs.Option.{option_and_then};
 ghost use Rattle.bst_meaning.specs.StyleParts as parts;
 ghost use Rattle.bst_meaning.specs.Builtins.{built_in};
 ghost use Rattle.bst_meaning.specs.Machine as rule;
+ghost use Rattle.bst_step.specs.MarkRules as rules;
+ghost use Rattle.bst_step.specs.Marks as mark;
+ghost use Rattle.bst_step.specs.Marks.{lent_mark, mark_at};
+ghost use Rattle.bst_step.specs.Room.{HasRoom, LeavesRoom, built_in_takes_room, call_takes_room, token_takes_room};
 ghost use Rattle.bst_step.specs.State.{config_of};
 ghost use Rattle.bst_step.specs.Moves.{with_field, with_entry_value, with_global, with_stack};
 ghost use Rattle.bst_step.specs.Values.{with_pushed};
@@ -31,6 +35,9 @@ impl<'a> State<'a> {
     ) -> Result<(), NoMemory>
         ensures moved { OnOk result (config_of self.new ≡ rule.token_step style.now token place (config_of self.old)) }
         ensures entries { OnErr result (self.new.values.entries ≡ self.old.values.entries) }
+        ensures marks { OnOk result (self.new.values.marks ≡ rules.token_marks style.now token (config_of self.old) self.old.values.marks) }
+        ensures fits { token_takes_room style.now token (config_of self.old) ≡ true → HasRoom self.old → IsOk result }
+        ensures room { OnOk result (LeavesRoom 1 self.old self.new) }
     {
         match token {
             Token::Int(n) => self.push(Operand::Int(n)),
@@ -45,6 +52,10 @@ impl<'a> State<'a> {
     fn call_step(&mut self, style: &'a Style, name: NameId, place: Place) -> Result<(), NoMemory>
         ensures moved { OnOk result (config_of self.new ≡ rule.call_step style.now (parts.kind_of style.now name) name place (config_of self.old)) }
         ensures entries { OnErr result (self.new.values.entries ≡ self.old.values.entries) }
+        ensures marks { OnOk result (self.new.values.marks ≡
+            rules.call_marks style.now (parts.kind_of style.now name) name (config_of self.old) self.old.values.marks) }
+        ensures fits { call_takes_room style.now (parts.kind_of style.now name) (config_of self.old) ≡ true → HasRoom self.old → IsOk result }
+        ensures room { OnOk result (LeavesRoom 1 self.old self.new) }
     {
         match kind_of(style, name) {
             Some(Kind::Builtin(op)) => self.built_in_step(style, op, place),
@@ -63,6 +74,10 @@ impl<'a> State<'a> {
         ensures moved { OnOk result (config_of self.new ≡
             rule.with_effect style.now (built_in op (rule.context_of style.now (config_of self.old)) self.old.values.stack) place (config_of self.old)) }
         ensures entries { OnErr result (self.new.values.entries ≡ self.old.values.entries) }
+        ensures marks { OnOk result (self.new.values.marks ≡ rules.unless_fault (built_in op (rule.context_of style.now (config_of self.old)) self.old.values.stack)
+            (rules.built_in_marks op style.now (config_of self.old) self.old.values.marks) self.old.values.marks) }
+        ensures fits { built_in_takes_room op (built_in op (rule.context_of style.now (config_of self.old)) self.old.values.stack) ≡ true → HasRoom self.old → IsOk result }
+        ensures room { OnOk result (LeavesRoom 1 self.old self.new) }
     {
         match self.built_in(style, op, place) {
             Ok(()) => Ok(()),
@@ -78,6 +93,10 @@ impl<'a> State<'a> {
     fn push_field(&mut self, name: NameId, place: Place) -> Result<(), NoMemory>
         ensures moved { OnOk result (config_of self.new ≡ with_field name place (config_of self.old)) }
         ensures entries { OnErr result (self.new.values.entries ≡ self.old.values.entries) }
+        ensures marks { OnOk result (self.new.values.marks ≡ mark.found
+            (option_map (λ e. lent_mark (rule.field_in name e.entry.fields)) (rule.visited_entry (config_of self.old))) self.old.values.marks) }
+        ensures fits { HasRoom self.old → IsOk result }
+        ensures room { OnOk result (LeavesRoom 1 self.old self.new) }
     {
         match self.visited_field(name) {
             Some(value) => self.push(value),
@@ -93,6 +112,9 @@ impl<'a> State<'a> {
     fn push_entry_variable(&mut self, name: NameId, place: Place) -> Result<(), NoMemory>
         ensures moved { OnOk result (config_of self.new ≡ with_entry_value name place (config_of self.old)) }
         ensures entries { OnErr result (self.new.values.entries ≡ self.old.values.entries) }
+        ensures marks { OnOk result (self.new.values.marks ≡ mark.found (rules.visited_mark name.0 (config_of self.old) self.old.values.marks) self.old.values.marks) }
+        ensures fits { HasRoom self.old → IsOk result }
+        ensures room { OnOk result (LeavesRoom 1 self.old self.new) }
     {
         if self.push_visited_variable(name)? {
             return Ok(());
@@ -109,6 +131,9 @@ impl<'a> State<'a> {
         ensures found { IfOk result (λ found. found ≡
             is_some (option_and_then (λ e. rule.value_at name.0 e.variables) (rule.visited_entry (config_of self.old)))) }
         ensures entries { OnErr result (self.new.values.entries ≡ self.old.values.entries) }
+        ensures marks { OnOk result (self.new.values.marks ≡ mark.found (rules.visited_mark name.0 (config_of self.old) self.old.values.marks) self.old.values.marks) }
+        ensures fits { HasRoom self.old → IsOk result }
+        ensures room { OnOk result (LeavesRoom 1 self.old self.new) }
     {
         match self.visited_index() {
             Some(at) => self.values.push_entry_variable(at, name),
@@ -121,6 +146,9 @@ impl<'a> State<'a> {
     fn push_global(&mut self, name: NameId, place: Place) -> Result<(), NoMemory>
         ensures moved { OnOk result (config_of self.new ≡ with_global name place (config_of self.old)) }
         ensures entries { OnErr result (self.new.values.entries ≡ self.old.values.entries) }
+        ensures marks { OnOk result (self.new.values.marks ≡ mark.found (mark_at name.0 self.old.values.marks.globals) self.old.values.marks) }
+        ensures fits { HasRoom self.old → IsOk result }
+        ensures room { OnOk result (LeavesRoom 1 self.old self.new) }
     {
         if self.values.push_global(name)? {
             return Ok(());

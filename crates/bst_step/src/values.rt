@@ -1,6 +1,6 @@
 //! The values that the machine holds: those of the literal stack, and those of all variables.
 
-ghost use Rattle.std.specs.Prelude.{◌≡◌, ◌<◌, ◌≤◌, ◌∷◌, [], drop, is_some, length, map, option_map, slice_get, slice_index_or, Some, IfOk, IfSome, MatchOption, OnErr, OnOk};
+ghost use Rattle.std.specs.Prelude.{◌≡◌, ◌+◌, ◌<◌, ◌≤◌, ◌∷◌, [], drop, is_some, length, map, option_map, slice_get, slice_index_or, Some, IfOk, IfSome, IsOk, MatchOption, OnErr, OnOk};
 ghost use Rattle.std.specs.Option.{option_and_then};
 ghost use Rattle.bst_meaning.specs.declared.value.Value.TheVariants.{Str};
 ghost use Rattle.bst_meaning.specs.Machine as rule;
@@ -8,7 +8,10 @@ ghost use Rattle.bst_meaning.specs.Sorting.{sorted};
 ghost use Rattle.bst_step.specs.EntryStates.{EntriesWithin, state_in};
 ghost use Rattle.bst_step.specs.Held.{value_of};
 ghost use Rattle.bst_step.specs.Machine.{key_at};
-ghost use Rattle.bst_step.specs.Values.{cut, doubled, given_globally, given_in_entry, joined, swapped, with_pushed};
+ghost use Rattle.bst_step.specs.Marks as mark;
+ghost use Rattle.bst_step.specs.Marks.{lent_at, lent_mark, mark_at, marks_in, sorted_marks};
+ghost use Rattle.bst_step.specs.Stack.{doubled, swapped};
+ghost use Rattle.bst_step.specs.Values.{cut, given_globally, given_in_entry, joined, with_pushed};
 ghost use Rattle.bst_step.specs.Variables.{VariablesWithin, held_at, variable_in};
 
 use crate::entry_states::{EntryState, entries_renewed, key_in, set_in_entry};
@@ -57,6 +60,7 @@ impl<'a> Values<'a> {
         ensures stack { result.stack ≡ [] }
         ensures globals { result.globals ≡ map (variable_in []) globals.entry }
         ensures entries { result.entries ≡ map (state_in []) entries.entry.items }
+        ensures marks { result.marks ≡ marks_in [] globals.entry entries.entry.items }
     {
         Values {
             pool: Vec::new(alloc),
@@ -103,6 +107,16 @@ impl<'a> Values<'a> {
         }
     }
 
+    /// The bytes of the string so far below the top, where they are lent.
+    pub fn lent_below(&self, depth: usize) -> Option<&'a [u8]>
+        ensures { option_map (λ bytes. bytes.now) result ≡ lent_at depth self.now.marks.stack self.now.stack }
+    {
+        match self.stack.below(depth) {
+            Some(held) => held.lent(),
+            None => None,
+        }
+    }
+
     /// The bytes of the string on top, where they are lent.
     pub fn lent_top(&self) -> Option<&'a [u8]>
         ensures { IfSome result (λ bytes. self.now.stack ≡ Str bytes.now ∷ drop 1 self.now.stack) }
@@ -113,11 +127,25 @@ impl<'a> Values<'a> {
         }
     }
 
+    /// Makes room for so many values more on the stack. Where it is refused, what is held stays.
+    pub fn reserve(&mut self, count: usize) -> Result<(), NoMemory>
+        ensures fits { OnOk result (count ≤ self.new.room) }
+        ensures stack { self.new.stack ≡ self.old.stack }
+        ensures globals { self.new.globals ≡ self.old.globals }
+        ensures entries { self.new.entries ≡ self.old.entries }
+        ensures marks { self.new.marks ≡ self.old.marks }
+        ensures room { self.old.room ≤ self.new.room }
+    {
+        self.stack.reserve(count)
+    }
+
     /// Takes the topmost values away.
     pub fn drop_top(&mut self, count: usize)
         ensures stack { self.new.stack ≡ drop count self.old.stack }
         ensures globals { self.new.globals ≡ self.old.globals }
         ensures entries { self.new.entries ≡ self.old.entries }
+        ensures marks { self.new.marks ≡ mark.taken count self.old.marks }
+        ensures room { self.old.room ≤ self.new.room }
     {
         self.stack.drop_top(count);
     }
@@ -127,6 +155,8 @@ impl<'a> Values<'a> {
         ensures stack { self.new.stack ≡ [] }
         ensures globals { self.new.globals ≡ self.old.globals }
         ensures entries { self.new.entries ≡ self.old.entries }
+        ensures marks { self.new.marks ≡ mark.cleared self.old.marks }
+        ensures room { self.old.room ≤ self.new.room }
     {
         self.stack.drop_top(self.stack.len());
     }
@@ -137,6 +167,9 @@ impl<'a> Values<'a> {
         ensures stack { OnOk result (self.new.stack ≡ value_of value.entry ∷ self.old.stack) }
         ensures globals { self.new.globals ≡ self.old.globals }
         ensures entries { self.new.entries ≡ self.old.entries }
+        ensures marks { OnOk result (self.new.marks ≡ mark.pushed (lent_mark (value_of value.entry)) self.old.marks) }
+        ensures fits { 1 ≤ self.old.room → IsOk result }
+        ensures room { self.old.room ≤ self.new.room + 1 }
     {
         self.stack.push(value.held())?;
         Ok(())
@@ -150,6 +183,8 @@ impl<'a> Values<'a> {
         ensures stack { self.new.stack ≡ value_of value.entry ∷ drop taken self.old.stack }
         ensures globals { self.new.globals ≡ self.old.globals }
         ensures entries { self.new.entries ≡ self.old.entries }
+        ensures marks { self.new.marks ≡ mark.resulting taken (lent_mark (value_of value.entry)) self.old.marks }
+        ensures room { self.old.room ≤ self.new.room }
     {
         self.stack.put(taken, value.held());
     }
@@ -161,6 +196,8 @@ impl<'a> Values<'a> {
         ensures stack { OnOk result (self.new.stack ≡ Str bytes.now ∷ drop taken self.old.stack) }
         ensures globals { self.new.globals ≡ self.old.globals }
         ensures entries { self.new.entries ≡ self.old.entries }
+        ensures marks { OnOk result (self.new.marks ≡ mark.resulting taken mark.Made self.old.marks) }
+        ensures room { self.old.room ≤ self.new.room }
     {
         let made = made_in(bytes, &mut self.pool)?;
         self.stack.put(taken, made);
@@ -172,6 +209,9 @@ impl<'a> Values<'a> {
         ensures stack { OnOk result (self.new.stack ≡ doubled self.old.stack) }
         ensures globals { self.new.globals ≡ self.old.globals }
         ensures entries { self.new.entries ≡ self.old.entries }
+        ensures marks { OnOk result (self.new.marks ≡ mark.doubled self.old.marks) }
+        ensures fits { 1 ≤ self.old.room → IsOk result }
+        ensures room { self.old.room ≤ self.new.room + 1 }
     {
         match self.stack.top() {
             Some(top) => {
@@ -187,6 +227,8 @@ impl<'a> Values<'a> {
         ensures stack { self.new.stack ≡ swapped self.old.stack }
         ensures globals { self.new.globals ≡ self.old.globals }
         ensures entries { self.new.entries ≡ self.old.entries }
+        ensures marks { self.new.marks ≡ mark.swapped self.old.marks }
+        ensures room { self.old.room ≤ self.new.room }
     {
         let Some(a) = self.stack.below(1) else {
             return;
@@ -200,6 +242,8 @@ impl<'a> Values<'a> {
         ensures stack { OnOk result (self.new.stack ≡ joined self.old.stack) }
         ensures globals { self.new.globals ≡ self.old.globals }
         ensures entries { self.new.entries ≡ self.old.entries }
+        ensures marks { OnOk result (2 ≤ length self.old.stack → self.new.marks ≡ mark.resulting 2 mark.Made self.old.marks) }
+        ensures room { self.old.room ≤ self.new.room }
     {
         match self.stack.below(1) {
             Some(a) => {
@@ -217,6 +261,8 @@ impl<'a> Values<'a> {
         ensures stack { self.new.stack ≡ cut from count self.old.stack }
         ensures globals { self.new.globals ≡ self.old.globals }
         ensures entries { self.new.entries ≡ self.old.entries }
+        ensures marks { self.new.marks ≡ self.old.marks }
+        ensures room { self.old.room ≤ self.new.room }
     {
         let Some(top) = self.stack.top() else {
             return;
@@ -231,6 +277,9 @@ impl<'a> Values<'a> {
         ensures found { IfOk result (λ found. found ≡ is_some (rule.value_at name.0 self.old.globals)) }
         ensures globals { self.new.globals ≡ self.old.globals }
         ensures entries { self.new.entries ≡ self.old.entries }
+        ensures marks { OnOk result (self.new.marks ≡ mark.found (mark_at name.0 self.old.marks.globals) self.old.marks) }
+        ensures fits { 1 ≤ self.old.room → IsOk result }
+        ensures room { self.old.room ≤ self.new.room + 1 }
     {
         match self.globals.value(name) {
             Some(held) => {
@@ -249,6 +298,10 @@ impl<'a> Values<'a> {
             is_some (option_and_then (λ e. rule.value_at name.0 e.variables) (slice_get self.old.entries at))) }
         ensures globals { self.new.globals ≡ self.old.globals }
         ensures entries { self.new.entries ≡ self.old.entries }
+        ensures marks { OnOk result (self.new.marks ≡
+            mark.found (option_and_then (mark_at name.0) (slice_get self.old.marks.entries at)) self.old.marks) }
+        ensures fits { 1 ≤ self.old.room → IsOk result }
+        ensures room { self.old.room ≤ self.new.room + 1 }
     {
         match held_in_entry(self.entries.as_slice(), at, name) {
             Some(held) => {
@@ -264,6 +317,8 @@ impl<'a> Values<'a> {
         ensures stack { self.new.stack ≡ drop 1 self.old.stack }
         ensures globals { self.new.globals ≡ given_globally name self.old.stack self.old.globals }
         ensures entries { self.new.entries ≡ self.old.entries }
+        ensures marks { self.new.marks ≡ mark.given_globally name self.old.marks.stack self.old.marks }
+        ensures room { self.old.room ≤ self.new.room }
     {
         if let Some(value) = self.stack.top() {
             self.stack.drop_top(1);
@@ -277,6 +332,8 @@ impl<'a> Values<'a> {
         ensures stack { self.new.stack ≡ drop 1 self.old.stack }
         ensures globals { self.new.globals ≡ self.old.globals }
         ensures entries { self.new.entries ≡ given_in_entry name (Some at) self.old.stack self.old.entries }
+        ensures marks { self.new.marks ≡ mark.given_in_entry name (Some at) self.old.marks.stack self.old.marks }
+        ensures room { self.old.room ≤ self.new.room }
     {
         if let Some(value) = self.stack.top() {
             self.stack.drop_top(1);
@@ -335,6 +392,8 @@ impl<'a> Values<'a> {
         ensures globals { self.new.globals ≡ self.old.globals }
         ensures sorted { OnOk result (self.new.entries ≡ sorted self.old.entries) }
         ensures kept { OnErr result (self.new.entries ≡ self.old.entries) }
+        ensures marks { OnOk result (self.new.marks ≡ record self.old.marks { entries = sorted_marks self.old.entries self.old.marks.entries }) }
+        ensures room { self.old.room ≤ self.new.room }
     {
         sort_entries(self.pool.as_slice(), &mut self.entries)?;
         Ok(())
@@ -356,6 +415,8 @@ impl<'a> Values<'a> {
         ensures stack { OnOk result (self.new.stack ≡ self.old.stack) }
         ensures globals { OnOk result (self.new.globals ≡ self.old.globals) }
         ensures entries { self.new.entries ≡ self.old.entries }
+        ensures marks { OnOk result (self.new.marks ≡ self.old.marks) }
+        ensures room { self.old.room ≤ self.new.room }
     {
         if self.stack.len() > 0 {
             return Ok(());

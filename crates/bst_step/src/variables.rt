@@ -1,6 +1,7 @@
 //! Variables with their values, each found by its place.
 
 ghost use Rattle.std.specs.Prelude.{◌≡◌, ◌<◌, length, map, take, IfOk, IfSome};
+ghost use Rattle.bst_step.specs.Marks.{marked_of};
 ghost use Rattle.bst_step.specs.Places.{StandAt, place_of};
 ghost use Rattle.bst_step.specs.Variables.{VariablesWithin, held_at, names_in, variable_in, with_held};
 
@@ -78,6 +79,7 @@ impl<'a> Variables<'a> {
         ensures same { IfOk result (λ renewed. map (variable_in fresh.new.items) renewed ≡ map (variable_in pool.now) self.now) }
         ensures within { IfOk result (VariablesWithin (length fresh.new.items)) }
         ensures grown { take (length fresh.old.items) fresh.new.items ≡ fresh.old.items }
+        ensures marks { IfOk result (λ renewed. map marked_of renewed ≡ map marked_of self.now) }
     {
         let places = self.places.clone()?;
         let items = items_renewed(self.items.as_slice(), pool, fresh)?;
@@ -104,6 +106,7 @@ fn items_renewed<'a>(
     ensures names { IfOk result (λ renewed. names_in renewed.items ≡ names_in items.now) }
     ensures within { IfOk result (λ renewed. VariablesWithin (length fresh.new.items) renewed.items) }
     ensures grown { take (length fresh.old.items) fresh.new.items ≡ fresh.old.items }
+    ensures marks { IfOk result (λ renewed. map marked_of renewed.items ≡ map marked_of items.now) }
 {
     let mut renewed = Vec::new(*fresh.allocator());
     for variable in items {

@@ -13,6 +13,7 @@ use Rattle.bst_step.proofs.opening.globals.Goals as goal
 pub loop-id-preserved : goal.loop-id-preserved
 loop-id-preserved c = record {
   within = c.in_ok-push_global.ensures.within c.loop-id.invariant.within;
+  lent = c.in_ok-push_global.ensures.marks c.loop-id.invariant.lent;
   count = one_more c.loop-id.places.items c.push.new.self.items _ c.loop-id.id c.in_ok-push.ensures.items c.loop-id.invariant.count;
   stand =
       subst (λ (names : List NameId). StandAt c.push.new.self.items names) (names_held [] c.push_global.new.variables.items)

@@ -1,5 +1,6 @@
 -- One variable more is copied.
 use Rattle.std.proofs.Common.{refl}
+use Rattle.bst_step.proofs.MarkSteps.{mark_more_of, same_marked}
 use Rattle.bst_step.proofs.RenewSteps.{grown_twice, name_more_of, variable_more, variable_more_within}
 use Rattle.bst_step.proofs.variables.items_renewed.Goals as goal
 
@@ -15,6 +16,9 @@ loop-variable-preserved c = record {
   within =
       variable_more_within c.loop-variable.fresh.items c.renewed.new.fresh.items c.loop-variable.renewed.items c.push.new.self.items _
       c.in_ok-push.ensures.items c.in_ok-value.ensures.grown c.in_ok-value.ensures.within c.loop-variable.invariant.within;
+  marks =
+      mark_more_of c.loop-variable.renewed.items c.push.new.self.items c.args.items.now c.loop-variable.variable-index _ _
+      c.in_ok-push.ensures.items c.loop-variable-test.true (same_marked _ _ refl c.in_ok-value.ensures.mark) c.loop-variable.invariant.marks;
   grown =
       grown_twice c.args.fresh.now.items c.loop-variable.fresh.items c.renewed.new.fresh.items c.loop-variable.invariant.grown
       c.in_ok-value.ensures.grown;

@@ -13,4 +13,4 @@ returns-clause-moved c =
     (with_log (c.args.line ∷ []) (config_of c.args.self.now)) (config_of c.assign_top.new.self)
     (c.cut_top.ensures.stack ∙ ap (λ (vs : List Value). cut 0 c.args.size vs) c.drop_top.ensures.stack)
     (c.cut_top.ensures.globals ∙ c.drop_top.ensures.globals) (c.cut_top.ensures.entries ∙ c.drop_top.ensures.entries)
-    c.in_ok-log_line.ensures.moved c.assign_top.ensures
+    c.in_ok-log_line.ensures.moved c.assign_top.ensures.moved

@@ -1,10 +1,12 @@
 -- A part of the string on top is held.
-use Rattle.std.proofs.Common.{◌≡◌, ◌≤◌, ◌∙◌, List, ℕ, ap, arith, length, slice_get, subst}
+use Rattle.std.proofs.Common.{◌≡◌, ◌≤◌, ◌∙◌, List, ℕ, ap, arith, length, slice_get, subst, map}
 use Rattle.bst_step.specs.declared.held.Held.{Held}
 use Rattle.bst_step.specs.Held.{end_of, part_from, value_in}
 use Rattle.bst_step.specs.Values.{Holding, cut}
 use Rattle.bst_step.proofs.HeldSteps.{held_replaced, stack_end}
 use Rattle.bst_step.proofs.ViewSteps.{cut_view}
+use Rattle.bst_step.proofs.MarkSteps.{cut_marks, stack_marked}
+use Rattle.bst_step.specs.Marks.{mark_of}
 use Rattle.bst_step.proofs.values.Values.cut_top.Goals as goal
 
 pub part-requires : goal.part-requires
@@ -34,3 +36,10 @@ returns-clause-stack c =
     (subst (λ (pool : List ℕ). value_in pool c.part.result ≡ part_from c.args.from c.args.count (value_in pool c.in-Some.top)) c.as_slice.ensures.value
     c.part.ensures.value)
     ∙ ap (λ (h : Holding). cut c.args.from c.args.count h.stack) c.self.view_is
+
+pub returns-clause-marks : goal.returns-clause-marks
+returns-clause-marks c =
+    stack_marked c.self.inside.stack.items c.replace_top.new.self.items c.self.inside.globals c.self.inside.entries.items (map mark_of c.self.inside.stack.items)
+    (cut_marks c.self.inside.stack.items c.replace_top.new.self.items c.in-Some.top c.part.result (ap (λ (l : List Held). slice_get l 0) c.in-Some.ensures)
+    c.replace_top.ensures.moved c.part.ensures.mark)
+    ∙ ap (λ (h : Holding). h.marks) c.self.view_is

@@ -3,9 +3,13 @@ use Rattle.std.proofs.Common.{◌≡◌, ◌∙◌, List, [], ap, map, slice_get
 use Rattle.bst_meaning.specs.declared.value.Value.{Value}
 use Rattle.bst_step.specs.declared.held.Held.{Held}
 use Rattle.bst_step.specs.Held.{value_in}
-use Rattle.bst_step.specs.Values.{Holding, doubled}
+use Rattle.bst_step.specs.Stack.{doubled}
+use Rattle.bst_step.specs.Values.{Holding}
 use Rattle.bst_step.proofs.HeldSteps.{held_pushed, stack_end}
 use Rattle.bst_step.proofs.ViewSteps.{doubled_view}
+use Rattle.bst_step.proofs.MarkSteps.{doubled_marks, none_doubled, stack_marked}
+use Rattle.bst_step.specs.Marks.{mark_of}
+use Rattle.bst_step.specs.Marks as marks
 use Rattle.bst_step.proofs.values.Values.double.Goals as goal
 
 pub invariant_of-self-in-Some : goal.invariant_of-self-in-Some
@@ -27,3 +31,15 @@ returns-in-None-clause-stack c =
     let none : c.args.self.now.stack ≡ [] =
     sym (ap (λ (h : Holding). h.stack) c.self.view_is) ∙ ap (λ (l : List Held). map (value_in c.self.inside.pool.items) l) c.in-None.ensures in
     none ∙ sym (ap (λ (vs : List Value). doubled vs) none)
+
+pub returns-in_ok-push-in-Some-clause-marks : goal.returns-in_ok-push-in-Some-clause-marks
+returns-in_ok-push-in-Some-clause-marks c =
+    stack_marked c.self.inside.stack.items c.push.new.self.items c.self.inside.globals c.self.inside.entries.items (doubled (map mark_of c.self.inside.stack.items))
+    (doubled_marks c.self.inside.stack.items c.push.new.self.items c.in-Some.top (ap (λ (l : List Held). slice_get l 0) c.in-Some.ensures) c.in_ok-push-in-Some.ensures.moved)
+    ∙ ap (λ (h : Holding). marks.doubled h.marks) c.self.view_is
+
+pub returns-in-None-clause-marks : goal.returns-in-None-clause-marks
+returns-in-None-clause-marks c =
+    sym (ap (λ (h : Holding). h.marks) c.self.view_is)
+    ∙ none_doubled c.self.inside.stack.items c.self.inside.globals c.self.inside.entries.items c.in-None.ensures
+    ∙ ap (λ (h : Holding). marks.doubled h.marks) c.self.view_is

@@ -1,10 +1,14 @@
 -- The pool grows by the joined string, which is held in the two strings' place.
-use Rattle.std.proofs.Common.{◌≡◌, ◌<◌, ◌∙◌, ◌∷◌, List, ap, arith, drop, length, subst, sym}
+use Rattle.std.proofs.Common.{◌≡◌, ◌<◌, ◌∙◌, ◌∷◌, List, ap, arith, drop, length, subst, sym, map}
+use Rattle.std.proofs.lemmas.List.{length-map}
 use Rattle.bst_meaning.specs.declared.value.Value.{Value}
+use Rattle.bst_step.specs.Held.{value_in}
 use Rattle.bst_step.specs.declared.held.Held.{Held}
 use Rattle.bst_step.specs.Values.{Holding, joined}
 use Rattle.bst_step.proofs.HeldSteps.{entries_grown, globals_grown, held_dropped, held_grown, held_replaced, stack_end, stack_grown, top_end}
 use Rattle.bst_step.proofs.ViewSteps.{is_there, joined_view, none_joined, second_left}
+use Rattle.bst_step.proofs.MarkSteps.{joined_marks, no_two, stack_marked}
+use Rattle.bst_step.specs.Marks.{Made, mark_of, resulting}
 use Rattle.bst_step.proofs.values.Values.join.Goals as goal
 
 pub at-requires : goal.at-requires
@@ -78,3 +82,16 @@ pub returns-in-None-clause-stack : goal.returns-in-None-clause-stack
 returns-in-None-clause-stack c =
     subst (λ (vs : List Value). vs ≡ joined vs) (ap (λ (h : Holding). h.stack) c.self.view_is)
     (sym (none_joined c.self.inside.pool.items c.self.inside.stack.items (sym c.in-None.ensures)))
+
+pub returns-in_ok-joined-in-Some-clause-marks : goal.returns-in_ok-joined-in-Some-clause-marks
+returns-in_ok-joined-in-Some-clause-marks c = λ two.
+    stack_marked c.self.inside.stack.items c.replace_top.new.self.items c.self.inside.globals c.self.inside.entries.items (Made ∷ drop 2 (map mark_of c.self.inside.stack.items))
+    (joined_marks c.self.inside.stack.items c.replace_top.new.self.items c.in_ok-joined-in-Some.joined
+    (c.replace_top.ensures.moved ∙ ap (λ (l : List Held). c.in_ok-joined-in-Some.joined ∷ drop 1 l) c.drop_top.ensures.moved)
+    c.in_ok-joined-in-Some.ensures.mark)
+    ∙ ap (λ (h : Holding). resulting 2 Made h.marks) c.self.view_is
+
+pub returns-in-None-clause-marks : goal.returns-in-None-clause-marks
+returns-in-None-clause-marks c = λ two.
+    absurd (omega (arith, two, no_two c.self.inside.stack.items (sym c.in-None.ensures), ap (λ (h : Holding). length h.stack) c.self.view_is,
+    length-map c.self.inside.stack.items (value_in c.self.inside.pool.items)))

@@ -8,6 +8,8 @@ use Rattle.bst_step.specs.Held.{value_in}
 use Rattle.bst_step.specs.Values.{Holding}
 use Rattle.bst_step.proofs.HeldSteps.{entries_grown, globals_grown, held_grown, held_replaced, stack_grown}
 use Rattle.bst_step.proofs.ViewSteps.{dropped_view}
+use Rattle.bst_step.specs.Marks.{Made, mark_of, resulting}
+use Rattle.bst_step.proofs.MarkSteps.{put_marks, stack_marked}
 use Rattle.bst_step.proofs.values.Values.make.Goals as goal
 
 pub invariant_of-self : goal.invariant_of-self
@@ -65,3 +67,9 @@ returns-clause-entries c =
     entries_grown c.self.inside.pool.items c.made_in.new.pool.items c.self.inside.kept c.self.inside.stack.items c.self.inside.globals
     c.self.inside.entries.items c.made_in.ensures.grown c.self.invariant
     ∙ ap (λ (h : Holding). h.entries) c.self.view_is
+
+pub returns-clause-marks : goal.returns-clause-marks
+returns-clause-marks c =
+    stack_marked c.self.inside.stack.items c.put.new.self.items c.self.inside.globals c.self.inside.entries.items (Made ∷ drop c.args.taken (map mark_of c.self.inside.stack.items))
+    (put_marks c.args.taken c.self.inside.stack.items c.put.new.self.items c.in_ok-made.made Made c.put.ensures.moved c.in_ok-made.ensures.mark)
+    ∙ ap (λ (h : Holding). resulting c.args.taken Made h.marks) c.self.view_is

@@ -5,6 +5,7 @@ use Rattle.bst_step.specs.Held.{value_in}
 use Rattle.bst_step.specs.EntryStates.{state_in}
 use Rattle.bst_step.specs.Variables.{variable_in}
 use Rattle.bst_step.proofs.HeldSteps.{held_new}
+use Rattle.bst_step.specs.Marks.{marks_in}
 use Rattle.bst_step.proofs.values.Values.new.Goals as goal
 
 pub invariant_of-result : goal.invariant_of-result
@@ -19,3 +20,6 @@ returns-clause-globals c = ap (λ (pool : List ℕ). map (variable_in pool) c.ar
 
 pub returns-clause-entries : goal.returns-clause-entries
 returns-clause-entries c = ap (λ (pool : List ℕ). map (state_in pool) c.args.entries.items) c.new.ensures.items
+
+pub returns-clause-marks : goal.returns-clause-marks
+returns-clause-marks c = ap (λ (hs : List Held). marks_in hs c.args.globals c.args.entries.items) c.new-2.ensures

@@ -11,6 +11,8 @@ use Rattle.bst_step.specs.Values.{Holding, with_pushed}
 use Rattle.bst_step.specs.Variables.{held_at}
 use Rattle.bst_step.proofs.HeldSteps.{entry_end, held_pushed}
 use Rattle.bst_step.proofs.ValueSteps.{entry_value_held}
+use Rattle.bst_step.proofs.MarkSteps.{entry_mark_held, found_marks, none_found}
+use Rattle.bst_step.specs.Marks.{found, mark_at, mark_of, marked_in}
 use Rattle.bst_step.proofs.values.Values.push_entry_variable.Goals as goal
 
 pub invariant_of-self-in-Some : goal.invariant_of-self-in-Some
@@ -59,3 +61,20 @@ returns-in-None-clause-found c =
     (ap (λ (h : Holding). option_and_then (λ (e : config.EntryState). rule.value_at c.args.name.0 e.variables) (slice_get h.entries c.args.at)) (sym c.self.view_is)
     ∙ entry_value_held c.self.inside.pool.items c.args.name.0 c.args.at c.self.inside.entries.items
     ∙ ap (λ (o : Option Held). option_map (value_in c.self.inside.pool.items) o) there))
+
+pub returns-in_ok-push-in-Some-clause-marks : goal.returns-in_ok-push-in-Some-clause-marks
+returns-in_ok-push-in-Some-clause-marks c =
+    let there : option_and_then (λ (e : EntryState). held_at c.args.name.0 e.variables) (slice_get c.self.inside.entries.items c.args.at) ≡ Some c.in-Some.held =
+    sym (c.in-Some.ensures ∙ ap (λ (es : List EntryState). option_and_then (λ (e : EntryState). held_at c.args.name.0 e.variables) (slice_get es c.args.at)) c.as_slice.ensures.value) in
+    found_marks c.self.inside.stack.items c.push.new.self.items c.self.inside.globals c.self.inside.entries.items c.in-Some.held
+    (option_and_then (mark_at c.args.name.0) (slice_get (map marked_in c.self.inside.entries.items) c.args.at)) c.in_ok-push-in-Some.ensures.moved
+    (entry_mark_held c.args.name.0 c.args.at c.self.inside.entries.items ∙ ap (λ (o : Option Held). option_map mark_of o) there)
+    ∙ ap (λ (h : Holding). found (option_and_then (mark_at c.args.name.0) (slice_get h.marks.entries c.args.at)) h.marks) c.self.view_is
+
+pub returns-in-None-clause-marks : goal.returns-in-None-clause-marks
+returns-in-None-clause-marks c =
+    let there : option_and_then (λ (e : EntryState). held_at c.args.name.0 e.variables) (slice_get c.self.inside.entries.items c.args.at) ≡ None =
+    sym (c.in-None.ensures ∙ ap (λ (es : List EntryState). option_and_then (λ (e : EntryState). held_at c.args.name.0 e.variables) (slice_get es c.args.at)) c.as_slice.ensures.value) in
+    none_found (option_and_then (mark_at c.args.name.0) (slice_get c.args.self.now.marks.entries c.args.at)) c.args.self.now.marks
+    (ap (λ (h : Holding). option_and_then (mark_at c.args.name.0) (slice_get h.marks.entries c.args.at)) (sym c.self.view_is)
+    ∙ entry_mark_held c.args.name.0 c.args.at c.self.inside.entries.items ∙ ap (λ (o : Option Held). option_map mark_of o) there)

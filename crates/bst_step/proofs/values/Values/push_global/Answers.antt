@@ -8,6 +8,8 @@ use Rattle.bst_step.specs.Held.{value_in}
 use Rattle.bst_step.specs.Values.{Holding, with_pushed}
 use Rattle.bst_step.proofs.HeldSteps.{global_end, held_pushed}
 use Rattle.bst_step.proofs.ValueSteps.{value_held}
+use Rattle.bst_step.proofs.MarkSteps.{found_marks, mark_held, none_found}
+use Rattle.bst_step.specs.Marks.{found, mark_at, mark_of, marked_of}
 use Rattle.bst_step.proofs.values.Values.push_global.Goals as goal
 
 pub invariant_of-self-in-Some : goal.invariant_of-self-in-Some
@@ -46,3 +48,15 @@ returns-in-None-clause-found c =
     (ap (λ (h : Holding). rule.value_at c.args.name.0 h.globals) (sym c.self.view_is)
     ∙ value_held c.self.inside.pool.items c.args.name.0 c.self.inside.globals
     ∙ ap (λ (o : Option Held). option_map (value_in c.self.inside.pool.items) o) (sym c.in-None.ensures)))
+
+pub returns-in_ok-push-in-Some-clause-marks : goal.returns-in_ok-push-in-Some-clause-marks
+returns-in_ok-push-in-Some-clause-marks c =
+    found_marks c.self.inside.stack.items c.push.new.self.items c.self.inside.globals c.self.inside.entries.items c.in-Some.held (mark_at c.args.name.0 (map marked_of c.self.inside.globals)) c.in_ok-push-in-Some.ensures.moved
+    (mark_held c.args.name.0 c.self.inside.globals ∙ ap (λ (o : Option Held). option_map mark_of o) (sym c.in-Some.ensures))
+    ∙ ap (λ (h : Holding). found (mark_at c.args.name.0 h.marks.globals) h.marks) c.self.view_is
+
+pub returns-in-None-clause-marks : goal.returns-in-None-clause-marks
+returns-in-None-clause-marks c =
+    none_found (mark_at c.args.name.0 c.args.self.now.marks.globals) c.args.self.now.marks
+    (ap (λ (h : Holding). mark_at c.args.name.0 h.marks.globals) (sym c.self.view_is)
+    ∙ mark_held c.args.name.0 c.self.inside.globals ∙ ap (λ (o : Option Held). option_map mark_of o) (sym c.in-None.ensures))
