@@ -29,8 +29,8 @@ pub left_makes : (style : Style) (place : Place) (s : State) (v : Holding) (r : 
     → Leaves r s.values v wanted marks → Makes style place r s (record s { values = v }) wanted marks
 left_makes style place s v (Ok done) wanted marks is = (
   values_moved s v v.stack refl is.1.0 is.1.1
-  ∙ left_alone style place v.stack (config_of s)
-  ∙ ap (λ (w : Result Effect Fault). with_effect style w place (config_of s)) is.0,
+      ∙ left_alone style place v.stack (config_of s)
+      ∙ ap (λ (w : Result Effect Fault). with_effect style w place (config_of s)) is.0,
   is.2 ∙ ap (λ (w : Result Effect Fault). unless_fault w (marks s.values.marks) s.values.marks) is.0,
   (omega arith, is.3),
 )

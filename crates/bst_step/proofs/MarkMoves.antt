@@ -1,5 +1,5 @@
 -- The marks of what the machine assigns.
-use Rattle.std.proofs.Common.{◌≡◌, ℕ, refl, sym, ap, ◌∙◌, cond, Bool, true, false, List, [], ◌∷◌, drop, slice_get, Option, None, Some, Result, Ok, Err}
+use Rattle.std.proofs.Common.{◌≡◌, ℕ, refl, sym, ap, ◌∙◌, cond, Bool, true, false, List, [], ◌∷◌, drop, slice_get, Option, None, Some, Result}
 use Rattle.name_table.specs.declared.names.Kind.{Kind}
 use Rattle.name_table.specs.declared.names.NameId.{NameId}
 use Rattle.name_table.specs.declared.style.Style.{Style}
@@ -7,7 +7,7 @@ use Rattle.bst_meaning.specs.declared.fault.Fault.{Fault}
 use Rattle.bst_meaning.specs.declared.value.Target.TheVariants.{Named}
 use Rattle.bst_meaning.specs.declared.value.Value.{Value}
 use Rattle.bst_meaning.specs.declared.value.Value.TheVariants.{Func}
-use Rattle.bst_meaning.specs.Config.{Config, EntryState}
+use Rattle.bst_meaning.specs.Config.{EntryState}
 use Rattle.bst_meaning.specs.Effect.{Effect}
 use Rattle.bst_meaning.specs.Machine.{visited_index}
 use Rattle.bst_meaning.specs.StyleParts.{kind_of}

@@ -14,8 +14,7 @@ use Rattle.bst_step.specs.declared.state.Event.{Event}
 use Rattle.bst_step.specs.declared.state.State.{State}
 use Rattle.bst_step.specs.MarkRules.{unless_fault}
 use Rattle.bst_step.specs.Marks.{Marks}
-use Rattle.bst_step.specs.Room.{LeavesRoom}
-use Rattle.bst_step.specs.State.{config_of, event_of}
+use Rattle.bst_step.specs.State.{config_of, event_of, LeavesRoom}
 use Rattle.bst_step.specs.Values.{Holding, Kept}
 
 -- the literal stack is what the effect leaves, which does nothing else; or the fault is the one that is wanted, and the stack is as it

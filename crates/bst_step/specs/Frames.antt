@@ -1,15 +1,21 @@
--- The step of the innermost frame, once it has moved on (docs/MACHINE.md, "How it is run").
+-- The frames as the machine holds them, the innermost one apart, and its step once it has moved on (docs/MACHINE.md, "How it is run").
 use Rattle.std.specs.Prelude.{Bool, true, false, List, [], ◌∷◌, if◌then◌else◌}
 use Rattle.name_table.specs.declared.style.Style.{Style}
+use Rattle.name_table.specs.declared.style.Token.TheVariants.{Call as CallToken}
+use Rattle.name_table.specs.declared.style.TokenAt.{TokenAt}
+use Rattle.bst_meaning.specs.Config as config
 use Rattle.bst_meaning.specs.Config.{Config}
 use Rattle.bst_meaning.specs.Machine.{outer_step, return_step, token_step}
 use Rattle.bst_step.specs.declared.frame_list.Next.{Next}
 use Rattle.bst_step.specs.declared.frame_list.Next.TheVariants.{Token, Return, Outer}
+use Rattle.bst_step.specs.declared.state.Frame.{Frame}
+use Rattle.bst_step.specs.declared.state.Part.{Part}
+use Rattle.bst_step.specs.declared.state.Part.TheVariants.{Whole, Testing, Turning}
+use Rattle.bst_step.specs.declared.state.Rest.{Rest}
+use Rattle.bst_step.specs.declared.state.Rest.TheVariants.{Call, Tokens}
 use Rattle.bst_step.specs.MarkRules.{outer_marks, return_marks, token_marks}
 use Rattle.bst_step.specs.Marks.{Marks}
 use Rattle.bst_step.specs.Room.{token_takes_room}
-use Rattle.bst_step.specs.declared.state.Frame.{Frame}
-use Rattle.bst_step.specs.State.{part_of}
 
 -- the frames, where the innermost one stands apart
 abbrev pub frames_in : Bool → Frame → List Frame → List Frame
@@ -19,6 +25,21 @@ frames_in entered innermost outer = if entered then innermost ∷ outer else []
 abbrev pub has_none : List Frame → Bool
 has_none [] = true
 has_none (frame ∷ frames) = false
+
+-- the part of a `while$` in the machine's definition
+abbrev pub part_of : Part → config.Part
+part_of Whole = config.Whole
+part_of (Testing test body) = config.Testing test body
+part_of (Turning test body) = config.Turning test body
+
+-- the tokens left
+abbrev pub tokens_left : Rest → List TokenAt
+tokens_left (Call name place) = record { token = CallToken name; place = place } ∷ []
+tokens_left (Tokens tokens) = tokens.now
+
+-- a frame
+abbrev pub frame_of : Frame → config.Frame
+frame_of f = record { tokens = tokens_left f.rest; place = f.place; part = part_of f.part }
 
 -- what is left of a step, where the innermost frame has lost its first token, or is gone since it had none
 abbrev pub with_next : Style → Next → Config → Config

@@ -1,5 +1,5 @@
 -- The steps that take room for one value and one frame at most, and no other memory (docs/MACHINE.md, "Room").
-use Rattle.std.specs.Prelude.{◌≡◌, ℕ, zero, suc, ◌+◌, ◌≤◌, Bool, true, false, List, [], ◌∷◌, Option, None, Some, Result, Ok, Err}
+use Rattle.std.specs.Prelude.{◌≡◌, ℕ, zero, suc, Bool, true, false, List, [], ◌∷◌, Option, None, Some, Result, Ok, Err}
 use Rattle.name_table.specs.declared.builtin.Builtin.{Builtin}
 use Rattle.name_table.specs.declared.builtin.Builtin.TheVariants as op
 use Rattle.name_table.specs.declared.names.Kind.{Kind}
@@ -14,7 +14,6 @@ use Rattle.bst_meaning.specs.Config.{Config, Frame}
 use Rattle.bst_meaning.specs.Effect.{Effect}
 use Rattle.bst_meaning.specs.Machine.{context_of, step}
 use Rattle.bst_meaning.specs.StyleParts.{kind_of}
-use Rattle.bst_step.specs.declared.state.State.{State}
 use Rattle.bst_step.specs.declared.stop.Stop.{Stop}
 use Rattle.bst_step.specs.declared.stop.Stop.TheVariants.{Fault as Faulted, NoMemory}
 
@@ -89,11 +88,3 @@ abbrev pub Fits : {A : Type 0} → Result A Stop → Type 0
 Fits (Ok done) = Unit {0}
 Fits (Err (Faulted fault)) = Unit {0}
 Fits (Err NoMemory) = ⊥
-
--- there is room for a frame and a value
-abbrev pub HasRoom : State → Type 0
-HasRoom s = (1 ≤ s.frames.room) × (1 ≤ s.values.room)
-
--- of the room for frames and values so much is taken at most
-abbrev pub LeavesRoom : ℕ → State → State → Type 0
-LeavesRoom n old new = (old.frames.room ≤ new.frames.room + n) × (old.values.room ≤ new.values.room + n)

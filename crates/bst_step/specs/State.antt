@@ -1,34 +1,13 @@
 -- The machine's state as a configuration of the machine's definition (docs/MACHINE.md, "Configurations").
-use Rattle.std.specs.Prelude.{List, [], ◌∷◌, filter, map, option_map}
-use Rattle.name_table.specs.declared.style.Token.TheVariants.{Call as CallToken}
-use Rattle.name_table.specs.declared.style.TokenAt.{TokenAt}
+use Rattle.std.specs.Prelude.{ℕ, ◌+◌, ◌≤◌, filter, map, option_map}
 use Rattle.bst_meaning.specs.Config as config
-use Rattle.bst_step.specs.declared.state.Part.{Part}
-use Rattle.bst_step.specs.declared.state.Part.TheVariants.{Whole, Testing, Turning}
-use Rattle.bst_step.specs.declared.state.Rest.{Rest}
-use Rattle.bst_step.specs.declared.state.Rest.TheVariants.{Call, Tokens}
-use Rattle.bst_step.specs.declared.state.Frame.{Frame}
 use Rattle.bst_step.specs.declared.state.Visit.{Visit}
 use Rattle.bst_step.specs.declared.state.Event.{Event}
 use Rattle.bst_step.specs.declared.state.Event.TheVariants.{Wrote, WroteLent, EndedLine}
 use Rattle.bst_step.specs.declared.state.Site.{Site}
 use Rattle.bst_step.specs.declared.state.Stopped.{Stopped}
 use Rattle.bst_step.specs.declared.state.State.{State}
-
--- the part of a `while$` in the machine's definition
-abbrev pub part_of : Part → config.Part
-part_of Whole = config.Whole
-part_of (Testing test body) = config.Testing test body
-part_of (Turning test body) = config.Turning test body
-
--- the tokens left
-abbrev pub tokens_left : Rest → List TokenAt
-tokens_left (Call name place) = record { token = CallToken name; place = place } ∷ []
-tokens_left (Tokens tokens) = tokens.now
-
--- a frame
-abbrev pub frame_of : Frame → config.Frame
-frame_of f = record { tokens = tokens_left f.rest; place = f.place; part = part_of f.part }
+use Rattle.bst_step.specs.Frames.{frame_of}
 
 -- a visit of the entries
 abbrev pub visit_in : Visit → config.Visit
@@ -63,3 +42,11 @@ config_of s = record {
   log = s.log.items;
   stopped = option_map stopped_in s.stopped;
 }
+
+-- there is room for a frame and a value
+abbrev pub HasRoom : State → Type 0
+HasRoom s = (1 ≤ s.frames.room) × (1 ≤ s.values.room)
+
+-- of the room for frames and values so much is taken at most
+abbrev pub LeavesRoom : ℕ → State → State → Type 0
+LeavesRoom n old new = (old.frames.room ≤ new.frames.room + n) × (old.values.room ≤ new.values.room + n)

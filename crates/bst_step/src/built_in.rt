@@ -5,8 +5,8 @@ ghost use Rattle.bst_meaning.specs.Builtins as rule;
 ghost use Rattle.bst_meaning.specs.Machine.{context_of};
 ghost use Rattle.bst_step.specs.Effects.{Makes};
 ghost use Rattle.bst_step.specs.MarkRules.{built_in_marks};
-ghost use Rattle.bst_step.specs.Room.{Fits, HasRoom, built_in_takes_room};
-ghost use Rattle.bst_step.specs.State.{config_of};
+ghost use Rattle.bst_step.specs.Room.{Fits, built_in_takes_room};
+ghost use Rattle.bst_step.specs.State.{config_of, HasRoom};
 
 use crate::held::Operand;
 use crate::state::State;

@@ -3,10 +3,10 @@
 ghost use Rattle.std.specs.Prelude.{◌≡◌, ◌≤◌, true, [], ◌∷◌, drop, filter, IsOk, MatchOption, OnErr, OnOk};
 ghost use Rattle.bst_meaning.specs.Config.{is_step as takes_step};
 ghost use Rattle.bst_meaning.specs.Machine as rule;
-ghost use Rattle.bst_step.specs.State.{config_of, visit_in};
+ghost use Rattle.bst_step.specs.State.{config_of, visit_in, HasRoom, LeavesRoom};
 ghost use Rattle.bst_step.specs.Machine.{HasEntriesOf, at_rest};
 ghost use Rattle.bst_step.specs.MarkRules as rules;
-ghost use Rattle.bst_step.specs.Room.{HasRoom, LeavesRoom, TakeRoom, step_takes_room};
+ghost use Rattle.bst_step.specs.Room.{TakeRoom, step_takes_room};
 
 use crate::state::{Part, Rest, State, Visit};
 use bst_meaning::fault::Fault;

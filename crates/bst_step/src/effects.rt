@@ -15,8 +15,9 @@ ghost use Rattle.bst_step.specs.Held.{value_of};
 ghost use Rattle.bst_step.specs.MarkRules as rules;
 ghost use Rattle.bst_step.specs.Marks as mark;
 ghost use Rattle.bst_step.specs.Marks.{lent_mark};
-ghost use Rattle.bst_step.specs.Room.{Fits, LeavesRoom, cuts_nothing};
-ghost use Rattle.bst_step.specs.State.{config_of, event_of, part_of, tokens_left};
+ghost use Rattle.bst_step.specs.Room.{Fits, cuts_nothing};
+ghost use Rattle.bst_step.specs.State.{config_of, event_of, LeavesRoom};
+ghost use Rattle.bst_step.specs.Frames.{part_of, tokens_left};
 ghost use Rattle.bst_step.specs.Moves as change;
 ghost use Rattle.bst_step.specs.Moves.{with_event, with_log, with_second_assigned, with_second_cut, with_entry_assigned, with_stack, with_top_assigned};
 

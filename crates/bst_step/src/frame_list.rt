@@ -4,11 +4,10 @@ ghost use Rattle.std.specs.Prelude.{◌≡◌, ◌+◌, ◌≤◌, ◌∷◌, []
 ghost use Rattle.name_table.specs.declared.style.Style.{Style};
 ghost use Rattle.bst_meaning.specs.Config.{Config};
 ghost use Rattle.bst_meaning.specs.Machine as rule;
-ghost use Rattle.bst_step.specs.Frames.{has_none, marks_after_next, next_takes_room, with_next};
+ghost use Rattle.bst_step.specs.Frames.{has_none, marks_after_next, next_takes_room, with_next, frame_of};
 ghost use Rattle.bst_step.specs.MarkRules as rules;
 ghost use Rattle.bst_step.specs.Marks.{Marks};
 ghost use Rattle.bst_step.specs.Room.{frames_take_room};
-ghost use Rattle.bst_step.specs.State.{frame_of};
 
 use crate::stack::Stack;
 use crate::state::{Frame, Part, Rest};
@@ -85,7 +84,7 @@ impl<'a> Frames<'a> {
     /// Enters a frame. It is refused only where there is no room, and then nothing changes.
     #[inline(always)]
     pub fn push(&mut self, frame: Frame<'a>) -> Result<(), NoMemory>
-        ensures moved { OnOk result (self.new.items ≡ frame ∷ self.old.items) }
+        ensures moved { OnOk result (self.new.items ≡ frame.entry ∷ self.old.items) }
         ensures refused { OnErr result (self.new ≡ self.old) }
         ensures fits { 1 ≤ self.old.room → IsOk result }
         ensures room { self.old.room ≤ self.new.room + 1 }

@@ -3,9 +3,10 @@
 ghost use Rattle.std.specs.Prelude.{◌≡◌, ◌≤◌, true, map, IsOk, OnErr, OnOk};
 ghost use Rattle.name_table.specs.declared.style.Style.{Style};
 ghost use Rattle.bst_meaning.specs.Machine as rule;
-ghost use Rattle.bst_step.specs.State.{config_of, frame_of, part_of};
+ghost use Rattle.bst_step.specs.State.{config_of, HasRoom, LeavesRoom};
+ghost use Rattle.bst_step.specs.Frames.{frame_of, part_of};
 ghost use Rattle.bst_step.specs.MarkRules as rules;
-ghost use Rattle.bst_step.specs.Room.{HasRoom, LeavesRoom, frames_take_room};
+ghost use Rattle.bst_step.specs.Room.{frames_take_room};
 
 use crate::effects::entered_at;
 use crate::frame_list::Next;

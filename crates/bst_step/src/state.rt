@@ -5,8 +5,8 @@ ghost use Rattle.bst_meaning.specs.Machine as rule;
 ghost use Rattle.bst_step.specs.Held.{value_of};
 ghost use Rattle.bst_step.specs.Marks as mark;
 ghost use Rattle.bst_step.specs.Marks.{lent_mark};
-ghost use Rattle.bst_step.specs.Room.{LeavesRoom};
-ghost use Rattle.bst_step.specs.State.{config_of, part_of, tokens_left, visit_in};
+ghost use Rattle.bst_step.specs.State.{config_of, visit_in, LeavesRoom};
+ghost use Rattle.bst_step.specs.Frames.{part_of, tokens_left};
 ghost use Rattle.bst_step.specs.Surroundings.{context_in};
 
 use crate::frame_list::Frames;

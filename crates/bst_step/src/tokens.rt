@@ -8,8 +8,8 @@ ghost use Rattle.bst_meaning.specs.Machine as rule;
 ghost use Rattle.bst_step.specs.MarkRules as rules;
 ghost use Rattle.bst_step.specs.Marks as mark;
 ghost use Rattle.bst_step.specs.Marks.{lent_mark, mark_at};
-ghost use Rattle.bst_step.specs.Room.{HasRoom, LeavesRoom, built_in_takes_room, call_takes_room, token_takes_room};
-ghost use Rattle.bst_step.specs.State.{config_of};
+ghost use Rattle.bst_step.specs.Room.{built_in_takes_room, call_takes_room, token_takes_room};
+ghost use Rattle.bst_step.specs.State.{config_of, HasRoom, LeavesRoom};
 ghost use Rattle.bst_step.specs.Moves.{with_field, with_entry_value, with_global, with_stack};
 ghost use Rattle.bst_step.specs.Values.{with_pushed};
 

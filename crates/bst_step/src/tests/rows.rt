@@ -3,9 +3,9 @@
 
 use crate::machine::{Machine, Site, Turn};
 use crate::tests::entries::list;
+use crate::tests::marks::add_lent;
 use crate::tests::operands::add_kinds;
 use crate::tests::program::{add_words, empty_style};
-use crate::tests::marks::add_lent;
 use crate::tests::runs::{add_state, reserved_steps, step_by_step};
 use crate::tests::writing::add_lengths;
 use bst_meaning::entry::EntryList;

@@ -93,5 +93,10 @@ returns-in_ok-joined-in-Some-clause-marks c = λ two.
 
 pub returns-in-None-clause-marks : goal.returns-in-None-clause-marks
 returns-in-None-clause-marks c = λ two.
-    absurd (omega (arith, two, no_two c.self.inside.stack.items (sym c.in-None.ensures), ap (λ (h : Holding). length h.stack) c.self.view_is,
-    length-map c.self.inside.stack.items (value_in c.self.inside.pool.items)))
+    absurd (omega (
+      arith,
+      two,
+      no_two c.self.inside.stack.items (sym c.in-None.ensures),
+      ap (λ (h : Holding). length h.stack) c.self.view_is,
+      length-map c.self.inside.stack.items (value_in c.self.inside.pool.items),
+    ))

@@ -1,5 +1,5 @@
 -- The string at the depth is lent where it is held so.
-use Rattle.std.proofs.Common.{◌∙◌, Option, ap, slice_get, sym}
+use Rattle.std.proofs.Common.{◌∙◌, Option, ap, sym}
 use Rattle.std.specs.Option.{option_and_then}
 use Rattle.bst_step.specs.declared.held.Held.{Held}
 use Rattle.bst_step.specs.Held.{lent_of}
