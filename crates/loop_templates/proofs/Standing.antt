@@ -12,7 +12,7 @@ use Rattle.cert_format.specs.CondText.{IsField, is_below, is_chain}
 use Rattle.cert_format.specs.declared.items.TheConstants.{MOST_NUMBER}
 use Rattle.lin_facts.specs.declared.row.Part.{Part}
 use Rattle.lin_facts.specs.declared.row.Row.{Row}
-pub use Rattle.name_table.proofs.Within.{each_kept}
+use Rattle.name_table.proofs.Within.{each_kept}
 use Rattle.name_table.specs.Sound.{Each}
 use Rattle.name_table.specs.declared.names.NameId.{NameId}
 use Rattle.name_table.specs.declared.style.Style.{Style}
