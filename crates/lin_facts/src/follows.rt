@@ -129,9 +129,9 @@ fn entry(row: &Row, column: Column) -> i64
 /// How often parts take a term.
 pub fn coefficient_of(parts: &[Part], term: Term) -> i64
     requires few { length parts.now ≤ 288 }
-    requires small { All (λ part. IsWithin (2 ^ 45) part.coefficient) parts.now }
+    requires small { All (λ part. IsWithin (2 ^ 50 * 9) part.coefficient) parts.now }
     ensures value { result ≡ coefficient_of parts.now term }
-    ensures size { IsWithin (length parts.now * 2 ^ 45) result }
+    ensures size { All (λ part. IsWithin (2 ^ 45) part.coefficient) parts.now → IsWithin (length parts.now * 2 ^ 45) result }
 {
     let mut sum = 0i64;
     for part in parts {
