@@ -356,3 +356,9 @@ finds c state t remainder =
     let b = leaves c state t remainder in
     under_all b (map ref.Row (range_with_len 0 (rows_named state))) (flat_map (on_symbols state) kinds ++ on_entries) (on_term t) (finds_on c state t remainder)
     ∙ finds_rows c state t remainder (on_term t) state.rows 0 (rows_named state) (λ k. ap (slice_get state.rows) (omega arith)) (omega arith)
+
+-- so what comes of all references, and of those alone behind which something is left, comes of those found by look-up
+pub looks_up : {A : Type 0} (over : List Reference → A) (c : Cond) (state : State) (t : Term) (remainder : Row)
+    → ((all : List Reference) → over all ≡ over (filter (leaves c state t remainder) all)) → over (references state) ≡ over (references_to state remainder t)
+looks_up over c state t remainder kept =
+    kept (references state) ∙ ap over (finds c state t remainder) ∙ sym (kept (references_to state remainder t))
