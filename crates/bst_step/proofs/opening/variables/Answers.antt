@@ -2,7 +2,6 @@
 use Rattle.std.proofs.Common.{◌∙◌, List, [], ap, sym, subst, length, map}
 use Rattle.std.proofs.lemmas.List.{length-map}
 use Rattle.name_table.specs.declared.names.NameId.{NameId}
-use Rattle.bst_meaning.specs.Config as config
 use Rattle.bst_step.specs.Opening.{opening_of}
 use Rattle.bst_step.specs.Places.{StandAt}
 use Rattle.bst_step.specs.Variables.{variable_in}
