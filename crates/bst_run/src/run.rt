@@ -83,7 +83,7 @@ pub fn run_joined(
     ensures { IfOk result (λ outcome. outcome ≡ rule.run_joined steps style.now reading.now found) }
 {
     let Joined { list, warnings } = found;
-    let mut machine = Machine::new(alloc, style, list)?;
+    let mut machine = Machine::new(alloc, style, &list)?;
     let turn = machine.run(u64::from(steps))?;
     let log = whole_log(alloc, reading, warnings.as_slice(), &machine)?;
     outcome_of(alloc, &machine, turn, steps, log)

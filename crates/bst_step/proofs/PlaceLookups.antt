@@ -6,10 +6,10 @@ use Rattle.std.proofs.lemmas.Bool.{eqb-true, eq-eqb}
 use Rattle.name_table.specs.declared.names.NameId.{NameId}
 use Rattle.bst_meaning.specs.declared.entry.FieldValue.{FieldValue}
 use Rattle.bst_meaning.specs.declared.value.Value.TheVariants.{Missing}
-use Rattle.bst_meaning.specs.Config.{Variable}
-use Rattle.bst_meaning.specs.Invariant.{names_of}
-use Rattle.bst_meaning.specs.Machine.{field_in, field_value, value_at, with_variable}
+use Rattle.bst_meaning.specs.Machine.{field_in, field_value}
+use Rattle.bst_step.specs.declared.variables.Variable.{Variable}
 use Rattle.bst_step.specs.Places.{StandAt, place_of}
+use Rattle.bst_step.specs.Variables.{held_at, names_in, with_held}
 
 -- the first with an id stands at the place of the id
 record Stands (id at : ℕ) (names : List NameId) : Type 0 where
@@ -97,16 +97,16 @@ another_there places names id at stand has other = by (place_of id names) refl
         let same : at ≡ k = cc in
         absurd (other there.name (ap (λ (n : ℕ). slice_get names n) same ∙ there.here) there.named)
 
--- the value of the variable at a place
-pub value_there : (id : ℕ) (variables : List Variable) (at : ℕ) → place_of id (names_of variables) ≡ Some at
-    → value_at id variables ≡ option_map (λ v. v.value) (slice_get variables at)
+-- what the variable at a place holds
+pub value_there : (id : ℕ) (variables : List Variable) (at : ℕ) → place_of id (names_in variables) ≡ Some at
+    → held_at id variables ≡ option_map (λ v. v.value) (slice_get variables at)
 value_there id [] at e = absurd (cc)
-value_there id (v ∷ vs) at e = by (nat_eq v.name.0 id) (place_of id (names_of vs)) refl (λ k. value_there id vs k) e
+value_there id (v ∷ vs) at e = by (nat_eq v.name.0 id) (place_of id (names_in vs)) refl (λ k. value_there id vs k) e
   where
-    by : (t : Bool) (o : Option ℕ) → place_of id (names_of vs) ≡ o
-        → ((k : ℕ) → place_of id (names_of vs) ≡ Some k → value_at id vs ≡ option_map (λ v. v.value) (slice_get vs k))
+    by : (t : Bool) (o : Option ℕ) → place_of id (names_in vs) ≡ o
+        → ((k : ℕ) → place_of id (names_in vs) ≡ Some k → held_at id vs ≡ option_map (λ v. v.value) (slice_get vs k))
         → cond t (Some 0) (option_map suc o) ≡ Some at
-        → cond t (Some v.value) (value_at id vs) ≡ option_map (λ v. v.value) (slice_get (v ∷ vs) at)
+        → cond t (Some v.value) (held_at id vs) ≡ option_map (λ v. v.value) (slice_get (v ∷ vs) at)
     by true o is later e =
         let same : 0 ≡ at = cc in ap (λ (k : ℕ). option_map (λ v. v.value) (slice_get (v ∷ vs) k)) same
     by false None is later e = absurd (cc)
@@ -114,54 +114,54 @@ value_there id (v ∷ vs) at e = by (nat_eq v.name.0 id) (place_of id (names_of 
         let same : suc k ≡ at = cc in
         later k is ∙ ap (λ (n : ℕ). option_map (λ v. v.value) (slice_get (v ∷ vs) n)) same
 
-pub value_nowhere : (id : ℕ) (variables : List Variable) → place_of id (names_of variables) ≡ None → value_at id variables ≡ None
+pub value_nowhere : (id : ℕ) (variables : List Variable) → place_of id (names_in variables) ≡ None → held_at id variables ≡ None
 value_nowhere id [] e = refl
-value_nowhere id (v ∷ vs) e = by (nat_eq v.name.0 id) (place_of id (names_of vs)) refl (value_nowhere id vs) e
+value_nowhere id (v ∷ vs) e = by (nat_eq v.name.0 id) (place_of id (names_in vs)) refl (value_nowhere id vs) e
   where
-    by : (t : Bool) (o : Option ℕ) → place_of id (names_of vs) ≡ o
-        → (place_of id (names_of vs) ≡ None → value_at id vs ≡ None) → cond t (Some 0) (option_map suc o) ≡ None
-        → cond t (Some v.value) (value_at id vs) ≡ None
+    by : (t : Bool) (o : Option ℕ) → place_of id (names_in vs) ≡ o
+        → (place_of id (names_in vs) ≡ None → held_at id vs ≡ None) → cond t (Some 0) (option_map suc o) ≡ None
+        → cond t (Some v.value) (held_at id vs) ≡ None
     by true o is later e = absurd (cc)
     by false None is later e = later is
     by false (Some k) is later e = absurd (cc)
 
 -- a variable gets its new value at its place
-pub set_there : (new : Variable) (variables : List Variable) (at : ℕ) → place_of new.name.0 (names_of variables) ≡ Some at
-    → set variables at new ≡ with_variable new variables
+pub set_there : (new : Variable) (variables : List Variable) (at : ℕ) → place_of new.name.0 (names_in variables) ≡ Some at
+    → set variables at new ≡ with_held new variables
 set_there new [] at e = absurd (cc)
-set_there new (v ∷ vs) at e = by (nat_eq v.name.0 new.name.0) (place_of new.name.0 (names_of vs)) refl (λ k. set_there new vs k) e
+set_there new (v ∷ vs) at e = by (nat_eq v.name.0 new.name.0) (place_of new.name.0 (names_in vs)) refl (λ k. set_there new vs k) e
   where
-    by : (t : Bool) (o : Option ℕ) → place_of new.name.0 (names_of vs) ≡ o
-        → ((k : ℕ) → place_of new.name.0 (names_of vs) ≡ Some k → set vs k new ≡ with_variable new vs)
-        → cond t (Some 0) (option_map suc o) ≡ Some at → set (v ∷ vs) at new ≡ cond t (new ∷ vs) (v ∷ with_variable new vs)
+    by : (t : Bool) (o : Option ℕ) → place_of new.name.0 (names_in vs) ≡ o
+        → ((k : ℕ) → place_of new.name.0 (names_in vs) ≡ Some k → set vs k new ≡ with_held new vs)
+        → cond t (Some 0) (option_map suc o) ≡ Some at → set (v ∷ vs) at new ≡ cond t (new ∷ vs) (v ∷ with_held new vs)
     by true o is later e = let same : 0 ≡ at = cc in ap (λ (k : ℕ). set (v ∷ vs) k new) (sym same)
     by false None is later e = absurd (cc)
     by false (Some k) is later e =
         let same : suc k ≡ at = cc in
         ap (λ (n : ℕ). set (v ∷ vs) n new) (sym same) ∙ ap (λ (l : List Variable). v ∷ l) (later k is)
 
-pub set_nowhere : (new : Variable) (variables : List Variable) → place_of new.name.0 (names_of variables) ≡ None
-    → variables ≡ with_variable new variables
+pub set_nowhere : (new : Variable) (variables : List Variable) → place_of new.name.0 (names_in variables) ≡ None
+    → variables ≡ with_held new variables
 set_nowhere new [] e = refl
-set_nowhere new (v ∷ vs) e = by (nat_eq v.name.0 new.name.0) (place_of new.name.0 (names_of vs)) refl (set_nowhere new vs) e
+set_nowhere new (v ∷ vs) e = by (nat_eq v.name.0 new.name.0) (place_of new.name.0 (names_in vs)) refl (set_nowhere new vs) e
   where
-    by : (t : Bool) (o : Option ℕ) → place_of new.name.0 (names_of vs) ≡ o
-        → (place_of new.name.0 (names_of vs) ≡ None → vs ≡ with_variable new vs) → cond t (Some 0) (option_map suc o) ≡ None
-        → v ∷ vs ≡ cond t (new ∷ vs) (v ∷ with_variable new vs)
+    by : (t : Bool) (o : Option ℕ) → place_of new.name.0 (names_in vs) ≡ o
+        → (place_of new.name.0 (names_in vs) ≡ None → vs ≡ with_held new vs) → cond t (Some 0) (option_map suc o) ≡ None
+        → v ∷ vs ≡ cond t (new ∷ vs) (v ∷ with_held new vs)
     by true o is later e = absurd (cc)
     by false None is later e = ap (λ (l : List Variable). v ∷ l) (later is)
     by false (Some k) is later e = absurd (cc)
 
 -- a new value leaves the names
-pub same_names : (new : Variable) (variables : List Variable) → names_of (with_variable new variables) ≡ names_of variables
+pub same_names : (new : Variable) (variables : List Variable) → names_in (with_held new variables) ≡ names_in variables
 same_names new [] = refl
 same_names new (v ∷ vs) = by (nat_eq v.name.0 new.name.0) refl (same_names new vs)
   where
-    by : (t : Bool) → nat_eq v.name.0 new.name.0 ≡ t → names_of (with_variable new vs) ≡ names_of vs
-        → names_of (cond t (new ∷ vs) (v ∷ with_variable new vs)) ≡ v.name ∷ names_of vs
+    by : (t : Bool) → nat_eq v.name.0 new.name.0 ≡ t → names_in (with_held new vs) ≡ names_in vs
+        → names_in (cond t (new ∷ vs) (v ∷ with_held new vs)) ≡ v.name ∷ names_in vs
     by true is later =
         let same : new.name.0 ≡ v.name.0 = sym (eqb-true v.name.0 new.name.0 is) in
-        ap (λ (n : ℕ). record { 0 = n } ∷ names_of vs) same
+        ap (λ (n : ℕ). record { 0 = n } ∷ names_in vs) same
     by false other later = ap (λ (l : List NameId). v.name ∷ l) later
 
 -- the names of the fields of an entry

@@ -1,23 +1,17 @@
 -- Variables are found and written at their places.
-use Rattle.std.proofs.Common.{◌≡◌, ℕ, zero, suc, ◌<◌, Bool, true, false, cond, nat_eq, refl, sym, ap, subst, ◌∙◌, List, [], ◌∷◌, length, map, slice_get, get_or, Option, None, Some}
+use Rattle.std.proofs.Common.{◌≡◌, ℕ, zero, suc, ◌<◌, Bool, true, false, cond, nat_eq, refl, sym, ap, subst, ◌∙◌, List, [], ◌∷◌, length, slice_get, get_or, Option, None, Some}
 use Rattle.std.specs.Option.{option_map}
 use Rattle.std.proofs.Math.ListN.{set}
-use Rattle.std.proofs.lemmas.List.{map-set}
-use Rattle.std.proofs.lemmas.Option.{slice_get-map, slice_get-get_or}
+use Rattle.std.proofs.lemmas.Option.{slice_get-get_or}
 use Rattle.name_table.specs.declared.names.NameId.{NameId}
 use Rattle.bst_meaning.specs.declared.value.Value.{Value}
 use Rattle.bst_meaning.specs.Config as config
-use Rattle.bst_meaning.specs.Invariant.{names_of}
-use Rattle.bst_meaning.specs.Machine.{value_at, with_variable}
+use Rattle.bst_meaning.specs.Machine.{value_at}
 use Rattle.bst_meaning.specs.Sorting.{string_at, string_of}
 use Rattle.bst_step.specs.declared.variables.Variable.{Variable}
 use Rattle.bst_step.specs.Places.{StandAt, place_of}
-use Rattle.bst_step.specs.Variables.{variable_of}
+use Rattle.bst_step.specs.Variables.{held_at, names_in, with_held}
 use Rattle.bst_step.proofs.PlaceLookups.{another_there, at_place, no_place, same_names, set_nowhere, set_there, value_nowhere, value_there}
-
--- the names of variables
-abbrev pub names_in : List Variable → List NameId
-names_in variables = names_of (map variable_of variables)
 
 name_there : (variables : List Variable) (at : ℕ) → slice_get (names_in variables) at ≡ option_map (λ (v : Variable). v.name) (slice_get variables at)
 name_there [] at = refl
@@ -62,36 +56,32 @@ pub none_stands : (places : List ℕ) (variables : List Variable) (name : NameId
     → slice_get places name.0 ≡ Some at → slice_get variables at ≡ None → None ≡ place_of name.0 (names_in variables)
 none_stands places variables name at stand has none = nowhere places variables name at stand has None none (λ w same named. absurd (cc))
 
--- the value of the variable at its place
+-- what the variable at its place holds
 pub value_found : (variables : List Variable) (id at : ℕ) (d : Variable) → at < length variables
-    → Some at ≡ place_of id (names_in variables) → Some (get_or variables at d).value ≡ value_at id (map variable_of variables)
+    → Some at ≡ place_of id (names_in variables) → Some (get_or variables at d).value ≡ held_at id variables
 value_found variables id at d within is =
-    let here : slice_get (map variable_of variables) at ≡ Some (variable_of (get_or variables at d)) =
-    slice_get-map variable_of variables at ∙ ap (λ (o : Option Variable). option_map variable_of o) (slice_get-get_or variables at d within) in
-    sym (value_there id (map variable_of variables) at (sym is)
-    ∙ ap (λ (o : Option config.Variable). option_map (λ (v : config.Variable). v.value) o) here)
+    sym (value_there id variables at (sym is) ∙ ap (λ (o : Option Variable). option_map (λ (v : Variable). v.value) o) (slice_get-get_or variables at d within))
 
 -- no variable has the name
-pub value_missing : (variables : List Variable) (id : ℕ) → None ≡ place_of id (names_in variables) → None ≡ value_at id (map variable_of variables)
-value_missing variables id is = sym (value_nowhere id (map variable_of variables) (sym is))
+pub value_missing : (variables : List Variable) (id : ℕ) → None ≡ place_of id (names_in variables) → None ≡ held_at id variables
+value_missing variables id is = sym (value_nowhere id variables (sym is))
 
 -- the variable at its place has its new value
 pub set_found : (variables : List Variable) (new : Variable) (at : ℕ) → Some at ≡ place_of new.name.0 (names_in variables)
-    → map variable_of (set variables at new) ≡ with_variable (variable_of new) (map variable_of variables)
-set_found variables new at is = map-set variable_of variables at new ∙ set_there (variable_of new) (map variable_of variables) at (sym is)
+    → set variables at new ≡ with_held new variables
+set_found variables new at is = set_there new variables at (sym is)
 
 -- no variable has the name, so none changes
 pub set_missing : (variables : List Variable) (new : Variable) → None ≡ place_of new.name.0 (names_in variables)
-    → map variable_of variables ≡ with_variable (variable_of new) (map variable_of variables)
-set_missing variables new is = set_nowhere (variable_of new) (map variable_of variables) (sym is)
+    → variables ≡ with_held new variables
+set_missing variables new is = set_nowhere new variables (sym is)
 
 -- each variable still stands at its place
 pub still_stand : (places : List ℕ) (variables : List Variable) (new : Variable) (at : ℕ) → StandAt places (names_in variables)
     → Some at ≡ place_of new.name.0 (names_in variables) → StandAt places (names_in (set variables at new))
 still_stand places variables new at stand is =
     let same : names_in (set variables at new) ≡ names_in variables =
-    ap (λ (vs : List config.Variable). names_of vs) (set_found variables new at is)
-    ∙ same_names (variable_of new) (map variable_of variables) in
+    ap (λ (vs : List Variable). names_in vs) (set_found variables new at is) ∙ same_names new variables in
     subst (StandAt places) (sym same) stand
 
 -- the sort key is the string of a variable

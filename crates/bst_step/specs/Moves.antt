@@ -1,13 +1,15 @@
 -- The parts of an effect, each as a change of the configuration.
-use Rattle.std.specs.Prelude.{ℕ, List, [], ◌∷◌, ◌++◌, drop, slice_get, Option, None, Some, option_map}
+use Rattle.std.specs.Prelude.{ℕ, Bool, true, false, List, [], ◌∷◌, ◌++◌, drop, slice_get, Option, None, Some, option_map}
 use Rattle.std.specs.Option.{option_and_then}
 use Rattle.bv_base.specs.declared.place.Place.{Place}
+use Rattle.name_table.specs.declared.names.Kind.{Kind}
+use Rattle.name_table.specs.declared.names.Kind.TheVariants.{IntEntry, StrEntry}
 use Rattle.name_table.specs.declared.names.NameId.{NameId}
 use Rattle.name_table.specs.declared.style.Style.{Style}
 use Rattle.bst_meaning.specs.declared.value.Value.{Value}
-use Rattle.bst_meaning.specs.declared.value.Value.TheVariants.{Str}
-use Rattle.bst_meaning.specs.Config.{Config, Event, Wrote, Variable, EntryState}
-use Rattle.bst_meaning.specs.Machine.{with_assigned, with_variable, with_entry_variable, with_found, visited_index, visited_entry, value_at, field_in}
+use Rattle.bst_meaning.specs.Config.{Config, Event}
+use Rattle.bst_meaning.specs.Machine.{assigned_by, with_assigned, with_entry_variable, with_found, visited_entry, visited_index, value_at, field_in}
+use Rattle.bst_step.specs.Held.{part_from}
 
 -- the literal stack is this one
 abbrev pub with_stack : List Value → Config → Config
@@ -21,12 +23,24 @@ with_log lines c = record c { log = c.log ++ lines }
 abbrev pub with_event : Event → Config → Config
 with_event event c = record c { events = c.events ++ event ∷ [] }
 
--- the string on top of the stack is written
-abbrev pub with_top_written : List Value → Config → Config
-with_top_written (Str bytes ∷ stack) c = with_event (Wrote bytes) (with_stack stack c)
-with_top_written stack c = c
+-- a name of this kind is a variable of an entry
+abbrev pub is_of_entry : Option Kind → Bool
+is_of_entry (Some IntEntry) = true
+is_of_entry (Some StrEntry) = true
+is_of_entry _ = false
 
--- a value is assigned to a variable
+-- the value on top of the stack is taken off, and assigned to a variable of the visited entry
+abbrev pub with_entry_assigned : NameId → List Value → Config → Config
+with_entry_assigned name [] c = c
+with_entry_assigned name (value ∷ stack) c =
+    record c { stack = stack; entries = with_entry_variable (record { name = name; value = value }) (visited_index c) c.entries }
+
+-- the value on top of the stack is taken off, and assigned by the kind of the variable's name
+abbrev pub with_top_assigned : Option Kind → NameId → List Value → Config → Config
+with_top_assigned kind name [] c = c
+with_top_assigned kind name (value ∷ stack) c = assigned_by kind (record { name = name; value = value }) (with_stack stack c)
+
+-- a value that may not be there is assigned to a variable
 abbrev pub with_second : Style → NameId → Option Value → Config → Config
 with_second style name None c = c
 with_second style name (Some value) c = with_assigned style (Some (record { name = name; value = value })) c
@@ -35,13 +49,10 @@ with_second style name (Some value) c = with_assigned style (Some (record { name
 abbrev pub with_second_assigned : Style → NameId → List Value → Config → Config
 with_second_assigned style name stack c = with_second style name (slice_get stack 1) (with_stack (drop 2 stack) c)
 
--- an entry with a variable's new value
-abbrev pub with_new : Variable → EntryState → EntryState
-with_new new e = record e { variables = with_variable new e.variables }
-
--- a variable of the visited entry has its value
-abbrev pub assigned_in_entry : Variable → Config → Config
-assigned_in_entry new c = record c { entries = with_entry_variable new (visited_index c) c.entries }
+-- the same of so many bytes of a string
+abbrev pub with_second_cut : Style → NameId → ℕ → List Value → Config → Config
+with_second_cut style name size stack c =
+    with_second style name (option_map (part_from 0 size) (slice_get stack 1)) (with_stack (drop 2 stack) c)
 
 -- a field of the visited entry is pushed, or a variable of it, or one of the whole style
 abbrev pub with_field : NameId → Place → Config → Config

@@ -1,33 +1,13 @@
 -- The machine's state as a configuration of the machine's definition (docs/MACHINE.md, "Configurations").
-use Rattle.std.specs.Prelude.{List, [], ◌∷◌, map, option_map}
-use Rattle.name_table.specs.declared.style.Token.TheVariants.{Call as CallToken}
-use Rattle.name_table.specs.declared.style.TokenAt.{TokenAt}
+use Rattle.std.specs.Prelude.{ℕ, ◌+◌, ◌≤◌, filter, map, option_map}
 use Rattle.bst_meaning.specs.Config as config
-use Rattle.bst_step.specs.declared.state.Rest.{Rest}
-use Rattle.bst_step.specs.declared.state.Rest.TheVariants.{Call, Tokens}
-use Rattle.bst_step.specs.declared.state.Frame.{Frame}
-use Rattle.bst_step.specs.declared.state.EntryState.{EntryState}
 use Rattle.bst_step.specs.declared.state.Visit.{Visit}
 use Rattle.bst_step.specs.declared.state.Event.{Event}
-use Rattle.bst_step.specs.declared.state.Event.TheVariants.{Wrote, EndedLine}
+use Rattle.bst_step.specs.declared.state.Event.TheVariants.{Wrote, WroteLent, EndedLine}
 use Rattle.bst_step.specs.declared.state.Site.{Site}
 use Rattle.bst_step.specs.declared.state.Stopped.{Stopped}
 use Rattle.bst_step.specs.declared.state.State.{State}
-use Rattle.bst_step.specs.Outcome.{part_of}
-use Rattle.bst_step.specs.Variables.{variable_of}
-
--- the tokens left
-abbrev pub tokens_left : Rest → List TokenAt
-tokens_left (Call name place) = record { token = CallToken name; place = place } ∷ []
-tokens_left (Tokens tokens) = tokens.now
-
--- a frame
-abbrev pub frame_of : Frame → config.Frame
-frame_of f = record { tokens = tokens_left f.rest; place = f.place; part = part_of f.part }
-
--- an entry with its variables
-abbrev pub state_of : EntryState → config.EntryState
-state_of e = record { entry = e.entry; variables = map variable_of e.variables; position = e.position }
+use Rattle.bst_step.specs.Frames.{frame_of}
 
 -- a visit of the entries
 abbrev pub visit_in : Visit → config.Visit
@@ -36,6 +16,7 @@ visit_in v = record { backwards = v.backwards; visited = v.visited }
 -- what was written
 abbrev pub event_of : Event → config.Event
 event_of (Wrote text) = config.Wrote text
+event_of (WroteLent bytes) = config.Wrote bytes.now
 event_of EndedLine = config.EndedLine
 
 -- where a fault has come
@@ -49,15 +30,23 @@ stopped_in s = record { fault = s.fault; site = site_of s.site }
 -- the whole configuration
 abbrev pub config_of : State → config.Config
 config_of s = record {
-  preamble = s.preamble;
-  commands = s.commands;
+  preamble = s.preamble.now;
+  commands = filter (λ c. config.is_step c.command) s.commands.now;
   running = s.running;
-  frames = map frame_of s.frames;
-  stack = s.stack;
-  globals = map variable_of s.globals;
-  entries = map state_of s.entries.items;
+  frames = map frame_of s.frames.items;
+  stack = s.values.stack;
+  globals = s.values.globals;
+  entries = s.values.entries;
   visit = option_map visit_in s.visit;
   events = map event_of s.events.items;
   log = s.log.items;
   stopped = option_map stopped_in s.stopped;
 }
+
+-- there is room for a frame and a value
+abbrev pub HasRoom : State → Type 0
+HasRoom s = (1 ≤ s.frames.room) × (1 ≤ s.values.room)
+
+-- of the room for frames and values so much is taken at most
+abbrev pub LeavesRoom : ℕ → State → State → Type 0
+LeavesRoom n old new = (old.frames.room ≤ new.frames.room + n) × (old.values.room ≤ new.values.room + n)

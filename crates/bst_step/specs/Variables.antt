@@ -1,7 +1,31 @@
 -- Variables and entries, as the machine's definition has them.
+use Rattle.std.specs.Prelude.{ℕ, ◌≤◌, nat_eq, if◌then◌else◌, List, [], ◌∷◌, map, Option, None, Some}
+use Rattle.name_table.specs.declared.names.NameId.{NameId}
 use Rattle.bst_meaning.specs.Config as config
+use Rattle.bst_step.specs.declared.held.Held.{Held}
 use Rattle.bst_step.specs.declared.variables.Variable.{Variable}
+use Rattle.bst_step.specs.Held.{end_of, value_in}
 
--- a variable with its value
-abbrev pub variable_of : Variable → config.Variable
-variable_of v = record { name = v.name; value = v.value }
+-- a variable with its value, whose bytes may stand in a pool
+abbrev pub variable_in : List ℕ → Variable → config.Variable
+variable_in pool v = record { name = v.name; value = value_in pool v.value }
+
+-- the names of variables
+abbrev pub names_in : List Variable → List NameId
+names_in variables = map (λ v. v.name) variables
+
+-- what the variable with this id holds
+abbrev pub held_at : ℕ → List Variable → Option Held
+held_at id [] = None
+held_at id (variable ∷ variables) = if nat_eq variable.name.0 id then Some variable.value else held_at id variables
+
+-- variables of which one holds another value
+abbrev pub with_held : Variable → List Variable → List Variable
+with_held new [] = []
+with_held new (variable ∷ variables) =
+    if nat_eq variable.name.0 new.name.0 then new ∷ variables else variable ∷ with_held new variables
+
+-- the bytes of what variables hold end there at the latest
+abbrev pub VariablesWithin : ℕ → List Variable → Type 0
+VariablesWithin end [] = Unit {0}
+VariablesWithin end (variable ∷ variables) = (end_of variable.value ≤ end) × VariablesWithin end variables

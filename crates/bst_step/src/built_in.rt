@@ -1,60 +1,69 @@
-//! What each built-in function comes to.
+//! The built-in functions.
 
-ghost use Rattle.std.specs.Prelude.{◌≡◌};
+ghost use Rattle.std.specs.Prelude.{◌≡◌, true, OnErr};
 ghost use Rattle.bst_meaning.specs.Builtins as rule;
-ghost use Rattle.bst_step.specs.Outcome.{Gives};
-ghost use Rattle.bst_step.specs.Surroundings.{context_in};
+ghost use Rattle.bst_meaning.specs.Machine.{context_of};
+ghost use Rattle.bst_step.specs.Effects.{Makes};
+ghost use Rattle.bst_step.specs.MarkRules.{built_in_marks};
+ghost use Rattle.bst_step.specs.Room.{Fits, built_in_takes_room};
+ghost use Rattle.bst_step.specs.State.{config_of, HasRoom};
 
-use crate::assign::assign;
-use crate::outcome::Outcome;
-use crate::stack::Stack;
+use crate::held::Operand;
+use crate::state::State;
 use crate::stop::Stop;
-use crate::surroundings::Surroundings;
-use crate::{entries, flow, logs, moves, names, numbers, texts};
-use bst_meaning::value::Value;
+use crate::{moves, names, numbers, texts};
+use bv_base::place::Place;
 use name_table::builtin::Builtin;
+use name_table::style::Style;
 
-/// What a built-in function comes to on a stack, which it leaves as it is: the effect is made afterwards, where there is
-/// one.
-pub fn outcome_of(op: Builtin, around: Surroundings, stack: &Stack<Value>) -> Result<Outcome, Stop>
-    ensures { Gives result stack.now (rule.built_in op (context_in around.entry) stack.now) }
-{
-    match op {
-        Builtin::Equal => numbers::equal(stack),
-        Builtin::Greater => numbers::greater(stack),
-        Builtin::Less => numbers::less(stack),
-        Builtin::Plus => numbers::plus(stack),
-        Builtin::Minus => numbers::minus(stack),
-        Builtin::Join => texts::join(around.alloc, stack),
-        Builtin::Assign => assign(around, stack),
-        Builtin::AddPeriod => texts::add_period(around.alloc, stack),
-        Builtin::CallType => flow::call_type(around.style, around.entry, stack),
-        Builtin::ChangeCase => texts::change_case(around.alloc, stack),
-        Builtin::ChrToInt => numbers::chr_to_int(stack),
-        Builtin::Cite => entries::cite(around.alloc, around.entry, stack),
-        Builtin::Duplicate => moves::duplicate(around.alloc, stack),
-        Builtin::Empty => texts::empty(stack),
-        Builtin::FormatName => names::format_name(around.alloc, stack),
-        Builtin::IfElse => flow::if_else(stack),
-        Builtin::IntToChr => numbers::int_to_chr(around.alloc, stack),
-        Builtin::IntToStr => numbers::int_to_str_of(around.alloc, stack),
-        Builtin::Missing => texts::missing(stack),
-        Builtin::Newline | Builtin::Skip => Ok(moves::same(op)),
-        Builtin::NumNames => names::num_names(stack),
-        Builtin::Pop => moves::pop(stack),
-        Builtin::Preamble => texts::constant(around.alloc, around.preamble, stack),
-        Builtin::Purify => texts::purify(around.alloc, stack),
-        Builtin::Quote => texts::constant(around.alloc, b"\"", stack),
-        Builtin::Stack => logs::all(around.alloc, around.style, stack),
-        Builtin::Substring => texts::substring(around.alloc, stack),
-        Builtin::Swap => moves::swap(stack),
-        Builtin::TextLength => texts::text_length(stack),
-        Builtin::TextPrefix => texts::text_prefix(around.alloc, stack),
-        Builtin::Top => logs::top(around.alloc, around.style, stack),
-        Builtin::TypeName => entries::type_of(around.alloc, around.style, around.entry, stack),
-        Builtin::Warning => logs::warning(around.alloc, stack),
-        Builtin::WhileDo => flow::while_do(stack),
-        Builtin::Width => texts::width(stack),
-        Builtin::Write => moves::write(stack),
+impl<'a> State<'a> {
+    /// Calls a built-in function that stands at a place. A fault leaves all as it was.
+    #[tactic(auto, using(crate::proofs::EffectSteps::left_makes))]
+    pub fn built_in(&mut self, style: &'a Style, op: Builtin, place: Place) -> Result<(), Stop>
+        ensures made { Makes style.now place result self.old self.new
+            (rule.built_in op (context_of style.now (config_of self.old)) self.old.values.stack) (built_in_marks op style.now (config_of self.old)) }
+        ensures fits { built_in_takes_room op (rule.built_in op (context_of style.now (config_of self.old)) self.old.values.stack) ≡ true
+            → HasRoom self.old → Fits result }
+        ensures entries { OnErr result (self.new.values.entries ≡ self.old.values.entries) }
+    {
+        match op {
+            Builtin::Equal => numbers::equal(&mut self.values),
+            Builtin::Greater => numbers::greater(&mut self.values),
+            Builtin::Less => numbers::less(&mut self.values),
+            Builtin::Plus => numbers::plus(&mut self.values),
+            Builtin::Minus => numbers::minus(&mut self.values),
+            Builtin::Join => texts::join(&mut self.values),
+            Builtin::Assign => self.assign(style),
+            Builtin::AddPeriod => texts::add_period(self.alloc, &mut self.values),
+            Builtin::CallType => self.call_type(style, place),
+            Builtin::ChangeCase => texts::change_case(self.alloc, &mut self.values),
+            Builtin::ChrToInt => numbers::chr_to_int(&mut self.values),
+            Builtin::Cite => self.cite(),
+            Builtin::Duplicate => moves::duplicate(&mut self.values),
+            Builtin::Empty => texts::empty(&mut self.values),
+            Builtin::FormatName => names::format_name(self.alloc, &mut self.values),
+            Builtin::IfElse => self.if_else(style, place),
+            Builtin::IntToChr => numbers::int_to_chr(&mut self.values),
+            Builtin::IntToStr => numbers::int_to_str_of(self.alloc, &mut self.values),
+            Builtin::Missing => texts::missing(&mut self.values),
+            Builtin::Newline => self.end_line(),
+            Builtin::NumNames => names::num_names(&mut self.values),
+            Builtin::Pop => moves::pop(&mut self.values),
+            Builtin::Preamble => self.push_lent(Operand::Str(self.preamble)),
+            Builtin::Purify => texts::purify(self.alloc, &mut self.values),
+            Builtin::Quote => self.push_lent(Operand::Str(b"\"")),
+            Builtin::Skip => Ok(()),
+            Builtin::Stack => self.log_all(style),
+            Builtin::Substring => texts::substring(&mut self.values),
+            Builtin::Swap => moves::swap(&mut self.values),
+            Builtin::TextLength => texts::text_length(&mut self.values),
+            Builtin::TextPrefix => texts::text_prefix(self.alloc, &mut self.values),
+            Builtin::Top => self.log_top(style),
+            Builtin::TypeName => self.type_of(style),
+            Builtin::Warning => self.warn(),
+            Builtin::WhileDo => self.while_do(style, place),
+            Builtin::Width => texts::width(&mut self.values),
+            Builtin::Write => self.write_top(),
+        }
     }
 }

@@ -1,24 +1,28 @@
 //! The steps of commands.
 
-ghost use Rattle.std.specs.Prelude.{◌≡◌, drop, OnErr, OnOk};
+ghost use Rattle.std.specs.Prelude.{◌≡◌, ◌≤◌, true, [], ◌∷◌, drop, filter, IsOk, MatchOption, OnErr, OnOk};
+ghost use Rattle.bst_meaning.specs.Config.{is_step as takes_step};
 ghost use Rattle.bst_meaning.specs.Machine as rule;
-ghost use Rattle.bst_step.specs.State.{config_of, visit_in};
+ghost use Rattle.bst_step.specs.State.{config_of, visit_in, HasRoom, LeavesRoom};
 ghost use Rattle.bst_step.specs.Machine.{HasEntriesOf, at_rest};
+ghost use Rattle.bst_step.specs.MarkRules as rules;
+ghost use Rattle.bst_step.specs.Room.{TakeRoom, step_takes_room};
 
-use crate::order::sort_entries;
-use crate::outcome::Part;
-use crate::state::{Rest, State, Visit};
+use crate::state::{Part, Rest, State, Visit};
 use bst_meaning::fault::Fault;
 use bv_base::memory::NoMemory;
 use bv_base::place::Place;
 use name_table::names::NameId;
-use name_table::style::{Command, Style};
+use name_table::style::{Command, CommandAt, Style};
 
 impl<'a> State<'a> {
     /// So many steps, or those up to where no step changes anything any more.
     pub fn advance_by(&mut self, style: &'a Style, n: u64) -> Result<(), NoMemory>
         ensures moved { OnOk result (config_of self.new ≡ rule.steps style.now n (config_of self.old)) }
         ensures places { HasEntriesOf (config_of self.old) (config_of self.new) }
+        ensures marks { OnOk result (self.new.values.marks ≡ rules.marks_after_steps style.now n (config_of self.old) self.old.values.marks) }
+        ensures fits { TakeRoom style.now n (config_of self.old) → n ≤ self.old.frames.room → n ≤ self.old.values.room → IsOk result }
+        ensures room { OnOk result (LeavesRoom n self.old self.new) }
     {
         let mut left = n;
         while left > 0 {
@@ -38,16 +42,19 @@ impl<'a> State<'a> {
         if self.stopped.is_some() {
             return true;
         }
-        match (self.frames.top(), self.commands.top()) {
-            (None, None) => true,
-            _ => false,
+        if !self.frames.is_empty() {
+            return false;
         }
+        first_step(self.commands).is_none()
     }
 
     /// One step.
     fn advance(&mut self, style: &'a Style) -> Result<(), NoMemory>
         ensures moved { OnOk result (config_of self.new ≡ rule.step style.now (config_of self.old)) }
-        ensures entries { OnErr result (self.new.entries.items ≡ self.old.entries.items) }
+        ensures entries { OnErr result (self.new.values.entries ≡ self.old.values.entries) }
+        ensures marks { OnOk result (self.new.values.marks ≡ rules.marks_after style.now (config_of self.old) self.old.values.marks) }
+        ensures fits { step_takes_room style.now (config_of self.old) ≡ true → HasRoom self.old → IsOk result }
+        ensures room { OnOk result (LeavesRoom 1 self.old self.new) }
     {
         if self.stopped.is_some() {
             return Ok(());
@@ -57,35 +64,35 @@ impl<'a> State<'a> {
 
     /// A step where no frame is left.
     pub fn outer_step(&mut self) -> Result<(), NoMemory>
-        ensures moved { OnOk result (config_of self.new ≡ rule.outer_step self.old.running self.old.commands (config_of self.old)) }
-        ensures entries { OnErr result (self.new.entries.items ≡ self.old.entries.items) }
+        ensures moved { OnOk result (config_of self.new ≡ rule.outer_step self.old.running (config_of self.old).commands (config_of self.old)) }
+        ensures entries { OnErr result (self.new.values.entries ≡ self.old.values.entries) }
+        ensures marks { OnOk result (self.new.values.marks ≡ rules.outer_marks self.old.running (config_of self.old).commands (config_of self.old) self.old.values.marks) }
+        ensures room { OnOk result (LeavesRoom 1 self.old self.new) }
     {
-        let Some(first) = self.commands.top() else {
-            return Ok(());
-        };
-        let first = *first;
-        if self.running {
-            self.call_end_step(first.place)
-        } else {
-            self.command_step(first.command, first.place)
+        match first_step(self.commands) {
+            Some(first) if self.running => self.call_end_step(first.place),
+            Some(first) => self.command_step(first.command, first.place),
+            None => Ok(()),
         }
     }
 
     /// Begins, goes on with or takes away the first command.
     fn command_step(&mut self, command: Command, place: Place) -> Result<(), NoMemory>
-        ensures moved { OnOk result (config_of self.new ≡ rule.command_step command place (drop 1 self.old.commands) (config_of self.old)) }
-        ensures entries { OnErr result (self.new.entries.items ≡ self.old.entries.items) }
+        ensures moved { OnOk result (config_of self.new ≡ rule.command_step command place (drop 1 (config_of self.old).commands) (config_of self.old)) }
+        ensures entries { OnErr result (self.new.values.entries ≡ self.old.values.entries) }
+        ensures marks { OnOk result (self.new.values.marks ≡ rules.command_marks command (config_of self.old) self.old.values.marks) }
+        ensures room { OnOk result (LeavesRoom 1 self.old self.new) }
     {
         match command {
             Command::Execute(name) => self.begin_call(name, place),
             Command::Iterate(name) => self.visit_step(name, place, false),
             Command::Reverse(name) => self.visit_step(name, place, true),
             Command::Sort => {
-                self.commands.drop_top(1);
-                sort_entries(&mut self.entries)
+                self.commands = after_step(self.commands);
+                self.values.sort()
             }
             _ => {
-                self.commands.drop_top(1);
+                self.commands = after_step(self.commands);
                 Ok(())
             }
         }
@@ -94,8 +101,11 @@ impl<'a> State<'a> {
     /// Begins a call of the first command's name.
     fn begin_call(&mut self, name: NameId, place: Place) -> Result<(), NoMemory>
         ensures moved { OnOk result (config_of self.new ≡ rule.with_call name place (config_of self.old)) }
-        ensures entries { OnErr result (self.new.entries.items ≡ self.old.entries.items) }
+        ensures entries { OnErr result (self.new.values.entries ≡ self.old.values.entries) }
+        ensures marks { OnOk result (self.new.values.marks ≡ self.old.values.marks) }
+        ensures room { OnOk result (LeavesRoom 1 self.old self.new) }
     {
+        self.values.renew()?;
         self.running = true;
         self.enter(Rest::Call(name, place), place, Part::Whole)
     }
@@ -103,8 +113,10 @@ impl<'a> State<'a> {
     /// Visits the next entry, or takes the command away where none is left.
     fn visit_step(&mut self, name: NameId, place: Place, backwards: bool) -> Result<(), NoMemory>
         ensures moved { OnOk result (config_of self.new ≡
-            rule.visit_step name place (drop 1 self.old.commands) (rule.visit_of backwards (config_of self.old).visit) (config_of self.old)) }
-        ensures entries { OnErr result (self.new.entries.items ≡ self.old.entries.items) }
+            rule.visit_step name place (drop 1 (config_of self.old).commands) (rule.visit_of backwards (config_of self.old).visit) (config_of self.old)) }
+        ensures entries { OnErr result (self.new.values.entries ≡ self.old.values.entries) }
+        ensures marks { OnOk result (self.new.values.marks ≡ self.old.values.marks) }
+        ensures room { OnOk result (LeavesRoom 1 self.old self.new) }
     {
         let visit = match self.visit {
             Some(visit) => visit,
@@ -113,11 +125,11 @@ impl<'a> State<'a> {
                 visited: 0,
             },
         };
-        if visit.visited < self.entries.as_slice().len() {
+        if visit.visited < self.values.entries() {
             self.visit = Some(visit);
             self.begin_call(name, place)
         } else {
-            self.commands.drop_top(1);
+            self.commands = after_step(self.commands);
             self.visit = None;
             Ok(())
         }
@@ -126,21 +138,25 @@ impl<'a> State<'a> {
     /// Ends a call, whose last frame is gone.
     fn call_end_step(&mut self, place: Place) -> Result<(), NoMemory>
         ensures moved { OnOk result (config_of self.new ≡
-            rule.call_end_step self.old.stack place (drop 1 self.old.commands) (config_of self.old)) }
-        ensures entries { OnErr result (self.new.entries.items ≡ self.old.entries.items) }
+            rule.call_end_step self.old.values.stack place (drop 1 (config_of self.old).commands) (config_of self.old)) }
+        ensures entries { OnErr result (self.new.values.entries ≡ self.old.values.entries) }
+        ensures marks { OnOk result (self.new.values.marks ≡ self.old.values.marks) }
+        ensures room { OnOk result (LeavesRoom 1 self.old self.new) }
     {
-        if self.stack.top().is_some() {
+        if self.values.len() > 0 {
             self.stop(Fault::StackLeft, place);
             return Ok(());
         }
+        self.values.trim();
         self.call_ended()
     }
 
     /// Ends a call that leaves the stack empty: an EXECUTE is taken away, and a visit counts its entry.
     fn call_ended(&mut self) -> Result<(), NoMemory>
         ensures moved { OnOk result (config_of self.new ≡
-            rule.call_ended (config_of self.old).visit (drop 1 self.old.commands) (config_of self.old)) }
-        ensures entries { OnErr result (self.new.entries.items ≡ self.old.entries.items) }
+            rule.call_ended (config_of self.old).visit (drop 1 (config_of self.old).commands) (config_of self.old)) }
+        ensures frames { self.new.frames ≡ self.old.frames }
+        ensures values { self.new.values ≡ self.old.values }
     {
         self.running = false;
         match self.visit {
@@ -152,8 +168,49 @@ impl<'a> State<'a> {
                     visited,
                 });
             }
-            None => self.commands.drop_top(1),
+            None => self.commands = after_step(self.commands),
         }
         Ok(())
     }
+}
+
+/// Whether a command takes steps.
+fn is_step(command: Command) -> bool
+    ensures { result ≡ takes_step command }
+{
+    match command {
+        Command::Execute(_)
+        | Command::Iterate(_)
+        | Command::Read
+        | Command::Reverse(_)
+        | Command::Sort => true,
+        _ => false,
+    }
+}
+
+/// The first of the commands that takes steps.
+pub fn first_step(commands: &[CommandAt]) -> Option<CommandAt>
+    ensures { MatchOption result (filter (λ c. takes_step c.command) commands.now ≡ [])
+        (λ at. filter (λ c. takes_step c.command) commands.now ≡ at ∷ drop 1 (filter (λ c. takes_step c.command) commands.now)) }
+{
+    for at in commands {
+        if is_step(at.command) {
+            return Some(*at);
+        }
+    }
+    None
+}
+
+/// The commands behind the first that takes steps.
+fn after_step(commands: &[CommandAt]) -> &[CommandAt]
+    ensures { filter (λ c. takes_step c.command) result.now ≡ drop 1 (filter (λ c. takes_step c.command) commands.now) }
+{
+    let mut left = commands;
+    while let [first, rest @ ..] = left {
+        left = rest;
+        if is_step(first.command) {
+            return left;
+        }
+    }
+    left
 }

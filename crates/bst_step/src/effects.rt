@@ -1,19 +1,34 @@
-//! The effects of the built-in functions on the machine.
+//! What built-in functions do beside what they leave on the literal stack: they enter functions, assign, write and log.
 
-ghost use Rattle.std.specs.Prelude.{◌≡◌, ◌∷◌, [], map, OnErr, OnOk};
+ghost use Rattle.std.specs.Prelude.{◌≡◌, ◌≤◌, true, ◌∷◌, [], drop, map, OnErr, OnOk};
+ghost use Rattle.bv_base.specs.declared.place.Place.{Place};
+ghost use Rattle.name_table.specs.declared.style.Style.{Style};
+ghost use Rattle.bst_meaning.specs.Config as config;
+ghost use Rattle.bst_meaning.specs.Effect.{pushed, with_entered, with_logged, with_written};
 ghost use Rattle.bst_meaning.specs.StyleParts as parts;
-ghost use Rattle.bst_meaning.specs.Machine as rule;
-ghost use Rattle.bst_step.specs.Outcome.{effect_of, swapped};
-ghost use Rattle.bst_step.specs.State.{config_of, event_of, state_of, tokens_left};
-ghost use Rattle.bst_step.specs.Moves.{with_stack, with_log, with_event, with_top_written, with_second_assigned, with_new, assigned_in_entry};
-ghost use Rattle.bst_step.specs.Variables.{variable_of};
+ghost use Rattle.bst_meaning.specs.Builtins as rule;
+ghost use Rattle.bst_meaning.specs.Builtins.{string};
+ghost use Rattle.bst_meaning.specs.Operands.{one_operand};
+ghost use Rattle.bst_meaning.specs.Machine.{context_of, visited_index};
+ghost use Rattle.bst_step.specs.Effects.{Makes, Tells};
+ghost use Rattle.bst_step.specs.Held.{value_of};
+ghost use Rattle.bst_step.specs.MarkRules as rules;
+ghost use Rattle.bst_step.specs.Marks as mark;
+ghost use Rattle.bst_step.specs.Marks.{lent_mark};
+ghost use Rattle.bst_step.specs.Room.{Fits, cuts_nothing};
+ghost use Rattle.bst_step.specs.State.{config_of, event_of, LeavesRoom};
+ghost use Rattle.bst_step.specs.Frames.{part_of, tokens_left};
+ghost use Rattle.bst_step.specs.Moves as change;
+ghost use Rattle.bst_step.specs.Moves.{with_event, with_log, with_second_assigned, with_second_cut, with_entry_assigned, with_stack, with_top_assigned};
 
-use crate::outcome::Outcome;
-use crate::stack::Stack;
-use crate::state::{EntryState, Event, Rest, State};
-use crate::variables::Variable;
+use crate::assign::{Assignment, assignment_of};
+use crate::held::Operand;
+use crate::logs::{all_shown, shown, warning_of};
+use crate::operands::{one, one_string};
+use crate::state::{Event, Part, Rest, State};
+use crate::stop::Stop;
 use bst_meaning::style_parts::{kind_of, tokens_of};
-use bst_meaning::value::{Target, Value};
+use bst_meaning::value::Target;
 use bv_base::memory::NoMemory;
 use bv_base::place::Place;
 use bv_base::text::Text;
@@ -31,150 +46,212 @@ pub fn entered_at<'a>(style: &'a Style, target: Target, place: Place) -> Rest<'a
 }
 
 impl<'a> State<'a> {
-    /// Makes the effect of a built-in function that stands at a place.
-    pub fn apply(
+    /// Takes values away, and enters a target at a place.
+    #[inline(always)]
+    pub fn enter_over(
         &mut self,
         style: &'a Style,
-        outcome: Outcome,
+        taken: usize,
+        target: Target,
         place: Place,
-    ) -> Result<(), NoMemory>
-        ensures moved { OnOk result (config_of self.new ≡ rule.with_effect style.now (effect_of outcome self.old.stack) place (config_of self.old)) }
-        ensures entries { OnErr result (self.new.entries.items ≡ self.old.entries.items) }
+        part: Part,
+    ) -> Result<(), Stop>
+        ensures made { Makes style.now place result self.old self.new (with_entered target (part_of part) (drop taken self.old.values.stack)) (mark.taken taken) }
+        ensures fits { 1 ≤ self.old.frames.room → Fits result }
+        ensures entries { OnErr result (self.new.values.entries ≡ self.old.values.entries) }
     {
-        match outcome {
-            Outcome::Push(taken, value) => {
-                self.stack.drop_top(taken);
-                self.stack.push(value)
-            }
-            Outcome::Enter(taken, target, part) => {
-                self.stack.drop_top(taken);
-                self.enter(entered_at(style, target, place), place, part)
-            }
-            Outcome::Log(taken, line) => {
-                self.stack.drop_top(taken);
-                self.log_line(line)
-            }
-            Outcome::LogAll(lines) => self.log_all(lines),
-            Outcome::Leave(taken) => {
-                self.stack.drop_top(taken);
-                Ok(())
-            }
-            Outcome::EndLine => self.write(Event::EndedLine),
-            Outcome::Write => self.write_top(),
-            Outcome::Swap => self.swap_top(),
-            Outcome::Assign(name) => self.assign_second(style, name),
-            Outcome::AssignCut(name, text, line) => {
-                self.stack.drop_top(2);
-                self.log_line(line)?;
-                self.assign(style, name, Value::Str(text));
-                Ok(())
-            }
-        }
+        self.values.drop_top(taken);
+        self.enter(entered_at(style, target, place), place, part)?;
+        Ok(())
+    }
+
+    /// Pushes a value whose bytes are lent.
+    #[inline(always)]
+    pub fn push_lent(&mut self, value: Operand<'a>) -> Result<(), Stop>
+        ensures made { (style : Style) (place : Place) → Makes style place result self.old self.new (pushed (value_of value.entry) self.old.values.stack) (mark.pushed (lent_mark (value_of value.entry))) }
+        ensures fits { 1 ≤ self.old.values.room → Fits result }
+        ensures entries { OnErr result (self.new.values.entries ≡ self.old.values.entries) }
+    {
+        self.push(value)?;
+        Ok(())
     }
 
     /// Logs a line.
     fn log_line(&mut self, line: Text) -> Result<(), NoMemory>
         ensures moved { OnOk result (config_of self.new ≡ with_log (line ∷ []) (config_of self.old)) }
-        ensures entries { OnErr result (self.new.entries.items ≡ self.old.entries.items) }
+        ensures frames { self.new.frames ≡ self.old.frames }
+        ensures values { self.new.values ≡ self.old.values }
     {
         self.log.push(line)?;
         Ok(())
     }
 
-    /// Logs lines, and takes all values from the stack.
-    fn log_all(&mut self, lines: Vec<Text>) -> Result<(), NoMemory>
-        ensures moved { OnOk result (config_of self.new ≡ with_stack [] (with_log lines.items (config_of self.old))) }
-        ensures entries { OnErr result (self.new.entries.items ≡ self.old.entries.items) }
+    /// Takes the top off, and logs a line.
+    fn log_over(&mut self, line: Text) -> Result<(), Stop>
+        ensures made { (style : Style) (place : Place) → Makes style place result self.old self.new (with_logged (line ∷ []) (drop 1 self.old.values.stack)) (mark.taken 1) }
+        ensures entries { OnErr result (self.new.values.entries ≡ self.old.values.entries) }
     {
-        let mut lines = lines;
+        self.values.drop_top(1);
+        self.log_line(line)?;
+        Ok(())
+    }
+
+    /// `top$`
+    pub fn log_top(&mut self, style: &Style) -> Result<(), Stop>
+        ensures made { (place : Place) → Makes style.now place result self.old self.new
+            (one_operand self.old.values.stack (λ a rest. with_logged (rule.shown style.now a ∷ []) rest)) (mark.taken 1) }
+        ensures entries { OnErr result (self.new.values.entries ≡ self.old.values.entries) }
+    {
+        let line = shown(self.alloc, style, one(&self.values)?)?;
+        self.log_over(line)
+    }
+
+    /// `warning$`
+    pub fn warn(&mut self) -> Result<(), Stop>
+        ensures made { (style : Style) (place : Place) → Makes style place result self.old self.new
+            (string (λ a rest. with_logged (rule.warning a ∷ []) rest) self.old.values.stack) (mark.taken 1) }
+        ensures entries { OnErr result (self.new.values.entries ≡ self.old.values.entries) }
+    {
+        let line = warning_of(self.alloc, one_string(&self.values)?)?;
+        self.log_over(line)
+    }
+
+    /// `stack$`
+    pub fn log_all(&mut self, style: &Style) -> Result<(), Stop>
+        ensures made { (place : Place) → Makes style.now place result self.old self.new
+            (with_logged (map (rule.shown style.now) self.old.values.stack) []) mark.cleared }
+        ensures entries { OnErr result (self.new.values.entries ≡ self.old.values.entries) }
+    {
+        let mut lines = all_shown(self.alloc, style, &self.values)?;
         self.log.append(&mut lines)?;
-        self.stack = Stack::new(self.alloc);
+        self.values.clear();
         Ok(())
     }
 
     /// Writes a text or a line's end.
-    fn write(&mut self, event: Event) -> Result<(), NoMemory>
-        ensures moved { OnOk result (config_of self.new ≡ with_event (event_of event) (config_of self.old)) }
-        ensures entries { OnErr result (self.new.entries.items ≡ self.old.entries.items) }
+    fn write(&mut self, event: Event<'a>) -> Result<(), NoMemory>
+        ensures moved { OnOk result (config_of self.new ≡ with_event (event_of event.entry) (config_of self.old)) }
+        ensures frames { self.new.frames ≡ self.old.frames }
+        ensures values { self.new.values ≡ self.old.values }
     {
         self.events.push(event)?;
         Ok(())
     }
 
-    /// Writes the string on top of the stack.
-    fn write_top(&mut self) -> Result<(), NoMemory>
-        ensures moved { OnOk result (config_of self.new ≡ with_top_written self.old.stack (config_of self.old)) }
-        ensures entries { OnErr result (self.new.entries.items ≡ self.old.entries.items) }
+    /// `newline$`
+    pub fn end_line(&mut self) -> Result<(), Stop>
+        ensures made { (style : Style) (place : Place) → Makes style place result self.old self.new (with_written config.EndedLine self.old.values.stack) (λ m. m) }
+        ensures entries { OnErr result (self.new.values.entries ≡ self.old.values.entries) }
     {
-        match self.stack.pop() {
-            Some(Value::Str(text)) => self.write(Event::Wrote(text)),
-            Some(other) => self.stack.push(other),
-            None => Ok(()),
-        }
-    }
-
-    /// Exchanges the two topmost values.
-    fn swap_top(&mut self) -> Result<(), NoMemory>
-        ensures moved { OnOk result (config_of self.new ≡ with_stack (swapped self.old.stack) (config_of self.old)) }
-        ensures entries { OnErr result (self.new.entries.items ≡ self.old.entries.items) }
-    {
-        let Some(b) = self.stack.pop() else {
-            return Ok(());
-        };
-        let Some(a) = self.stack.pop() else {
-            return self.stack.push(b);
-        };
-        self.stack.push(b)?;
-        self.stack.push(a)
-    }
-
-    /// Assigns the second value from the top, and takes both away.
-    fn assign_second(&mut self, style: &Style, name: NameId) -> Result<(), NoMemory>
-        ensures moved { OnOk result (config_of self.new ≡ with_second_assigned style.now name self.old.stack (config_of self.old)) }
-        ensures entries { OnErr result (self.new.entries.items ≡ self.old.entries.items) }
-    {
-        self.stack.drop_top(1);
-        if let Some(value) = self.stack.pop() {
-            self.assign(style, name, value);
-        }
+        self.write(Event::EndedLine)?;
         Ok(())
     }
 
-    /// Gives a variable its value.
-    fn assign(&mut self, style: &Style, name: NameId, value: Value)
-        ensures { config_of self.new ≡ rule.assigned_by (parts.kind_of style.now name) (record { name = name; value = value }) (config_of self.old) }
+    /// `write$`
+    pub fn write_top(&mut self) -> Result<(), Stop>
+        ensures made { (style : Style) (place : Place) → Makes style place result self.old self.new
+            (string (λ a rest. with_written (config.Wrote a) rest) self.old.values.stack) (mark.taken 1) }
+        ensures entries { OnErr result (self.new.values.entries ≡ self.old.values.entries) }
     {
-        let new = Variable { name, value };
-        match kind_of(style, name) {
-            Some(Kind::IntEntry | Kind::StrEntry) => self.assign_in_entry(new),
-            _ => self.globals.set(new),
+        let event = self.top_event()?;
+        self.values.drop_top(1);
+        self.write(event)?;
+        Ok(())
+    }
+
+    /// The string on top as it is written.
+    fn top_event(&self) -> Result<Event<'a>, Stop>
+        ensures { Tells result self.now.values.stack }
+    {
+        let bytes = one_string(&self.values)?;
+        match self.values.lent_top() {
+            Some(lent) => Ok(Event::WroteLent(lent)),
+            None => Ok(Event::Wrote(Text::from_slice(self.alloc, bytes)?)),
         }
     }
 
-    /// Gives a variable of the visited entry its value.
-    fn assign_in_entry(&mut self, new: Variable)
-        ensures { config_of self.new ≡ assigned_in_entry (variable_of new) (config_of self.old) }
+    /// `:=`
+    pub fn assign(&mut self, style: &'a Style) -> Result<(), Stop>
+        ensures made { (place : Place) → Makes style.now place result self.old self.new
+            (rule.assign (context_of style.now (config_of self.old)) self.old.values.stack) (rules.assigned style.now self.old.values.stack (visited_index (config_of self.old))) }
+        ensures fits { cuts_nothing (rule.assign (context_of style.now (config_of self.old)) self.old.values.stack) ≡ true → Fits result }
+        ensures entries { OnErr result (self.new.values.entries ≡ self.old.values.entries) }
     {
-        let at = self.visited_index();
-        set_in_entry(self.entries.as_mut_slice(), at, new);
+        match assignment_of(self.surroundings(style), &self.values)? {
+            Assignment::Whole(name) => {
+                self.assign_second(style, name);
+                Ok(())
+            }
+            Assignment::Cut(name, size, line) => {
+                self.assign_cut(style, name, size, line)?;
+                Ok(())
+            }
+        }
+    }
+
+    /// Assigns the second value from the top, and takes both away.
+    fn assign_second(&mut self, style: &Style, name: NameId)
+        ensures moved { config_of self.new ≡ with_second_assigned style.now name self.old.values.stack (config_of self.old) }
+        ensures marks { self.new.values.marks ≡ rules.given (parts.kind_of style.now name) name (visited_index (config_of self.old)) (mark.taken 1 self.old.values.marks) }
+        ensures room { LeavesRoom 0 self.old self.new }
+    {
+        self.values.drop_top(1);
+        self.assign_top(style, name);
+    }
+
+    /// Logs a line, assigns so many bytes of the string that is second from the top, and takes both values away.
+    fn assign_cut(
+        &mut self,
+        style: &Style,
+        name: NameId,
+        size: usize,
+        line: Text,
+    ) -> Result<(), NoMemory>
+        ensures moved { OnOk result (config_of self.new ≡
+            with_second_cut style.now name size self.old.values.stack (with_log (line ∷ []) (config_of self.old))) }
+        ensures entries { OnErr result (self.new.values.entries ≡ self.old.values.entries) }
+        ensures marks { OnOk result (self.new.values.marks ≡
+            rules.given (parts.kind_of style.now name) name (visited_index (config_of self.old)) (mark.taken 1 self.old.values.marks)) }
+        ensures room { LeavesRoom 0 self.old self.new }
+    {
+        self.log_line(line)?;
+        self.values.drop_top(1);
+        self.values.cut_top(0, size);
+        self.assign_top(style, name);
+        Ok(())
+    }
+
+    /// Takes the top off, and gives it to a variable.
+    fn assign_top(&mut self, style: &Style, name: NameId)
+        ensures moved { config_of self.new ≡ with_top_assigned (parts.kind_of style.now name) name self.old.values.stack (config_of self.old) }
+        ensures marks { self.new.values.marks ≡ rules.given (parts.kind_of style.now name) name (visited_index (config_of self.old)) self.old.values.marks }
+        ensures room { LeavesRoom 0 self.old self.new }
+    {
+        if is_of_entry(kind_of(style, name)) {
+            self.assign_in_entry(name);
+        } else {
+            self.values.give_globally(name);
+        }
+    }
+
+    /// Takes the top off, and gives it to a variable of the visited entry.
+    fn assign_in_entry(&mut self, name: NameId)
+        ensures moved { config_of self.new ≡ with_entry_assigned name self.old.values.stack (config_of self.old) }
+        ensures marks { self.new.values.marks ≡
+            mark.given_in_entry name (visited_index (config_of self.old)) self.old.values.marks.stack self.old.values.marks }
+        ensures room { LeavesRoom 0 self.old self.new }
+    {
+        let Some(at) = self.visited_index() else {
+            self.values.drop_top(1);
+            return;
+        };
+        self.values.give_in_entry(at, name);
     }
 }
 
-/// Gives a variable of the entry at a place in the list, where there is one, its value.
-fn set_in_entry(entries: &mut [EntryState], at: Option<usize>, new: Variable)
-    ensures { map state_of entries.new ≡ rule.with_entry_variable (variable_of new) at (map state_of entries.old) }
+/// Whether a name of this kind is a variable of an entry.
+fn is_of_entry(kind: Option<Kind>) -> bool
+    ensures { result ≡ change.is_of_entry kind }
 {
-    let Some(at) = at else {
-        return;
-    };
-    if at < entries.len() {
-        set_in(&mut entries[at], new);
-    }
-}
-
-/// Gives a variable of an entry its value.
-fn set_in(entry: &mut EntryState, new: Variable)
-    ensures { state_of entry.new ≡ with_new (variable_of new) (state_of entry.old) }
-{
-    entry.variables.set(new);
+    matches!(kind, Some(Kind::IntEntry | Kind::StrEntry))
 }

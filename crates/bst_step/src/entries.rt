@@ -1,30 +1,51 @@
 //! The built-in functions that read the visited entry.
 
-ghost use Rattle.std.specs.Prelude.{◌≡◌, option_map};
-ghost use Rattle.bst_meaning.specs.declared.value.Value.TheVariants.{Str};
-ghost use Rattle.bst_meaning.specs.Effect.{pushed};
-ghost use Rattle.bst_meaning.specs.Builtins.{at_entry, type_name};
-ghost use Rattle.bst_step.specs.Outcome.{Gives};
+ghost use Rattle.std.specs.Prelude.{◌≡◌, ◌≤◌, OnErr};
+ghost use Rattle.bv_base.specs.declared.place.Place.{Place};
+ghost use Rattle.name_table.specs.declared.style.Style.{Style};
+ghost use Rattle.bst_meaning.specs.Builtins.{built_in, type_name};
+ghost use Rattle.bst_meaning.specs.Machine.{context_of};
+ghost use Rattle.bst_step.specs.Effects.{Makes};
+ghost use Rattle.bst_step.specs.Marks as mark;
+ghost use Rattle.bst_step.specs.Room.{Fits};
+ghost use Rattle.bst_step.specs.State.{config_of};
 
-use crate::outcome::Outcome;
-use crate::stack::Stack;
+use crate::held::Operand;
+use crate::state::State;
 use crate::stop::Stop;
-use bst_meaning::entry::Entry;
 use bst_meaning::fault::Fault;
-use bst_meaning::value::Value;
-use bv_base::text::Text;
+use name_table::builtin::Builtin;
 use name_table::style::{Style, TypeTarget};
-use std::alloc::Global;
 
-/// `cite$`
-pub fn cite(alloc: Global, entry: Option<&Entry>, stack: &Stack<Value>) -> Result<Outcome, Stop>
-    ensures { Gives result stack.now (at_entry (option_map (λ e. e.now) entry.entry) (λ e. pushed (Str e.key) stack.now)) }
-{
-    let Some(entry) = entry else {
-        return Err(Stop::Fault(Fault::NoEntry));
-    };
-    let key = Text::from_slice(alloc, entry.key.as_slice())?;
-    Ok(Outcome::Push(0, Value::Str(key)))
+impl<'a> State<'a> {
+    /// `cite$`
+    pub fn cite(&mut self) -> Result<(), Stop>
+        ensures made { (style : Style) (place : Place) → Makes style place result self.old self.new
+            (built_in Builtin.Cite (context_of style (config_of self.old)) self.old.values.stack) (mark.pushed mark.Lent) }
+        ensures fits { 1 ≤ self.old.values.room → Fits result }
+        ensures entries { OnErr result (self.new.values.entries ≡ self.old.values.entries) }
+    {
+        match self.visited_entry() {
+            Some(entry) => self.push_lent(Operand::Str(entry.key.as_slice())),
+            None => Err(Stop::Fault(Fault::NoEntry)),
+        }
+    }
+
+    /// `type$`
+    pub fn type_of(&mut self, style: &Style) -> Result<(), Stop>
+        ensures made { (place : Place) → Makes style.now place result self.old self.new
+            (built_in Builtin.TypeName (context_of style.now (config_of self.old)) self.old.values.stack) (mark.pushed mark.Lent) }
+        ensures fits { 1 ≤ self.old.values.room → Fits result }
+        ensures entries { OnErr result (self.new.values.entries ≡ self.old.values.entries) }
+    {
+        match self.visited_entry() {
+            Some(entry) => {
+                let name = defined_type(style, entry.entry_type.as_slice());
+                self.push_lent(Operand::Str(name))
+            }
+            None => Err(Stop::Fault(Fault::NoEntry)),
+        }
+    }
 }
 
 /// The type, where the style defines it, and else no bytes.
@@ -35,21 +56,4 @@ fn defined_type<'a>(style: &Style, entry_type: &'a [u8]) -> &'a [u8]
         TypeTarget::Function(_) => entry_type,
         _ => &[],
     }
-}
-
-/// `type$`
-pub fn type_of(
-    alloc: Global,
-    style: &Style,
-    entry: Option<&Entry>,
-    stack: &Stack<Value>,
-) -> Result<Outcome, Stop>
-    ensures { Gives result stack.now
-        (at_entry (option_map (λ e. e.now) entry.entry) (λ e. pushed (Str (type_name style.now e.entry_type)) stack.now)) }
-{
-    let Some(entry) = entry else {
-        return Err(Stop::Fault(Fault::NoEntry));
-    };
-    let name = Text::from_slice(alloc, defined_type(style, entry.entry_type.as_slice()))?;
-    Ok(Outcome::Push(0, Value::Str(name)))
 }

@@ -2,41 +2,41 @@
 
 ghost use Rattle.std.specs.Prelude.{◌≡◌, true, map, IfOk};
 ghost use Rattle.bst_meaning.specs.Machine as rule;
+ghost use Rattle.bst_step.specs.Held.{value_of};
 ghost use Rattle.bst_step.specs.Places.{StandAt};
 
+use crate::held::Operand;
 use bst_meaning::entry::{Entry, FieldValue};
-use bst_meaning::value::Value;
 use bv_base::memory::NoMemory;
 use bv_base::text::Text;
 use name_table::names::NameId;
-use std::alloc::Global;
 use std::marker::Model;
 use std::rc::Rc;
 
 /// An entry, whose fields are found by their places. Contracts see the entry.
 #[derive(Drop)]
-pub struct PlacedEntry {
-    entry: Entry,
+pub struct PlacedEntry<'a> {
+    entry: &'a Entry,
     /// By the id of its name, the place of each field, where the entry's fields stand so. All entries share this table.
     places: Option<Rc<Vec<usize>>>,
 }
 
-impl Model for PlacedEntry {
+impl<'a> Model for PlacedEntry<'a> {
     ghost use Rattle.std.specs.Prelude.{IfSome, map};
     ghost use Rattle.bst_meaning.specs.declared.entry.Entry.{Entry};
     ghost use Rattle.bst_step.specs.Places.{StandAt};
 
     ghost Value = { Entry };
 
-    ghost view = { λ e. e.entry };
+    ghost view = { λ e. e.entry.now };
 
-    ghost invariant = { λ e. IfSome e.places (λ places. StandAt places.value.items (map (λ f. f.name) e.entry.fields)) };
+    ghost invariant = { λ e. IfSome e.places (λ places. StandAt places.value.items (map (λ f. f.name) e.entry.now.fields)) };
 }
 
-impl PlacedEntry {
+impl<'a> PlacedEntry<'a> {
     /// An entry, with a table of places where its fields stand so.
-    pub fn new(places: &Rc<Vec<usize>>, entry: Entry) -> Result<PlacedEntry, NoMemory>
-        ensures { IfOk result (λ placed. placed ≡ entry) }
+    pub fn new(places: &Rc<Vec<usize>>, entry: &'a Entry) -> Result<PlacedEntry<'a>, NoMemory>
+        ensures { IfOk result (λ placed. placed ≡ entry.now) }
     {
         if stand(places.as_slice(), entry.fields.as_slice()) {
             let places = places.clone()?;
@@ -52,20 +52,37 @@ impl PlacedEntry {
     }
 
     /// The entry.
-    pub fn entry(&self) -> &Entry
+    pub fn entry(&self) -> &'a Entry
         ensures { result.now ≡ self.now }
     {
-        &self.entry
+        self.entry
+    }
+
+    /// The same entry once more.
+    pub fn copied(&self) -> Result<PlacedEntry<'a>, NoMemory>
+        ensures { IfOk result (λ copy. copy ≡ self.now) }
+    {
+        let entry = self.entry;
+        match &self.places {
+            Some(places) => Ok(PlacedEntry {
+                entry,
+                places: Some(places.clone()?),
+            }),
+            None => Ok(PlacedEntry {
+                entry,
+                places: None,
+            }),
+        }
     }
 
     /// The value of a field: its bytes, or that the entry doesn't have it.
-    pub fn field(&self, alloc: Global, name: NameId) -> Result<Value, NoMemory>
-        ensures { IfOk result (λ value. value ≡ rule.field_in name self.now.fields) }
+    pub fn field(&self, name: NameId) -> Operand<'a>
+        ensures { value_of result ≡ rule.field_in name self.now.fields }
     {
         let fields = self.entry.fields.as_slice();
         match &self.places {
-            Some(places) => field_by(alloc, places.as_slice(), name, fields),
-            None => field_among(alloc, name, fields),
+            Some(places) => field_by(places.as_slice(), name, fields),
+            None => field_among(name, fields),
         }
     }
 }
@@ -86,46 +103,41 @@ fn stand(places: &[usize], fields: &[FieldValue]) -> bool
 }
 
 /// The value of a field, by a table that has the place of each.
-fn field_by(
-    alloc: Global,
-    places: &[usize],
-    name: NameId,
-    fields: &[FieldValue],
-) -> Result<Value, NoMemory>
+fn field_by<'a>(places: &[usize], name: NameId, fields: &'a [FieldValue]) -> Operand<'a>
     requires { StandAt places.now (map (λ f. f.name) fields.now) }
-    ensures { IfOk result (λ value. value ≡ rule.field_in name fields.now) }
+    ensures { value_of result ≡ rule.field_in name fields.now }
 {
     let Some(at) = places.get(name.0 as usize) else {
-        return Ok(Value::Missing(name));
+        return Operand::Missing(name);
     };
     let Some(field) = fields.get(*at) else {
-        return Ok(Value::Missing(name));
+        return Operand::Missing(name);
     };
     if field.name.0 == name.0 {
-        field_value(alloc, name, &field.value)
+        field_value(name, &field.value)
     } else {
-        Ok(Value::Missing(name))
+        Operand::Missing(name)
     }
 }
 
 /// The value of a field where the fields stand in another order: that of the first of its name.
-fn field_among(alloc: Global, name: NameId, fields: &[FieldValue]) -> Result<Value, NoMemory>
-    ensures { IfOk result (λ value. value ≡ rule.field_in name fields.now) }
+fn field_among(name: NameId, fields: &[FieldValue]) -> Operand<'_>
+    ensures { value_of result ≡ rule.field_in name fields.now }
 {
     for field in fields {
         if field.name.0 == name.0 {
-            return field_value(alloc, name, &field.value);
+            return field_value(name, &field.value);
         }
     }
-    Ok(Value::Missing(name))
+    Operand::Missing(name)
 }
 
 /// The value of a field with these bytes, or that the entry doesn't have it.
-fn field_value(alloc: Global, name: NameId, bytes: &Option<Text>) -> Result<Value, NoMemory>
-    ensures { IfOk result (λ value. value ≡ rule.field_value name bytes.now) }
+fn field_value(name: NameId, bytes: &Option<Text>) -> Operand<'_>
+    ensures { value_of result ≡ rule.field_value name bytes.now }
 {
     match bytes {
-        Some(bytes) => Ok(Value::Str(Text::from_slice(alloc, bytes.as_slice())?)),
-        None => Ok(Value::Missing(name)),
+        Some(bytes) => Operand::Str(bytes.as_slice()),
+        None => Operand::Missing(name),
     }
 }

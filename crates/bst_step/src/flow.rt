@@ -1,64 +1,69 @@
 //! The built-in functions that enter others.
 
-ghost use Rattle.std.specs.Prelude.{◌≡◌, option_map, IfOk};
-ghost use Rattle.bst_meaning.specs.declared.value.Target.TheVariants.{Named};
-ghost use Rattle.name_table.specs.TypeTarget.{target_of};
-ghost use Rattle.bst_meaning.specs.Config as config;
-ghost use Rattle.bst_meaning.specs.Effect.{with_entered};
+ghost use Rattle.std.specs.Prelude.{◌≡◌, ◌≤◌, OnErr};
 ghost use Rattle.bst_meaning.specs.Builtins as rule;
-ghost use Rattle.bst_step.specs.Outcome.{Gives};
+ghost use Rattle.bst_meaning.specs.Builtins.{built_in};
+ghost use Rattle.bst_meaning.specs.Machine.{context_of};
+ghost use Rattle.bst_step.specs.Effects.{Makes};
+ghost use Rattle.bst_step.specs.Marks as mark;
+ghost use Rattle.bst_step.specs.Room.{Fits};
+ghost use Rattle.bst_step.specs.State.{config_of};
 
+use crate::held::Operand;
 use crate::operands::{three, two};
-use crate::outcome::{Outcome, Part};
-use crate::stack::Stack;
+use crate::state::{Part, State};
 use crate::stop::Stop;
-use bst_meaning::entry::Entry;
 use bst_meaning::fault::Fault;
-use bst_meaning::value::{Target, Value};
+use bst_meaning::value::Target;
+use bv_base::place::Place;
+use name_table::builtin::Builtin;
 use name_table::opening::SKIP;
 use name_table::style::{Style, TypeTarget};
 
-/// `if$`
-pub fn if_else(stack: &Stack<Value>) -> Result<Outcome, Stop>
-    ensures { Gives result stack.now (rule.if_else stack.now) }
-{
-    match three(stack)? {
-        (Value::Int(n), Value::Func(first), Value::Func(other)) => {
-            let entered = if *n > 0 { *first } else { *other };
-            Ok(Outcome::Enter(3, entered, Part::Whole))
+impl<'a> State<'a> {
+    /// `if$`
+    pub fn if_else(&mut self, style: &'a Style, place: Place) -> Result<(), Stop>
+        ensures made { Makes style.now place result self.old self.new (rule.if_else self.old.values.stack) (mark.taken 3) }
+        ensures fits { 1 ≤ self.old.frames.room → Fits result }
+        ensures entries { OnErr result (self.new.values.entries ≡ self.old.values.entries) }
+    {
+        match three(&self.values)? {
+            (Operand::Int(n), Operand::Func(first), Operand::Func(other)) => {
+                let target = if n > 0 { first } else { other };
+                self.enter_over(style, 3, target, place, Part::Whole)
+            }
+            _ => Err(Stop::Fault(Fault::WrongKind)),
         }
-        _ => Err(Stop::Fault(Fault::WrongKind)),
     }
-}
 
-/// `while$`
-pub fn while_do(stack: &Stack<Value>) -> Result<Outcome, Stop>
-    ensures { Gives result stack.now (rule.while_do stack.now) }
-{
-    match two(stack)? {
-        (Value::Func(test), Value::Func(body)) => {
-            Ok(Outcome::Enter(2, *test, Part::Testing(*test, *body)))
+    /// `while$`
+    pub fn while_do(&mut self, style: &'a Style, place: Place) -> Result<(), Stop>
+        ensures made { Makes style.now place result self.old self.new (rule.while_do self.old.values.stack) (mark.taken 2) }
+        ensures fits { 1 ≤ self.old.frames.room → Fits result }
+        ensures entries { OnErr result (self.new.values.entries ≡ self.old.values.entries) }
+    {
+        match two(&self.values)? {
+            (Operand::Func(test), Operand::Func(body)) => {
+                self.enter_over(style, 2, test, place, Part::Testing(test, body))
+            }
+            _ => Err(Stop::Fault(Fault::WrongKind)),
         }
-        _ => Err(Stop::Fault(Fault::WrongKind)),
     }
-}
 
-/// `call.type$`, for the visited entry.
-pub fn call_type(
-    style: &Style,
-    entry: Option<&Entry>,
-    stack: &Stack<Value>,
-) -> Result<Outcome, Stop>
-    ensures { Gives result stack.now (rule.at_entry (option_map (λ e. e.now) entry.entry)
-        (λ e. with_entered (Named (rule.type_entered (target_of e.entry_type style.now))) config.Whole stack.now)) }
-{
-    let Some(entry) = entry else {
-        return Err(Stop::Fault(Fault::NoEntry));
-    };
-    let name = match style.type_target(entry.entry_type.as_slice()) {
-        TypeTarget::Function(name) => name,
-        TypeTarget::Default(name) => name,
-        TypeTarget::Skip => SKIP,
-    };
-    Ok(Outcome::Enter(0, Target::Named(name), Part::Whole))
+    /// `call.type$`, for the visited entry.
+    pub fn call_type(&mut self, style: &'a Style, place: Place) -> Result<(), Stop>
+        ensures made { Makes style.now place result self.old self.new
+            (built_in Builtin.CallType (context_of style.now (config_of self.old)) self.old.values.stack) (λ m. m) }
+        ensures entries { OnErr result (self.new.values.entries ≡ self.old.values.entries) }
+    {
+        let Some(entry) = self.visited_entry() else {
+            return Err(Stop::Fault(Fault::NoEntry));
+        };
+        let name = match style.type_target(entry.entry_type.as_slice()) {
+            TypeTarget::Function(name) => name,
+            TypeTarget::Default(name) => name,
+            TypeTarget::Skip => SKIP,
+        };
+        self.enter_over(style, 0, Target::Named(name), place, Part::Whole)
+    }
 }

@@ -1,75 +1,47 @@
 //! The steps of frames.
 
-ghost use Rattle.std.specs.Prelude.{◌≡◌, map, OnErr, OnOk};
+ghost use Rattle.std.specs.Prelude.{◌≡◌, ◌≤◌, true, map, IsOk, OnErr, OnOk};
 ghost use Rattle.name_table.specs.declared.style.Style.{Style};
 ghost use Rattle.bst_meaning.specs.Machine as rule;
-ghost use Rattle.bst_step.specs.Outcome.{part_of};
-ghost use Rattle.bst_step.specs.State.{config_of, frame_of};
-ghost use Rattle.bst_step.specs.Frames.{with_next};
+ghost use Rattle.bst_step.specs.State.{config_of, HasRoom, LeavesRoom};
+ghost use Rattle.bst_step.specs.Frames.{frame_of, part_of};
+ghost use Rattle.bst_step.specs.MarkRules as rules;
+ghost use Rattle.bst_step.specs.Room.{frames_take_room};
 
 use crate::effects::entered_at;
-use crate::outcome::Part;
-use crate::state::{Frame, Rest, State};
+use crate::frame_list::Next;
+use crate::held::Operand;
+use crate::state::{Part, State};
 use bst_meaning::fault::Fault;
-use bst_meaning::value::{Target, Value};
+use bst_meaning::value::Target;
 use bv_base::memory::NoMemory;
 use bv_base::place::Place;
-use name_table::style::{Style, Token};
-
-/// What is left to do of a step, once the innermost frame has moved on.
-pub enum Next {
-    /// Executes a token, which its frame no longer has.
-    Token(Token, Place),
-    /// Returns from a frame, which is gone.
-    Return(Part, Place),
-    /// Goes on with the first command, since no frame is left.
-    Outer,
-}
+use name_table::style::Style;
 
 impl<'a> State<'a> {
     /// A step of the innermost frame, or of the first command where no frame is left.
     pub fn going_step(&mut self, style: &'a Style) -> Result<(), NoMemory>
-        ensures moved { OnOk result (config_of self.new ≡ rule.going_step style.now (map frame_of self.old.frames) (config_of self.old)) }
-        ensures entries { OnErr result (self.new.entries.items ≡ self.old.entries.items) }
+        ensures moved { OnOk result (config_of self.new ≡ rule.going_step style.now (map frame_of self.old.frames.items) (config_of self.old)) }
+        ensures entries { OnErr result (self.new.values.entries ≡ self.old.values.entries) }
+        ensures marks { OnOk result (self.new.values.marks ≡
+            rules.going_marks style.now (map frame_of self.old.frames.items) (config_of self.old) self.old.values.marks) }
+        ensures fits { frames_take_room style.now (map frame_of self.old.frames.items) (config_of self.old) ≡ true → HasRoom self.old → IsOk result }
+        ensures room { OnOk result (LeavesRoom 1 self.old self.new) }
     {
-        match self.next() {
+        match self.frames.next() {
             Next::Token(token, place) => self.token_step(style, token, place),
             Next::Return(part, place) => self.return_step(style, part, place),
             Next::Outer => self.outer_step(),
         }
     }
 
-    /// Moves the innermost frame on in its place, past its first token, or takes it away where it has none left.
-    fn next(&mut self) -> Next
-        ensures moved { (style : Style) → with_next style result (config_of self.new) ≡ rule.going_step style (map frame_of self.old.frames) (config_of self.old) }
-        ensures entries { self.new.entries.items ≡ self.old.entries.items }
-    {
-        let Some(frame) = self.frames.top() else {
-            return Next::Outer;
-        };
-        let Frame { rest, place, part } = *frame;
-        match rest {
-            Rest::Tokens([first, tokens @ ..]) => {
-                let rest = Rest::Tokens(tokens);
-                self.frames.replace_top(Frame { rest, place, part });
-                Next::Token(first.token, first.place)
-            }
-            Rest::Tokens([]) => {
-                self.frames.drop_top(1);
-                Next::Return(part, place)
-            }
-            Rest::Call(name, at) => {
-                let rest = Rest::Tokens(&[]);
-                self.frames.replace_top(Frame { rest, place, part });
-                Next::Token(Token::Call(name), at)
-            }
-        }
-    }
-
     /// Returns from a frame.
     fn return_step(&mut self, style: &'a Style, part: Part, place: Place) -> Result<(), NoMemory>
         ensures moved { OnOk result (config_of self.new ≡ rule.return_step style.now (part_of part) place (config_of self.old)) }
-        ensures entries { OnErr result (self.new.entries.items ≡ self.old.entries.items) }
+        ensures entries { OnErr result (self.new.values.entries ≡ self.old.values.entries) }
+        ensures marks { OnOk result (self.new.values.marks ≡ rules.return_marks (part_of part) (config_of self.old) self.old.values.marks) }
+        ensures fits { HasRoom self.old → IsOk result }
+        ensures room { OnOk result (LeavesRoom 1 self.old self.new) }
     {
         match part {
             Part::Whole => Ok(()),
@@ -92,11 +64,15 @@ impl<'a> State<'a> {
         body: Target,
         place: Place,
     ) -> Result<(), NoMemory>
-        ensures moved { OnOk result (config_of self.new ≡ rule.test_ended style.now test body place self.old.stack (config_of self.old)) }
-        ensures entries { OnErr result (self.new.entries.items ≡ self.old.entries.items) }
+        ensures moved { OnOk result (config_of self.new ≡ rule.test_ended style.now test body place self.old.values.stack (config_of self.old)) }
+        ensures entries { OnErr result (self.new.values.entries ≡ self.old.values.entries) }
+        ensures marks { OnOk result (self.new.values.marks ≡ rules.test_marks self.old.values.stack self.old.values.marks) }
+        ensures fits { HasRoom self.old → IsOk result }
+        ensures room { OnOk result (LeavesRoom 1 self.old self.new) }
     {
-        match self.stack.pop() {
-            Some(Value::Int(n)) => {
+        match self.values.top() {
+            Some(Operand::Int(n)) => {
+                self.values.drop_top(1);
                 if n > 0 {
                     self.enter(
                         entered_at(style, body, place),
@@ -107,8 +83,7 @@ impl<'a> State<'a> {
                     Ok(())
                 }
             }
-            Some(other) => {
-                self.push(other)?;
+            Some(_) => {
                 self.stop(Fault::WrongKind, place);
                 Ok(())
             }

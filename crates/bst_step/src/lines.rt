@@ -28,7 +28,7 @@ pub struct Cut<'a> {
 }
 
 /// The finished lines of what was written, each with its line end.
-pub fn lines_of(alloc: Global, events: &[Event]) -> Result<Vec<u8>, NoMemory>
+pub fn lines_of(alloc: Global, events: &[Event<'_>]) -> Result<Vec<u8>, NoMemory>
     ensures { IfOk result (λ v. v.items ≡
         flat_map (λ line. line ++ 10 ∷ []) (rule.after_events (record { lines = []; buffer = [] }) (map event_of events.now)).lines) }
 {
@@ -58,12 +58,16 @@ pub fn with_ends(alloc: Global, lines: &[Text]) -> Result<Vec<u8>, NoMemory>
 impl Page {
     /// Adds a text to the buffer, or ends a line.
     #[tactic(auto, using(crate::proofs::LateBreaks::written))]
-    fn add(&mut self, alloc: Global, event: &Event) -> Result<(), NoMemory>
+    fn add(&mut self, alloc: Global, event: &Event<'_>) -> Result<(), NoMemory>
         ensures { OnOk result (page_in self.new ≡ rule.after_event (page_in self.old) (event_of event.now)) }
     {
         match event {
             Event::Wrote(bytes) => {
                 self.buffer.extend_from_slice(bytes.as_slice())?;
+                Ok(())
+            }
+            Event::WroteLent(bytes) => {
+                self.buffer.extend_from_slice(bytes)?;
                 Ok(())
             }
             Event::EndedLine => self.end_line(alloc),

@@ -1,18 +1,13 @@
 //! The built-in functions that log.
 
 ghost use Rattle.std.specs.Prelude.{◌≡◌, ◌++◌, [], ◌∷◌, ℕ, codes, map, IfOk};
-ghost use Rattle.bst_meaning.specs.Effect.{with_logged};
-ghost use Rattle.bst_meaning.specs.Operands.{one_operand};
 ghost use Rattle.bst_meaning.specs.Builtins as rule;
-ghost use Rattle.bst_meaning.specs.Builtins.{string};
-ghost use Rattle.bst_step.specs.Outcome.{Gives};
+ghost use Rattle.bst_step.specs.Held.{value_of};
 
-use crate::operands::{one, one_string};
-use crate::outcome::Outcome;
-use crate::stack::Stack;
-use crate::stop::Stop;
+use crate::held::Operand;
 use crate::texts::joined;
-use bst_meaning::value::{Target, Value};
+use crate::values::Values;
+use bst_meaning::value::Target;
 use bv_base::memory::NoMemory;
 use bv_base::text::Text;
 use name_table::names::NameId;
@@ -45,52 +40,36 @@ fn block_number(alloc: Global, style: &Style, body: BodyId) -> Result<Vec<u8>, N
 }
 
 /// How a value is logged.
-pub fn shown(alloc: Global, style: &Style, value: &Value) -> Result<Text, NoMemory>
-    ensures { IfOk result (λ line. line ≡ rule.shown style.now value.now) }
+pub fn shown(alloc: Global, style: &Style, value: Operand<'_>) -> Result<Text, NoMemory>
+    ensures { IfOk result (λ line. line ≡ rule.shown style.now (value_of value.entry)) }
 {
     let line = match value {
-        Value::Int(n) => int_to_str(alloc, *n)?,
-        Value::Str(bytes) => bytes.as_slice().to_vec(alloc)?,
-        Value::Missing(name) => joined(alloc, b"missing ", name_text(style, *name))?,
-        Value::Func(Target::Named(name)) => joined(alloc, b"function ", name_text(style, *name))?,
-        Value::Func(Target::Block(body)) => {
-            let number = block_number(alloc, style, *body)?;
+        Operand::Int(n) => int_to_str(alloc, n)?,
+        Operand::Str(bytes) => bytes.to_vec(alloc)?,
+        Operand::Missing(name) => joined(alloc, b"missing ", name_text(style, name))?,
+        Operand::Func(Target::Named(name)) => joined(alloc, b"function ", name_text(style, name))?,
+        Operand::Func(Target::Block(body)) => {
+            let number = block_number(alloc, style, body)?;
             joined(alloc, b"block ", number.as_slice())?
         }
     };
     Ok(Text::from_vec(line))
 }
 
-/// `top$`
-pub fn top(alloc: Global, style: &Style, stack: &Stack<Value>) -> Result<Outcome, Stop>
-    ensures { Gives result stack.now (one_operand stack.now (λ a rest. with_logged (rule.shown style.now a ∷ []) rest)) }
+/// The line that `warning$` logs of a text.
+pub fn warning_of(alloc: Global, text: &[u8]) -> Result<Text, NoMemory>
+    ensures { IfOk result (λ line. line ≡ rule.warning text.now) }
 {
-    let line = shown(alloc, style, one(stack)?)?;
-    Ok(Outcome::Log(1, line))
-}
-
-/// `warning$`
-pub fn warning(alloc: Global, stack: &Stack<Value>) -> Result<Outcome, Stop>
-    ensures { Gives result stack.now (string (λ a rest. with_logged (rule.warning a ∷ []) rest) stack.now) }
-{
-    let line = joined(alloc, b"Warning--", one_string(stack)?)?;
-    Ok(Outcome::Log(1, Text::from_vec(line)))
-}
-
-/// `stack$`
-pub fn all(alloc: Global, style: &Style, stack: &Stack<Value>) -> Result<Outcome, Stop>
-    ensures { Gives result stack.now (with_logged (map (rule.shown style.now) stack.now) []) }
-{
-    Ok(Outcome::LogAll(all_shown(alloc, style, stack)?))
+    Ok(Text::from_vec(joined(alloc, b"Warning--", text)?))
 }
 
 /// How each value is logged, the top first.
-fn all_shown(alloc: Global, style: &Style, stack: &Stack<Value>) -> Result<Vec<Text>, NoMemory>
-    ensures { IfOk result (λ lines. lines.items ≡ map (rule.shown style.now) stack.now) }
+pub fn all_shown(alloc: Global, style: &Style, values: &Values<'_>) -> Result<Vec<Text>, NoMemory>
+    ensures { IfOk result (λ lines. lines.items ≡ map (rule.shown style.now) values.now.stack) }
 {
     let mut lines = Vec::new(alloc);
-    for depth in 0..stack.len() {
-        lines.push(shown(alloc, style, stack.at(depth))?)?;
+    for depth in 0..values.len() {
+        lines.push(shown(alloc, style, values.at(depth))?)?;
     }
     Ok(lines)
 }

@@ -5,35 +5,39 @@ ghost use Rattle.name_split.specs.Names.{names_of};
 ghost use Rattle.bst_meaning.specs.Operands.{ranged};
 ghost use Rattle.bst_meaning.specs.Builtins as rule;
 ghost use Rattle.bst_meaning.specs.Builtins.{string};
-ghost use Rattle.bst_step.specs.Outcome.{Gives};
+ghost use Rattle.bst_step.specs.Effects.{Leaves};
+ghost use Rattle.bst_step.specs.Marks as mark;
+ghost use Rattle.bst_step.specs.Room.{Fits};
 
+use crate::held::Operand;
 use crate::numbers::count;
 use crate::operands::{one_string, three};
-use crate::outcome::Outcome;
-use crate::stack::Stack;
 use crate::stop::Stop;
+use crate::values::Values;
 use bst_meaning::fault::Fault;
-use bst_meaning::value::Value;
-use bv_base::text::Text;
 use name_format::format::{FormatFault, format};
 use std::alloc::Global;
 
 /// `num.names$`
-pub fn num_names(stack: &Stack<Value>) -> Result<Outcome, Stop>
-    ensures { Gives result stack.now (string (λ a rest. ranged (pos (length (names_of a))) rest) stack.now) }
+pub fn num_names(values: &mut Values<'_>) -> Result<(), Stop>
+    ensures left { Leaves result values.old values.new (string (λ a rest. ranged (pos (length (names_of a))) rest) values.old.stack) (mark.resulting 1 mark.NoString) }
+    ensures fits { Fits result }
 {
-    let text = one_string(stack)?;
-    count(name_split::names::count(text) as u128, stack)
+    let names = name_split::names::count(one_string(values)?) as u128;
+    count(names, values)
 }
 
 /// `format.name$`
-pub fn format_name(alloc: Global, stack: &Stack<Value>) -> Result<Outcome, Stop>
-    ensures { Gives result stack.now (rule.format_name stack.now) }
+pub fn format_name(alloc: Global, values: &mut Values<'_>) -> Result<(), Stop>
+    ensures { Leaves result values.old values.new (rule.format_name values.old.stack) (mark.resulting 3 mark.Made) }
 {
-    match three(stack)? {
-        (Value::Str(text), Value::Int(index), Value::Str(pattern)) => {
-            match format(alloc, text.as_slice(), *index, pattern.as_slice()) {
-                Ok(name) => Ok(Outcome::Push(3, Value::Str(Text::from_vec(name)))),
+    match three(values)? {
+        (Operand::Str(text), Operand::Int(index), Operand::Str(pattern)) => {
+            match format(alloc, text, index, pattern) {
+                Ok(name) => {
+                    values.make(3, name.as_slice())?;
+                    Ok(())
+                }
                 Err(FormatFault::BadNameIndex) => Err(Stop::Fault(Fault::BadNameIndex)),
                 Err(FormatFault::BadName) => Err(Stop::Fault(Fault::BadName)),
                 Err(FormatFault::BadPattern) => Err(Stop::Fault(Fault::BadPattern)),

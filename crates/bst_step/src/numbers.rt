@@ -1,6 +1,6 @@
 //! The built-in functions on integers.
 
-ghost use Rattle.std.specs.Prelude.{◌≡◌, ◌+ℤ◌, ◌-ℤ◌, pos, drop};
+ghost use Rattle.std.specs.Prelude.{◌≡◌, ◌≤◌, ◌+ℤ◌, ◌-ℤ◌, length, pos, drop};
 ghost use Rattle.text_ops.specs.IntToStr.{numeral};
 ghost use Rattle.bst_meaning.specs.declared.value.Value.TheVariants.{Str};
 ghost use Rattle.bst_meaning.specs.Effect.{pushed};
@@ -8,104 +8,127 @@ ghost use Rattle.bst_meaning.specs.Operands.{two_operands, truth, is_positive, r
 ghost use Rattle.bst_meaning.specs.Builtins as rule;
 ghost use Rattle.bst_meaning.specs.Builtins.{integers, string, byte_number, byte_string};
 ghost use Rattle.bst_step.specs.Operands.{integer};
-ghost use Rattle.bst_step.specs.Outcome.{Gives};
+ghost use Rattle.bst_step.specs.Effects.{Leaves};
+ghost use Rattle.bst_step.specs.Marks as mark;
+ghost use Rattle.bst_step.specs.Room.{Fits};
 
+use crate::held::Operand;
 use crate::operands::{one_integer, one_string, truth, two, two_integers};
-use crate::outcome::Outcome;
-use crate::stack::Stack;
 use crate::stop::Stop;
+use crate::values::Values;
 use bst_meaning::fault::Fault;
-use bst_meaning::value::Value;
 use bv_base::limits::GREATEST_INTEGER;
-use bv_base::text::Text;
 use std::alloc::Global;
 use text_ops::int_to_str::int_to_str;
 
 /// `=`
-pub fn equal(stack: &Stack<Value>) -> Result<Outcome, Stop>
-    ensures { Gives result stack.now (two_operands stack.now rule.equal) }
+pub fn equal(values: &mut Values<'_>) -> Result<(), Stop>
+    ensures left { Leaves result values.old values.new (two_operands values.old.stack rule.equal) (mark.resulting 2 mark.NoString) }
+    ensures fits { Fits result }
 {
-    match two(stack)? {
-        (Value::Int(a), Value::Int(b)) => Ok(Outcome::Push(2, truth(a == b))),
-        (Value::Str(a), Value::Str(b)) => Ok(Outcome::Push(2, truth(a.as_slice() == b.as_slice()))),
-        _ => Err(Stop::Fault(Fault::WrongKind)),
-    }
+    let holds = match two(values)? {
+        (Operand::Int(a), Operand::Int(b)) => a == b,
+        (Operand::Str(a), Operand::Str(b)) => a == b,
+        _ => return Err(Stop::Fault(Fault::WrongKind)),
+    };
+    values.put(2, truth(holds));
+    Ok(())
 }
 
 /// `>`
-pub fn greater(stack: &Stack<Value>) -> Result<Outcome, Stop>
-    ensures { Gives result stack.now (integers (λ a b rest. pushed (truth (is_positive (a -ℤ b))) rest) stack.now) }
+pub fn greater(values: &mut Values<'_>) -> Result<(), Stop>
+    ensures left { Leaves result values.old values.new (integers (λ a b rest. pushed (truth (is_positive (a -ℤ b))) rest) values.old.stack) (mark.resulting 2 mark.NoString) }
+    ensures fits { Fits result }
 {
-    let (a, b) = two_integers(stack)?;
-    Ok(Outcome::Push(2, truth(a > b)))
+    let (a, b) = two_integers(values)?;
+    values.put(2, truth(a > b));
+    Ok(())
 }
 
 /// `<`
-pub fn less(stack: &Stack<Value>) -> Result<Outcome, Stop>
-    ensures { Gives result stack.now (integers (λ a b rest. pushed (truth (is_positive (b -ℤ a))) rest) stack.now) }
+pub fn less(values: &mut Values<'_>) -> Result<(), Stop>
+    ensures left { Leaves result values.old values.new (integers (λ a b rest. pushed (truth (is_positive (b -ℤ a))) rest) values.old.stack) (mark.resulting 2 mark.NoString) }
+    ensures fits { Fits result }
 {
-    let (a, b) = two_integers(stack)?;
-    Ok(Outcome::Push(2, truth(a < b)))
+    let (a, b) = two_integers(values)?;
+    values.put(2, truth(a < b));
+    Ok(())
 }
 
 /// `+`
-pub fn plus(stack: &Stack<Value>) -> Result<Outcome, Stop>
-    ensures { Gives result stack.now (integers (λ a b rest. ranged (a +ℤ b) rest) stack.now) }
+pub fn plus(values: &mut Values<'_>) -> Result<(), Stop>
+    ensures left { Leaves result values.old values.new (integers (λ a b rest. ranged (a +ℤ b) rest) values.old.stack) (mark.resulting 2 mark.NoString) }
+    ensures fits { Fits result }
 {
-    let (a, b) = two_integers(stack)?;
+    let (a, b) = two_integers(values)?;
     match a.checked_add(b) {
-        Some(sum) => Ok(Outcome::Push(2, Value::Int(sum))),
+        Some(sum) => {
+            values.put(2, Operand::Int(sum));
+            Ok(())
+        }
         None => Err(Stop::Fault(Fault::IntRange)),
     }
 }
 
 /// `-`
-pub fn minus(stack: &Stack<Value>) -> Result<Outcome, Stop>
-    ensures { Gives result stack.now (integers (λ a b rest. ranged (a -ℤ b) rest) stack.now) }
+pub fn minus(values: &mut Values<'_>) -> Result<(), Stop>
+    ensures left { Leaves result values.old values.new (integers (λ a b rest. ranged (a -ℤ b) rest) values.old.stack) (mark.resulting 2 mark.NoString) }
+    ensures fits { Fits result }
 {
-    let (a, b) = two_integers(stack)?;
+    let (a, b) = two_integers(values)?;
     match a.checked_sub(b) {
-        Some(difference) => Ok(Outcome::Push(2, Value::Int(difference))),
+        Some(difference) => {
+            values.put(2, Operand::Int(difference));
+            Ok(())
+        }
         None => Err(Stop::Fault(Fault::IntRange)),
     }
 }
 
 /// `chr.to.int$`
-pub fn chr_to_int(stack: &Stack<Value>) -> Result<Outcome, Stop>
-    ensures { Gives result stack.now (string byte_number stack.now) }
+pub fn chr_to_int(values: &mut Values<'_>) -> Result<(), Stop>
+    ensures { Leaves result values.old values.new (string byte_number values.old.stack) (mark.resulting 1 mark.NoString) }
 {
-    match one_string(stack)? {
-        [b] => Ok(Outcome::Push(1, Value::Int(*b as i32))),
+    match one_string(values)? {
+        [b] => {
+            let n = *b as i32;
+            values.put(1, Operand::Int(n));
+            Ok(())
+        }
         _ => Err(Stop::Fault(Fault::NotOneByte)),
     }
 }
 
 /// `int.to.chr$`
-pub fn int_to_chr(alloc: Global, stack: &Stack<Value>) -> Result<Outcome, Stop>
-    ensures { Gives result stack.now (integer byte_string stack.now) }
+pub fn int_to_chr(values: &mut Values<'_>) -> Result<(), Stop>
+    ensures { Leaves result values.old values.new (integer byte_string values.old.stack) (mark.resulting 1 mark.Made) }
 {
-    let n = one_integer(stack)?;
+    let n = one_integer(values)?;
     if 0 <= n && n < 128 {
-        let bytes = Text::from_slice(alloc, &[n as u8])?;
-        return Ok(Outcome::Push(1, Value::Str(bytes)));
+        values.make(1, &[n as u8])?;
+        return Ok(());
     }
     Err(Stop::Fault(Fault::NotAscii))
 }
 
 /// `int.to.str$`
-pub fn int_to_str_of(alloc: Global, stack: &Stack<Value>) -> Result<Outcome, Stop>
-    ensures { Gives result stack.now (integer (λ n rest. pushed (Str (numeral n)) rest) stack.now) }
+pub fn int_to_str_of(alloc: Global, values: &mut Values<'_>) -> Result<(), Stop>
+    ensures { Leaves result values.old values.new (integer (λ n rest. pushed (Str (numeral n)) rest) values.old.stack) (mark.resulting 1 mark.Made) }
 {
-    let digits = int_to_str(alloc, one_integer(stack)?)?;
-    Ok(Outcome::Push(1, Value::Str(Text::from_vec(digits))))
+    let digits = int_to_str(alloc, one_integer(values)?)?;
+    values.make(1, digits.as_slice())?;
+    Ok(())
 }
 
-/// Pushes a count in the place of one operand, where it has 32 bits.
-pub fn count(n: u128, stack: &Stack<Value>) -> Result<Outcome, Stop>
-    ensures { Gives result stack.now (ranged (pos n) (drop 1 stack.now)) }
+/// Puts a count in the place of the top, where it has 32 bits.
+pub fn count(n: u128, values: &mut Values<'_>) -> Result<(), Stop>
+    requires { 1 ≤ length values.old.stack }
+    ensures left { Leaves result values.old values.new (ranged (pos n) (drop 1 values.old.stack)) (mark.resulting 1 mark.NoString) }
+    ensures fits { Fits result }
 {
     if n <= GREATEST_INTEGER as u128 {
-        Ok(Outcome::Push(1, Value::Int(n as i32)))
+        values.put(1, Operand::Int(n as i32));
+        Ok(())
     } else {
         Err(Stop::Fault(Fault::IntRange))
     }

@@ -1,78 +1,56 @@
 //! The state in which a run opens.
 
-ghost use Rattle.std.specs.Prelude.{◌≡◌, ◌≤◌, ℕ, List, [], ◌++◌, length, map, OnOk, IfOk};
-ghost use Rattle.std.specs.List.{filter};
+ghost use Rattle.std.specs.Prelude.{◌≡◌, ◌≤◌, ℕ, List, [], ◌∷◌, ◌++◌, length, map, OnOk, IfOk};
 ghost use Rattle.bst_meaning.specs.Config as config;
 ghost use Rattle.bst_meaning.specs.Entries.{field_ids_at, field_ids_from};
+ghost use Rattle.bst_step.specs.EntryStates.{EntriesWithin, state_in};
+ghost use Rattle.bst_step.specs.Held.{value_of};
+ghost use Rattle.bst_step.specs.Marks.{AreLent, AreLentIn, lent_marks};
 ghost use Rattle.bst_step.specs.Places.{StandAt};
-ghost use Rattle.bst_step.specs.State.{config_of, state_of};
-ghost use Rattle.bst_step.specs.Variables.{variable_of};
+ghost use Rattle.bst_step.specs.State.{config_of};
+ghost use Rattle.bst_step.specs.Variables.{VariablesWithin, variable_in};
 
+use crate::entry_states::EntryState;
 use crate::fields::PlacedEntry;
-use crate::stack::Stack;
-use crate::state::{EntryState, State};
+use crate::frame_list::Frames;
+use crate::held::Operand;
+use crate::state::State;
+use crate::values::Values;
 use crate::variables::{Variable, Variables};
 use bst_meaning::entry::{Entry, EntryList};
-use bst_meaning::value::{ENTRY_SIZE, GLOBAL_SIZE, Value};
+use bst_meaning::value::{ENTRY_SIZE, GLOBAL_SIZE};
 use bv_base::memory::NoMemory;
-use bv_base::text::Text;
 use name_table::names::{Kind, NameId, Names};
 use name_table::opening::{ENTRY_MAX, GLOBAL_MAX};
-use name_table::style::{Command, CommandAt, Style};
+use name_table::style::Style;
 use std::alloc::Global;
 use std::rc::Rc;
 
 /// The state in which a run of the style over the list opens.
-pub fn opening<'a>(alloc: Global, style: &'a Style, list: EntryList) -> Result<State<'a>, NoMemory>
-    ensures { IfOk result (λ state. config_of state ≡ config.opening style.now list) }
+pub fn opening<'a>(
+    alloc: Global,
+    style: &'a Style,
+    list: &'a EntryList,
+) -> Result<State<'a>, NoMemory>
+    ensures opened { IfOk result (λ state. config_of state ≡ config.opening style.now list.now) }
+    ensures marks { IfOk result (λ state. state.values.marks ≡ lent_marks (config.opening style.now list.now)) }
 {
-    let EntryList { entries, preamble } = list;
     let variables = entry_variables(alloc, &style.names)?;
     let places = field_places(alloc, &style.names)?;
+    let globals = globals(alloc, &style.names)?;
+    let entries = entry_states(alloc, &places, &variables, list.entries.as_slice())?;
     Ok(State {
         alloc,
-        preamble,
-        commands: step_commands(alloc, style.commands.as_slice())?,
+        preamble: list.preamble.as_slice(),
+        commands: style.commands.as_slice(),
         running: false,
-        frames: Stack::new(alloc),
-        stack: Stack::new(alloc),
-        globals: globals(alloc, &style.names)?,
-        entries: entry_states(alloc, &places, &variables, entries.into_vec())?,
+        frames: Frames::new(alloc),
+        values: Values::new(alloc, globals, entries),
         visit: None,
         events: Vec::new(alloc),
         log: Vec::new(alloc),
         stopped: None,
     })
-}
-
-/// Whether a command takes steps.
-fn is_step(command: Command) -> bool
-    ensures { result ≡ config.is_step command }
-{
-    match command {
-        Command::Execute(_)
-        | Command::Iterate(_)
-        | Command::Read
-        | Command::Reverse(_)
-        | Command::Sort => true,
-        _ => false,
-    }
-}
-
-/// The commands that take steps, the first on top.
-fn step_commands(alloc: Global, commands: &[CommandAt]) -> Result<Stack<CommandAt>, NoMemory>
-    ensures { IfOk result (λ left. left ≡ filter (λ c. config.is_step c.command) commands.now) }
-{
-    let mut left = Stack::new(alloc);
-    let mut first = commands.len();
-    while first > 0 {
-        first -= 1;
-        let at = commands[first];
-        if is_step(at.command) {
-            left.push(at)?;
-        }
-    }
-    Ok(left)
 }
 
 /// The value with which an integer variable of the whole style opens.
@@ -89,65 +67,79 @@ fn opening_integer(id: u32) -> i32
 }
 
 /// The variables of the whole style, as a run opens.
-fn globals(alloc: Global, names: &Names) -> Result<Variables, NoMemory>
-    ensures { IfOk result (λ variables. map variable_of variables ≡ config.opening_variables config.opening_global 0 names.now) }
+fn globals<'a>(alloc: Global, names: &Names) -> Result<Variables<'a>, NoMemory>
+    ensures within { IfOk result (VariablesWithin 0) }
+    ensures marks { IfOk result AreLent }
+    ensures opened { IfOk result (λ variables. map (variable_in []) variables ≡ config.opening_variables config.opening_global 0 names.now) }
 {
     let mut places = Vec::new(alloc);
     let mut variables = Vec::new(alloc);
     for id in 0..names.len() {
         places.push(variables.as_slice().len())?;
-        push_global(alloc, &mut variables, NameId(id), names.kind(NameId(id)))?;
+        push_global(&mut variables, NameId(id), names.kind(NameId(id)))?;
     }
     Variables::new(alloc, places, variables)
 }
 
 /// Appends the variable of the whole style that a name of a kind is, if it is one.
-fn push_global(
-    alloc: Global,
-    variables: &mut Vec<Variable>,
-    name: NameId,
-    kind: Kind,
-) -> Result<(), NoMemory>
-    ensures { OnOk result ((later : List config.Variable) →
-        map variable_of variables.new.items ++ later ≡ map variable_of variables.old.items ++ config.opening_global name.0 kind later) }
+fn push_global(variables: &mut Vec<Variable<'_>>, name: NameId, kind: Kind) -> Result<(), NoMemory>
+    ensures within { OnOk result (VariablesWithin 0 variables.old.items → VariablesWithin 0 variables.new.items) }
+    ensures marks { OnOk result (AreLent variables.old.items → AreLent variables.new.items) }
+    ensures opened { OnOk result ((later : List config.Variable) →
+        map (variable_in []) variables.new.items ++ later ≡ map (variable_in []) variables.old.items ++ config.opening_global name.0 kind later) }
 {
-    let value = match kind {
-        Kind::IntGlobal => Value::Int(opening_integer(name.0)),
-        Kind::StrGlobal => Value::Str(Text::from_slice(alloc, &[])?),
-        _ => return Ok(()),
-    };
-    variables.push(Variable { name, value })?;
-    Ok(())
+    match kind {
+        Kind::IntGlobal => push_variable(variables, name, Operand::Int(opening_integer(name.0))),
+        Kind::StrGlobal => push_variable(variables, name, Operand::Str(&[])),
+        _ => Ok(()),
+    }
 }
 
 /// The variables of an entry, as a run opens.
-fn entry_variables(alloc: Global, names: &Names) -> Result<Variables, NoMemory>
-    ensures { IfOk result (λ variables. map variable_of variables ≡ config.opening_variables config.opening_entry_variable 0 names.now) }
+fn entry_variables<'a>(alloc: Global, names: &Names) -> Result<Variables<'a>, NoMemory>
+    ensures within { IfOk result (VariablesWithin 0) }
+    ensures marks { IfOk result AreLent }
+    ensures opened { IfOk result (λ variables. map (variable_in []) variables ≡ config.opening_variables config.opening_entry_variable 0 names.now) }
 {
     let mut places = Vec::new(alloc);
     let mut variables = Vec::new(alloc);
     for id in 0..names.len() {
         places.push(variables.as_slice().len())?;
-        push_entry_variable(alloc, &mut variables, NameId(id), names.kind(NameId(id)))?;
+        push_entry_variable(&mut variables, NameId(id), names.kind(NameId(id)))?;
     }
     Variables::new(alloc, places, variables)
 }
 
 /// Appends the variable of an entry that a name of a kind is, if it is one.
 fn push_entry_variable(
-    alloc: Global,
-    variables: &mut Vec<Variable>,
+    variables: &mut Vec<Variable<'_>>,
     name: NameId,
     kind: Kind,
 ) -> Result<(), NoMemory>
-    ensures { OnOk result ((later : List config.Variable) →
-        map variable_of variables.new.items ++ later ≡ map variable_of variables.old.items ++ config.opening_entry_variable name.0 kind later) }
+    ensures within { OnOk result (VariablesWithin 0 variables.old.items → VariablesWithin 0 variables.new.items) }
+    ensures marks { OnOk result (AreLent variables.old.items → AreLent variables.new.items) }
+    ensures opened { OnOk result ((later : List config.Variable) →
+        map (variable_in []) variables.new.items ++ later ≡ map (variable_in []) variables.old.items ++ config.opening_entry_variable name.0 kind later) }
 {
-    let value = match kind {
-        Kind::IntEntry => Value::Int(0),
-        Kind::StrEntry => Value::Str(Text::from_slice(alloc, &[])?),
-        _ => return Ok(()),
-    };
+    match kind {
+        Kind::IntEntry => push_variable(variables, name, Operand::Int(0)),
+        Kind::StrEntry => push_variable(variables, name, Operand::Str(&[])),
+        _ => Ok(()),
+    }
+}
+
+/// Appends a variable whose value is lent.
+fn push_variable<'a>(
+    variables: &mut Vec<Variable<'a>>,
+    name: NameId,
+    value: Operand<'a>,
+) -> Result<(), NoMemory>
+    ensures within { OnOk result (VariablesWithin 0 variables.old.items → VariablesWithin 0 variables.new.items) }
+    ensures marks { OnOk result (AreLent variables.old.items → AreLent variables.new.items) }
+    ensures opened { OnOk result ((later : List config.Variable) →
+        map (variable_in []) variables.new.items ++ later ≡ map (variable_in []) variables.old.items ++ record { name = name; value = value_of value.entry } ∷ later) }
+{
+    let value = value.held();
     variables.push(Variable { name, value })?;
     Ok(())
 }
@@ -177,21 +169,25 @@ fn count_of_fields(kind: Kind) -> usize
 }
 
 /// The entries, each with its variables and its position.
-fn entry_states(
+fn entry_states<'a>(
     alloc: Global,
     places: &Rc<Vec<usize>>,
-    variables: &Variables,
-    entries: Vec<Entry>,
-) -> Result<Vec<EntryState>, NoMemory>
-    ensures { IfOk result (λ states. map state_of states.items ≡ config.opening_entries (map variable_of variables.now) 0 entries.items) }
+    variables: &Variables<'a>,
+    entries: &'a [Entry],
+) -> Result<Vec<EntryState<'a>>, NoMemory>
+    requires within { VariablesWithin 0 variables.now }
+    requires marks { AreLent variables.now }
+    ensures within { IfOk result (λ states. EntriesWithin 0 states.items) }
+    ensures marks { IfOk result (λ states. AreLentIn states.items) }
+    ensures opened { IfOk result (λ states. map (state_in []) states.items ≡ config.opening_entries (map (variable_in []) variables.now) 0 entries.now) }
 {
     let mut states = Vec::new(alloc);
-    let mut rest = entries.into_iter();
-    while let Some(entry) = rest.next() {
+    for entry in entries {
         let position = states.as_slice().len() as u64;
         let variables = variables.copied(alloc)?;
+        let entry = PlacedEntry::new(places, entry)?;
         states.push(EntryState {
-            entry: PlacedEntry::new(places, entry)?,
+            entry,
             variables,
             position,
         })?;

@@ -1,76 +1,124 @@
 //! A list that grows and shrinks at its front.
 
-ghost use Rattle.std.specs.Prelude.{◌≡◌, ◌∷◌, [], drop, slice_get, slice_index_or, length, ◌<◌, option_map, OnOk, MatchOption};
+ghost use Rattle.std.specs.Prelude.{◌≡◌, ◌+◌, ◌<◌, ◌≤◌, ◌∷◌, [], drop, slice_get, slice_index_or, slice_set, length, IsOk, MatchOption, OnErr, OnOk};
 
 use bv_base::memory::NoMemory;
+use smallvec::SmallVec;
 use std::alloc::Global;
 use std::marker::Model;
 
-/// A list that grows and shrinks at its front, the top. Contracts see its items, the top first.
+/// A list that grows and shrinks at its front, the top. Contracts see its items, the top first, and how many more fit with
+/// no allocation.
 #[derive(Drop)]
 pub struct Stack<T> {
-    items: Vec<T>,
+    /// The items, the top last, and behind it what was taken away: that is written over, and never let go.
+    slots: SmallVec<T, 32>,
+    /// How many items there are.
+    count: usize,
 }
 
 impl<T> Model for Stack<T> {
-    ghost use Rattle.std.specs.Prelude.{List, reverse};
+    ghost use Rattle.std.specs.Prelude.{◌-◌, ◌≤◌, length, reverse, take};
+    ghost use Rattle.bst_step.specs.Stack.{Pile, pile_code};
 
-    ghost Value = { List T };
+    ghost Value = { Pile T };
 
-    ghost view = { λ s. reverse s.items.items };
+    ghost coded = { pile_code T.code };
+
+    ghost view = { λ s. record { items = reverse (take s.count s.slots.items); room = s.slots.capacity - s.count } };
+
+    ghost invariant = { λ s. s.count ≤ length s.slots.items };
 }
 
-impl<T> Stack<T> {
+impl<T: Copy + Default> Stack<T> {
     /// The empty stack.
     pub fn new(alloc: Global) -> Stack<T>
-        ensures { result ≡ [] }
+        ensures { result.items ≡ [] }
     {
         Stack {
-            items: Vec::new(alloc),
+            slots: SmallVec::new(alloc),
+            count: 0,
         }
     }
 
-    /// Puts an item on top.
+    /// Puts an item on top. It is refused only where there is no room, and then nothing changes.
+    #[inline(always)]
     pub fn push(&mut self, item: T) -> Result<(), NoMemory>
-    where
-        T: Drop,
-        ensures { OnOk result (self.new ≡ item ∷ self.old) }
+        ensures moved { OnOk result (self.new.items ≡ item ∷ self.old.items) }
+        ensures refused { OnErr result (self.new ≡ self.old) }
+        ensures fits { 1 ≤ self.old.room → IsOk result }
+        ensures room { self.old.room ≤ self.new.room + 1 }
     {
-        self.items.push(item)?;
+        if self.count < self.slots.len() {
+            if let Some(slot) = self.slots.get_mut(self.count) {
+                *slot = item;
+            }
+            self.count += 1;
+            return Ok(());
+        }
+        self.slots.push(item)?;
+        self.count = self.slots.len();
         Ok(())
     }
 
-    /// Takes the top away. `None` comes exactly where the stack is empty.
-    pub fn pop(&mut self) -> Option<T>
-        ensures { MatchOption result ((self.old ≡ []) × (self.new ≡ [])) (λ item. self.old ≡ item ∷ self.new) }
+    /// Makes room for so many items more. Where it is refused, the items stay.
+    pub fn reserve(&mut self, count: usize) -> Result<(), NoMemory>
+        ensures room { OnOk result (count ≤ self.new.room) }
+        ensures more { self.old.room ≤ self.new.room }
+        ensures items { self.new.items ≡ self.old.items }
     {
-        self.items.pop()
+        self.slots.reserve(count)?;
+        Ok(())
+    }
+
+    /// Puts an item in the place of the one so far below the top.
+    #[inline(always)]
+    pub fn replace(&mut self, depth: usize, item: T)
+        requires { depth < length self.old.items }
+        ensures moved { self.new.items ≡ slice_set self.old.items depth item }
+        ensures room { self.new.room ≡ self.old.room }
+    {
+        let place = self.count - 1 - depth;
+        if let Some(slot) = self.slots.get_mut(place) {
+            *slot = item;
+        }
     }
 
     /// Puts an item in the top's place.
+    #[inline(always)]
     pub fn replace_top(&mut self, item: T)
-    where
-        T: Drop,
-        requires { 0 < length self.old }
-        ensures { self.new ≡ item ∷ drop 1 self.old }
+        requires { 0 < length self.old.items }
+        ensures moved { self.new.items ≡ item ∷ drop 1 self.old.items }
+        ensures room { self.new.room ≡ self.old.room }
     {
-        let last = self.items.as_slice().len() - 1;
-        self.items[last] = item;
+        self.replace(0, item);
+    }
+
+    /// Puts an item in the place of the topmost ones.
+    #[inline(always)]
+    pub fn put(&mut self, taken: usize, item: T)
+        requires some { 1 ≤ taken }
+        requires enough { taken ≤ length self.old.items }
+        ensures moved { self.new.items ≡ item ∷ drop taken self.old.items }
+        ensures room { self.old.room ≤ self.new.room }
+    {
+        self.drop_top(taken - 1);
+        self.replace_top(item);
     }
 
     /// Takes the topmost items away.
-    pub fn drop_top(&mut self, count: usize)
-    where
-        T: Drop,
-        ensures { self.new ≡ drop count self.old }
+    #[inline(always)]
+    pub fn drop_top(&mut self, taken: usize)
+        ensures moved { self.new.items ≡ drop taken self.old.items }
+        ensures room { self.old.room ≤ self.new.room }
     {
-        let left = self.items.as_slice().len().saturating_sub(count);
-        self.items.truncate(left);
+        self.count = self.count.saturating_sub(taken);
     }
 
     /// The top. `None` comes exactly where the stack is empty.
-    pub fn top(&self) -> Option<&T>
-        ensures { MatchOption result (self.now ≡ []) (λ item. self.now ≡ item.now ∷ drop 1 self.now) }
+    #[inline(always)]
+    pub fn top(&self) -> Option<T>
+        ensures { MatchOption result (self.now.items ≡ []) (λ item. self.now.items ≡ item ∷ drop 1 self.now.items) }
     {
         match self.below(0) {
             Some(item) => Some(item),
@@ -79,28 +127,29 @@ impl<T> Stack<T> {
     }
 
     /// How many items there are.
+    #[inline(always)]
     pub fn len(&self) -> usize
-        ensures { result ≡ length self.now }
+        ensures { result ≡ length self.now.items }
     {
-        self.items.as_slice().len()
+        self.count
     }
 
     /// The item so far below the top, where there is one.
-    pub fn at(&self, depth: usize) -> &T
-        requires { depth < length self.now }
-        ensures { result.now ≡ slice_index_or self.now depth result.now }
+    #[inline(always)]
+    pub fn at(&self, depth: usize) -> T
+        requires { depth < length self.now.items }
+        ensures { result ≡ slice_index_or self.now.items depth result }
     {
-        let items = self.items.as_slice();
-        &items[items.len() - 1 - depth]
+        self.slots.as_slice()[self.count - 1 - depth]
     }
 
     /// The item so far below the top.
-    pub fn below(&self, depth: usize) -> Option<&T>
-        ensures { option_map (λ item. item.now) result ≡ slice_get self.now depth }
+    #[inline(always)]
+    pub fn below(&self, depth: usize) -> Option<T>
+        ensures { result ≡ slice_get self.now.items depth }
     {
-        let items = self.items.as_slice();
-        if depth < items.len() {
-            Some(&items[items.len() - 1 - depth])
+        if depth < self.count {
+            Some(self.at(depth))
         } else {
             None
         }

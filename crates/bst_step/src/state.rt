@@ -1,24 +1,38 @@
 //! What changes while a style runs.
 
-ghost use Rattle.std.specs.Prelude.{◌≡◌, [], ◌∷◌, option_map, OnOk};
+ghost use Rattle.std.specs.Prelude.{◌≡◌, ◌+◌, ◌≤◌, [], ◌∷◌, option_map, IsOk, OnOk};
 ghost use Rattle.bst_meaning.specs.Machine as rule;
-ghost use Rattle.bst_step.specs.State.{config_of, state_of, tokens_left, visit_in};
-ghost use Rattle.bst_step.specs.Outcome.{part_of};
+ghost use Rattle.bst_step.specs.Held.{value_of};
+ghost use Rattle.bst_step.specs.Marks as mark;
+ghost use Rattle.bst_step.specs.Marks.{lent_mark};
+ghost use Rattle.bst_step.specs.State.{config_of, visit_in, LeavesRoom};
+ghost use Rattle.bst_step.specs.Frames.{part_of, tokens_left};
 ghost use Rattle.bst_step.specs.Surroundings.{context_in};
 
-use crate::fields::PlacedEntry;
-use crate::outcome::Part;
-use crate::stack::Stack;
+use crate::frame_list::Frames;
+use crate::held::Operand;
 use crate::surroundings::Surroundings;
-use crate::variables::Variables;
+use crate::values::Values;
+use bst_meaning::entry::Entry;
 use bst_meaning::fault::Fault;
-use bst_meaning::value::Value;
+use bst_meaning::value::Target;
 use bv_base::memory::NoMemory;
 use bv_base::place::Place;
 use bv_base::text::Text;
 use name_table::names::NameId;
 use name_table::style::{CommandAt, Style, TokenAt};
 use std::alloc::Global;
+
+/// The part of a `while$` that a frame runs, with its two functions.
+#[derive(Clone, Copy)]
+pub enum Part {
+    /// No part of a `while$`.
+    Whole,
+    /// The test, which is entered first, and the body.
+    Testing(Target, Target),
+    /// The body, after the test.
+    Turning(Target, Target),
+}
 
 /// What is left of a body that was entered: a name to call at a place, or the rest of a slice of the style.
 #[derive(Clone, Copy)]
@@ -35,14 +49,6 @@ pub struct Frame<'a> {
     pub part: Part,
 }
 
-/// An entry with its entry variables, and its position in the list with which the run opened, counted from 0.
-#[derive(Drop)]
-pub struct EntryState {
-    pub entry: PlacedEntry,
-    pub variables: Variables,
-    pub position: u64,
-}
-
 /// How far ITERATE or REVERSE has come.
 #[derive(Clone, Copy)]
 pub struct Visit {
@@ -52,8 +58,10 @@ pub struct Visit {
 
 /// What was written.
 #[derive(Drop)]
-pub enum Event {
+pub enum Event<'a> {
     Wrote(Text),
+    /// Bytes that the machine doesn't own.
+    WroteLent(&'a [u8]),
     EndedLine,
 }
 
@@ -76,19 +84,27 @@ pub struct Stopped {
 #[derive(Drop)]
 pub struct State<'a> {
     pub alloc: Global,
-    pub preamble: Text,
-    /// The commands left that take steps.
-    pub commands: Stack<CommandAt>,
+    pub preamble: &'a [u8],
+    /// The commands left, and declarations, which take no step.
+    pub commands: &'a [CommandAt],
     /// Whether a call of the first command runs.
     pub running: bool,
-    pub frames: Stack<Frame<'a>>,
-    pub stack: Stack<Value>,
-    pub globals: Variables,
-    pub entries: Vec<EntryState>,
+    pub frames: Frames<'a>,
+    pub values: Values<'a>,
     pub visit: Option<Visit>,
-    pub events: Vec<Event>,
+    pub events: Vec<Event<'a>>,
     pub log: Vec<Text>,
     pub stopped: Option<Stopped>,
+}
+
+impl<'a> Default for Frame<'a> {
+    fn default() -> Frame<'a> {
+        Frame {
+            rest: Rest::Tokens(&[]),
+            place: Place::START,
+            part: Part::Whole,
+        }
+    }
 }
 
 impl<'a> State<'a> {
@@ -100,56 +116,99 @@ impl<'a> State<'a> {
             return None;
         }
         match self.visit {
-            Some(visit) => Some(next_index(visit, self.entries.as_slice().len())),
+            Some(visit) => Some(next_index(visit, self.values.entries())),
             None => None,
         }
     }
 
     /// The visited entry.
-    pub fn visited_entry(&self) -> Option<&EntryState>
-        ensures { option_map (λ e. state_of e.now) result ≡ rule.visited_entry (config_of self.now) }
+    pub fn visited_entry(&self) -> Option<&'a Entry>
+        ensures { option_map (λ e. e.now) result ≡ option_map (λ e. e.entry) (rule.visited_entry (config_of self.now)) }
     {
         match self.visited_index() {
-            Some(at) => self.entries.as_slice().get(at),
+            Some(at) => self.values.entry(at),
+            None => None,
+        }
+    }
+
+    /// The position of the visited entry in the list with which the run opened.
+    fn visited_position(&self) -> Option<u64>
+        ensures { result ≡ option_map (λ e. e.position) (rule.visited_entry (config_of self.now)) }
+    {
+        match self.visited_index() {
+            Some(at) => self.values.position(at),
+            None => None,
+        }
+    }
+
+    /// The value of a field of the visited entry.
+    pub fn visited_field(&self, name: NameId) -> Option<Operand<'a>>
+        ensures { option_map value_of result ≡
+            option_map (λ e. rule.field_in name e.entry.fields) (rule.visited_entry (config_of self.now)) }
+    {
+        match self.visited_index() {
+            Some(at) => self.values.field(at, name),
             None => None,
         }
     }
 
     /// What surrounds a call of a built-in function.
-    pub fn surroundings<'b>(&'b self, style: &'b Style) -> Surroundings<'b>
+    pub fn surroundings(&self, style: &'a Style) -> Surroundings<'a>
         ensures { context_in result ≡ rule.context_of style.now (config_of self.now) }
     {
         Surroundings {
             alloc: self.alloc,
             style,
-            preamble: self.preamble.as_slice(),
-            entry: self.visited_entry().map(|e| e.entry.entry()),
+            preamble: self.preamble,
+            entry: self.visited_entry(),
         }
+    }
+
+    /// Makes room for so many frames and values more. Where it is refused, there may be more room for frames, and all else is
+    /// as it was.
+    pub fn reserve(&mut self, count: usize) -> Result<(), NoMemory>
+        ensures frames { OnOk result (count ≤ self.new.frames.room) }
+        ensures values { OnOk result (count ≤ self.new.values.room) }
+        ensures same { config_of self.new ≡ config_of self.old }
+        ensures marks { self.new.values.marks ≡ self.old.values.marks }
+        ensures room { LeavesRoom 0 self.old self.new }
+    {
+        self.frames.reserve(count)?;
+        self.values.reserve(count)
     }
 
     /// Stops by an execution error at a place.
     pub fn stop(&mut self, fault: Fault, place: Place)
-        ensures { config_of self.new ≡ rule.stopped_by fault place (config_of self.old) }
+        ensures moved { config_of self.new ≡ rule.stopped_by fault place (config_of self.old) }
+        ensures frames { self.new.frames ≡ self.old.frames }
+        ensures values { self.new.values ≡ self.old.values }
     {
-        let entry = self.visited_entry().map(|e| e.position);
+        let entry = self.visited_position();
         self.stopped = Some(Stopped {
             fault,
             site: Site { place, entry },
         });
     }
 
-    /// Pushes a value.
-    pub fn push(&mut self, value: Value) -> Result<(), NoMemory>
-        ensures moved { OnOk result (config_of self.new ≡ rule.with_value value (config_of self.old)) }
-        ensures entries { self.new.entries.items ≡ self.old.entries.items }
+    /// Pushes a value whose bytes are lent.
+    #[inline(always)]
+    pub fn push(&mut self, value: Operand<'a>) -> Result<(), NoMemory>
+        ensures moved { OnOk result (config_of self.new ≡ rule.with_value (value_of value.entry) (config_of self.old)) }
+        ensures entries { self.new.values.entries ≡ self.old.values.entries }
+        ensures marks { OnOk result (self.new.values.marks ≡ mark.pushed (lent_mark (value_of value.entry)) self.old.values.marks) }
+        ensures fits { 1 ≤ self.old.values.room → IsOk result }
+        ensures room { LeavesRoom 1 self.old self.new }
     {
-        self.stack.push(value)
+        self.values.push(value)
     }
 
     /// Enters what is to be executed, at a place.
+    #[inline(always)]
     pub fn enter(&mut self, rest: Rest<'a>, place: Place, part: Part) -> Result<(), NoMemory>
         ensures moved { OnOk result (config_of self.new ≡ rule.with_frame (tokens_left rest.entry) place (part_of part) (config_of self.old)) }
-        ensures entries { self.new.entries.items ≡ self.old.entries.items }
+        ensures values { self.new.values ≡ self.old.values }
+        ensures fits { 1 ≤ self.old.frames.room → IsOk result }
+        ensures room { LeavesRoom 1 self.old self.new }
     {
         self.frames.push(Frame { rest, place, part })
     }

@@ -1,4 +1,4 @@
-//! Why a built-in function has no outcome.
+//! Why a built-in function has no effect.
 
 ghost use Rattle.std.specs.Prelude.{◌≡◌};
 
@@ -6,7 +6,7 @@ use bst_meaning::fault::Fault;
 use bv_base::memory::NoMemory;
 use std::alloc::{AllocError, AllocFailed};
 
-/// Why a built-in function has no outcome.
+/// Why a built-in function has no effect.
 #[derive(Clone, Copy)]
 pub enum Stop {
     /// An execution error.

@@ -20,6 +20,7 @@ macro_rules! told {
 
 mod entries;
 mod flow;
+mod marks;
 mod operands;
 mod program;
 mod rows;

@@ -1,8 +1,9 @@
 //! The built-in functions on strings.
 
-ghost use Rattle.std.specs.Prelude.{◌≡◌, ◌++◌, ℕ, pos, drop, is_none, IfOk};
+ghost use Rattle.std.specs.Prelude.{◌≡◌, ◌≤◌, ◌++◌, ℕ, pos, drop, take, is_none, length, IfOk};
 ghost use Rattle.text_ops.specs.AddPeriod.{with_period};
 ghost use Rattle.text_ops.specs.Purify.{purified};
+ghost use Rattle.text_ops.specs.Substring.{last_bytes, substring_of};
 ghost use Rattle.text_ops.specs.TextLength.{text_length_of};
 ghost use Rattle.text_ops.specs.Width.{width_of};
 ghost use Rattle.bst_meaning.specs.declared.value.Value.TheVariants.{Str};
@@ -11,17 +12,17 @@ ghost use Rattle.bst_meaning.specs.Operands.{truth, ranged};
 ghost use Rattle.bst_meaning.specs.Builtins as rule;
 ghost use Rattle.bst_meaning.specs.Builtins.{string, is_empty, case_of, change_case_in};
 ghost use Rattle.bst_step.specs.Operands.{field, strings};
-ghost use Rattle.bst_step.specs.Outcome.{Gives};
+ghost use Rattle.bst_step.specs.Effects.{Leaves};
+ghost use Rattle.bst_step.specs.Marks as mark;
+ghost use Rattle.bst_step.specs.Room.{Fits};
 
+use crate::held::Operand;
 use crate::numbers::count;
 use crate::operands::{one_field, one_string, three, truth, two, two_strings};
-use crate::outcome::Outcome;
-use crate::stack::Stack;
 use crate::stop::Stop;
+use crate::values::Values;
 use bst_meaning::fault::Fault;
-use bst_meaning::value::Value;
 use bv_base::memory::NoMemory;
-use bv_base::text::Text;
 use std::alloc::Global;
 use text_ops::change_case::Case;
 
@@ -34,28 +35,22 @@ pub fn joined(alloc: Global, a: &[u8], b: &[u8]) -> Result<Vec<u8>, NoMemory>
     Ok(text)
 }
 
-/// Pushes these bytes.
-pub fn constant(alloc: Global, bytes: &[u8], stack: &Stack<Value>) -> Result<Outcome, Stop>
-    ensures { Gives result stack.now (pushed (Str bytes.now) stack.now) }
-{
-    Ok(Outcome::Push(0, Value::Str(Text::from_slice(alloc, bytes)?)))
-}
-
 /// `*`
-pub fn join(alloc: Global, stack: &Stack<Value>) -> Result<Outcome, Stop>
-    ensures { Gives result stack.now (strings (λ a b rest. pushed (Str (a ++ b)) rest) stack.now) }
+pub fn join(values: &mut Values<'_>) -> Result<(), Stop>
+    ensures { Leaves result values.old values.new (strings (λ a b rest. pushed (Str (a ++ b)) rest) values.old.stack) (mark.resulting 2 mark.Made) }
 {
-    let (a, b) = two_strings(stack)?;
-    let text = joined(alloc, a, b)?;
-    Ok(Outcome::Push(2, Value::Str(Text::from_vec(text))))
+    let _ = two_strings(values)?;
+    values.join()?;
+    Ok(())
 }
 
 /// `add.period$`
-pub fn add_period(alloc: Global, stack: &Stack<Value>) -> Result<Outcome, Stop>
-    ensures { Gives result stack.now (string (λ a rest. pushed (Str (with_period a)) rest) stack.now) }
+pub fn add_period(alloc: Global, values: &mut Values<'_>) -> Result<(), Stop>
+    ensures { Leaves result values.old values.new (string (λ a rest. pushed (Str (with_period a)) rest) values.old.stack) (mark.resulting 1 mark.Made) }
 {
-    let text = text_ops::add_period::add_period(alloc, one_string(stack)?)?;
-    Ok(Outcome::Push(1, Value::Str(Text::from_vec(text))))
+    let text = text_ops::add_period::add_period(alloc, one_string(values)?)?;
+    values.make(1, text.as_slice())?;
+    Ok(())
 }
 
 /// The case that a text names by its one byte.
@@ -71,85 +66,120 @@ fn case_named(text: &[u8]) -> Option<Case>
 }
 
 /// `change.case$`
-pub fn change_case(alloc: Global, stack: &Stack<Value>) -> Result<Outcome, Stop>
-    ensures { Gives result stack.now (strings (λ a mode rest. change_case_in (case_of mode) a rest) stack.now) }
+pub fn change_case(alloc: Global, values: &mut Values<'_>) -> Result<(), Stop>
+    ensures { Leaves result values.old values.new (strings (λ a mode rest. change_case_in (case_of mode) a rest) values.old.stack) (mark.resulting 2 mark.Made) }
 {
-    let (text, mode) = two_strings(stack)?;
+    let (text, mode) = two_strings(values)?;
     match case_named(mode) {
         Some(case) => {
             let changed = text_ops::change_case::change_case(alloc, text, case)?;
-            Ok(Outcome::Push(2, Value::Str(Text::from_vec(changed))))
+            values.make(2, changed.as_slice())?;
+            Ok(())
         }
         None => Err(Stop::Fault(Fault::BadCase)),
     }
 }
 
 /// `empty$`
-pub fn empty(stack: &Stack<Value>) -> Result<Outcome, Stop>
-    ensures { Gives result stack.now (field (λ bytes rest. pushed (truth (is_empty bytes)) rest) stack.now) }
+pub fn empty(values: &mut Values<'_>) -> Result<(), Stop>
+    ensures left { Leaves result values.old values.new (field (λ bytes rest. pushed (truth (is_empty bytes)) rest) values.old.stack) (mark.resulting 1 mark.NoString) }
+    ensures fits { Fits result }
 {
-    match one_field(stack)? {
-        Some(bytes) => Ok(Outcome::Push(1, truth(text_ops::is_blank::is_blank(bytes)))),
-        None => Ok(Outcome::Push(1, truth(true))),
-    }
+    let holds = match one_field(values)? {
+        Some(bytes) => text_ops::is_blank::is_blank(bytes),
+        None => true,
+    };
+    values.put(1, truth(holds));
+    Ok(())
 }
 
 /// `missing$`
-pub fn missing(stack: &Stack<Value>) -> Result<Outcome, Stop>
-    ensures { Gives result stack.now (field (λ bytes rest. pushed (truth (is_none bytes)) rest) stack.now) }
+pub fn missing(values: &mut Values<'_>) -> Result<(), Stop>
+    ensures left { Leaves result values.old values.new (field (λ bytes rest. pushed (truth (is_none bytes)) rest) values.old.stack) (mark.resulting 1 mark.NoString) }
+    ensures fits { Fits result }
 {
-    match one_field(stack)? {
-        Some(_) => Ok(Outcome::Push(1, truth(false))),
-        None => Ok(Outcome::Push(1, truth(true))),
-    }
+    let holds = one_field(values)?.is_none();
+    values.put(1, truth(holds));
+    Ok(())
 }
 
 /// `purify$`
-pub fn purify(alloc: Global, stack: &Stack<Value>) -> Result<Outcome, Stop>
-    ensures { Gives result stack.now (string (λ a rest. pushed (Str (purified a)) rest) stack.now) }
+pub fn purify(alloc: Global, values: &mut Values<'_>) -> Result<(), Stop>
+    ensures { Leaves result values.old values.new (string (λ a rest. pushed (Str (purified a)) rest) values.old.stack) (mark.resulting 1 mark.Made) }
 {
-    let text = text_ops::purify::purify(alloc, one_string(stack)?)?;
-    Ok(Outcome::Push(1, Value::Str(Text::from_vec(text))))
+    let text = text_ops::purify::purify(alloc, one_string(values)?)?;
+    values.make(1, text.as_slice())?;
+    Ok(())
+}
+
+/// Where the part of a text by its place and its length begins, and how many bytes it has.
+fn substring_place(text: &[u8], start: i32, size: i32) -> (usize, usize)
+    ensures { take result.1 (drop result.0 text.now) ≡ substring_of text.now start size }
+{
+    let place = start.unsigned_abs() as usize;
+    if size <= 0 || place == 0 || place > text.len() {
+        return (0, 0);
+    }
+    let count = size as usize;
+    if start > 0 {
+        return (place - 1, count);
+    }
+    last_place(text, text.len() - (place - 1), count)
+}
+
+/// Where the last so many bytes of a text begin up to an end in it, and how many there are.
+fn last_place(text: &[u8], end: usize, count: usize) -> (usize, usize)
+    requires { end ≤ length text.now }
+    ensures { take result.1 (drop result.0 text.now) ≡ last_bytes count (take end text.now) }
+{
+    let from = end.saturating_sub(count);
+    (from, end - from)
 }
 
 /// `substring$`
-pub fn substring(alloc: Global, stack: &Stack<Value>) -> Result<Outcome, Stop>
-    ensures { Gives result stack.now (rule.substring stack.now) }
+pub fn substring(values: &mut Values<'_>) -> Result<(), Stop>
+    ensures left { Leaves result values.old values.new (rule.substring values.old.stack) (mark.taken 2) }
+    ensures fits { Fits result }
 {
-    match three(stack)? {
-        (Value::Str(text), Value::Int(start), Value::Int(length)) => {
-            let part = text_ops::substring::substring(alloc, text.as_slice(), *start, *length)?;
-            Ok(Outcome::Push(3, Value::Str(Text::from_vec(part))))
+    let (from, count) = match three(values)? {
+        (Operand::Str(text), Operand::Int(start), Operand::Int(length)) => {
+            substring_place(text, start, length)
         }
-        _ => Err(Stop::Fault(Fault::WrongKind)),
-    }
+        _ => return Err(Stop::Fault(Fault::WrongKind)),
+    };
+    values.drop_top(2);
+    values.cut_top(from, count);
+    Ok(())
 }
 
 /// `text.length$`
-pub fn text_length(stack: &Stack<Value>) -> Result<Outcome, Stop>
-    ensures { Gives result stack.now (string (λ a rest. ranged (pos (text_length_of a)) rest) stack.now) }
+pub fn text_length(values: &mut Values<'_>) -> Result<(), Stop>
+    ensures left { Leaves result values.old values.new (string (λ a rest. ranged (pos (text_length_of a)) rest) values.old.stack) (mark.resulting 1 mark.NoString) }
+    ensures fits { Fits result }
 {
-    let text = one_string(stack)?;
-    count(text_ops::text_length::text_length(text) as u128, stack)
+    let length = text_ops::text_length::text_length(one_string(values)?) as u128;
+    count(length, values)
 }
 
 /// `text.prefix$`
-pub fn text_prefix(alloc: Global, stack: &Stack<Value>) -> Result<Outcome, Stop>
-    ensures { Gives result stack.now (rule.text_prefix stack.now) }
+pub fn text_prefix(alloc: Global, values: &mut Values<'_>) -> Result<(), Stop>
+    ensures { Leaves result values.old values.new (rule.text_prefix values.old.stack) (mark.resulting 2 mark.Made) }
 {
-    match two(stack)? {
-        (Value::Str(text), Value::Int(count)) => {
-            let prefix = text_ops::text_prefix::text_prefix(alloc, text.as_slice(), *count)?;
-            Ok(Outcome::Push(2, Value::Str(Text::from_vec(prefix))))
+    match two(values)? {
+        (Operand::Str(text), Operand::Int(count)) => {
+            let prefix = text_ops::text_prefix::text_prefix(alloc, text, count)?;
+            values.make(2, prefix.as_slice())?;
+            Ok(())
         }
         _ => Err(Stop::Fault(Fault::WrongKind)),
     }
 }
 
 /// `width$`
-pub fn width(stack: &Stack<Value>) -> Result<Outcome, Stop>
-    ensures { Gives result stack.now (string (λ a rest. ranged (pos (width_of a)) rest) stack.now) }
+pub fn width(values: &mut Values<'_>) -> Result<(), Stop>
+    ensures left { Leaves result values.old values.new (string (λ a rest. ranged (pos (width_of a)) rest) values.old.stack) (mark.resulting 1 mark.NoString) }
+    ensures fits { Fits result }
 {
-    let text = one_string(stack)?;
-    count(text_ops::width::width(text), stack)
+    let width = text_ops::width::width(one_string(values)?);
+    count(width, values)
 }

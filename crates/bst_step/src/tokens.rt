@@ -1,25 +1,26 @@
 //! The execution of a token.
 
-ghost use Rattle.std.specs.Prelude.{◌≡◌, option_map, OnErr, OnOk};
+ghost use Rattle.std.specs.Prelude.{◌≡◌, true, is_some, option_map, IfOk, IsOk, OnErr, OnOk};
 ghost use Rattle.std.specs.Option.{option_and_then};
 ghost use Rattle.bst_meaning.specs.StyleParts as parts;
 ghost use Rattle.bst_meaning.specs.Builtins.{built_in};
 ghost use Rattle.bst_meaning.specs.Machine as rule;
-ghost use Rattle.bst_step.specs.Outcome.{Gives};
-ghost use Rattle.bst_step.specs.State.{config_of};
-ghost use Rattle.bst_step.specs.Moves.{with_field, with_entry_value, with_global};
+ghost use Rattle.bst_step.specs.MarkRules as rules;
+ghost use Rattle.bst_step.specs.Marks as mark;
+ghost use Rattle.bst_step.specs.Marks.{lent_mark, mark_at};
+ghost use Rattle.bst_step.specs.Room.{built_in_takes_room, call_takes_room, token_takes_room};
+ghost use Rattle.bst_step.specs.State.{config_of, HasRoom, LeavesRoom};
+ghost use Rattle.bst_step.specs.Moves.{with_field, with_entry_value, with_global, with_stack};
+ghost use Rattle.bst_step.specs.Values.{with_pushed};
 
-use crate::built_in::outcome_of;
-use crate::operands::copied;
-use crate::outcome::{Outcome, Part};
-use crate::state::{Rest, State};
+use crate::held::Operand;
+use crate::state::{Part, Rest, State};
 use crate::stop::Stop;
 use bst_meaning::fault::Fault;
 use bst_meaning::style_parts::{kind_of, text_of, tokens_of};
-use bst_meaning::value::{Target, Value};
+use bst_meaning::value::Target;
 use bv_base::memory::NoMemory;
 use bv_base::place::Place;
-use bv_base::text::Text;
 use name_table::builtin::Builtin;
 use name_table::names::{Kind, NameId};
 use name_table::style::{Style, Token};
@@ -33,16 +34,16 @@ impl<'a> State<'a> {
         place: Place,
     ) -> Result<(), NoMemory>
         ensures moved { OnOk result (config_of self.new ≡ rule.token_step style.now token place (config_of self.old)) }
-        ensures entries { OnErr result (self.new.entries.items ≡ self.old.entries.items) }
+        ensures entries { OnErr result (self.new.values.entries ≡ self.old.values.entries) }
+        ensures marks { OnOk result (self.new.values.marks ≡ rules.token_marks style.now token (config_of self.old) self.old.values.marks) }
+        ensures fits { token_takes_room style.now token (config_of self.old) ≡ true → HasRoom self.old → IsOk result }
+        ensures room { OnOk result (LeavesRoom 1 self.old self.new) }
     {
         match token {
-            Token::Int(n) => self.push(Value::Int(n)),
-            Token::Str(text) => {
-                let bytes = Text::from_slice(self.alloc, text_of(style, text))?;
-                self.push(Value::Str(bytes))
-            }
-            Token::Quote(name) => self.push(Value::Func(Target::Named(name))),
-            Token::Block(body) => self.push(Value::Func(Target::Block(body))),
+            Token::Int(n) => self.push(Operand::Int(n)),
+            Token::Str(text) => self.push(Operand::Str(text_of(style, text))),
+            Token::Quote(name) => self.push(Operand::Func(Target::Named(name))),
+            Token::Block(body) => self.push(Operand::Func(Target::Block(body))),
             Token::Call(name) => self.call_step(style, name, place),
         }
     }
@@ -50,7 +51,11 @@ impl<'a> State<'a> {
     /// Calls a name.
     fn call_step(&mut self, style: &'a Style, name: NameId, place: Place) -> Result<(), NoMemory>
         ensures moved { OnOk result (config_of self.new ≡ rule.call_step style.now (parts.kind_of style.now name) name place (config_of self.old)) }
-        ensures entries { OnErr result (self.new.entries.items ≡ self.old.entries.items) }
+        ensures entries { OnErr result (self.new.values.entries ≡ self.old.values.entries) }
+        ensures marks { OnOk result (self.new.values.marks ≡
+            rules.call_marks style.now (parts.kind_of style.now name) name (config_of self.old) self.old.values.marks) }
+        ensures fits { call_takes_room style.now (parts.kind_of style.now name) (config_of self.old) ≡ true → HasRoom self.old → IsOk result }
+        ensures room { OnOk result (LeavesRoom 1 self.old self.new) }
     {
         match kind_of(style, name) {
             Some(Kind::Builtin(op)) => self.built_in_step(style, op, place),
@@ -67,12 +72,15 @@ impl<'a> State<'a> {
     /// Calls a built-in function.
     fn built_in_step(&mut self, style: &'a Style, op: Builtin, place: Place) -> Result<(), NoMemory>
         ensures moved { OnOk result (config_of self.new ≡
-            rule.with_effect style.now (built_in op (rule.context_of style.now (config_of self.old)) self.old.stack) place (config_of self.old)) }
-        ensures entries { OnErr result (self.new.entries.items ≡ self.old.entries.items) }
+            rule.with_effect style.now (built_in op (rule.context_of style.now (config_of self.old)) self.old.values.stack) place (config_of self.old)) }
+        ensures entries { OnErr result (self.new.values.entries ≡ self.old.values.entries) }
+        ensures marks { OnOk result (self.new.values.marks ≡ rules.unless_fault (built_in op (rule.context_of style.now (config_of self.old)) self.old.values.stack)
+            (rules.built_in_marks op style.now (config_of self.old) self.old.values.marks) self.old.values.marks) }
+        ensures fits { built_in_takes_room op (built_in op (rule.context_of style.now (config_of self.old)) self.old.values.stack) ≡ true → HasRoom self.old → IsOk result }
+        ensures room { OnOk result (LeavesRoom 1 self.old self.new) }
     {
-        let outcome = self.outcome(style, op);
-        match outcome {
-            Ok(outcome) => self.apply(style, outcome, place),
+        match self.built_in(style, op, place) {
+            Ok(()) => Ok(()),
             Err(Stop::Fault(fault)) => {
                 self.stop(fault, place);
                 Ok(())
@@ -81,24 +89,17 @@ impl<'a> State<'a> {
         }
     }
 
-    /// What a built-in function comes to.
-    fn outcome(&self, style: &Style, op: Builtin) -> Result<Outcome, Stop>
-        ensures { Gives result self.now.stack (built_in op (rule.context_of style.now (config_of self.now)) self.now.stack) }
-    {
-        outcome_of(op, self.surroundings(style), &self.stack)
-    }
-
     /// Pushes a field of the visited entry.
     fn push_field(&mut self, name: NameId, place: Place) -> Result<(), NoMemory>
         ensures moved { OnOk result (config_of self.new ≡ with_field name place (config_of self.old)) }
-        ensures entries { OnErr result (self.new.entries.items ≡ self.old.entries.items) }
+        ensures entries { OnErr result (self.new.values.entries ≡ self.old.values.entries) }
+        ensures marks { OnOk result (self.new.values.marks ≡ mark.found
+            (option_map (λ e. lent_mark (rule.field_in name e.entry.fields)) (rule.visited_entry (config_of self.old))) self.old.values.marks) }
+        ensures fits { HasRoom self.old → IsOk result }
+        ensures room { OnOk result (LeavesRoom 1 self.old self.new) }
     {
-        let alloc = self.alloc;
-        match self.visited_entry() {
-            Some(e) => {
-                let value = e.entry.field(alloc, name)?;
-                self.push(value)
-            }
+        match self.visited_field(name) {
+            Some(value) => self.push(value),
             None => {
                 self.stop(Fault::NoEntry, place);
                 Ok(())
@@ -107,47 +108,52 @@ impl<'a> State<'a> {
     }
 
     /// Pushes a variable of the visited entry.
+    #[tactic(auto, using(crate::proofs::FoundSteps::found_pushed, crate::proofs::FoundSteps::found_stopped))]
     fn push_entry_variable(&mut self, name: NameId, place: Place) -> Result<(), NoMemory>
         ensures moved { OnOk result (config_of self.new ≡ with_entry_value name place (config_of self.old)) }
-        ensures entries { OnErr result (self.new.entries.items ≡ self.old.entries.items) }
+        ensures entries { OnErr result (self.new.values.entries ≡ self.old.values.entries) }
+        ensures marks { OnOk result (self.new.values.marks ≡ mark.found (rules.visited_mark name.0 (config_of self.old) self.old.values.marks) self.old.values.marks) }
+        ensures fits { HasRoom self.old → IsOk result }
+        ensures room { OnOk result (LeavesRoom 1 self.old self.new) }
     {
-        let alloc = self.alloc;
-        match self.entry_value(name) {
-            Some(value) => {
-                let value = copied(alloc, value)?;
-                self.push(value)
-            }
-            None => {
-                self.stop(Fault::NoEntry, place);
-                Ok(())
-            }
+        if self.push_visited_variable(name)? {
+            return Ok(());
         }
+        self.stop(Fault::NoEntry, place);
+        Ok(())
     }
 
-    /// The value of a variable of the visited entry.
-    fn entry_value(&self, name: NameId) -> Option<&Value>
-        ensures { option_map (λ value. value.now) result ≡ option_and_then (λ e. rule.value_at name.0 e.variables) (rule.visited_entry (config_of self.now)) }
+    /// Pushes a variable of the visited entry, and tells whether there is one.
+    fn push_visited_variable(&mut self, name: NameId) -> Result<bool, NoMemory>
+        ensures moved { OnOk result (config_of self.new ≡ with_stack
+            (with_pushed (option_and_then (λ e. rule.value_at name.0 e.variables) (rule.visited_entry (config_of self.old))) self.old.values.stack)
+            (config_of self.old)) }
+        ensures found { IfOk result (λ found. found ≡
+            is_some (option_and_then (λ e. rule.value_at name.0 e.variables) (rule.visited_entry (config_of self.old)))) }
+        ensures entries { OnErr result (self.new.values.entries ≡ self.old.values.entries) }
+        ensures marks { OnOk result (self.new.values.marks ≡ mark.found (rules.visited_mark name.0 (config_of self.old) self.old.values.marks) self.old.values.marks) }
+        ensures fits { HasRoom self.old → IsOk result }
+        ensures room { OnOk result (LeavesRoom 1 self.old self.new) }
     {
-        match self.visited_entry() {
-            Some(e) => e.variables.value(name),
-            None => None,
+        match self.visited_index() {
+            Some(at) => self.values.push_entry_variable(at, name),
+            None => Ok(false),
         }
     }
 
     /// Pushes a variable of the whole style.
+    #[tactic(auto, using(crate::proofs::FoundSteps::found_pushed, crate::proofs::FoundSteps::found_stopped))]
     fn push_global(&mut self, name: NameId, place: Place) -> Result<(), NoMemory>
         ensures moved { OnOk result (config_of self.new ≡ with_global name place (config_of self.old)) }
-        ensures entries { OnErr result (self.new.entries.items ≡ self.old.entries.items) }
+        ensures entries { OnErr result (self.new.values.entries ≡ self.old.values.entries) }
+        ensures marks { OnOk result (self.new.values.marks ≡ mark.found (mark_at name.0 self.old.values.marks.globals) self.old.values.marks) }
+        ensures fits { HasRoom self.old → IsOk result }
+        ensures room { OnOk result (LeavesRoom 1 self.old self.new) }
     {
-        match self.globals.value(name) {
-            Some(value) => {
-                let value = copied(self.alloc, value)?;
-                self.push(value)
-            }
-            None => {
-                self.stop(Fault::NoEntry, place);
-                Ok(())
-            }
+        if self.values.push_global(name)? {
+            return Ok(());
         }
+        self.stop(Fault::NoEntry, place);
+        Ok(())
     }
 }

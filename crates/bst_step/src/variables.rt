@@ -1,13 +1,11 @@
 //! Variables with their values, each found by its place.
 
-ghost use Rattle.std.specs.Prelude.{◌≡◌, ◌<◌, length, map, option_map, IfOk, IfSome};
-ghost use Rattle.bst_meaning.specs.Invariant.{names_of};
-ghost use Rattle.bst_meaning.specs.Machine as rule;
+ghost use Rattle.std.specs.Prelude.{◌≡◌, ◌<◌, length, map, take, IfOk, IfSome};
+ghost use Rattle.bst_step.specs.Marks.{marked_of};
 ghost use Rattle.bst_step.specs.Places.{StandAt, place_of};
-ghost use Rattle.bst_step.specs.Variables.{variable_of};
+ghost use Rattle.bst_step.specs.Variables.{VariablesWithin, held_at, names_in, variable_in, with_held};
 
-use crate::operands::copied;
-use bst_meaning::value::Value;
+use crate::held::Held;
 use bv_base::memory::NoMemory;
 use name_table::names::NameId;
 use std::alloc::Global;
@@ -15,82 +13,116 @@ use std::marker::Model;
 use std::rc::Rc;
 
 /// A variable with its value.
-#[derive(Drop)]
-pub struct Variable {
+#[derive(Clone, Copy)]
+pub struct Variable<'a> {
     pub name: NameId,
-    pub value: Value,
+    pub value: Held<'a>,
 }
 
 /// Variables with their values, in the order of their ids. Contracts see the list of them.
 #[derive(Drop)]
-pub struct Variables {
+pub struct Variables<'a> {
     /// By the id of its name, the place of each variable. The variables of all entries share this table.
     places: Rc<Vec<usize>>,
-    items: Vec<Variable>,
+    items: Vec<Variable<'a>>,
 }
 
-impl Model for Variables {
-    ghost use Rattle.std.specs.Prelude.{List, map};
-    ghost use Rattle.bst_meaning.specs.Invariant.{names_of};
+impl<'a> Model for Variables<'a> {
+    ghost use Rattle.std.specs.Prelude.{List};
     ghost use Rattle.bst_step.specs.declared.variables.Variable.{Variable};
     ghost use Rattle.bst_step.specs.Places.{StandAt};
-    ghost use Rattle.bst_step.specs.Variables.{variable_of};
+    ghost use Rattle.bst_step.specs.Variables.{names_in};
 
     ghost Value = { List Variable };
 
     ghost view = { λ v. v.items.items };
 
-    ghost invariant = { λ v. StandAt v.places.value.items (names_of (map variable_of v.items.items)) };
+    ghost invariant = { λ v. StandAt v.places.value.items (names_in v.items.items) };
 }
 
-impl Variables {
+impl<'a> Variables<'a> {
     /// Variables, each of which stands at the place that the table has for it.
     pub fn new(
         alloc: Global,
         places: Vec<usize>,
-        items: Vec<Variable>,
-    ) -> Result<Variables, NoMemory>
-        requires { StandAt places.items (names_of (map variable_of items.items)) }
-        ensures { IfOk result (λ variables. variables ≡ items.items) }
+        items: Vec<Variable<'a>>,
+    ) -> Result<Variables<'a>, NoMemory>
+        requires { StandAt places.items (names_in items.items) }
+        ensures { IfOk result (λ variables. variables ≡ items.entry.items) }
     {
         let places = Rc::new(alloc, places)?;
         Ok(Variables { places, items })
     }
 
-    /// The value of the variable with this name.
-    pub fn value(&self, name: NameId) -> Option<&Value>
-        ensures { option_map (λ value. value.now) result ≡ rule.value_at name.0 (map variable_of self.now) }
+    /// What the variable with this name holds.
+    pub fn value(&self, name: NameId) -> Option<Held<'a>>
+        ensures { result ≡ held_at name.0 self.now }
     {
         let items = self.items.as_slice();
         match place_in(self.places.as_slice(), items, name) {
-            Some(at) => Some(&items[at].value),
+            Some(at) => Some(items[at].value),
             None => None,
         }
     }
 
     /// Gives the variable of this name, where there is one, its new value.
-    pub fn set(&mut self, new: Variable)
-        ensures { map variable_of self.new ≡ rule.with_variable (variable_of new) (map variable_of self.old) }
+    pub fn set(&mut self, new: Variable<'a>)
+        ensures { self.new ≡ with_held new.entry self.old }
     {
         if let Some(at) = place_in(self.places.as_slice(), self.items.as_slice(), new.name) {
             self.items[at] = new;
         }
     }
 
-    /// A copy of the variables with their values.
-    pub fn copied(&self, alloc: Global) -> Result<Variables, NoMemory>
+    /// The same variables, with what was made and stands in a pool in a fresh one.
+    pub fn renewed(&self, pool: &[u8], fresh: &mut Vec<u8>) -> Result<Variables<'a>, NoMemory>
+        ensures same { IfOk result (λ renewed. map (variable_in fresh.new.items) renewed ≡ map (variable_in pool.now) self.now) }
+        ensures within { IfOk result (VariablesWithin (length fresh.new.items)) }
+        ensures grown { take (length fresh.old.items) fresh.new.items ≡ fresh.old.items }
+        ensures marks { IfOk result (λ renewed. map marked_of renewed ≡ map marked_of self.now) }
+    {
+        let places = self.places.clone()?;
+        let items = items_renewed(self.items.as_slice(), pool, fresh)?;
+        Ok(Variables { places, items })
+    }
+
+    /// The same variables once more.
+    pub fn copied(&self, alloc: Global) -> Result<Variables<'a>, NoMemory>
         ensures { IfOk result (λ copy. copy ≡ self.now) }
     {
         let places = self.places.clone()?;
-        let items = copies(alloc, self.items.as_slice())?;
+        let items = self.items.as_slice().to_vec(alloc)?;
         Ok(Variables { places, items })
     }
 }
 
+/// Variables, with what was made and stands in a pool in a fresh one.
+fn items_renewed<'a>(
+    items: &[Variable<'a>],
+    pool: &[u8],
+    fresh: &mut Vec<u8>,
+) -> Result<Vec<Variable<'a>>, NoMemory>
+    ensures same { IfOk result (λ renewed. map (variable_in fresh.new.items) renewed.items ≡ map (variable_in pool.now) items.now) }
+    ensures names { IfOk result (λ renewed. names_in renewed.items ≡ names_in items.now) }
+    ensures within { IfOk result (λ renewed. VariablesWithin (length fresh.new.items) renewed.items) }
+    ensures grown { take (length fresh.old.items) fresh.new.items ≡ fresh.old.items }
+    ensures marks { IfOk result (λ renewed. map marked_of renewed.items ≡ map marked_of items.now) }
+{
+    let mut renewed = Vec::new(*fresh.allocator());
+    for variable in items {
+        let value = variable.value.renewed(pool, fresh)?;
+        renewed.push(Variable {
+            name: variable.name,
+            value,
+        })?;
+    }
+    Ok(renewed)
+}
+
 /// The place of the variable with this name, by a table that has the place of each.
-fn place_in(places: &[usize], variables: &[Variable], name: NameId) -> Option<usize>
-    requires { StandAt places.now (names_of (map variable_of variables.now)) }
-    ensures place { result ≡ place_of name.0 (names_of (map variable_of variables.now)) }
+fn place_in(places: &[usize], variables: &[Variable<'_>], name: NameId) -> Option<usize>
+    requires { StandAt places.now (names_in variables.now) }
+    ensures place { result ≡ place_of name.0 (names_in variables.now) }
     ensures within { IfSome result (λ at. at < length variables.now) }
 {
     let Some(at) = places.get(name.0 as usize) else {
@@ -104,26 +136,4 @@ fn place_in(places: &[usize], variables: &[Variable], name: NameId) -> Option<us
     } else {
         None
     }
-}
-
-/// A copy of variables with their values.
-fn copies(alloc: Global, variables: &[Variable]) -> Result<Vec<Variable>, NoMemory>
-    ensures { IfOk result (λ copies. copies.items ≡ variables.now) }
-{
-    let mut copies = Vec::new(alloc);
-    for variable in variables {
-        copies.push(copy_of(alloc, variable)?)?;
-    }
-    Ok(copies)
-}
-
-/// A copy of a variable with its value.
-fn copy_of(alloc: Global, variable: &Variable) -> Result<Variable, NoMemory>
-    ensures { IfOk result (λ copy. copy ≡ variable.now) }
-{
-    let value = copied(alloc, &variable.value)?;
-    Ok(Variable {
-        name: variable.name,
-        value,
-    })
 }

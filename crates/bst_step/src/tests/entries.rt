@@ -26,6 +26,16 @@ pub fn list(alloc: Global) -> Result<EntryList, NoMemory> {
     })
 }
 
+/// One entry with this title.
+pub fn titled(alloc: Global, title: &[u8]) -> Result<EntryList, NoMemory> {
+    let mut entries = Seq::new(alloc);
+    entries.push(entry(alloc, b"A1", b"book", title)?)?;
+    Ok(EntryList {
+        entries,
+        preamble: Text::from_slice(alloc, b"")?,
+    })
+}
+
 /// Adds the entries.
 fn push_entries(alloc: Global, entries: &mut Seq<Entry>) -> Result<(), NoMemory> {
     for (key, entry_type, title) in &ENTRIES {

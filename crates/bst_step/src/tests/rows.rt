@@ -3,10 +3,13 @@
 
 use crate::machine::{Machine, Site, Turn};
 use crate::tests::entries::list;
+use crate::tests::marks::add_lent;
 use crate::tests::operands::add_kinds;
 use crate::tests::program::{add_words, empty_style};
-use crate::tests::runs::{add_state, step_by_step};
+use crate::tests::runs::{add_state, reserved_steps, step_by_step};
 use crate::tests::writing::add_lengths;
+use bst_meaning::entry::EntryList;
+use bst_meaning::fault::Fault;
 use bv_base::memory::NoMemory;
 use bv_base::place::Place;
 use bv_base::runs::{after_white, digits_length, number};
@@ -28,7 +31,7 @@ pub struct Table {
 }
 
 /// What is told of a row.
-#[derive(Clone, Copy)]
+#[derive(Clone, Copy, PartialEq, Eq)]
 pub enum Telling {
     /// The log, with `|` for the end of a line.
     Log,
@@ -48,6 +51,10 @@ pub enum Telling {
     Steps,
     /// The same with one step at a time.
     StepByStep,
+    /// The same where room was made for each step.
+    Reserved,
+    /// The three topmost values where the stack isn't left empty: the bytes of those that are lent strings, and else `-`.
+    Lent,
 }
 
 impl Telling {
@@ -95,7 +102,9 @@ fn add_row(told: &mut String, table: &Table, row: &str) -> Result<(), NoMemory> 
 fn add_told(told: &mut String, table: &Table, words: &str) -> Result<(), NoMemory> {
     match table.telling {
         Telling::Kinds => add_kinds(told, table, words),
-        Telling::Steps | Telling::StepByStep => add_counted(told, table, words.as_bytes()),
+        Telling::Steps | Telling::StepByStep | Telling::Reserved => {
+            add_counted(told, table, words.as_bytes())
+        }
         _ => add_after(told, table, ENOUGH, words.as_bytes()),
     }
 }
@@ -145,13 +154,22 @@ fn add_run(
     style: &Style,
     last: Place,
 ) -> Result<(), NoMemory> {
-    let mut machine = machine_of(*told.allocator(), style)?;
-    add_steps(told, telling, n, &mut machine, last)
+    let alloc = *told.allocator();
+    let list = list(alloc)?;
+    add_run_over(told, telling, n, style, &list, last)
 }
 
-/// The machine before its first step.
-fn machine_of<'a>(alloc: Global, style: &'a Style) -> Result<Machine<'a>, NoMemory> {
-    Machine::new(alloc, style, list(alloc)?)
+/// Adds what is told of a run of so many steps over a list.
+fn add_run_over(
+    told: &mut String,
+    telling: Telling,
+    n: u64,
+    style: &Style,
+    list: &EntryList,
+    last: Place,
+) -> Result<(), NoMemory> {
+    let mut machine = Machine::new(*told.allocator(), style, list)?;
+    add_steps(told, telling, n, &mut machine, last)
 }
 
 /// Adds what is told of so many steps of a machine.
@@ -170,6 +188,7 @@ fn add_steps(
 fn turn_after(telling: Telling, n: u64, machine: &mut Machine<'_>) -> Result<Turn, NoMemory> {
     match telling {
         Telling::StepByStep => step_by_step(machine, n),
+        Telling::Reserved => reserved_steps(machine, n),
         _ => machine.run(n),
     }
 }
@@ -183,6 +202,7 @@ fn add_outcome(
     last: Place,
 ) -> Result<(), NoMemory> {
     match turn {
+        Turn::Faulted(Fault::StackLeft, _) if telling == Telling::Lent => add_lent(told, machine),
         Turn::Ended if telling.is_text() => add_text(told, telling, machine),
         Turn::Faulted(fault, site) if is_named(telling, site, last) => add(told, fault.name()),
         _ => add_state(told, machine, turn),

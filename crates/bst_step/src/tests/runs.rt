@@ -57,6 +57,22 @@ fn single_steps_come_to_the_same(rt: HostRuntime) -> Result<(), Fail> {
     told!(rt, "", "", "", StepByStep, STEPS)
 }
 
+/// The same where room was made for each step.
+#[test]
+fn steps_with_room_come_to_the_same(rt: HostRuntime) -> Result<(), Fail> {
+    told!(rt, "", "", "", Reserved, STEPS)
+}
+
+/// So many steps, one by one, each of which room was made for.
+pub fn reserved_steps(machine: &mut Machine<'_>, n: u64) -> Result<Turn, NoMemory> {
+    let mut turn = machine.run(0)?;
+    for _ in 0..n {
+        machine.reserve(40)?;
+        turn = machine.step()?;
+    }
+    Ok(turn)
+}
+
 /// So many steps, one by one.
 pub fn step_by_step(machine: &mut Machine<'_>, n: u64) -> Result<Turn, NoMemory> {
     let mut turn = machine.run(0)?;

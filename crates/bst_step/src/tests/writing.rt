@@ -78,6 +78,18 @@ fn long_lines_are_broken_at_white_space(rt: HostRuntime) -> Result<(), Fail> {
     told!(rt, BEFORE, "", "} READ EXECUTE f", Lengths, LINES_ROWS)
 }
 
+/// Calls that leave long strings in variables and overwrite them, and what variables have afterwards.
+const CALLS_ROWS: &str = r#"
+#1500 a 't := } u{ #1500 b 't := } p{ t write$ newline$ } READ EXECUTE f EXECUTE p EXECUTE u EXECUTE p EXECUTE p -> 1500a|1500b|1500b|
+#1500 a 't := } q{ #9 b 's := } p{ s write$ newline$ t #2 #3 substring$ write$ } READ EXECUTE f ITERATE q EXECUTE f REVERSE p -> 9b|3a9b|3a9b|3a9b|3a9b|
+#1500 a 't := t #3 #5 substring$ 's := } u{ s t * 't := } p{ s write$ t text.length$ int.to.str$ write$ newline$ } READ ITERATE f ITERATE u SORT ITERATE p -> 5a11151215|5a11151215|5a11151215|5a11151215|5a11151215|
+"#;
+
+#[test]
+fn strings_stay_from_call_to_call(rt: HostRuntime) -> Result<(), Fail> {
+    told!(rt, BEFORE, "", "", Lengths, CALLS_ROWS)
+}
+
 /// Adds the runs of equal bytes of lines.
 pub fn add_lengths(told: &mut String, lines: &[u8]) -> Result<(), NoMemory> {
     let mut last = b'\n';

@@ -1,7 +1,6 @@
 -- The table has a place for the name or none, and there the field stands, another or none.
-use Rattle.std.proofs.Common.{◌≡◌, refl, subst, length, IfOk}
+use Rattle.std.proofs.Common.{◌∙◌, refl, length}
 use Rattle.std.proofs.lemmas.Option.{slice_get_past, slice_get_read}
-use Rattle.bst_meaning.specs.declared.value.Value.{Value}
 use Rattle.bst_step.proofs.FieldSteps.{another_field, field_placeless, field_stands, no_field}
 use Rattle.bst_step.proofs.fields.field_by.Goals as goal
 
@@ -18,10 +17,10 @@ returns-in_default-get c =
 
 pub returns-then-field-name : goal.returns-then-field-name
 returns-then-field-name c =
-    subst (λ (v : Value). IfOk c.field_value.result (λ value. value ≡ v))
-    (field_stands c.args.places.now c.args.fields.now c.args.name c.in-Some.at.now c.in-Some-get.field.now c.requires
+    c.field_value.ensures
+    ∙ field_stands c.args.places.now c.args.fields.now c.args.name c.in-Some.at.now c.in-Some-get.field.now c.requires
     (slice_get_read c.args.fields.now (length c.args.fields.now) c.in-Some.at.now c.in-Some-get.field.now refl c.in-Some-get.ensures.lookup.3.0
-    c.in-Some-get.ensures.lookup.1) c.if-field-name.true) c.field_value.ensures
+    c.in-Some-get.ensures.lookup.1) c.if-field-name.true
 
 pub returns-else-field-name : goal.returns-else-field-name
 returns-else-field-name c =

@@ -1,8 +1,9 @@
--- The steps that are left change nothing, and the entries have their positions after each step.
-use Rattle.std.proofs.Common.{◌∙◌, sym}
+-- The steps that are left change nothing, the entries have their positions after each step, and of the room a step takes one at most.
+use Rattle.std.proofs.Common.{◌≡◌, ◌∙◌, arith, false, refl, sym, true}
 use Rattle.bst_step.specs.State.{config_of}
-use Rattle.bst_step.proofs.PlaceSteps.{one_less, places_after}
-use Rattle.bst_step.proofs.RestSteps.{steps_rest}
+use Rattle.bst_step.proofs.PlaceSteps.{marks_one_less, one_less, places_after}
+use Rattle.bst_step.proofs.RestSteps.{marks_rest, steps_rest}
+use Rattle.bst_step.proofs.RoomSteps.{first_takes, later_take}
 use Rattle.bst_step.proofs.state.State.advance_by.Goals as goal
 
 pub returns-then-is_at_rest : goal.returns-then-is_at_rest
@@ -11,7 +12,21 @@ returns-then-is_at_rest c = record {
       sym (steps_rest c.args.style.now c.loop-left.left (config_of c.loop-left.self) (sym c.is_at_rest.ensures ∙ c.if-is_at_rest.true))
       ∙ c.loop-left.invariant.steps;
   places = c.loop-left.invariant.places;
+  marks =
+      sym (marks_rest c.args.style.now c.loop-left.left (config_of c.loop-left.self) c.loop-left.self.values.marks
+      (sym c.is_at_rest.ensures ∙ c.if-is_at_rest.true))
+      ∙ c.loop-left.invariant.marks;
+  fits = λ takes frames values. refl;
+  room = (omega (arith, c.loop-left.invariant.frames), omega (arith, c.loop-left.invariant.values));
 }
+
+pub returns-in_err-advance-clause-fits : goal.returns-in_err-advance-clause-fits
+returns-in_err-advance-clause-fits c = λ takes frames values.
+    let fits : false ≡ true =
+    c.in_err-advance.ensures.fits
+    (first_takes c.args.style.now c.loop-left.left (config_of c.loop-left.self) c.loop-left-test.true (c.loop-left.invariant.takes takes))
+    (omega (arith, frames, c.loop-left.invariant.frames, c.loop-left-test.true), omega (arith, values, c.loop-left.invariant.values, c.loop-left-test.true)) in
+    absurd (cc)
 
 pub loop-left-preserved : goal.loop-left-preserved
 loop-left-preserved c = record {
@@ -21,4 +36,14 @@ loop-left-preserved c = record {
   places =
       places_after c.args.style.now 1 (config_of c.args.self.now) (config_of c.loop-left.self) (config_of c.advance.new.self)
       c.in_ok-advance.ensures.moved c.loop-left.invariant.places;
+  marks =
+      marks_one_less c.args.style.now c.loop-left.left (config_of c.loop-left.self) (config_of c.advance.new.self) c.loop-left.self.values.marks
+      c.advance.new.self.values.marks c.loop-left-test.true c.in_ok-advance.ensures.moved c.in_ok-advance.ensures.marks
+      ∙ c.loop-left.invariant.marks;
+  within = omega (arith, c.loop-left.invariant.within);
+  frames = omega (arith, c.loop-left.invariant.frames, c.loop-left-test.true, c.in_ok-advance.ensures.room.0);
+  values = omega (arith, c.loop-left.invariant.values, c.loop-left-test.true, c.in_ok-advance.ensures.room.1);
+  takes = λ all.
+      later_take c.args.style.now c.loop-left.left (config_of c.loop-left.self) (config_of c.advance.new.self) c.loop-left-test.true
+      c.in_ok-advance.ensures.moved (c.loop-left.invariant.takes all);
 }

@@ -1,0 +1,12 @@
+-- As many values are seen as are held.
+use Rattle.std.proofs.Common.{◌∙◌, ap, length, sym}
+use Rattle.std.proofs.lemmas.List.{length-map}
+use Rattle.bst_step.specs.Held.{value_in}
+use Rattle.bst_step.specs.Values.{Holding}
+use Rattle.bst_step.proofs.values.Values.len.Goals as goal
+
+pub returns : goal.returns
+returns c =
+    c.len.ensures
+    ∙ sym (length-map c.self.inside.stack.items (value_in c.self.inside.pool.items))
+    ∙ ap (λ (h : Holding). length h.stack) c.self.view_is
