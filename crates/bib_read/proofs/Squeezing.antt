@@ -29,3 +29,8 @@ squeezed_on found new rest all i begun white within is put so_far =
     ∙ ap (λ l. found ++ l) (sym (squeezed_first begun b behind))
     ∙ ap (λ l. found ++ squeezed begun l) (sym (drop-cons rest i 0 within))
     ∙ so_far
+
+-- the bytes that stay as they are, behind others
+pub front_kept : (old found front later all : List ℕ) → found ≡ old ++ front → all ≡ front ++ later → found ++ later ≡ old ++ all
+front_kept old found front later all put same =
+    ap (λ l. l ++ later) put ∙ append_assoc old front later ∙ ap (λ l. old ++ l) (sym same)

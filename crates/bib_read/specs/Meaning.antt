@@ -3,7 +3,7 @@ use Rattle.std.specs.Prelude.{◌≡◌, ℕ, false, if◌then◌else◌, List, 
 use Rattle.name_table.specs.Names.{lowered}
 use Rattle.name_table.specs.declared.style.Macro.{Macro}
 use Rattle.bib_read.specs.declared.database.Database.{Database}
-use Rattle.bib_read.specs.declared.database.RawField.{RawField}
+use Rattle.bib_read.specs.RawFields.{RawField}
 use Rattle.bib_read.specs.Grammar.{Piece, Braced, Quoted, Digits, Named, FieldTree, Item, Comment, Definition, Preamble, Entry, Spells}
 use Rattle.bib_read.specs.Names.{all_defined, defined, has_entry, has_field, value_of}
 use Rattle.bib_read.specs.Squeeze.{squeezed, trimmed}

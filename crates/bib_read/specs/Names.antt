@@ -5,11 +5,16 @@ use Rattle.bv_base.specs.KeySets.{has_item}
 use Rattle.name_table.specs.Names.{lowered, same_name}
 use Rattle.name_table.specs.declared.style.Macro.{Macro}
 use Rattle.bib_read.specs.declared.database.RawEntry.{RawEntry}
-use Rattle.bib_read.specs.declared.database.RawField.{RawField}
+use Rattle.bib_read.specs.RawFields.{RawField}
 
 -- a field of this name is among these
 abbrev pub has_field : List ℕ → List RawField → Bool
 has_field name fields = list_any (λ field. same_name name field.name) fields
+
+-- the text of the field of this name
+abbrev pub text_of : List ℕ → List RawField → Option (List ℕ)
+text_of name [] = None
+text_of name (first ∷ rest) = if same_name name first.name then Some first.value else text_of name rest
 
 -- an entry with this lowered key is among these
 abbrev pub has_entry : List ℕ → List RawEntry → Bool

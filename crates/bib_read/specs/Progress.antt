@@ -2,7 +2,7 @@
 use Rattle.std.specs.Prelude.{ℕ, List}
 use Rattle.name_table.specs.declared.style.Macro.{Macro}
 use Rattle.bib_read.specs.declared.database.RawEntry.{RawEntry}
-use Rattle.bib_read.specs.declared.database.RawField.{RawField}
+use Rattle.bib_read.specs.RawFields.{RawField}
 
 -- the bytes that are left, and what has been read
 pub record Progress : Type 0 where

@@ -8,6 +8,7 @@ mod fields;
 pub mod laws;
 mod macros;
 mod opening;
+pub mod raw_fields;
 pub mod read;
 mod reader;
 mod runs;

@@ -79,6 +79,7 @@ fn start<'a>(alloc: Global, source: &'a [u8], before: Database) -> Result<Reader
         preamble,
         warnings: before.warnings,
         text: Vec::new(alloc),
+        value: Vec::new(alloc),
         fields: Fields::new(alloc),
     })
 }

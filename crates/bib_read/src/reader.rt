@@ -9,12 +9,12 @@ ghost use Rattle.bib_read.specs.Progressing.{progress_of};
 ghost use Rattle.bib_read.specs.Reading as reading;
 ghost use Rattle.bib_read.specs.declared.stop.Stop.TheVariants.{NoMemory as WantOfMemory};
 
-use crate::database::{RawEntry, RawField};
+use crate::database::RawEntry;
 use crate::entries::Entries;
 use crate::fields::Fields;
 use crate::macros::Macros;
 use crate::runs::{after_at, begins_name, key_length, name_length};
-use crate::squeeze::{squeezed, trimmed};
+use crate::squeeze::{squeezed, trim_into};
 use crate::stop::{Stop, unexpected};
 use crate::warnings::second_field;
 use bv_base::memory::NoMemory;
@@ -35,6 +35,8 @@ pub(crate) struct Reader<'a> {
     pub(crate) warnings: Seq<Text>,
     /// The pieces of the value that is being read, joined.
     pub(crate) text: Vec<u8>,
+    /// The value of a field, without white space at its ends: its room serves the next one too.
+    pub(crate) value: Vec<u8>,
     /// The fields of the entry that is being read.
     pub(crate) fields: Fields,
 }
@@ -211,11 +213,11 @@ impl<'a> Reader<'a> {
     fn add_field(&mut self, name: Text) -> Result<(), NoMemory>
         ensures { OnOk result (progress_of self.new ≡ entering.with_field name (progress_of self.old)) }
     {
-        if self.fields.has(name.as_slice()) {
-            return Ok(());
+        if !self.fields.has(name.as_slice()) {
+            trim_into(&mut self.value, self.text.as_slice())?;
+            self.fields.add(name.as_slice(), self.value.as_slice())?;
         }
-        let value = trimmed(self.alloc, self.text.as_slice())?;
-        self.fields.add(RawField { name, value })
+        Ok(())
     }
 
     /// Takes white space, and an identifier, which is given lowered.

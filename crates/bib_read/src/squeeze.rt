@@ -12,35 +12,37 @@ use std::alloc::Global;
 pub(crate) fn squeezed(alloc: Global, text: &[u8]) -> Result<Text, NoMemory>
     ensures { IfOk result (λ found. found ≡ squeeze.squeezed false text.now) }
 {
-    Ok(Text::from_vec(squeeze(alloc, false, text)?))
+    let mut found = Vec::with_capacity(alloc, text.len())?;
+    squeeze(&mut found, false, text)?;
+    Ok(Text::from_vec(found))
 }
 
-/// A text with one space for each run of white space, and none at its ends.
-pub(crate) fn trimmed(alloc: Global, text: &[u8]) -> Result<Text, NoMemory>
-    ensures { IfOk result (λ found. found ≡ squeeze.trimmed text.now) }
+/// Leaves of a buffer a text with one space for each run of white space, and none at its ends.
+pub(crate) fn trim_into(found: &mut Vec<u8>, text: &[u8]) -> Result<(), NoMemory>
+    ensures { OnOk result (found.new.items ≡ squeeze.trimmed text.now) }
 {
-    let mut found = squeeze(alloc, true, text)?;
+    found.clear();
+    squeeze(found, true, text)?;
     let length = found.len();
     if length > 0 && found[length - 1] == b' ' {
         found.truncate(length - 1);
     }
-    Ok(Text::from_vec(found))
+    Ok(())
 }
 
-/// A text with one space for each run of white space, and none for a run that began before it.
-fn squeeze(alloc: Global, begun: bool, text: &[u8]) -> Result<Vec<u8>, NoMemory>
-    ensures { IfOk result (λ found. found.items ≡ squeeze.squeezed begun text.now) }
+/// Appends a text with one space for each run of white space, and none for a run that began before it.
+fn squeeze(found: &mut Vec<u8>, begun: bool, text: &[u8]) -> Result<(), NoMemory>
+    ensures { OnOk result (found.new.items ≡ found.old.items ++ squeeze.squeezed begun text.now) }
 {
     let (count, mut begun) = same_front(begun, text);
     let (front, rest) = text.split_at(count);
-    let mut found = Vec::with_capacity(alloc, text.len())?;
     found.extend_from_slice(front)?;
     for b in rest {
         let white = is_white(*b);
-        push_squeezed(&mut found, begun, white, *b)?;
+        push_squeezed(found, begun, white, *b)?;
         begun = white;
     }
-    Ok(found)
+    Ok(())
 }
 
 /// Appends a byte, of which it is known whether it is white space: one space for the first of a run, and none for the others.

@@ -335,12 +335,12 @@ fn expect_shown(
 fn push_line(
     shown: &mut Vec<u8>,
     mark: u8,
-    first: &Text,
+    first: &[u8],
     between: u8,
     second: &[u8],
 ) -> Result<(), NoMemory> {
     shown.push(mark)?;
-    shown.extend_from_slice(first.as_slice())?;
+    shown.extend_from_slice(first)?;
     shown.push(between)?;
     shown.extend_from_slice(second)?;
     shown.push(b'|')?;
@@ -349,9 +349,17 @@ fn push_line(
 
 /// Appends an entry and its fields as lines.
 fn push_entry(shown: &mut Vec<u8>, entry: &RawEntry) -> Result<(), NoMemory> {
-    push_line(shown, b'@', &entry.entry_type, b' ', entry.key.as_slice())?;
-    for field in entry.fields.as_slice() {
-        push_line(shown, b'.', &field.name, b'=', field.value.as_slice())?;
+    push_line(
+        shown,
+        b'@',
+        entry.entry_type.as_slice(),
+        b' ',
+        entry.key.as_slice(),
+    )?;
+    for at in 0..entry.fields.len() {
+        if let Some(field) = entry.fields.get(at) {
+            push_line(shown, b'.', field.name, b'=', field.value)?;
+        }
     }
     Ok(())
 }
@@ -360,14 +368,20 @@ fn push_entry(shown: &mut Vec<u8>, entry: &RawEntry) -> Result<(), NoMemory> {
 fn shown(alloc: Global, database: &Database) -> Result<Vec<u8>, NoMemory> {
     let mut shown = Vec::new(alloc);
     for one in database.macros.as_slice() {
-        push_line(&mut shown, b'#', &one.name, b'=', one.value.as_slice())?;
+        push_line(
+            &mut shown,
+            b'#',
+            one.name.as_slice(),
+            b'=',
+            one.value.as_slice(),
+        )?;
     }
     for one in database.entries.as_slice() {
         push_entry(&mut shown, one)?;
     }
-    push_line(&mut shown, b'<', &database.preamble, b'>', b"")?;
+    push_line(&mut shown, b'<', database.preamble.as_slice(), b'>', b"")?;
     for one in database.warnings.as_slice() {
-        push_line(&mut shown, b'!', one, b'!', b"")?;
+        push_line(&mut shown, b'!', one.as_slice(), b'!', b"")?;
     }
     Ok(shown)
 }

@@ -26,7 +26,7 @@ use Rattle.name_table.specs.Sound.{Each, IsCommandSound, IsSound, IsTokenSound}
 use Rattle.name_table.proofs.Within.{callable_within, got}
 use Rattle.bst_meaning.specs.declared.entry.Entry.{Entry}
 use Rattle.bst_meaning.specs.declared.entry.EntryList.{EntryList}
-use Rattle.bst_meaning.specs.declared.entry.FieldValue.{FieldValue}
+use Rattle.bst_meaning.specs.FieldValues.{FieldValue}
 use Rattle.bst_meaning.specs.declared.fault.Fault.{Fault}
 use Rattle.bst_meaning.specs.declared.fault.Fault.TheVariants.{NoEntry}
 use Rattle.bst_meaning.specs.declared.value.Target.{Target}

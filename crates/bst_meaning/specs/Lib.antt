@@ -1,6 +1,7 @@
 pub mod StyleParts
 pub mod Faults
 pub mod Entries
+pub mod FieldValues
 pub mod Values
 pub mod Condition
 pub mod Config

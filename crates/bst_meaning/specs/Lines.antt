@@ -77,6 +77,10 @@ abbrev pub after_events : Page → List Event → Page
 after_events page [] = page
 after_events page (event ∷ events) = after_events (after_event page event) events
 
--- the finished lines, each with its line end; what is still in the buffer belongs to no line
+-- the lines that events finish, each with its line end; what is still in the buffer belongs to no line
+abbrev pub lines_after : List Event → List ℕ
+lines_after events = flat_map (λ line. line ++ 10 ∷ []) (after_events (record { lines = []; buffer = [] }) events).lines
+
+-- the finished lines of a configuration
 abbrev pub lines_of : Config → List ℕ
-lines_of c = flat_map (λ line. line ++ 10 ∷ []) (after_events (record { lines = []; buffer = [] }) c.events).lines
+lines_of c = lines_after c.events

@@ -12,7 +12,7 @@ use Rattle.name_table.specs.declared.style.Command.{Command}
 use Rattle.name_table.specs.declared.style.Command.TheVariants.{Execute, Iterate, Read, Reverse, Sort}
 use Rattle.name_table.specs.declared.style.CommandAt.{CommandAt}
 use Rattle.name_table.specs.declared.style.Style.{Style}
-use Rattle.bst_meaning.specs.declared.entry.FieldValue.{FieldValue}
+use Rattle.bst_meaning.specs.FieldValues.{FieldValue}
 use Rattle.bst_meaning.specs.declared.entry.EntryList.{EntryList}
 use Rattle.bst_meaning.specs.declared.value.Target.{Target}
 use Rattle.bst_meaning.specs.declared.value.Target.TheVariants.{Named, Block}

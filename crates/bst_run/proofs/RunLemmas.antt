@@ -2,11 +2,15 @@
 use Rattle.std.proofs.Common.{◌≡◌, ℕ, List, ◌++◌, Result, ◌∙◌, ap, subst}
 use Rattle.std.specs.Prelude.{IfOk}
 use Rattle.bv_base.specs.declared.memory.NoMemory.{NoMemory}
+use Rattle.bv_base.specs.declared.status.Status.{Status}
+use Rattle.bv_base.specs.declared.status.Status.TheVariants.{Budget, Done, Fault}
 use Rattle.name_table.specs.declared.style.Style.{Style}
 use Rattle.bst_meaning.specs.declared.entry.EntryList.{EntryList}
 use Rattle.bst_meaning.specs.Config.{Config, opening}
+use Rattle.bst_meaning.specs.Lines.{lines_of}
 use Rattle.bst_meaning.specs.Machine.{steps, run}
 use Rattle.bst_step.specs.declared.machine.Turn.{Turn}
+use Rattle.bst_step.specs.declared.machine.Turn.TheVariants.{Ended, Faulted, Went}
 use Rattle.bst_step.specs.Machine.{turn_of}
 use Rattle.entry_list.specs.declared.joined.Joined.{Joined}
 use Rattle.entry_list.specs.Joining.{joined}
@@ -19,6 +23,26 @@ pub ran_is : (style style' : Style) (n n' : ℕ) (c c' : Config) (list : EntryLi
     → c' ≡ steps style n c → style ≡ style' → n ≡ n' → c ≡ opening style' list → c' ≡ run style' list n'
 ran_is style style' n n' c c' list moved e f opened =
     moved ∙ ap (λ (s : Style). steps s n c) e ∙ ap (λ (m : ℕ). steps style' m c) f ∙ ap (λ (x : Config). steps style' n' x) opened
+
+abbrev made : Status → List ℕ → List ℕ → Outcome
+made status out err = record { status = status; out = out; err = err }
+
+-- a status, lines and a log make the answer of a configuration
+pub outcome_is : (count : ℕ) (log : List ℕ) (turn : Turn) (c : Config) (status : Status) (out err : List ℕ)
+    → status ≡ (answered count log turn c).status → out ≡ lines_of c → err ≡ (answered count log turn c).err
+    → made status out err ≡ answered count log turn c
+outcome_is count log Ended c status out err is written told =
+    ap (λ (s : Status). made s out err) is
+    ∙ ap (λ (o : List ℕ). made Done o err) written
+    ∙ ap (λ (e : List ℕ). made Done (lines_of c) e) told
+outcome_is count log Went c status out err is written told =
+    ap (λ (s : Status). made s out err) is
+    ∙ ap (λ (o : List ℕ). made Budget o err) written
+    ∙ ap (λ (e : List ℕ). made Budget (lines_of c) e) told
+outcome_is count log (Faulted fault site) c status out err is written told =
+    ap (λ (s : Status). made s out err) is
+    ∙ ap (λ (o : List ℕ). made Fault o err) written
+    ∙ ap (λ (e : List ℕ). made Fault (lines_of c) e) told
 
 -- what a machine answers is what its configuration does
 pub outcome_at : (count : ℕ) (result : Result Outcome NoMemory) (log : List ℕ) (turn : Turn) (reading reading' joining joining' : List (List ℕ)) (c c' : Config)

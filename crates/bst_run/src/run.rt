@@ -3,6 +3,7 @@
 ghost use Rattle.std.specs.Prelude.{◌≡◌, ◌++◌, IfOk, OnOk};
 ghost use Rattle.bib_read.specs.Additions.{AreKeyed};
 ghost use Rattle.bst_meaning.specs.Entries.{Fits};
+ghost use Rattle.bst_meaning.specs.Lines.{lines_after};
 ghost use Rattle.bst_step.specs.Machine.{configuration};
 ghost use Rattle.entry_list.specs.Joining.{joined};
 ghost use Rattle.entry_list.specs.Keys.{AreCitations};
@@ -17,7 +18,9 @@ use crate::report::{budget_line, fault_line};
 use crate::stop::Stop;
 use aux_read::aux::AuxItem;
 use bib_read::database::Database;
+use bst_meaning::entry::EntryList;
 use bst_step::machine::{Machine, Turn};
+use bst_step::written::Written;
 use bv_base::files::Files;
 use bv_base::memory::NoMemory;
 use bv_base::seq::Seq;
@@ -86,8 +89,14 @@ pub fn run_joined(
     let mut machine = Machine::new(alloc, style, &list)?;
     let turn = machine.run(u64::from(steps))?;
     let log = whole_log(alloc, reading, warnings.as_slice(), &machine)?;
-    outcome_of(alloc, &machine, turn, steps, log)
+    let (status, err) = ending_of(alloc, &machine, turn, steps, log)?;
+    let written = machine.into_written()?;
+    let_go(list);
+    outcome_of(status, &written, err)
 }
+
+/// Lets an entry list go.
+fn let_go(_list: EntryList) {}
 
 /// The log: the warnings of the databases, those of the joining, and the lines that the run logged.
 fn whole_log(
@@ -106,34 +115,41 @@ fn whole_log(
     Ok(log)
 }
 
-/// What a machine answers that has come to this, with this log.
-fn outcome_of(
+/// The status of a machine that has come to this, and this log with the last line behind it.
+fn ending_of(
     alloc: Global,
     machine: &Machine<'_>,
     turn: Turn,
     steps: u32,
     log: Vec<u8>,
-) -> Result<Outcome, NoMemory>
-    ensures { IfOk result (λ outcome. outcome ≡ rule.answered steps log.items turn (configuration machine.now)) }
+) -> Result<(Status, Vec<u8>), NoMemory>
+    ensures status { IfOk result (λ both. both.0 ≡ (rule.answered steps log.items turn (configuration machine.now)).status) }
+    ensures err { IfOk result (λ both. both.1.items ≡ (rule.answered steps log.items turn (configuration machine.now)).err) }
 {
-    let lines = machine.lines()?;
     let mut log = log;
-    let status = match turn {
-        Turn::Ended => Status::Done,
+    match turn {
+        Turn::Ended => Ok((Status::Done, log)),
         Turn::Went => {
             log.extend_from_slice(budget_line(alloc, steps)?.as_bytes())?;
-            Status::Budget
+            Ok((Status::Budget, log))
         }
         Turn::Faulted(fault, site) => {
             let key = key_text(machine, site.entry);
             log.extend_from_slice(fault_line(alloc, fault, site.place, key)?.as_slice())?;
-            Status::Fault
+            Ok((Status::Fault, log))
         }
-    };
+    }
+}
+
+/// What a run answers that has written this.
+fn outcome_of(status: Status, written: &Written, err: Vec<u8>) -> Result<Outcome, NoMemory>
+    ensures { IfOk result (λ outcome. outcome ≡ record { status = status; out = lines_after written.now; err = err.items }) }
+{
+    let lines = written.lines()?;
     Ok(Outcome {
         status,
         out: Text::from_vec(lines),
-        err: Text::from_vec(log),
+        err: Text::from_vec(err),
     })
 }
 

@@ -1,7 +1,8 @@
 -- Parts of what stands in a pool.
-use Rattle.std.proofs.Common.{◌≡◌, ℕ, zero, suc, ◌+◌, ◌-◌, ◌≤◌, inl, inr, le_refl, refl, sym, ap, ◌∙◌, List, [], ◌∷◌, Some, Result, Ok, drop, length, slice_get, take, min, arith}
+use Rattle.std.proofs.Common.{◌≡◌, ℕ, zero, suc, ◌+◌, ◌-◌, ◌≤◌, inl, inr, refl, sym, ap, ◌∙◌, List, [], ◌∷◌, Some, Result, Ok, drop, length, slice_get, take, min, arith}
 use Rattle.std.proofs.lemmas.Bool.{cases_lt}
-use Rattle.std.proofs.lemmas.List.{drop-drop, drop-take, drop_all, length-take, take-take, take_all}
+use Rattle.std.proofs.lemmas.List.{drop-drop, drop-take, drop_all, length-take}
+use Rattle.bv_base.proofs.Parts.{taken}
 use Rattle.text_ops.specs.Substring.{last_bytes}
 use Rattle.bst_meaning.specs.declared.fault.Fault.{Fault}
 use Rattle.bst_meaning.specs.declared.value.Value.{Value}
@@ -9,18 +10,6 @@ use Rattle.bst_meaning.specs.declared.value.Value.TheVariants.{Str}
 use Rattle.bst_meaning.specs.Effect.{Effect, left, pushed}
 use Rattle.bst_step.specs.Held.{part_from}
 use Rattle.bst_step.specs.Values.{cut}
-
--- the first so many of the first so many
-taken : {A : Type 0} (count r : ℕ) (zs : List A) → take (min count r) zs ≡ take count (take r zs)
-taken count r zs =
-    elim (cases_lt count r) [
-      | inl h ↦
-          let e : min count r ≡ count = omega (arith, h) in
-          ap (λ n. take n zs) e ∙ sym (take-take count r zs (omega (arith, h)))
-      | inr h ↦
-          let e : min count r ≡ r = omega (arith, h) in
-          ap (λ n. take n zs) e ∙ sym (take_all count (take r zs) (omega (arith, h, length-take r zs)))
-    ]
 
 -- of the first so many those from a place on
 shorter : {A : Type 0} (from size : ℕ) (ys : List A) → from ≤ size → take (size - from) (drop from ys) ≡ drop from (take size ys)
@@ -58,24 +47,6 @@ pub last_part : (text : List ℕ) (end count : ℕ) → end ≤ length text
 last_part text end count within =
     let all : end ≡ length (take end text) = omega (arith, within, length-take end text) in
     shorter (end - count) end text (omega arith) ∙ ap (λ (n : ℕ). drop (n - count) (take end text)) all
-
--- so many from a place on, of what there is
-pub part_within : (bytes : List ℕ) (from count : ℕ)
-    → take (min count (length (drop (min from (length bytes)) bytes))) (drop (min from (length bytes)) bytes) ≡ take count (drop from bytes)
-part_within bytes from count =
-    elim (cases_lt from (length bytes)) [
-      | inl h ↦
-          let e : min from (length bytes) ≡ from = omega (arith, h) in
-          ap (λ k. take (min count (length (drop k bytes))) (drop k bytes)) e
-          ∙ taken count (length (drop from bytes)) (drop from bytes)
-          ∙ ap (λ zs. take count zs) (take_all (length (drop from bytes)) (drop from bytes) (le_refl (length (drop from bytes))))
-      | inr h ↦
-          let e : min from (length bytes) ≡ length bytes = omega (arith, h) in
-          ap (λ k. take (min count (length (drop k bytes))) (drop k bytes)) e
-          ∙ ap (λ zs. take (min count (length zs)) zs) (drop_all (length bytes) bytes (le_refl (length bytes)) ∙ sym (drop_all from bytes h))
-          ∙ taken count (length (drop from bytes)) (drop from bytes)
-          ∙ ap (λ zs. take count zs) (take_all (length (drop from bytes)) (drop from bytes) (le_refl (length (drop from bytes))))
-    ]
 
 -- a part of the third value from the top
 pub third_cut : (stack : List Value) (from count : ℕ) (text bytes : List ℕ) → slice_get stack 2 ≡ Some (Str text) → take count (drop from text) ≡ bytes

@@ -1,14 +1,14 @@
 -- Fields stand at their places, and are found there.
-use Rattle.std.proofs.Common.{◌≡◌, ℕ, zero, suc, ◌+◌, ◌<◌, ◌≤◌, ◌⊎◌, inl, inr, add-one, refl, sym, ap, subst, ◌∙◌, List, [], ◌∷◌, ◌++◌, length, take, slice_get, Option, None, Some, arith}
+use Rattle.std.proofs.Common.{◌≡◌, ℕ, zero, suc, ◌+◌, ◌<◌, ◌≤◌, ◌⊎◌, inl, inr, add-one, refl, sym, ap, subst, ◌∙◌, Bool, cond, List, [], ◌∷◌, ◌++◌, drop, get_or, length, take, slice_get, Option, None, Some, arith}
 use Rattle.std.specs.Option.{option_map}
-use Rattle.std.proofs.lemmas.Bool.{cases_lt}
-use Rattle.std.proofs.lemmas.List.{append-nil, length-append, length-map}
-use Rattle.std.proofs.lemmas.Option.{slice_get-map, slice_get_within}
+use Rattle.std.proofs.lemmas.Bool.{cases_lt, eq-eqb, ne_eqb}
+use Rattle.std.proofs.lemmas.List.{append-nil, drop_more, length-append}
+use Rattle.std.proofs.lemmas.Option.{get_or_from_slice_get, slice_get-get_or, slice_get-map, slice_get_within}
 use Rattle.name_table.specs.declared.names.NameId.{NameId}
 use Rattle.name_table.specs.declared.names.Kind.{Kind}
 use Rattle.name_table.specs.declared.names.Kind.TheVariants.{Builtin, Wizard, Field, IntEntry, StrEntry, IntGlobal, StrGlobal}
 use Rattle.name_table.specs.Names.{kind_at}
-use Rattle.bst_meaning.specs.declared.entry.FieldValue.{FieldValue}
+use Rattle.bst_meaning.specs.FieldValues.{FieldValue}
 use Rattle.bst_meaning.specs.declared.value.Value.TheVariants.{Missing}
 use Rattle.bst_meaning.specs.Entries.{field_ids_at, field_ids_from}
 use Rattle.bst_meaning.specs.Machine.{field_in, field_value}
@@ -26,24 +26,28 @@ named fields at f here = slice_get-map (λ (g : FieldValue). g.name) fields at �
 pub none_below : (places : List ℕ) (names : List NameId) → StandBelow 0 places names
 none_below places names at name early here = absurd (omega (arith, early))
 
--- one field more stands at its place
-pub one_more_stands : (places : List ℕ) (fields : List FieldValue) (at : ℕ) (f : FieldValue) → StandBelow at places (field_names fields)
-    → slice_get fields at ≡ Some f → slice_get places f.name.0 ≡ Some at → StandBelow (at + 1) places (field_names fields)
-one_more_stands places fields at f below here has k name early there =
+-- one name more stands at its place
+pub one_more_stands : (places : List ℕ) (names : List NameId) (at : ℕ) (n : NameId) → StandBelow at places names
+    → slice_get names at ≡ Some n → slice_get places n.0 ≡ Some at → StandBelow (at + 1) places names
+one_more_stands places names at n below here has k name early there =
     elim (cases_lt k at) [
       | inl before ↦ below k name before there
       | inr behind ↦
           let same : k ≡ at = omega (arith, early, behind) in
-          let is : Some name ≡ Some f.name = sym there ∙ ap (λ (n : ℕ). slice_get (field_names fields) n) same ∙ named fields at f here in
-          let same_name : name ≡ f.name = cc in
-          ap (λ (n : NameId). slice_get places n.0) same_name ∙ has ∙ ap (λ (n : ℕ). Some n) (sym same)
+          let is : Some name ≡ Some n = sym there ∙ ap (λ (i : ℕ). slice_get names i) same ∙ here in
+          let same_name : name ≡ n = cc in
+          ap (λ (m : NameId). slice_get places m.0) same_name ∙ has ∙ ap (λ (i : ℕ). Some i) (sym same)
     ]
 
--- all fields stand at their places
-pub all_below : (places : List ℕ) (fields : List FieldValue) (end : ℕ) → length fields ≤ end → StandBelow end places (field_names fields)
-    → StandAt places (field_names fields)
-all_below places fields end all below at name here =
-    below at name (omega (arith, all, slice_get_within (field_names fields) at name here, length-map fields (λ (f : FieldValue). f.name))) here
+-- one name more that is read stands at its place
+pub one_more_read : (places : List ℕ) (names : List NameId) (at place : ℕ) (d : NameId) → StandBelow at places names → at < length names
+    → slice_get places (get_or names at d).0 ≡ Some place → place ≡ at → StandBelow (at + 1) places names
+one_more_read places names at place d below within has same =
+    one_more_stands places names at (get_or names at d) below (slice_get-get_or names at d within) (has ∙ ap (λ (n : ℕ). Some n) same)
+
+-- all names stand at their places
+pub all_below : (places : List ℕ) (names : List NameId) (end : ℕ) → length names ≤ end → StandBelow end places names → StandAt places names
+all_below places names end all below at name here = below at name (omega (arith, all, slice_get_within names at name here)) here
 
 -- a table has no place for a name
 pub field_placeless : (places : List ℕ) (fields : List FieldValue) (name : NameId) → StandAt places (field_names fields)
@@ -155,3 +159,25 @@ fields_counted names fields more id kind so_far one has =
     ∙ ap (λ (n : ℕ). length (field_ids_from 0 (take id names)) + n) one
     ∙ sym (length-append (field_ids_from 0 (take id names)) (field_ids_at id kind []))
     ∙ ap (λ (l : List NameId). length l) (sym (fields_so_far names id kind has))
+
+-- the field at a place, with what is left behind it
+drop_read : (fields : List FieldValue) (at : ℕ) (f : FieldValue) → slice_get fields at ≡ Some f → drop at fields ≡ f ∷ drop (at + 1) fields
+drop_read fields at f here =
+    drop_more fields at f (slice_get_within fields at f here)
+    ∙ ap (λ (g : FieldValue). g ∷ drop (at + 1) fields) (get_or_from_slice_get fields at f f here)
+
+-- a field of the name, where none before it has the name
+pub among_found : (name : NameId) (fields : List FieldValue) (at : ℕ) (f : FieldValue) → field_in name (drop at fields) ≡ field_in name fields
+    → slice_get fields at ≡ Some f → f.name.0 ≡ name.0 → field_value name f.value ≡ field_in name fields
+among_found name fields at f left here is =
+    ap (λ (t : Bool). cond t (field_value name f.value) (field_in name (drop (at + 1) fields))) (sym (eq-eqb f.name.0 name.0 is))
+    ∙ ap (λ (l : List FieldValue). field_in name l) (sym (drop_read fields at f here))
+    ∙ left
+
+-- another field
+pub among_next : (name : NameId) (fields : List FieldValue) (at : ℕ) (f : FieldValue) → field_in name (drop at fields) ≡ field_in name fields
+    → slice_get fields at ≡ Some f → (f.name.0 ≡ name.0 → ⊥) → field_in name (drop (at + 1) fields) ≡ field_in name fields
+among_next name fields at f left here other =
+    ap (λ (t : Bool). cond t (field_value name f.value) (field_in name (drop (at + 1) fields))) (sym (ne_eqb f.name.0 name.0 other))
+    ∙ ap (λ (l : List FieldValue). field_in name l) (sym (drop_read fields at f here))
+    ∙ left

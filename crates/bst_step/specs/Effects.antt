@@ -1,20 +1,17 @@
 -- What a call of a built-in function has done, against the effect that is wanted (docs/MACHINE.md, "The built-in functions").
-use Rattle.std.specs.Prelude.{◌≡◌, ◌+◌, ◌≤◌, List, Result, Ok, Err, drop}
+use Rattle.std.specs.Prelude.{◌≡◌, ◌+◌, ◌≤◌, List, Result, Ok, Err}
 use Rattle.name_table.specs.declared.style.Style.{Style}
 use Rattle.bv_base.specs.declared.place.Place.{Place}
 use Rattle.bst_meaning.specs.declared.value.Value.{Value}
 use Rattle.bst_meaning.specs.declared.fault.Fault.{Fault}
-use Rattle.bst_meaning.specs.Builtins.{string}
-use Rattle.bst_meaning.specs.Config as config
-use Rattle.bst_meaning.specs.Effect.{Effect, left, with_written}
+use Rattle.bst_meaning.specs.Effect.{Effect, left}
 use Rattle.bst_meaning.specs.Machine.{with_effect}
 use Rattle.bst_step.specs.declared.stop.Stop.{Stop}
 use Rattle.bst_step.specs.declared.stop.Stop.TheVariants.{Fault as Faulted, NoMemory}
-use Rattle.bst_step.specs.declared.state.Event.{Event}
 use Rattle.bst_step.specs.declared.state.State.{State}
 use Rattle.bst_step.specs.MarkRules.{unless_fault}
 use Rattle.bst_step.specs.Marks.{Marks}
-use Rattle.bst_step.specs.State.{config_of, event_of, LeavesRoom}
+use Rattle.bst_step.specs.State.{config_of, LeavesRoom}
 use Rattle.bst_step.specs.Values.{Holding, Kept}
 
 -- the literal stack is what the effect leaves, which does nothing else; or the fault is the one that is wanted, and the stack is as it
@@ -45,9 +42,3 @@ Makes style place (Ok done) old new wanted marks =
 Makes style place (Err (Faulted fault)) old new wanted marks =
     (wanted ≡ Err fault) × (config_of new ≡ config_of old) × (new.values.marks ≡ old.values.marks) × LeavesRoom 1 old new
 Makes style place (Err NoMemory) old new wanted marks = Unit {0}
-
--- what is written of the string on top, or the fault that there is none
-abbrev pub Tells : Result Event Stop → List Value → Type 0
-Tells (Ok event) stack = string (λ a rest. with_written (config.Wrote a) rest) stack ≡ with_written (event_of event) (drop 1 stack)
-Tells (Err (Faulted fault)) stack = string (λ a rest. with_written (config.Wrote a) rest) stack ≡ Err fault
-Tells (Err NoMemory) stack = Unit {0}

@@ -7,7 +7,7 @@ use Rattle.name_table.specs.declared.names.Kind.TheVariants.{IntEntry, StrEntry}
 use Rattle.name_table.specs.declared.names.NameId.{NameId}
 use Rattle.name_table.specs.declared.style.Style.{Style}
 use Rattle.bst_meaning.specs.declared.value.Value.{Value}
-use Rattle.bst_meaning.specs.Config.{Config, Event}
+use Rattle.bst_meaning.specs.Config.{Config}
 use Rattle.bst_meaning.specs.Machine.{assigned_by, with_assigned, with_entry_variable, with_found, visited_entry, visited_index, value_at, field_in}
 use Rattle.bst_step.specs.Held.{part_from}
 
@@ -18,10 +18,6 @@ with_stack stack c = record c { stack = stack }
 -- these lines are logged
 abbrev pub with_log : List (List ℕ) → Config → Config
 with_log lines c = record c { log = c.log ++ lines }
-
--- something is written
-abbrev pub with_event : Event → Config → Config
-with_event event c = record c { events = c.events ++ event ∷ [] }
 
 -- a name of this kind is a variable of an entry
 abbrev pub is_of_entry : Option Kind → Bool

@@ -1,9 +1,7 @@
 -- The machine's state as a configuration of the machine's definition (docs/MACHINE.md, "Configurations").
-use Rattle.std.specs.Prelude.{ℕ, ◌+◌, ◌≤◌, filter, map, option_map}
+use Rattle.std.specs.Prelude.{ℕ, ◌+◌, ◌≤◌, List, Option, None, Some, filter, map, option_map}
 use Rattle.bst_meaning.specs.Config as config
 use Rattle.bst_step.specs.declared.state.Visit.{Visit}
-use Rattle.bst_step.specs.declared.state.Event.{Event}
-use Rattle.bst_step.specs.declared.state.Event.TheVariants.{Wrote, WroteLent, EndedLine}
 use Rattle.bst_step.specs.declared.state.Site.{Site}
 use Rattle.bst_step.specs.declared.state.Stopped.{Stopped}
 use Rattle.bst_step.specs.declared.state.State.{State}
@@ -13,11 +11,10 @@ use Rattle.bst_step.specs.Frames.{frame_of}
 abbrev pub visit_in : Visit → config.Visit
 visit_in v = record { backwards = v.backwards; visited = v.visited }
 
--- what was written
-abbrev pub event_of : Event → config.Event
-event_of (Wrote text) = config.Wrote text
-event_of (WroteLent bytes) = config.Wrote bytes.now
-event_of EndedLine = config.EndedLine
+-- what was written, where the end of a line is no text
+abbrev pub event_of : Option (List ℕ) → config.Event
+event_of (Some text) = config.Wrote text
+event_of None = config.EndedLine
 
 -- where a fault has come
 abbrev pub site_of : Site → config.Site
@@ -38,7 +35,7 @@ config_of s = record {
   globals = s.values.globals;
   entries = s.values.entries;
   visit = option_map visit_in s.visit;
-  events = map event_of s.events.items;
+  events = map event_of s.events;
   log = s.log.items;
   stopped = option_map stopped_in s.stopped;
 }

@@ -10,22 +10,22 @@ ghost use Rattle.bst_meaning.specs.Builtins as rule;
 ghost use Rattle.bst_meaning.specs.Builtins.{string};
 ghost use Rattle.bst_meaning.specs.Operands.{one_operand};
 ghost use Rattle.bst_meaning.specs.Machine.{context_of, visited_index};
-ghost use Rattle.bst_step.specs.Effects.{Makes, Tells};
+ghost use Rattle.bst_step.specs.Effects.{Makes};
 ghost use Rattle.bst_step.specs.Held.{value_of};
 ghost use Rattle.bst_step.specs.MarkRules as rules;
 ghost use Rattle.bst_step.specs.Marks as mark;
 ghost use Rattle.bst_step.specs.Marks.{lent_mark};
 ghost use Rattle.bst_step.specs.Room.{Fits, cuts_nothing};
-ghost use Rattle.bst_step.specs.State.{config_of, event_of, LeavesRoom};
+ghost use Rattle.bst_step.specs.State.{config_of, LeavesRoom};
 ghost use Rattle.bst_step.specs.Frames.{part_of, tokens_left};
 ghost use Rattle.bst_step.specs.Moves as change;
-ghost use Rattle.bst_step.specs.Moves.{with_event, with_log, with_second_assigned, with_second_cut, with_entry_assigned, with_stack, with_top_assigned};
+ghost use Rattle.bst_step.specs.Moves.{with_log, with_second_assigned, with_second_cut, with_entry_assigned, with_stack, with_top_assigned};
 
 use crate::assign::{Assignment, assignment_of};
 use crate::held::Operand;
 use crate::logs::{all_shown, shown, warning_of};
 use crate::operands::{one, one_string};
-use crate::state::{Event, Part, Rest, State};
+use crate::state::{Part, Rest, State};
 use crate::stop::Stop;
 use bst_meaning::style_parts::{kind_of, tokens_of};
 use bst_meaning::value::Target;
@@ -128,22 +128,12 @@ impl<'a> State<'a> {
         Ok(())
     }
 
-    /// Writes a text or a line's end.
-    fn write(&mut self, event: Event<'a>) -> Result<(), NoMemory>
-        ensures moved { OnOk result (config_of self.new ≡ with_event (event_of event.entry) (config_of self.old)) }
-        ensures frames { self.new.frames ≡ self.old.frames }
-        ensures values { self.new.values ≡ self.old.values }
-    {
-        self.events.push(event)?;
-        Ok(())
-    }
-
     /// `newline$`
     pub fn end_line(&mut self) -> Result<(), Stop>
         ensures made { (style : Style) (place : Place) → Makes style place result self.old self.new (with_written config.EndedLine self.old.values.stack) (λ m. m) }
         ensures entries { OnErr result (self.new.values.entries ≡ self.old.values.entries) }
     {
-        self.write(Event::EndedLine)?;
+        self.events.push(None)?;
         Ok(())
     }
 
@@ -153,21 +143,10 @@ impl<'a> State<'a> {
             (string (λ a rest. with_written (config.Wrote a) rest) self.old.values.stack) (mark.taken 1) }
         ensures entries { OnErr result (self.new.values.entries ≡ self.old.values.entries) }
     {
-        let event = self.top_event()?;
-        self.values.drop_top(1);
-        self.write(event)?;
-        Ok(())
-    }
-
-    /// The string on top as it is written.
-    fn top_event(&self) -> Result<Event<'a>, Stop>
-        ensures { Tells result self.now.values.stack }
-    {
         let bytes = one_string(&self.values)?;
-        match self.values.lent_top() {
-            Some(lent) => Ok(Event::WroteLent(lent)),
-            None => Ok(Event::Wrote(Text::from_slice(self.alloc, bytes)?)),
-        }
+        self.events.push(Some(bytes))?;
+        self.values.drop_top(1);
+        Ok(())
     }
 
     /// `:=`

@@ -1,14 +1,13 @@
 //! Entries whose fields are found by their places.
 
-ghost use Rattle.std.specs.Prelude.{◌≡◌, true, map, IfOk};
+ghost use Rattle.std.specs.Prelude.{◌≡◌, true, map, option_map, IfOk};
 ghost use Rattle.bst_meaning.specs.Machine as rule;
 ghost use Rattle.bst_step.specs.Held.{value_of};
 ghost use Rattle.bst_step.specs.Places.{StandAt};
 
 use crate::held::Operand;
-use bst_meaning::entry::{Entry, FieldValue};
+use bst_meaning::entry::{Entry, Fields};
 use bv_base::memory::NoMemory;
-use bv_base::text::Text;
 use name_table::names::NameId;
 use std::marker::Model;
 use std::rc::Rc;
@@ -38,7 +37,7 @@ impl<'a> PlacedEntry<'a> {
     pub fn new(places: &Rc<Vec<usize>>, entry: &'a Entry) -> Result<PlacedEntry<'a>, NoMemory>
         ensures { IfOk result (λ placed. placed ≡ entry.now) }
     {
-        if stand(places.as_slice(), entry.fields.as_slice()) {
+        if stand(places.as_slice(), entry.fields.names()) {
             let places = places.clone()?;
             return Ok(PlacedEntry {
                 entry,
@@ -79,20 +78,19 @@ impl<'a> PlacedEntry<'a> {
     pub fn field(&self, name: NameId) -> Operand<'a>
         ensures { value_of result ≡ rule.field_in name self.now.fields }
     {
-        let fields = self.entry.fields.as_slice();
         match &self.places {
-            Some(places) => field_by(places.as_slice(), name, fields),
-            None => field_among(name, fields),
+            Some(places) => field_by(places.as_slice(), name, &self.entry.fields),
+            None => field_among(name, &self.entry.fields),
         }
     }
 }
 
-/// Whether each field stands at the place that a table has for it.
-fn stand(places: &[usize], fields: &[FieldValue]) -> bool
-    ensures { result ≡ true → StandAt places.now (map (λ f. f.name) fields.now) }
+/// Whether each of the names of fields stands at the place that a table has for it.
+fn stand(places: &[usize], names: &[NameId]) -> bool
+    ensures { result ≡ true → StandAt places.now names.now }
 {
-    for at in 0..fields.len() {
-        let Some(place) = places.get(fields[at].name.0 as usize) else {
+    for at in 0..names.len() {
+        let Some(place) = places.get(names[at].0 as usize) else {
             return false;
         };
         if *place != at {
@@ -103,7 +101,7 @@ fn stand(places: &[usize], fields: &[FieldValue]) -> bool
 }
 
 /// The value of a field, by a table that has the place of each.
-fn field_by<'a>(places: &[usize], name: NameId, fields: &'a [FieldValue]) -> Operand<'a>
+fn field_by<'a>(places: &[usize], name: NameId, fields: &'a Fields) -> Operand<'a>
     requires { StandAt places.now (map (λ f. f.name) fields.now) }
     ensures { value_of result ≡ rule.field_in name fields.now }
 {
@@ -114,30 +112,33 @@ fn field_by<'a>(places: &[usize], name: NameId, fields: &'a [FieldValue]) -> Ope
         return Operand::Missing(name);
     };
     if field.name.0 == name.0 {
-        field_value(name, &field.value)
+        field_value(name, field.value)
     } else {
         Operand::Missing(name)
     }
 }
 
 /// The value of a field where the fields stand in another order: that of the first of its name.
-fn field_among(name: NameId, fields: &[FieldValue]) -> Operand<'_>
+fn field_among(name: NameId, fields: &Fields) -> Operand<'_>
     ensures { value_of result ≡ rule.field_in name fields.now }
 {
-    for field in fields {
+    for at in 0..fields.len() {
+        let Some(field) = fields.get(at) else {
+            return Operand::Missing(name);
+        };
         if field.name.0 == name.0 {
-            return field_value(name, &field.value);
+            return field_value(name, field.value);
         }
     }
     Operand::Missing(name)
 }
 
 /// The value of a field with these bytes, or that the entry doesn't have it.
-fn field_value(name: NameId, bytes: &Option<Text>) -> Operand<'_>
-    ensures { value_of result ≡ rule.field_value name bytes.now }
+fn field_value(name: NameId, bytes: Option<&[u8]>) -> Operand<'_>
+    ensures { value_of result ≡ rule.field_value name (option_map (λ text. text.now) bytes.entry) }
 {
     match bytes {
-        Some(bytes) => Operand::Str(bytes.as_slice()),
+        Some(bytes) => Operand::Str(bytes),
         None => Operand::Missing(name),
     }
 }

@@ -8,6 +8,7 @@ ghost use Rattle.bst_step.specs.Marks as mark;
 ghost use Rattle.bst_step.specs.Marks.{lent_mark, mark_of};
 
 use bst_meaning::value::Target;
+use bv_base::bytes::part_of;
 use bv_base::memory::NoMemory;
 use name_table::names::NameId;
 
@@ -71,7 +72,7 @@ impl<'a> Held<'a> {
             Held::Str(bytes) => Operand::Str(bytes),
             Held::Missing(name) => Operand::Missing(name),
             Held::Func(target) => Operand::Func(target),
-            Held::Made(start, count) => Operand::Str(bytes_at(pool, start, count)),
+            Held::Made(start, count) => Operand::Str(part_of(pool, start, count)),
         }
     }
 
@@ -106,7 +107,7 @@ impl<'a> Held<'a> {
         ensures mark { mark_of result ≡ mark_of self.entry }
     {
         match self {
-            Held::Str(bytes) => Held::Str(bytes_at(bytes, from, count)),
+            Held::Str(bytes) => Held::Str(part_of(bytes, from, count)),
             Held::Made(start, length) => {
                 let skipped = from.min(length);
                 Held::Made(start + skipped, count.min(length - skipped))
@@ -123,7 +124,7 @@ impl<'a> Held<'a> {
         ensures mark { IfOk result (λ renewed. mark_of renewed ≡ mark_of self.entry) }
     {
         match self {
-            Held::Made(start, count) => made_in(bytes_at(pool, start, count), fresh),
+            Held::Made(start, count) => made_in(part_of(pool, start, count), fresh),
             other => Ok(other),
         }
     }
@@ -186,13 +187,4 @@ fn brought_to_end(a: Held<'_>, pool: &mut Vec<u8>) -> Result<usize, NoMemory>
     }
     a.append_to(pool)?;
     Ok(end)
-}
-
-/// So many bytes from a place on, or what there is of them.
-#[tactic(auto, using(crate::proofs::CutValues::part_within))]
-pub fn bytes_at(bytes: &[u8], from: usize, count: usize) -> &[u8]
-    ensures { result.now ≡ take count (drop from bytes.now) }
-{
-    let later = bytes.split_at(from.min(bytes.len())).1;
-    later.split_at(count.min(later.len())).0
 }

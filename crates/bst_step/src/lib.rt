@@ -32,3 +32,4 @@ mod texts;
 mod tokens;
 mod values;
 mod variables;
+pub mod written;

@@ -2,13 +2,14 @@
 
 ghost use Rattle.std.specs.Prelude.{◌≡◌, ◌+◌, ◌++◌, ◌∷◌, ◌≤◌, [], drop, length, map, option_map, None, IfOk, OnOk, IfSome};
 ghost use Rattle.std.specs.List.{flat_map};
+ghost use Rattle.bst_meaning.specs.Config as config;
 ghost use Rattle.bst_meaning.specs.Lines as rule;
 ghost use Rattle.bst_step.specs.State.{event_of};
 ghost use Rattle.bst_step.specs.Lines.{cut_in, page_from, page_in};
 
-use crate::state::Event;
 use bv_base::bytes::is_white;
 use bv_base::memory::NoMemory;
+use bv_base::packed_texts::PackedTexts;
 use bv_base::text::Text;
 use std::alloc::Global;
 use text_ops::is_blank::is_blank;
@@ -28,16 +29,15 @@ pub struct Cut<'a> {
 }
 
 /// The finished lines of what was written, each with its line end.
-pub fn lines_of(alloc: Global, events: &[Event<'_>]) -> Result<Vec<u8>, NoMemory>
-    ensures { IfOk result (λ v. v.items ≡
-        flat_map (λ line. line ++ 10 ∷ []) (rule.after_events (record { lines = []; buffer = [] }) (map event_of events.now)).lines) }
+pub fn lines_of(alloc: Global, events: &PackedTexts) -> Result<Vec<u8>, NoMemory>
+    ensures { IfOk result (λ v. v.items ≡ rule.lines_after (map event_of events.now)) }
 {
     let mut page = Page {
         lines: Vec::new(alloc),
         buffer: Vec::new(alloc),
     };
-    for event in events {
-        page.add(alloc, event)?;
+    for at in 0..events.len() {
+        page.add(alloc, events.at(at))?;
     }
     page.break_buffer(alloc)?;
     with_ends(alloc, page.lines.as_slice())
@@ -58,19 +58,15 @@ pub fn with_ends(alloc: Global, lines: &[Text]) -> Result<Vec<u8>, NoMemory>
 impl Page {
     /// Adds a text to the buffer, or ends a line.
     #[tactic(auto, using(crate::proofs::LateBreaks::written))]
-    fn add(&mut self, alloc: Global, event: &Event<'_>) -> Result<(), NoMemory>
-        ensures { OnOk result (page_in self.new ≡ rule.after_event (page_in self.old) (event_of event.now)) }
+    fn add(&mut self, alloc: Global, event: Option<&[u8]>) -> Result<(), NoMemory>
+        ensures { OnOk result (page_in self.new ≡ rule.after_event (page_in self.old) (event_of (option_map (λ bytes. bytes.now) event.entry))) }
     {
         match event {
-            Event::Wrote(bytes) => {
-                self.buffer.extend_from_slice(bytes.as_slice())?;
-                Ok(())
-            }
-            Event::WroteLent(bytes) => {
+            Some(bytes) => {
                 self.buffer.extend_from_slice(bytes)?;
                 Ok(())
             }
-            Event::EndedLine => self.end_line(alloc),
+            None => self.end_line(alloc),
         }
     }
 
@@ -97,7 +93,7 @@ impl Page {
 
     /// Breaks the buffer, finishes what is left of it as a line, and empties it.
     fn end_line(&mut self, alloc: Global) -> Result<(), NoMemory>
-        ensures { OnOk result (page_in self.new ≡ rule.after_event (page_in self.old) (event_of Event.EndedLine)) }
+        ensures { OnOk result (page_in self.new ≡ rule.after_event (page_in self.old) config.EndedLine) }
     {
         let start = self.break_buffer(alloc)?;
         let (_, left) = self.buffer.as_slice().split_at(start);

@@ -14,6 +14,7 @@ use crate::lines::{lines_of, with_ends};
 use crate::opening::opening;
 pub use crate::state::Site;
 use crate::state::State;
+use crate::written::Written;
 use bst_meaning::entry::EntryList;
 use bst_meaning::fault::Fault;
 use bv_base::memory::NoMemory;
@@ -166,7 +167,20 @@ impl<'a> Machine<'a> {
         if self.broken {
             return Err(NoMemory);
         }
-        lines_of(self.state.alloc, self.state.events.as_slice())
+        lines_of(self.state.alloc, &self.state.events)
+    }
+
+    /// What was written, without all else of the machine, which is let go.
+    pub fn into_written(self) -> Result<Written, NoMemory>
+        ensures events { IfOk result (λ written. written ≡ (configuration self.entry).events) }
+        ensures whole { OnOk result (is_broken self.entry ≡ false) }
+    {
+        let Machine { state, broken, .. } = self;
+        if broken {
+            return Err(NoMemory);
+        }
+        let State { alloc, events, .. } = state;
+        Ok(Written::new(alloc, events))
     }
 
     /// The lines of the log, each with its line end.

@@ -20,6 +20,7 @@ use crate::variables::{Variable, Variables};
 use bst_meaning::entry::{Entry, EntryList};
 use bst_meaning::value::{ENTRY_SIZE, GLOBAL_SIZE};
 use bv_base::memory::NoMemory;
+use bv_base::packed_texts::PackedTexts;
 use name_table::names::{Kind, NameId, Names};
 use name_table::opening::{ENTRY_MAX, GLOBAL_MAX};
 use name_table::style::Style;
@@ -47,7 +48,7 @@ pub fn opening<'a>(
         frames: Frames::new(alloc),
         values: Values::new(alloc, globals, entries),
         visit: None,
-        events: Vec::new(alloc),
+        events: PackedTexts::new(alloc),
         log: Vec::new(alloc),
         stopped: None,
     })

@@ -17,6 +17,7 @@ use bst_meaning::entry::Entry;
 use bst_meaning::fault::Fault;
 use bst_meaning::value::Target;
 use bv_base::memory::NoMemory;
+use bv_base::packed_texts::PackedTexts;
 use bv_base::place::Place;
 use bv_base::text::Text;
 use name_table::names::NameId;
@@ -56,15 +57,6 @@ pub struct Visit {
     pub visited: usize,
 }
 
-/// What was written.
-#[derive(Drop)]
-pub enum Event<'a> {
-    Wrote(Text),
-    /// Bytes that the machine doesn't own.
-    WroteLent(&'a [u8]),
-    EndedLine,
-}
-
 /// Where an execution error stands: its place in the style, and the position of the visited entry in the list with
 /// which the run opened, if one is visited.
 #[derive(Clone, Copy, Debug, PartialEq, Eq)]
@@ -92,7 +84,8 @@ pub struct State<'a> {
     pub frames: Frames<'a>,
     pub values: Values<'a>,
     pub visit: Option<Visit>,
-    pub events: Vec<Event<'a>>,
+    /// What was written: each text, and for each end of a line a missing one.
+    pub events: PackedTexts,
     pub log: Vec<Text>,
     pub stopped: Option<Stopped>,
 }

@@ -25,8 +25,11 @@ use name_table::names::NameId;
 use std::alloc::Global;
 use std::marker::Model;
 
-/// The most bytes of a pool that isn't worth to be made anew, and as many more for each entry.
+/// The most bytes of a pool that isn't worth to be made anew.
 const LEAST_LIMIT: usize = 1024;
+
+/// About as many bytes are written anew for each entry when a pool is made anew.
+const ENTRY_BYTES: usize = 128;
 
 /// The literal stack, the variables of the whole style, and the entries with theirs. What strings were made stand in a
 /// pool, and contracts see the values alone.
@@ -440,8 +443,10 @@ impl<'a> Values<'a> {
 /// From how many bytes on a pool is made anew that had so many, for so many entries: so that to make it anew costs no more
 /// than what was written since.
 fn limit_of(kept: usize, entries: usize) -> usize {
-    let rows = entries.saturating_add(1).saturating_mul(LEAST_LIMIT);
-    kept.saturating_mul(2).saturating_add(rows)
+    let rows = entries.saturating_mul(ENTRY_BYTES);
+    kept.saturating_mul(2)
+        .saturating_add(rows)
+        .saturating_add(LEAST_LIMIT)
 }
 
 /// What a variable of the entry at a place holds.

@@ -6,6 +6,7 @@ pub mod Levels
 pub mod Memory
 pub mod MemoryView
 pub mod Outside
+pub mod PackedTexts
 pub mod Places
 pub mod Runs
 pub mod Status

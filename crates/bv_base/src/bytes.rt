@@ -1,6 +1,6 @@
 //! The classes of bytes of the style language.
 
-ghost use Rattle.std.specs.Prelude.{◌≡◌};
+ghost use Rattle.std.specs.Prelude.{◌≡◌, drop, take};
 ghost use Rattle.bv_base.specs.Bytes as bytes;
 
 /// Whether a byte is white space: byte 9, 10, 13 or 32.
@@ -26,4 +26,13 @@ pub fn lower(b: u8) -> u8
     ensures { result ≡ bytes.lower b }
 {
     b.to_ascii_lowercase()
+}
+
+/// So many bytes from a place on, or what there is of them.
+#[tactic(auto, using(crate::proofs::Parts::part_within))]
+pub fn part_of(bytes: &[u8], from: usize, count: usize) -> &[u8]
+    ensures { result.now ≡ take count (drop from bytes.now) }
+{
+    let later = bytes.split_at(from.min(bytes.len())).1;
+    later.split_at(count.min(later.len())).0
 }

@@ -14,6 +14,7 @@ pub mod limits;
 pub mod mem_files;
 pub mod mem_sink;
 pub mod memory;
+pub mod packed_texts;
 pub mod place;
 pub mod read_file;
 pub mod runs;

@@ -5,6 +5,7 @@ use crate::host_sink::HostSink;
 use crate::mem_files::MemFiles;
 use crate::mem_sink::MemSink;
 use crate::memory::NoMemory;
+use crate::packed_texts::PackedTexts;
 use crate::read_file::{FileAnswer, read_file};
 use crate::seq::Seq;
 use crate::sink::{PutAnswer, Sink};
@@ -74,6 +75,25 @@ static READINGS: [(&str, u32, u64, Option<FileAnswer>); 7] = [
     ("a", 2, 4, None),
     ("b", 2, 0, Some(FileAnswer::Absent)),
 ];
+
+#[test]
+fn texts_in_one_piece(rt: HostRuntime) -> Result<(), Fail> {
+    let mut packed = PackedTexts::with_room(rt.alloc(), 2, 1)?;
+    packed.push(Some(b"ab"))?;
+    packed.push(None)?;
+    packed.push(Some(b""))?;
+    packed.push(Some(b"c"))?;
+    let copy = packed.copied(rt.alloc())?;
+    packed.clear();
+    assert_eq!(rt; (packed.len(), copy.len()), (0, 4));
+    assert_eq!(rt; (copy.at(0), copy.at(1)), (Some(b"ab".as_slice()), None));
+    assert_eq!(rt;
+        (copy.at(2), copy.at(3)),
+        (Some(b"".as_slice()), Some(b"c".as_slice()))
+    );
+    assert_eq!(rt; copy.at(4), None);
+    Ok(())
+}
 
 #[test]
 fn files_in_memory(rt: HostRuntime) -> Result<(), Fail> {

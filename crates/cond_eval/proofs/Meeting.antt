@@ -1,9 +1,11 @@
 -- An entry list meets a condition exactly where no line is unmet.
-use Rattle.std.proofs.Common.{◌≡◌, ℕ, zero, suc, ◌+◌, ◌≤◌, ◌<◌, Bool, true, false, cond, ◌&&◌, ◌||◌, not, nat_eq, nat_le, List, [], ◌∷◌, length, Option, None, Some, is_none, is_some, IsSome, refl, sym, ap, subst, ◌∙◌, arith, inl, inr}
+use Rattle.std.proofs.Common.{◌≡◌, ℕ, zero, suc, ◌+◌, ◌≤◌, ◌<◌, Bool, true, false, cond, ◌&&◌, ◌||◌, not, nat_eq, nat_le, List, [], ◌∷◌, drop, length, slice_get, Option, None, Some, is_none, is_some, IsSome, refl, sym, ap, subst, ◌∙◌, arith, inl, inr}
 use Rattle.std.specs.Cmp.Lexicographic.{bytes_decides, pointwise}
 use Rattle.std.specs.List.{AllByRecursion, Contains, list_all}
 use Rattle.std.specs.Option.{ForSome, option_map_or, option_or}
 use Rattle.std.proofs.lemmas.Bool.Decides.{nat_tests}
+use Rattle.std.proofs.lemmas.List.{drop_more}
+use Rattle.std.proofs.lemmas.Option.{get_or_from_slice_get, slice_get_within}
 use Rattle.std.proofs.lemmas.Map.Views.{Contains-from_any}
 use Rattle.name_split.specs.AllParts.{names_ok}
 use Rattle.name_split.specs.Names.{names_of}
@@ -16,7 +18,7 @@ use Rattle.bst_meaning.specs.declared.condition.Cond.{Cond}
 use Rattle.bst_meaning.specs.declared.condition.NamesLine.{NamesLine}
 use Rattle.bst_meaning.specs.declared.entry.Entry.{Entry}
 use Rattle.bst_meaning.specs.declared.entry.EntryList.{EntryList}
-use Rattle.bst_meaning.specs.declared.entry.FieldValue.{FieldValue}
+use Rattle.bst_meaning.specs.FieldValues.{FieldValue}
 use Rattle.cond_eval.specs.Unmet.{entries_unmet, entry_unmet, first_of, first_unmet, has_ink, has_names, is_admitted, is_other, is_short, keeps_ink, keeps_names, kept_or, last_line, listed_unmet, type_unmet}
 use Rattle.cond_eval.specs.declared.unmet.Unmet.{Unmet}
 
@@ -36,6 +38,27 @@ all_holds {X} test P (x ∷ xs) d e =
 all_tested : {X : Type 0} (test : X → Bool) (P : X → Type 0) (xs : List X) → Decides test P → AllByRecursion P xs → list_all test xs ≡ true
 all_tested test P [] d all = refl
 all_tested test P (x ∷ xs) d all = ap (λ (t : Bool). t && list_all test xs) (d.tested x all.0) ∙ all_tested test P xs d all.1
+
+-- what stands at a place, with what is left behind it
+drop_read : {X : Type 0} (xs : List X) (at : ℕ) (x : X) → slice_get xs at ≡ Some x → drop at xs ≡ x ∷ drop (at + 1) xs
+drop_read xs at x here =
+    drop_more xs at x (slice_get_within xs at x here) ∙ ap (λ y. y ∷ drop (at + 1) xs) (get_or_from_slice_get xs at x x here)
+
+-- one element more passes
+pub all_left : {X : Type 0} (test : X → Bool) (xs : List X) (at : ℕ) (x : X) → list_all test (drop at xs) ≡ list_all test xs
+    → slice_get xs at ≡ Some x → test x ≡ true → list_all test (drop (at + 1) xs) ≡ list_all test xs
+all_left test xs at x left here passed =
+    ap (λ (t : Bool). t && list_all test (drop (at + 1) xs)) (sym passed)
+    ∙ ap (λ l. list_all test l) (sym (drop_read xs at x here))
+    ∙ left
+
+-- one element doesn't
+pub not_all : {X : Type 0} (test : X → Bool) (xs : List X) (at : ℕ) (x : X) → list_all test (drop at xs) ≡ list_all test xs
+    → slice_get xs at ≡ Some x → test x ≡ false → false ≡ list_all test xs
+not_all test xs at x left here failed =
+    ap (λ (t : Bool). t && list_all test (drop (at + 1) xs)) (sym failed)
+    ∙ ap (λ l. list_all test l) (sym (drop_read xs at x here))
+    ∙ left
 
 -- a bound on a length
 bound_holds : (m n : ℕ) → nat_le m n ≡ true → m ≤ n

@@ -14,7 +14,9 @@ use Rattle.bst_meaning.specs.declared.condition.Cond.{Cond}
 use Rattle.bst_meaning.specs.declared.condition.NamesLine.{NamesLine}
 use Rattle.bst_meaning.specs.declared.entry.Entry.{Entry}
 use Rattle.bst_meaning.specs.declared.entry.EntryList.{EntryList}
-use Rattle.bst_meaning.specs.declared.entry.FieldValue.{FieldValue}
+use Rattle.bst_meaning.specs.FieldValues.{FieldValue}
+use Rattle.cond_eval.specs.declared.eval.Wanted.{Wanted}
+use Rattle.cond_eval.specs.declared.eval.Wanted.TheVariants.{Ink, Length, Names}
 use Rattle.cond_eval.specs.declared.unmet.Unmet.{Unmet}
 
 -- each field that is there has at most so many bytes
@@ -36,6 +38,12 @@ has_ink bytes = list_any (λ b. not (is_white b)) bytes
 -- where this is the field, it is there and has such a byte
 abbrev pub keeps_ink : NameId → FieldValue → Bool
 keeps_ink name field = not (nat_eq field.name.0 name.0) || option_map_or has_ink field.value false
+
+-- a field is as it is wanted
+abbrev pub keeps : Wanted → FieldValue → Bool
+keeps (Length most) field = option_map_or (λ bytes. nat_le (length bytes) most) field.value true
+keeps (Names line) field = keeps_names line field
+keeps (Ink name) field = keeps_ink name field
 
 -- the style doesn't define it
 abbrev pub is_other : Style → List ℕ → Bool

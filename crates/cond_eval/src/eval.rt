@@ -6,14 +6,26 @@ ghost use Rattle.std.specs.Option.{option_or};
 ghost use Rattle.bv_base.specs.KeySets.{has_key};
 ghost use Rattle.bst_meaning.specs.Condition.{Meets};
 ghost use Rattle.cond_eval.specs.Unmet as rule;
+ghost use Rattle.cond_eval.specs.declared.eval.Wanted.TheVariants as Wanted;
 
 use crate::unmet::Unmet;
 use bst_meaning::condition::{Cond, NamesLine};
-use bst_meaning::entry::{Entry, EntryList, FieldValue};
+use bst_meaning::entry::{Entry, EntryList, FieldValue, Fields};
 use bv_base::bytes::is_white;
 use name_split::names::{count, names_ok};
 use name_table::names::NameId;
 use name_table::style::{Style, TypeTarget};
+
+/// How each field of an entry is wanted.
+#[derive(Clone, Copy)]
+pub(crate) enum Wanted {
+    /// With at most so many bytes, where it is there.
+    Length(u32),
+    /// With such names, where it is the line's and there.
+    Names(NamesLine),
+    /// There and not blank, where it is this one.
+    Ink(NameId),
+}
 
 /// The first line of a condition that a list doesn't keep: the lines on the number of entries and on the preamble, and then,
 /// entry by entry, those on its key, its fields, their names, blank fields and its type. `None` comes exactly where the list
@@ -70,7 +82,7 @@ fn entry_unmet(style: &Style, cond: &Cond, entry: &Entry) -> Option<u32>
 {
     if entry.key.as_slice().len() > cond.key as usize {
         Some(1)
-    } else if are_short(cond, entry.fields.as_slice()) {
+    } else if are_short(cond, &entry.fields) {
         listed_unmet(style, cond, entry)
     } else {
         Some(3)
@@ -82,7 +94,7 @@ fn listed_unmet(style: &Style, cond: &Cond, entry: &Entry) -> Option<u32>
     requires lines { length cond.now.names + length cond.now.nonblank + length cond.now.types < 4294967291 }
     ensures { result ≡ rule.listed_unmet style.now cond.now entry.now }
 {
-    let fields = entry.fields.as_slice();
+    let fields = &entry.fields;
     let names = cond.names.as_slice();
     let first = names_unmet(fields, names);
     let second = ink_unmet(fields, 4 + names.len() as u32, cond.nonblank.as_slice());
@@ -122,7 +134,7 @@ fn last_line(cond: &Cond) -> u32
 }
 
 /// The first of the lines on names that the fields don't keep.
-fn names_unmet(fields: &[FieldValue], lines: &[NamesLine]) -> Option<u32>
+fn names_unmet(fields: &Fields, lines: &[NamesLine]) -> Option<u32>
     requires { length lines.now < 4294967291 }
     ensures { result ≡ rule.first_of rule.keeps_names fields.now 4 lines.now }
 {
@@ -135,14 +147,14 @@ fn names_unmet(fields: &[FieldValue], lines: &[NamesLine]) -> Option<u32>
 }
 
 /// Whether all fields keep a line on names.
-fn keep_names(line: NamesLine, fields: &[FieldValue]) -> bool
+fn keep_names(line: NamesLine, fields: &Fields) -> bool
     ensures { result ≡ list_all (rule.keeps_names line) fields.now }
 {
-    fields.iter().all(|field| keeps_names(line, field))
+    all_keep(Wanted::Names(line), fields)
 }
 
 /// The first of the lines on nonblank fields, from this number on, that the fields don't keep.
-fn ink_unmet(fields: &[FieldValue], first: u32, names: &[NameId]) -> Option<u32>
+fn ink_unmet(fields: &Fields, first: u32, names: &[NameId]) -> Option<u32>
     requires { first + length names.now < 4294967296 }
     ensures { result ≡ rule.first_of rule.keeps_ink fields.now first names.now }
 {
@@ -155,38 +167,64 @@ fn ink_unmet(fields: &[FieldValue], first: u32, names: &[NameId]) -> Option<u32>
 }
 
 /// Whether all fields keep the line that wants one nonblank.
-fn keep_ink(name: NameId, fields: &[FieldValue]) -> bool
+fn keep_ink(name: NameId, fields: &Fields) -> bool
     ensures { result ≡ list_all (rule.keeps_ink name) fields.now }
 {
-    fields.iter().all(|field| keeps_ink(name, field))
+    all_keep(Wanted::Ink(name), fields)
 }
 
 /// Whether all fields that are there have at most so many bytes.
-fn are_short(cond: &Cond, fields: &[FieldValue]) -> bool
+fn are_short(cond: &Cond, fields: &Fields) -> bool
     ensures { result ≡ list_all (rule.is_short cond.now) fields.now }
 {
-    fields.iter().all(|field| is_short(cond, field))
+    all_keep(Wanted::Length(cond.length), fields)
+}
+
+/// Whether each of these fields is as it is wanted.
+fn all_keep(wanted: Wanted, fields: &Fields) -> bool
+    ensures { result ≡ list_all (rule.keeps wanted) fields.now }
+{
+    for at in 0..fields.len() {
+        let Some(field) = fields.get(at) else {
+            return true;
+        };
+        if !keeps(wanted, &field) {
+            return false;
+        }
+    }
+    true
+}
+
+/// Whether a field is as it is wanted.
+fn keeps(wanted: Wanted, field: &FieldValue<'_>) -> bool
+    ensures { result ≡ rule.keeps wanted field.now }
+{
+    match wanted {
+        Wanted::Length(most) => is_short(most, field),
+        Wanted::Names(line) => keeps_names(line, field),
+        Wanted::Ink(name) => keeps_ink(name, field),
+    }
 }
 
 /// Whether a field, where it is there, has at most so many bytes.
-fn is_short(cond: &Cond, field: &FieldValue) -> bool
-    ensures { result ≡ rule.is_short cond.now field.now }
+fn is_short(most: u32, field: &FieldValue<'_>) -> bool
+    ensures { result ≡ rule.keeps (Wanted.Length most) field.now }
 {
-    match &field.value {
-        Some(bytes) => bytes.as_slice().len() <= cond.length as usize,
+    match field.value {
+        Some(bytes) => bytes.len() <= most as usize,
         None => true,
     }
 }
 
 /// Whether a field keeps a line on names.
-fn keeps_names(line: NamesLine, field: &FieldValue) -> bool
+fn keeps_names(line: NamesLine, field: &FieldValue<'_>) -> bool
     ensures { result ≡ rule.keeps_names line field.now }
 {
     if field.name.0 != line.field.0 {
         return true;
     }
-    match &field.value {
-        Some(text) => has_names(line, text.as_slice()),
+    match field.value {
+        Some(text) => has_names(line, text),
         None => true,
     }
 }
@@ -199,14 +237,14 @@ fn has_names(line: NamesLine, text: &[u8]) -> bool
 }
 
 /// Whether a field keeps the line that wants it nonblank.
-fn keeps_ink(name: NameId, field: &FieldValue) -> bool
+fn keeps_ink(name: NameId, field: &FieldValue<'_>) -> bool
     ensures { result ≡ rule.keeps_ink name field.now }
 {
     if field.name.0 != name.0 {
         return true;
     }
-    match &field.value {
-        Some(bytes) => has_ink(bytes.as_slice()),
+    match field.value {
+        Some(bytes) => has_ink(bytes),
         None => false,
     }
 }

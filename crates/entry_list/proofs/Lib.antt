@@ -5,5 +5,6 @@ pub mod Found
 pub mod Keyed
 pub mod Lists
 pub mod Naming
+pub mod Packed
 pub mod Tables
 pub mod Unseen

@@ -5,14 +5,9 @@ use Rattle.bv_base.specs.KeySets.{has_lowered}
 use Rattle.name_table.specs.Names.{same_name}
 use Rattle.aux_read.specs.declared.aux.AuxItem.{AuxItem}
 use Rattle.bib_read.specs.declared.database.RawEntry.{RawEntry}
-use Rattle.bib_read.specs.declared.database.RawField.{RawField}
+pub use Rattle.bib_read.specs.Names.{text_of}
 use Rattle.entry_list.specs.Keys.{Listed, own, same_key, entry_of, is_listed, firsts}
 use Rattle.entry_list.specs.Citing.{cited_list}
-
--- the text of the field of this name
-abbrev pub text_of : List ℕ → List RawField → Option (List ℕ)
-text_of name [] = None
-text_of name (first ∷ rest) = if same_name name first.name then Some first.value else text_of name rest
 
 -- what an entry has as `crossref`
 abbrev pub crossref_of : RawEntry → Option (List ℕ)

@@ -1,6 +1,6 @@
 //! The fields of the entries of the list.
 
-ghost use Rattle.std.specs.Prelude.{◌≡◌, ◌++◌, List, [], flat_map, map, IfOk, OnOk};
+ghost use Rattle.std.specs.Prelude.{◌≡◌, ◌++◌, List, [], ◌∷◌, flat_map, map, IfOk, OnOk};
 ghost use Rattle.std.specs.Option.{ForSome, option_map};
 ghost use Rattle.std.specs.List.{AllByRecursion};
 ghost use Rattle.bst_meaning.specs.Entries.{IsByteList};
@@ -10,12 +10,13 @@ ghost use Rattle.entry_list.specs.Bytes.{HasBytes};
 
 use crate::chosen::{Chosen, listed_keys};
 use crate::entry_table::EntryTable;
-use crate::parents::{crossref_of, parent_of, text_of};
+use crate::parents::{crossref_of, parent_of};
 use crate::warnings::no_parent;
 use bib_read::database::RawEntry;
-use bst_meaning::entry::{Entry, FieldValue};
+use bst_meaning::entry::{Entry, Fields};
 use bv_base::key_set::KeySet;
 use bv_base::memory::NoMemory;
+use bv_base::packed_texts::PackedTexts;
 use bv_base::seq::Seq;
 use bv_base::text::Text;
 use name_table::laws::are_bytes;
@@ -23,6 +24,7 @@ use name_table::names::{Kind, NameId};
 use name_table::style::Style;
 use std::alloc::Global;
 use std::marker::Model;
+use std::rc::Rc;
 
 /// A field of a style: its id and its name.
 #[derive(Drop)]
@@ -72,10 +74,55 @@ fn push_declared<'a>(
     }
 }
 
+/// The fields of a style with their names, which all entries of a list share. Contracts see the fields.
+#[derive(Drop)]
+pub(crate) struct SharedFields<'a> {
+    fields: Vec<DeclaredField<'a>>,
+    names: Rc<Vec<NameId>>,
+}
+
+impl<'a> Model for SharedFields<'a> {
+    ghost use Rattle.std.specs.Prelude.{◌≡◌, List, map};
+    ghost use Rattle.entry_list.specs.Fields.{Declared};
+
+    ghost Value = { List Declared };
+
+    ghost view = { λ f. f.fields.items };
+
+    ghost invariant = { λ f. f.names.value.items ≡ map (λ field. field.id) f.fields.items };
+}
+
+impl<'a> SharedFields<'a> {
+    /// Fields, with their names.
+    pub(crate) fn new(
+        alloc: Global,
+        fields: Vec<DeclaredField<'a>>,
+    ) -> Result<SharedFields<'a>, NoMemory>
+        ensures { IfOk result (λ shared. shared ≡ fields.entry.items) }
+    {
+        let names = names_of(alloc, fields.as_slice())?;
+        Ok(SharedFields {
+            fields,
+            names: Rc::new(alloc, names)?,
+        })
+    }
+}
+
+/// The names of fields.
+fn names_of(alloc: Global, fields: &[DeclaredField<'_>]) -> Result<Vec<NameId>, NoMemory>
+    ensures { IfOk result (λ names. names.items ≡ map (λ field. field.id) fields.now) }
+{
+    let mut names = Vec::with_capacity(alloc, fields.len())?;
+    for field in fields {
+        names.push(field.id)?;
+    }
+    Ok(names)
+}
+
 /// The entries of a list with these fields and no other.
 pub(crate) fn join_entries(
     alloc: Global,
-    declared: &[DeclaredField<'_>],
+    declared: &SharedFields<'_>,
     table: &EntryTable<'_>,
     list: &[Chosen<'_>],
 ) -> Result<Seq<Entry>, NoMemory>
@@ -104,7 +151,7 @@ fn is_parent_listed(listed: &KeySet, parent: Option<&RawEntry>) -> Result<bool, 
 /// An entry of the list with these fields and no other.
 fn join_entry(
     alloc: Global,
-    declared: &[DeclaredField<'_>],
+    declared: &SharedFields<'_>,
     table: &EntryTable<'_>,
     listed: &KeySet,
     chosen: &Chosen<'_>,
@@ -117,28 +164,41 @@ fn join_entry(
     Ok(Entry {
         key: copied(alloc, chosen.key)?,
         entry_type: copied(alloc, chosen.entry.entry_type.as_slice())?,
-        fields: values_of(alloc, declared, chosen.entry, parent, keeps)?,
+        fields: fields_of(alloc, declared, chosen.entry, parent, keeps)?,
     })
 }
 
-/// The values of fields.
-fn values_of(
+/// The fields of an entry.
+fn fields_of(
     alloc: Global,
-    declared: &[DeclaredField<'_>],
+    declared: &SharedFields<'_>,
     entry: &RawEntry,
     parent: Option<&RawEntry>,
     keeps: bool,
-) -> Result<Seq<FieldValue>, NoMemory>
+) -> Result<Fields, NoMemory>
     ensures values { IfOk result (λ found. found
         ≡ fields.values_of declared.now entry.now (option_map (λ e. e.now) parent.entry) keeps) }
     ensures bytes { IfOk result (AllByRecursion (λ f. ForSome f.value IsByteList)) }
 {
-    let mut found = Seq::from_vec(Vec::with_capacity(alloc, declared.len())?);
+    let values = values_of(alloc, declared.fields.as_slice(), entry, parent, keeps)?;
+    let packed = packed(alloc, values.as_slice())?;
+    Ok(Fields::new(declared.names.clone()?, packed))
+}
+
+/// The values of fields.
+fn values_of<'a>(
+    alloc: Global,
+    declared: &[DeclaredField<'_>],
+    entry: &'a RawEntry,
+    parent: Option<&'a RawEntry>,
+    keeps: bool,
+) -> Result<Vec<Option<&'a [u8]>>, NoMemory>
+    ensures { IfOk result (λ found. map (option_map (λ text. text.now)) found.items
+        ≡ map (λ field. fields.value_of entry.now (option_map (λ e. e.now) parent.entry) keeps field.name) declared.now) }
+{
+    let mut found = Vec::with_capacity(alloc, declared.len())?;
     for field in declared {
-        found.push(FieldValue {
-            name: field.id,
-            value: copied_value(alloc, value_of(field.name, entry, parent, keeps))?,
-        })?;
+        found.push(value_of(field.name, entry, parent, keeps))?;
     }
     Ok(found)
 }
@@ -156,20 +216,46 @@ fn value_of<'a>(
     if name == b"crossref".as_slice() {
         return if keeps { crossref_of(entry) } else { None };
     }
-    match text_of(entry.fields.as_slice(), name) {
+    match entry.fields.find(name) {
         Some(text) => Some(text),
-        None => text_of(parent?.fields.as_slice(), name),
+        None => parent?.fields.find(name),
     }
 }
 
-/// A copy of a value.
-fn copied_value(alloc: Global, value: Option<&[u8]>) -> Result<Option<Text>, NoMemory>
-    ensures copied { IfOk result (λ found. found ≡ option_map (λ text. text.now) value.entry) }
-    ensures bytes { IfOk result (λ found. ForSome found IsByteList) }
+/// Values, copied into one piece of memory of their size.
+fn packed(alloc: Global, values: &[Option<&[u8]>]) -> Result<PackedTexts, NoMemory>
+    ensures copied { IfOk result (λ packed. packed ≡ map (option_map (λ text. text.now)) values.now) }
+    ensures bytes { IfOk result (AllByRecursion (λ text. ForSome text IsByteList)) }
+{
+    let mut packed = PackedTexts::with_room(alloc, values.len(), length_of(values))?;
+    for value in values {
+        push_value(&mut packed, *value)?;
+    }
+    Ok(packed)
+}
+
+/// How many bytes values have together, for the room that they take.
+fn length_of(values: &[Option<&[u8]>]) -> usize {
+    let mut length: usize = 0;
+    for value in values {
+        if let Some(text) = value {
+            length = length.saturating_add(text.len());
+        }
+    }
+    length
+}
+
+/// Appends a copy of a value.
+fn push_value(packed: &mut PackedTexts, value: Option<&[u8]>) -> Result<(), NoMemory>
+    ensures copied { OnOk result (packed.new ≡ packed.old ++ option_map (λ text. text.now) value.entry ∷ []) }
+    ensures bytes { ForSome (option_map (λ text. text.now) value.entry) IsByteList }
 {
     match value {
-        Some(text) => Ok(Some(copied(alloc, text)?)),
-        None => Ok(None),
+        Some(text) => {
+            are_bytes(text);
+            packed.push(Some(text))
+        }
+        None => packed.push(None),
     }
 }
 

@@ -12,7 +12,7 @@ ghost use Rattle.entry_list.specs.Parents as naming;
 use crate::chosen::Chosen;
 use crate::citing::{Cited, cited_list};
 use crate::entry_table::EntryTable;
-use crate::fields::{copied, declared_fields, join_entries, warn_of_parents};
+use crate::fields::{SharedFields, copied, declared_fields, join_entries, warn_of_parents};
 use crate::joined::Joined;
 use crate::parents::append_parents;
 use aux_read::aux::AuxItem;
@@ -81,6 +81,6 @@ fn entries_of(
     ensures joined { IfOk result (λ entries. entries ≡ joining.all_joined style.now table.now list.now) }
     ensures bytes { IfOk result (AllByRecursion HasBytes) }
 {
-    let declared = declared_fields(alloc, style)?;
-    join_entries(alloc, declared.as_slice(), table, list)
+    let declared = SharedFields::new(alloc, declared_fields(alloc, style)?)?;
+    join_entries(alloc, &declared, table, list)
 }

@@ -5,7 +5,7 @@ use bv_base::seq::Seq;
 use bv_base::text::Text;
 
 /// What citations and databases are joined to.
-#[derive(Debug, Drop)]
+#[derive(Drop)]
 pub struct Joined {
     /// The entries and the preamble, as the style's functions see them.
     pub list: EntryList,

@@ -8,7 +8,7 @@ ghost use Rattle.entry_list.specs.Parents as naming;
 
 use crate::chosen::{Chosen, listed_keys};
 use crate::entry_table::EntryTable;
-use bib_read::database::{RawEntry, RawField};
+use bib_read::database::RawEntry;
 use bv_base::key_set::KeySet;
 use bv_base::memory::NoMemory;
 use std::alloc::Global;
@@ -82,19 +82,7 @@ pub(crate) fn parent_of<'a>(
 pub(crate) fn crossref_of(entry: &RawEntry) -> Option<&[u8]>
     ensures { option_map (λ text. text.now) result ≡ naming.crossref_of entry.now }
 {
-    text_of(entry.fields.as_slice(), b"crossref")
-}
-
-/// The text of the field of this name.
-pub(crate) fn text_of<'a>(fields: &'a [RawField], name: &[u8]) -> Option<&'a [u8]>
-    ensures { option_map (λ text. text.now) result ≡ naming.text_of name.now fields.now }
-{
-    for field in fields {
-        if name == field.name.as_slice() {
-            return Some(field.value.as_slice());
-        }
-    }
-    None
+    entry.fields.find(b"crossref")
 }
 
 /// The wanted ones of these parents, in the order in which they are first named.

@@ -205,11 +205,11 @@ fn show(shown: &mut Vec<u8>, entry: &Entry) -> Result<(), NoMemory> {
     shown.extend_from_slice(entry.key.as_slice())?;
     shown.push(b':')?;
     shown.extend_from_slice(entry.entry_type.as_slice())?;
-    for field in entry.fields.as_slice() {
+    for at in 0..entry.fields.len() {
         shown.push(b'|')?;
-        match &field.value {
-            Some(text) => shown.extend_from_slice(text.as_slice())?,
-            None => shown.push(b'-')?,
+        match entry.fields.get(at) {
+            Some(field) => shown.extend_from_slice(field.value.unwrap_or(b"-"))?,
+            None => return Ok(()),
         }
     }
     shown.push(b'/')?;

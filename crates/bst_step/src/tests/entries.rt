@@ -1,11 +1,13 @@
 //! The entries over which small styles run.
 
-use bst_meaning::entry::{Entry, EntryList, FieldValue};
+use bst_meaning::entry::{Entry, EntryList, Fields};
 use bv_base::memory::NoMemory;
+use bv_base::packed_texts::PackedTexts;
 use bv_base::seq::Seq;
 use bv_base::text::Text;
 use name_table::names::NameId;
 use std::alloc::Global;
+use std::rc::Rc;
 
 /// The key, the type and the title of each entry. `-` is a title that is missing.
 static ENTRIES: [(&[u8], &[u8], &[u8]); 5] = [
@@ -54,23 +56,20 @@ fn entry(alloc: Global, key: &[u8], entry_type: &[u8], title: &[u8]) -> Result<E
 }
 
 /// The fields of an entry with this title.
-fn fields(alloc: Global, title: &[u8]) -> Result<Seq<FieldValue>, NoMemory> {
-    let mut fields = Seq::new(alloc);
-    fields.push(FieldValue {
-        name: NameId(37),
-        value: None,
-    })?;
-    fields.push(FieldValue {
-        name: NameId(41),
-        value: value_of(alloc, title)?,
-    })?;
-    Ok(fields)
+fn fields(alloc: Global, title: &[u8]) -> Result<Fields, NoMemory> {
+    let mut names = Vec::new(alloc);
+    names.push(NameId(37))?;
+    names.push(NameId(41))?;
+    let mut values = PackedTexts::new(alloc);
+    values.push(None)?;
+    values.push(value_of(title))?;
+    Ok(Fields::new(Rc::new(alloc, names)?, values))
 }
 
 /// The value of a title.
-fn value_of(alloc: Global, title: &[u8]) -> Result<Option<Text>, NoMemory> {
+fn value_of(title: &[u8]) -> Option<&[u8]> {
     match title {
-        [b'-'] => Ok(None),
-        _ => Ok(Some(Text::from_slice(alloc, title)?)),
+        [b'-'] => None,
+        _ => Some(title),
     }
 }

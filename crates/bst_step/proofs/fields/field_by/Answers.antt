@@ -1,6 +1,8 @@
 -- The table has a place for the name or none, and there the field stands, another or none.
-use Rattle.std.proofs.Common.{◌∙◌, refl, length}
+use Rattle.std.proofs.Common.{◌∙◌, ap, refl, sym, length}
 use Rattle.std.proofs.lemmas.Option.{slice_get_past, slice_get_read}
+use Rattle.bst_meaning.specs.FieldValues.{FieldValue}
+use Rattle.bst_meaning.specs.Machine.{field_value}
 use Rattle.bst_step.proofs.FieldSteps.{another_field, field_placeless, field_stands, no_field}
 use Rattle.bst_step.proofs.fields.field_by.Goals as goal
 
@@ -13,18 +15,17 @@ pub returns-in_default-get : goal.returns-in_default-get
 returns-in_default-get c =
     no_field c.args.places.now c.args.fields.now c.args.name c.in-Some.at.now c.requires
     (slice_get_read c.args.places.now (length c.args.places.now) c.args.name.0 c.in-Some.at.now refl c.in-Some.ensures.lookup.3.0 c.in-Some.ensures.lookup.1)
-    (slice_get_past c.args.fields.now c.in-Some.at.now c.in_default-get.ensures.lookup.3)
+    (sym c.in_default-get.ensures)
 
 pub returns-then-field-name : goal.returns-then-field-name
 returns-then-field-name c =
     c.field_value.ensures
-    ∙ field_stands c.args.places.now c.args.fields.now c.args.name c.in-Some.at.now c.in-Some-get.field.now c.requires
-    (slice_get_read c.args.fields.now (length c.args.fields.now) c.in-Some.at.now c.in-Some-get.field.now refl c.in-Some-get.ensures.lookup.3.0
-    c.in-Some-get.ensures.lookup.1) c.if-field-name.true
+    ∙ ap (λ (f : FieldValue). field_value c.args.name f.value) c.field.view_is
+    ∙ field_stands c.args.places.now c.args.fields.now c.args.name c.in-Some.at.now c.in-Some-get.field c.requires
+    (sym c.in-Some-get.ensures) (ap (λ (f : FieldValue). f.name.0) (sym c.field.view_is) ∙ c.if-field-name.true)
 
 pub returns-else-field-name : goal.returns-else-field-name
 returns-else-field-name c =
-    another_field c.args.places.now c.args.fields.now c.args.name c.in-Some.at.now c.in-Some-get.field.now c.requires
+    another_field c.args.places.now c.args.fields.now c.args.name c.in-Some.at.now c.in-Some-get.field c.requires
     (slice_get_read c.args.places.now (length c.args.places.now) c.args.name.0 c.in-Some.at.now refl c.in-Some.ensures.lookup.3.0 c.in-Some.ensures.lookup.1)
-    (slice_get_read c.args.fields.now (length c.args.fields.now) c.in-Some.at.now c.in-Some-get.field.now refl c.in-Some-get.ensures.lookup.3.0
-    c.in-Some-get.ensures.lookup.1) c.if-field-name.false
+    (sym c.in-Some-get.ensures) (λ same. c.if-field-name.false (ap (λ (f : FieldValue). f.name.0) c.field.view_is ∙ same))

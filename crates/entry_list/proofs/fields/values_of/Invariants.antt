@@ -1,14 +1,10 @@
-use Rattle.std.proofs.Common.{◌≡◌, take}
-use Rattle.std.specs.List.{AllByRecursion}
-use Rattle.std.specs.Option.{ForSome, option_map}
-use Rattle.bst_meaning.specs.Entries.{IsByteList}
-use Rattle.entry_list.specs.Fields.{values_of}
+use Rattle.std.proofs.Common.{◌≡◌, map, take}
+use Rattle.std.specs.Option.{option_map}
+use Rattle.entry_list.specs.Fields.{value_of}
 use Rattle.entry_list.proofs.fields.values_of.Given as goal
 
+-- the values so far are those of the fields so far
 abbrev pub invariant-loop-field : goal.invariant-loop-field
 invariant-loop-field l =
-    record {
-      values : l.found
-          ≡ values_of (take l.field-index l.declared) l.entry (option_map (λ e. e.now) l.parent) l.keeps;
-      bytes : AllByRecursion (λ f. ForSome f.value IsByteList) l.found;
-    }
+    map (option_map (λ text. text.now)) l.found.items
+    ≡ map (λ field. value_of l.entry (option_map (λ e. e.now) l.parent) l.keeps field.name) (take l.field-index l.declared)
