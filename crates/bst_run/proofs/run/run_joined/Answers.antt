@@ -17,6 +17,6 @@ returns c =
     (ran_is (style_of c.in_ok-machine.machine) c.args.style.now c.from.result c.args.steps (configuration c.in_ok-machine.machine) (configuration c.run.new.self) c.args.found.list
     c.in_ok-turn.ensures.moved c.in_ok-machine.ensures.style c.from.ensures c.in_ok-machine.ensures.opening)
     (subst (λ (o : Outcome). IfOk c.outcome_of.result (λ x. x ≡ o))
-    (outcome_is c.args.steps c.in_ok-log.log.items c.in_ok-turn.turn (configuration c.run.new.self) c.in_ok-ending_of.status _ c.in_ok-ending_of.err.items
-    c.in_ok-ending_of.ensures.status (ap (λ (events : List Event). lines_after events) c.in_ok-written.ensures.events) c.in_ok-ending_of.ensures.err)
+    (outcome_is c.args.steps c.in_ok-log.log.items c.in_ok-turn.turn (configuration c.run.new.self) c.in_ok-status.status _ c.in_ok-status.err.items
+    c.in_ok-status.ensures.status (ap (λ (events : List Event). lines_after events) c.in_ok-written.ensures.events) c.in_ok-status.ensures.err)
     c.outcome_of.ensures)
