@@ -2,6 +2,7 @@ pub mod Below
 pub mod Rebound
 pub mod BlankNames
 pub mod Bounds
+pub mod Boxed
 pub mod Consequences
 pub mod Counting
 pub mod Deciding

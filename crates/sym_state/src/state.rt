@@ -24,9 +24,33 @@ use std::alloc::Global;
 use std::marker::Model;
 
 /// What the checker knows of a configuration of the machine (docs/STATES.md). Branches of a state share what they have in
-/// common, so that a branch costs what lies on its stack. Contracts see the record of `specs/State.antt`.
+/// common, so that a branch costs what lies on its stack. Contracts see the record of `specs/State.antt`. What is known stands
+/// in a box, so that a state is moved as one word, and a function that holds several is proved in little time.
 #[derive(Drop)]
 pub struct State {
+    known: Box<Known>,
+}
+
+impl Model for State {
+    ghost use Rattle.sym_state.specs.State as record_of;
+
+    ghost Value = { record_of.State };
+
+    ghost view = { λ s. record {
+      stack = s.known.value.stack;
+      whole = s.known.value.whole;
+      at_entry = s.known.value.at_entry;
+      vars = s.known.value.vars;
+      fields = s.known.value.fields;
+      facts = s.known.value.facts;
+      rows = s.known.value.rows;
+      next = s.known.value.next;
+    } };
+}
+
+/// What is known.
+#[derive(Drop)]
+struct Known {
     alloc: Global,
     stack: Seq<Sym>,
     whole: bool,
@@ -36,23 +60,6 @@ pub struct State {
     facts: SharedList<Fact>,
     rows: SharedList<Row>,
     next: u32,
-}
-
-impl Model for State {
-    ghost use Rattle.sym_state.specs.State as record_of;
-
-    ghost Value = { record_of.State };
-
-    ghost view = { λ s. record {
-      stack = s.stack;
-      whole = s.whole;
-      at_entry = s.at_entry;
-      vars = s.vars;
-      fields = s.fields;
-      facts = s.facts;
-      rows = s.rows;
-      next = s.next;
-    } };
 }
 
 /// What a state is made of.
@@ -98,7 +105,7 @@ impl State {
             rows,
             next,
         } = parts;
-        Ok(State {
+        let known = Known {
             alloc,
             stack,
             whole,
@@ -108,6 +115,9 @@ impl State {
             facts: SharedList::from_vec(alloc, facts.into_vec())?,
             rows: SharedList::from_vec(alloc, rows.into_vec())?,
             next,
+        };
+        Ok(State {
+            known: Box::new(alloc, known)?,
         })
     }
 
@@ -115,21 +125,21 @@ impl State {
     pub fn alloc(&self) -> Global
         ensures { (other : Allocator) → result ≡ other }
     {
-        self.alloc
+        self.known.alloc
     }
 
     /// How many symbols are known on the stack.
     pub fn stack_len(&self) -> u64
         ensures { result ≡ length self.now.stack }
     {
-        self.stack.as_slice().len() as u64
+        self.known.stack.as_slice().len() as u64
     }
 
     /// The symbol so far below the top, which is at 0. `None` comes exactly where no symbol is known there.
     pub fn at(&self, from_top: u64) -> Option<Sym>
         ensures { result ≡ slice_get (reverse self.now.stack) from_top }
     {
-        let stack = self.stack.as_slice();
+        let stack = self.known.stack.as_slice();
         if from_top < stack.len() as u64 {
             Some(stack[stack.len() - 1 - from_top as usize])
         } else {
@@ -141,30 +151,30 @@ impl State {
     pub(crate) fn stack(&self) -> &[Sym]
         ensures { result.now ≡ self.now.stack }
     {
-        self.stack.as_slice()
+        self.known.stack.as_slice()
     }
 
     /// The symbols that are bound to variables.
     pub(crate) fn vars(&self) -> &Bindings
         ensures { result.now ≡ self.now.vars }
     {
-        &self.vars
+        &self.known.vars
     }
 
     /// The symbols that are bound to fields.
     pub(crate) fn fields(&self) -> &Bindings
         ensures { result.now ≡ self.now.fields }
     {
-        &self.fields
+        &self.known.fields
     }
 
     /// The symbol that is bound to a variable or a field. `None` comes exactly where the state binds neither.
     pub fn bound(&self, name: NameId) -> Option<Sym>
         ensures { result ≡ change.bound name self.now }
     {
-        match self.vars.symbol(name) {
+        match self.known.vars.symbol(name) {
             Some(sym) => Some(sym),
-            None => self.fields.symbol(name),
+            None => self.known.fields.symbol(name),
         }
     }
 
@@ -172,56 +182,56 @@ impl State {
     pub fn facts(&self) -> u64
         ensures { result ≡ length self.now.facts }
     {
-        self.facts.len()
+        self.known.facts.len()
     }
 
     /// How many rows there are.
     pub fn rows(&self) -> u64
         ensures { result ≡ length self.now.rows }
     {
-        self.rows.len()
+        self.known.rows.len()
     }
 
     /// The fact of a number, from 0. `None` comes exactly where there are no more.
     pub fn fact(&self, index: u64) -> Option<&Fact>
         ensures { option_map (λ fact. fact.now) result ≡ slice_get self.now.facts index }
     {
-        self.facts.get(index)
+        self.known.facts.get(index)
     }
 
     /// The row of a number, from 0. `None` comes exactly where there are no more.
     pub fn row(&self, index: u64) -> Option<&Row>
         ensures { option_map (λ row. row.now) result ≡ slice_get self.now.rows index }
     {
-        self.rows.get(index)
+        self.known.rows.get(index)
     }
 
     /// Whether the known stack is the whole literal stack.
     pub fn is_whole(&self) -> bool
         ensures { result ≡ self.now.whole }
     {
-        self.whole
+        self.known.whole
     }
 
     /// Whether an entry is visited.
     pub fn is_at_entry(&self) -> bool
         ensures { result ≡ self.now.at_entry }
     {
-        self.at_entry
+        self.known.at_entry
     }
 
     /// The number below which symbols are the state's.
     pub fn next(&self) -> u32
         ensures { result ≡ self.now.next }
     {
-        self.next
+        self.known.next
     }
 
     /// The exact integer of a symbol.
     pub fn exact_integer(&self, sym: Sym) -> Option<i32>
         ensures { result ≡ decided.exact_integer self.now.facts sym.0 }
     {
-        facts::exact_integer(&self.facts, sym)
+        facts::exact_integer(&self.known.facts, sym)
     }
 
     /// The exact text of a symbol.
@@ -229,42 +239,42 @@ impl State {
         ensures said { option_map (λ text. text.now) result ≡ decided.exact_text self.now.facts sym.0 }
         ensures short { All HasShortText self.now.facts → IfSome result (λ text. length text.now ≤ 2 ^ 45) }
     {
-        facts::exact_text(&self.facts, sym)
+        facts::exact_text(&self.known.facts, sym)
     }
 
     /// The name of a symbol that is exactly the function of that name.
     pub fn exact_name(&self, sym: Sym) -> Option<NameId>
         ensures { result ≡ option_and_then decided.name_of (decided.exact_function self.now.facts sym.0) }
     {
-        facts::exact_name(&self.facts, sym)
+        facts::exact_name(&self.known.facts, sym)
     }
 
     /// The number of the block that a symbol exactly is.
     pub fn exact_block(&self, sym: Sym) -> Option<u32>
         ensures { result ≡ option_and_then decided.number_of (decided.exact_function self.now.facts sym.0) }
     {
-        facts::exact_block(&self.facts, sym)
+        facts::exact_block(&self.known.facts, sym)
     }
 
     /// What `empty$` gives for a symbol, true for 1, by the first fact on it that decides that.
     pub fn known_emptiness(&self, sym: Sym) -> Option<bool>
         ensures { result ≡ decided.first_said decided.emptiness_said sym.0 self.now.facts }
     {
-        facts::known_emptiness(&self.facts, sym)
+        facts::known_emptiness(&self.known.facts, sym)
     }
 
     /// Whether the first fact on a symbol that decides `empty$` decides 0.
     pub fn is_known_nonblank(&self, sym: Sym) -> bool
         ensures { result ≡ decided.is_known_nonblank self.now.facts sym.0 }
     {
-        facts::is_known_nonblank(&self.facts, sym)
+        facts::is_known_nonblank(&self.known.facts, sym)
     }
 
     /// The kind of a symbol.
     pub fn known_kind(&self, sym: Sym) -> Kinds
         ensures { result ≡ decided.known_kind self.now.facts sym.0 }
     {
-        facts::known_kind(&self.facts, sym)
+        facts::known_kind(&self.known.facts, sym)
     }
 
     /// Whether a kind includes that of a symbol.
@@ -278,7 +288,7 @@ impl State {
     pub fn is_known(&self, sym: Sym, wanted: &Fact) -> bool
         ensures { result ≡ decided.is_known self.now.facts sym.0 wanted.now }
     {
-        facts::is_known(&self.facts, sym, wanted)
+        facts::is_known(&self.known.facts, sym, wanted)
     }
 
     /// Puts a symbol on top of the stack. A refusal leaves the state as it was.
@@ -287,7 +297,7 @@ impl State {
         ensures err { OnErr result (self.new ≡ self.old) }
         ensures kept { (style : Style) → WellMade style self.old → sym.0 < self.old.next → WellMade style self.new }
     {
-        self.stack.push(sym)
+        self.known.stack.push(sym)
     }
 
     /// Takes the top symbol off the stack. `None` comes exactly where no symbol is known.
@@ -296,7 +306,7 @@ impl State {
             (λ sym. self.old ≡ record self.new { stack = self.new.stack ++ sym ∷ [] }) }
         ensures kept { (style : Style) → WellMade style self.old → WellMade style self.new }
     {
-        self.stack.pop()
+        self.known.stack.pop()
     }
 
     /// Binds a variable or field that the state binds to another symbol. A refusal leaves the state as it was.
@@ -305,10 +315,11 @@ impl State {
         ensures err { OnErr result (self.new ≡ self.old) }
         ensures kept { (style : Style) → WellMade style self.old → sym.0 < self.old.next → WellMade style self.new }
     {
-        let vars = self.vars.rebound(name, sym)?;
-        let fields = self.fields.rebound(name, sym)?;
-        self.vars = vars;
-        self.fields = fields;
+        let known = &mut *self.known;
+        let vars = known.vars.rebound(name, sym)?;
+        let fields = known.fields.rebound(name, sym)?;
+        known.vars = vars;
+        known.fields = fields;
         Ok(())
     }
 
@@ -320,10 +331,11 @@ impl State {
         ensures err { OnErr result (self.new ≡ self.old) }
         ensures kept { (style : Style) → WellMade style self.old → WellMade style self.new }
     {
-        let sym = Sym(self.next);
-        let facts = with_kind(&self.facts, sym, kind)?;
-        self.facts = facts;
-        self.next += 1;
+        let known = &mut *self.known;
+        let sym = Sym(known.next);
+        let facts = with_kind(&known.facts, sym, kind)?;
+        known.facts = facts;
+        known.next += 1;
         Ok(sym)
     }
 
@@ -333,7 +345,7 @@ impl State {
         ensures err { OnErr result (self.new ≡ self.old) }
         ensures kept { (style : Style) → WellMade style self.old → FactFits style self.old.next fact → WellMade style self.new }
     {
-        self.facts.push(fact)
+        self.known.facts.push(fact)
     }
 
     /// Adds a row. A refusal leaves the state as it was.
@@ -343,7 +355,7 @@ impl State {
         ensures bounds { IsBounded row → HasBounds self.old → OnOk result (HasBounds self.new) }
         ensures kept { (style : Style) → WellMade style self.old → RowFits self.old.next row → WellMade style self.new }
     {
-        self.rows.push(row)
+        self.known.rows.push(row)
     }
 
     /// The state with the facts and rows that a case adds.
@@ -353,8 +365,9 @@ impl State {
         ensures bounds { HasBounds self → All HasShortText facts.items → All IsBounded rows.items → IfOk result HasBounds }
     {
         let mut after = self;
-        after.facts.append(facts)?;
-        after.rows.append(rows)?;
+        let known = &mut *after.known;
+        known.facts.append(facts)?;
+        known.rows.append(rows)?;
         Ok(after)
     }
 
@@ -364,7 +377,7 @@ impl State {
         ensures { result ≡ record self { next = self.next + more } }
     {
         let mut after = self;
-        after.next += more;
+        after.known.next += more;
         after
     }
 
@@ -372,7 +385,7 @@ impl State {
     pub fn branch(&self) -> Result<State, NoMemory>
         ensures { IfOk result (λ state. state ≡ self.now) }
     {
-        self.over(self.stack.as_slice().to_vec(self.alloc)?)
+        self.over(self.known.stack.as_slice().to_vec(self.known.alloc)?)
     }
 
     /// A state that is the same without so many of its topmost operands.
@@ -381,30 +394,33 @@ impl State {
         ensures next { IfOk result (λ state. state.next ≡ self.now.next) }
         ensures bounds { HasBounds self.now → IfOk result HasBounds }
     {
-        self.over(front(self.alloc, self.stack.as_slice(), taken)?)
+        self.over(front(self.known.alloc, self.known.stack.as_slice(), taken)?)
     }
 
     /// A state that is the same over an empty stack.
     pub fn emptied(&self) -> Result<State, NoMemory>
         ensures { IfOk result (λ state. state ≡ record self.now { stack = [] }) }
     {
-        self.over(Vec::new(self.alloc))
+        self.over(Vec::new(self.known.alloc))
     }
 
     /// A state that is the same over another stack.
     fn over(&self, stack: Vec<Sym>) -> Result<State, NoMemory>
         ensures { IfOk result (λ state. state ≡ record self.now { stack = stack.items }) }
     {
-        Ok(State {
-            alloc: self.alloc,
+        let known = Known {
+            alloc: self.known.alloc,
             stack: Seq::from_vec(stack),
-            whole: self.whole,
-            at_entry: self.at_entry,
-            vars: self.vars.branch()?,
-            fields: self.fields.branch()?,
-            facts: self.facts.branch()?,
-            rows: self.rows.branch()?,
-            next: self.next,
+            whole: self.known.whole,
+            at_entry: self.known.at_entry,
+            vars: self.known.vars.branch()?,
+            fields: self.known.fields.branch()?,
+            facts: self.known.facts.branch()?,
+            rows: self.known.rows.branch()?,
+            next: self.known.next,
+        };
+        Ok(State {
+            known: Box::new(self.known.alloc, known)?,
         })
     }
 }
