@@ -7,5 +7,3 @@ mod items;
 pub mod laws;
 mod lines;
 pub mod read;
-#[cfg(test)]
-mod tests;

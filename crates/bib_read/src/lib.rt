@@ -14,7 +14,5 @@ mod reader;
 mod runs;
 mod squeeze;
 mod stop;
-#[cfg(test)]
-mod tests;
 mod values;
 mod warnings;

@@ -6,5 +6,3 @@ pub mod laws;
 pub mod lexeme;
 pub mod lexer;
 mod pieces;
-#[cfg(test)]
-mod tests;

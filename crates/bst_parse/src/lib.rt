@@ -9,7 +9,5 @@ mod opened;
 pub mod parse;
 mod parser;
 mod parts;
-#[cfg(test)]
-mod tests;
 mod tokens;
 mod words;

@@ -26,8 +26,6 @@ mod stack;
 mod state;
 mod stop;
 mod surroundings;
-#[cfg(test)]
-mod tests;
 mod texts;
 mod tokens;
 mod values;

@@ -21,7 +21,5 @@ pub mod runs;
 pub mod seq;
 pub mod sink;
 pub mod status;
-#[cfg(test)]
-mod tests;
 pub mod text;
 pub mod write_all;

@@ -9,6 +9,4 @@ pub mod join;
 pub mod joined;
 pub mod laws;
 mod parents;
-#[cfg(test)]
-mod tests;
 mod warnings;

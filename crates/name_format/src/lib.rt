@@ -5,7 +5,5 @@ pub mod format;
 mod group;
 mod initial;
 mod pattern;
-#[cfg(test)]
-mod tests;
 mod tie;
 mod tokens;

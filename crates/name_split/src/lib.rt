@@ -11,6 +11,4 @@ pub mod parts;
 pub mod pattern;
 pub mod spans;
 mod survey;
-#[cfg(test)]
-mod tests;
 pub mod tokens;

@@ -7,5 +7,3 @@ pub mod laws;
 pub mod names;
 pub mod opening;
 pub mod style;
-#[cfg(test)]
-mod tests;

@@ -13,8 +13,6 @@ mod remembered;
 mod said;
 mod search;
 mod straight;
-#[cfg(test)]
-mod tests;
 mod with_term;
 
 pub use crate::asked::Search;

@@ -9,8 +9,6 @@ pub mod laws;
 mod levels;
 pub mod purify;
 pub mod substring;
-#[cfg(test)]
-mod tests;
 pub mod text_length;
 pub mod text_prefix;
 pub mod width;

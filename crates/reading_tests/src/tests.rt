@@ -1,0 +1,5 @@
+//! Examples, worked out by hand.
+
+mod databases;
+mod entries;
+mod styles;
