@@ -9,6 +9,7 @@ pub mod Effects
 pub mod Assignments
 pub mod Surroundings
 pub mod Places
+pub mod Opening
 pub mod State
 pub mod Moves
 pub mod MarkRules

@@ -16,4 +16,3 @@ pub mod StringsCover
 pub mod SubstringCovers
 pub mod SumsCover
 pub mod TextSizes
-pub mod Uses

@@ -37,7 +37,7 @@ use Rattle.cert_check.proofs.Inverted.{placed_ok}
 use Rattle.cert_check.proofs.PieceUses.{turn_room as case_room}
 use Rattle.cert_check.proofs.RoomLeft.{cases_room, room_on, target_leaves, target_room}
 use Rattle.cert_check.proofs.LoopTurns.{one_ok}
-use Rattle.cert_check.proofs.UnitSteps.{Checks}
+use Rattle.cert_check.proofs.UnitSteps.{Checks, unit_at_checks}
 use Rattle.cert_check.proofs.Walked.{found_one}
 use Rattle.cert_check.proofs.WalkSteps.{then_goes, wanted_same}
 
@@ -190,11 +190,7 @@ rest_signs style low high cases rest case is rises room =
 -- the loop of a number
 pub loop_checks : {T : Type 0} (style : Style) (cert : Cert) (k : ℕ) (scope : Scope) (one : Loop) (result : Result T Refusal) → Some one ≡ slice_get cert.loops k
     → scope.style ≡ style → scope.cert ≡ cert → Checks (loop_checked scope.style scope.cert one) result → Checks (loop_checked_at style cert k) result
-loop_checks {T} style cert k scope one result found same_style same_cert checks =
-    subst (λ (r : Result (List Hint) Refusal). Checks r result)
-    (ap (λ (s : Style). loop_checked s scope.cert one) same_style ∙ ap (λ (c : Cert). loop_checked style c one) same_cert
-    ∙ ap (λ (o : Option Loop). option_map_or (loop_checked style cert) o (Ok [])) found)
-    checks
+loop_checks {T} style cert k = unit_at_checks loop_checked style cert cert.loops k
 
 pub no_loop : (style : Style) (cert : Cert) (k : ℕ) → None ≡ slice_get cert.loops k → loop_checked_at style cert k ≡ Ok []
 no_loop style cert k found = ap (λ (o : Option Loop). option_map_or (loop_checked style cert) o (Ok [])) (sym found)

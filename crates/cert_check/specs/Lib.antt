@@ -11,3 +11,4 @@ pub mod Places
 pub mod Room
 pub mod Safely
 pub mod Tours
+pub mod Laws

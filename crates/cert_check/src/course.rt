@@ -1,6 +1,7 @@
 //! How far a walk has come.
 
 ghost use Rattle.std.specs.Prelude.{◌≡◌, ◌≢◌, ◌<◌, ◌≤◌, ◌+◌, ◌*◌, ℕ, [], ◌∷◌, ◌++◌, length, reverse, true, false, None, Some, IfOk, OnOk, Ok, Err, MatchResult, MatchOption};
+ghost use Rattle.std.specs.Global.{Global as Allocator};
 ghost use Rattle.std.specs.List.{All};
 ghost use Rattle.bv_base.specs.Answers.{then_do};
 ghost use Rattle.name_table.specs.Sound.{Each};
@@ -280,8 +281,10 @@ impl<'a> Course<'a> {
         self.finds(place, steps)
     }
 
-    /// Where its lists are.
-    pub(crate) fn alloc(&self) -> Global {
+    /// Where its lists are: there is one allocator.
+    pub(crate) fn alloc(&self) -> Global
+        ensures { (other : Allocator) → result ≡ other }
+    {
         self.alloc
     }
 

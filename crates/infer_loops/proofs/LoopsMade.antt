@@ -9,6 +9,7 @@ use Rattle.std.proofs.lemmas.Bool.Decides.{nat_tests}
 use Rattle.std.proofs.lemmas.List.{length-append, length-map}
 use Rattle.std.proofs.lemmas.List.Elements.{All-append, All-cons, All-filter, All-head, All-map, All-nil, All-tail, All-weaker}
 use Rattle.std.proofs.lemmas.List.Sums.{count_by-le-length, length-filter}
+use Rattle.name_table.proofs.Within.{each_kept}
 use Rattle.name_table.specs.Sound.{Each, IsSound}
 use Rattle.name_table.specs.declared.names.Kind.{Kind}
 use Rattle.name_table.specs.declared.names.Kind.TheVariants as kind
@@ -35,7 +36,7 @@ use Rattle.loop_templates.specs.declared.limits.TheConstants.{MOST_PIECES}
 use Rattle.loop_templates.proofs.FewTerms.{sums_small}
 use Rattle.loop_templates.proofs.Over.{sums_over_names}
 use Rattle.loop_templates.proofs.Seated.{ids_below}
-use Rattle.loop_templates.proofs.Standing.{MayExit, exits_are_cases, exits_made, first_has_cases, next_has_cases, each_kept}
+use Rattle.loop_templates.proofs.Standing.{MayExit, exits_are_cases, exits_made, first_has_cases, next_has_cases}
 use Rattle.loop_templates.proofs.Written.{each_of_all, ids_hold, variables_are}
 use Rattle.cert_check.specs.Certified.{AreWritten, IsCertified, IsLoopOf, IsPieceOf, MakesLoops, MakesStanding}
 use Rattle.cert_check.specs.Tours.{Toured, setting_out, turns_of}

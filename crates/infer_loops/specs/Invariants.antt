@@ -71,19 +71,23 @@ written_in style one found = occurring_of (is_bound_variable (all_bound one.entr
 abbrev pub sums_in : Style → Turning → Occurring → List (List Part)
 sums_in style one found = sums (terms_over style found one.entry)
 
--- the frame of a loop
-abbrev pub frame_over : Style → Cond → Turning → Occurring → List State → Frame
-frame_over style admits one found entering = record {
+-- the frame of a loop over these sums, where these variables count as written
+abbrev pub frame_with : Style → Cond → Turning → List NameId → List (List Part) → List State → Frame
+frame_with style admits one writes all entering = record {
   style = style;
   admits = admits;
   whole = one.whole;
   at_entry = one.entry;
   has_pos = one.entry;
   bound = all_bound one.entry;
-  writes = written_in style one found;
-  sums = sums_in style one found;
+  writes = writes;
+  sums = all;
   entering = entering;
 }
+
+-- the frame of a loop in which these names occur
+abbrev pub frame_over : Style → Cond → Turning → Occurring → List State → Frame
+frame_over style admits one found entering = frame_with style admits one (written_in style one found) (sums_in style one found) entering
 
 -- that of the loop that some states enter
 abbrev pub frame_of : Style → Cond → Turning → List State → Frame

@@ -1,5 +1,5 @@
 -- Cases as certificates have them: their names, their symbols and their facts.
-use Rattle.std.proofs.Common.{◌≡◌, ℕ, zero, suc, ◌+◌, ◌<◌, ◌≤◌, Bool, true, false, ◌&&◌, ◌||◌, cond, nat_lt, nat_le, ap, sym, ◌∙◌, refl, subst, arith, List, [], ◌∷◌, ◌++◌, length, map, drop, slice_get, Option, Some, None, option_map, ℤ, pos, negsuc}
+use Rattle.std.proofs.Common.{◌≡◌, ℕ, zero, suc, ◌+◌, ◌<◌, ◌≤◌, Bool, true, false, ◌&&◌, ◌||◌, cond, nat_lt, nat_le, ap, ◌∙◌, refl, subst, arith, List, [], ◌∷◌, ◌++◌, length, map, drop, slice_get, Option, Some, None, option_map, ℤ, pos, negsuc}
 use Rattle.std.specs.Prelude.{is_some}
 use Rattle.std.specs.List.{All, fold, range_with_len}
 use Rattle.std.specs.Cmp.Derive.{both_true}

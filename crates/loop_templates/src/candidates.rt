@@ -9,11 +9,12 @@ ghost use Rattle.loop_templates.specs.Skeletons as skeletons;
 ghost use Rattle.loop_templates.specs.Skeletons.{IsBoneOf};
 
 use crate::cases::{Frame, case_of, entering_case};
-use crate::copies::{all_copied, cases_copied};
+use crate::copies::cases_copied;
 use crate::limits::{MOST_ADDED, MOST_ITEMS, MOST_PIECES};
 use crate::lowering::{Lowered, is_met, lower_all};
 use crate::skeletons::{Bone, same_skeleton, skeleton};
 use bst_meaning::condition::Cond;
+use bv_base::copied::Copied;
 use bv_base::memory::NoMemory;
 use bv_base::seq::Seq;
 use std::alloc::Global;
@@ -156,7 +157,7 @@ fn grown(
     ensures { IfOk result (λ next. next ≡ rule.grown frame.now candidate.now turned.now new.items) }
 {
     if may_grow(candidate, new.as_slice()) {
-        let mut added = all_copied(alloc, candidate.added.as_slice())?;
+        let mut added = candidate.added.copied(alloc)?.into_vec();
         push_added(alloc, &mut added, frame, turned, new)?;
         goes(alloc, candidate, Seq::from_vec(added))
     } else {

@@ -15,11 +15,11 @@ use crate::known::Known;
 use crate::learnt::Learnt;
 use crate::lookup::references_to;
 use crate::remainders::{fits, lead, minus};
-use crate::said::row_said;
 use bv_base::memory::NoMemory;
 use lin_facts::row::{Row, Term};
 use std::alloc::Global;
 use sym_state::proof::Reference;
+use sym_state::references::row_said;
 
 /// The first list of at most so many references that shows a remainder, its last reference first.
 #[cycle(search)]

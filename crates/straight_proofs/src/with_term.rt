@@ -9,10 +9,10 @@ ghost use Rattle.straight_proofs.specs.Remembered.{AreWith, HaveRows};
 
 use crate::known::Known;
 use crate::on_term::rows_on;
-use crate::remainders::coefficient_of;
 use crate::remembered::{Remembered, signed};
 use bv_base::copied::Copied;
 use bv_base::memory::NoMemory;
+use lin_facts::follows::coefficient_of;
 use lin_facts::row::{Row, Term};
 use std::alloc::Global;
 use std::rc::Rc;

@@ -63,6 +63,17 @@ struct Given {
     rows: &'static [Line],
 }
 
+/// What a state knows, at an entry or not: facts and rows.
+macro_rules! given {
+    ($at_entry:expr, $facts:expr, $rows:expr) => {
+        Given {
+            at_entry: $at_entry,
+            facts: &$facts,
+            rows: &$rows,
+        }
+    };
+}
+
 /// A goal, and the references of its straight proof.
 #[derive(Clone, Copy)]
 struct Example {
@@ -75,11 +86,7 @@ struct Example {
 macro_rules! shown {
     ($at_entry:literal, $facts:expr, $rows:expr, $goal:expr, $proof:expr) => {
         Example {
-            given: Given {
-                at_entry: $at_entry,
-                facts: &$facts,
-                rows: &$rows,
-            },
+            given: given!($at_entry, $facts, $rows),
             goal: $goal,
             proof: Some(&$proof),
         }
@@ -90,11 +97,7 @@ macro_rules! shown {
 macro_rules! open {
     ($at_entry:literal, $facts:expr, $rows:expr, $goal:expr) => {
         Example {
-            given: Given {
-                at_entry: $at_entry,
-                facts: &$facts,
-                rows: &$rows,
-            },
+            given: given!($at_entry, $facts, $rows),
             goal: $goal,
             proof: None,
         }
@@ -344,11 +347,7 @@ struct Floored {
 macro_rules! floored {
     ($facts:expr, $rows:expr, $sum:expr, $floor:expr) => {
         Floored {
-            given: Given {
-                at_entry: false,
-                facts: &$facts,
-                rows: &$rows,
-            },
+            given: given!(false, $facts, $rows),
             sum: $sum,
             floor: $floor,
         }
@@ -469,12 +468,7 @@ fn has_floor(alloc: Global, example: &Floored) -> Result<bool, NoMemory> {
 
 /// Whether one search of a state gives the floors of sums that are wanted.
 fn all_told(alloc: Global) -> Result<bool, NoMemory> {
-    let given = Given {
-        at_entry: false,
-        facts: &[],
-        rows: &STEPS,
-    };
-    let state = state(alloc, given)?;
+    let state = state(alloc, given!(false, [], STEPS))?;
     let cond = condition(alloc);
     let mut search = Search::new(alloc, &state, &cond)?;
     are_told(alloc, &mut search, ASKED.as_slice())

@@ -1,8 +1,9 @@
 //! Styles and certificates that are checked.
 
-use crate::tests::{Example, Failing, File};
+use crate::tests::{Example, Failing, File, compare, compare_long};
 use bv_base::limits::STYLE_BYTES;
 use bv_base::status::Status;
+use std::test::Fail;
 
 /// A straight style that joins two texts and writes them.
 pub const JOINS: &[u8] = b"ENTRY{}{}{} FUNCTION{f}{\"a\" \"b\" * write$ newline$} READ EXECUTE{f}";
@@ -18,11 +19,16 @@ const ACCEPTED_NINE: &str =
     "accepted\nlist 1\nentries 9\nkey 9\npreamble 9\nlength 9\nothertype yes\nend\n";
 
 /// The certificate of nines, which lets in entries of every type.
-const NINES: &[u8] =
+pub const NINES: &[u8] =
     b"bstcert 1\nentries 9\nkey 9\npreamble 9\nlength 9\nothertype yes\nend\ndone\n";
 
+#[test]
+fn check_gives_the_worked_answers(rt: HostRuntime) -> Result<(), Fail> {
+    compare(&rt, rt.alloc(), &CHECKS)
+}
+
 /// Styles with the certificate under which no entry is let in.
-pub static CHECKS: [Example; 36] = [
+static CHECKS: [Example; 36] = [
     checked!(JOINS, NO_ENTRIES => Done, ACCEPTED, ""),
     checked!(b"", NO_ENTRIES => Done, ACCEPTED, ""),
     checked!(b"ENTRY{}{}{} FUNCTION{f}{\"a\" *} READ EXECUTE{f}", NO_ENTRIES => Refused, "", "refused 1:29 EmptyPop 2\n"),
@@ -66,8 +72,13 @@ pub static CHECKS: [Example; 36] = [
     checked!(b"ENTRY{}{}{} READ REVERSE{skip$} SORT", NO_ENTRIES => Done, ACCEPTED, ""),
 ];
 
+#[test]
+fn certificates_have_one_spelling(rt: HostRuntime) -> Result<(), Fail> {
+    compare(&rt, rt.alloc(), &CERTIFICATES)
+}
+
 /// Certificates with the style that joins two texts.
-pub static CERTIFICATES: [Example; 7] = [
+static CERTIFICATES: [Example; 7] = [
     checked!(JOINS, b"bstcert 1\nentries 1000000\nkey 1073741824\npreamble 10\nlength 9\nothertype yes\nend\ndone\n" => Done, "accepted\nlist 1\nentries 1000000\nkey 1073741824\npreamble 10\nlength 9\nothertype yes\nend\n", ""),
     checked!(JOINS, b"" => BadCert, "", "bad certificate 1:1 Syntax\n"),
     checked!(JOINS, b"bstcert 1\nentries 1000001\nkey 0\npreamble 0\nlength 0\nothertype no\nend\ndone\n" => BadCert, "", "bad certificate 2:9 OutOfRange\n"),
@@ -80,28 +91,23 @@ pub static CERTIFICATES: [Example; 7] = [
 /// A style with two fields.
 const FIELDS: &[u8] = b"ENTRY{author title}{}{} READ";
 
+#[test]
+fn conditions_are_printed_as_they_stand(rt: HostRuntime) -> Result<(), Fail> {
+    compare(&rt, rt.alloc(), &CONDITIONS)
+}
+
 /// Conditions with lines on names, fields and types are printed as they stand.
-pub static CONDITIONS: [Example; 3] = [
+static CONDITIONS: [Example; 3] = [
     checked!(FIELDS, b"bstcert 1\nentries 9\nkey 9\npreamble 9\nlength 9\nnames author 3\nnames title 1\nnonblank title\ntype article\ntype misc\nothertype no\nend\ndone\n" => Done, "accepted\nlist 1\nentries 9\nkey 9\npreamble 9\nlength 9\nnames author 3\nnames title 1\nnonblank title\ntype article\ntype misc\nothertype no\nend\n", ""),
     checked!(FIELDS, b"bstcert 1\nentries 9\nkey 9\npreamble 9\nlength 9\nnames year 3\nothertype no\nend\ndone\n" => BadCert, "", "bad certificate 6:7 UnknownName\n"),
     checked!(FIELDS, b"bstcert 1\nentries 9\nkey 9\npreamble 9\nlength 9\nnonblank title\nnonblank author\nothertype no\nend\ndone\n" => BadCert, "", "bad certificate 7:10 NotCanonical\n"),
 ];
 
-/// Writes a name by a pattern with a wrong letter, and by one that is well formed.
-const WRONG_PATTERN: &[u8] =
-    b"ENTRY{}{}{} FUNCTION{f}{\"A B\" #1 \"{ff~}{xx}\" format.name$ write$} READ EXECUTE{f}";
-
+/// Writes a name by a pattern that is well formed.
 const PATTERN: &[u8] =
     b"ENTRY{}{}{} FUNCTION{f}{\"A B\" #1 \"{ff~}{ll}\" format.name$ write$} READ EXECUTE{f}";
 
-/// The same by a variable that holds the pattern.
-const WRONG_HELD: &[u8] =
-    b"STRINGS{s} ENTRY{}{}{} FUNCTION{f}{\"{ff~}{xx}\" 's := \"A B\" #1 s format.name$ write$} READ EXECUTE{f}";
-
-const HELD: &[u8] =
-    b"STRINGS{s} ENTRY{}{}{} FUNCTION{f}{\"{ff~}{ll}\" 's := \"A B\" #1 s format.name$ write$} READ EXECUTE{f}";
-
-/// The name that is wanted is there, as the symbols of the two styles say it.
+/// The name that is wanted is there, as the symbols of that style say it, and of one whose variable holds the pattern.
 const ONE_NAME: &[u8] =
     b"bstcert 1\nentries 9\nkey 9\npreamble 9\nlength 9\nothertype yes\nend\ncommand 3\nhints\nstep 1 1:e3\nstep 1 1:c2 1:f3\nend\ndone\n";
 
@@ -111,12 +117,19 @@ const ONE_NAME_HELD: &[u8] =
 /// Drops a text in a function of its own.
 const DROPS: &[u8] = b"ENTRY{}{}{} FUNCTION{g}{pop$} FUNCTION{f}{\"a\" g} READ EXECUTE{f}";
 
+#[test]
+fn hints_and_summaries_decide(rt: HostRuntime) -> Result<(), Fail> {
+    compare(&rt, rt.alloc(), &HINTED)
+}
+
 /// Certificates with hints and summaries.
-pub static HINTED: [Example; 11] = [
-    checked!(WRONG_PATTERN, ONE_NAME => Refused, "", "refused 1:46 BadPattern 1\n"),
+static HINTED: [Example; 11] = [
+    // A pattern with a wrong letter, and one without.
+    checked!(b"ENTRY{}{}{} FUNCTION{f}{\"A B\" #1 \"{ff~}{xx}\" format.name$ write$} READ EXECUTE{f}", ONE_NAME => Refused, "", "refused 1:46 BadPattern 1\n"),
     checked!(PATTERN, ONE_NAME => Done, ACCEPTED_NINE, ""),
-    checked!(WRONG_HELD, ONE_NAME_HELD => Refused, "", "refused 1:65 BadPattern 1\n"),
-    checked!(HELD, ONE_NAME_HELD => Done, ACCEPTED_NINE, ""),
+    // The same by a variable that holds it.
+    checked!(b"STRINGS{s} ENTRY{}{}{} FUNCTION{f}{\"{ff~}{xx}\" 's := \"A B\" #1 s format.name$ write$} READ EXECUTE{f}", ONE_NAME_HELD => Refused, "", "refused 1:65 BadPattern 1\n"),
+    checked!(b"STRINGS{s} ENTRY{}{}{} FUNCTION{f}{\"{ff~}{ll}\" 's := \"A B\" #1 s format.name$ write$} READ EXECUTE{f}", ONE_NAME_HELD => Done, ACCEPTED_NINE, ""),
     checked!(JOINS, b"bstcert 1\nentries 9\nkey 9\npreamble 9\nlength 9\nothertype yes\nend\ncommand 3\nhints\nkeep\nend\ndone\n" => Refused, "", "refused 1:57 HintsLeft\n"),
     // Without its hints the first step is missing.
     checked!(PATTERN, NINES => Refused, "", "refused 1:46 HintsShort\n"),
@@ -136,9 +149,14 @@ pub const BOTH: &[File] = &[file_of!("a.bst", JOINS), file_of!("b.cert", NO_ENTR
 /// No style, and the certificate.
 pub const NO_STYLE: &[File] = &[file_of!("a.bst", b"FOO"), file_of!("b.cert", NO_ENTRIES)];
 
+#[test]
+fn failing_files_and_sinks_of_a_check_are_named(rt: HostRuntime) -> Result<(), Fail> {
+    compare(&rt, rt.alloc(), &FAILING_CHECKS)
+}
+
 /// The second call reads the style, the third ends it, the fourth begins the certificate, and the fifth reads it. Then
 /// come the text that accepts, and the line that refuses.
-pub static FAILING_CHECKS: [Example; 7] = [
+static FAILING_CHECKS: [Example; 7] = [
     answered!(["check", "a.bst", "b.cert"], BOTH, Failing::Files(1) => ReadFailed, "", "read failed a.bst\n"),
     answered!(["check", "a.bst", "b.cert"], BOTH, Failing::Files(2) => ReadFailed, "", "read failed a.bst\n"),
     answered!(["check", "a.bst", "b.cert"], BOTH, Failing::Files(3) => ReadFailed, "", "read failed a.bst\n"),
@@ -148,8 +166,13 @@ pub static FAILING_CHECKS: [Example; 7] = [
     answered!(["check", "a.bst", "b.cert"], NO_STYLE, Failing::Err => WriteFailed, "", ""),
 ];
 
+#[test]
+fn long_styles_are_refused_by_their_length(rt: HostRuntime) -> Result<(), Fail> {
+    compare_long(&rt, rt.alloc(), &LONG_STYLES)
+}
+
 /// Lengths of styles of spaces alone.
-pub static LONG_STYLES: [(usize, Example); 2] = [
+static LONG_STYLES: [(usize, Example); 2] = [
     (
         STYLE_BYTES,
         answered!(["check", "a.bst", "b.cert"], &[], Failing::Nothing => Done, ACCEPTED, ""),

@@ -1,11 +1,18 @@
 //! Runs over bad data, and inputs that nest.
 
 use crate::tests::run::{KEYS, ONE};
-use crate::tests::{Example, Failing, File};
+use crate::tests::{Example, Failing, File, compare};
 use bv_base::status::Status;
+use std::test::Fail;
+
+#[test]
+fn bad_data_is_named_with_its_place(rt: HostRuntime) -> Result<(), Fail> {
+    compare(&rt, rt.alloc(), &BAD_DATABASES)?;
+    compare(&rt, rt.alloc(), &BAD_AUX)
+}
 
 /// Databases, each at fault.
-pub static BAD_DATABASES: [Example; 5] = [
+static BAD_DATABASES: [Example; 5] = [
     ran!(ONE, b"", KEYS, b"@misc k", "9" => BadData, "", "bad data d.bib 1:7 Expected\n"),
     ran!(ONE, b"", KEYS, b"@misc{k, a = {x}", "9" => BadData, "", "bad data d.bib 1:17 EndOfFile\n"),
     ran!(ONE, b"", KEYS, b"@misc{k, a = \"}\"}", "9" => BadData, "", "bad data d.bib 1:15 Unbalanced\n"),
@@ -15,7 +22,7 @@ pub static BAD_DATABASES: [Example; 5] = [
 ];
 
 /// `.aux` files, each at fault.
-pub static BAD_AUX: [Example; 11] = [
+static BAD_AUX: [Example; 11] = [
     ran!(b"\n\\citation{a", b"", KEYS, b"", "9" => BadData, "", "bad data p.aux 2:1 BadCommand\n"),
     ran!(b"\\bibstyle{s}\n\\bibstyle{s}\n", b"", KEYS, b"", "9" => BadData, "", "bad data p.aux 2:1 SecondStyle\n"),
     ran!(b"\\bibdata{d}\n\\bibdata{d}\n", b"", KEYS, b"", "9" => BadData, "", "bad data p.aux 2:1 SecondData\n"),
@@ -57,8 +64,13 @@ const NEST: &[File] = &[
     file_of!("q15.aux", b"\\@input{q16.aux}\n"),
 ];
 
+#[test]
+fn inputs_nest_sixteen_deep(rt: HostRuntime) -> Result<(), Fail> {
+    compare(&rt, rt.alloc(), &NESTED)
+}
+
 /// The file of depth 16.
-pub static NESTED: [Example; 4] = [
+static NESTED: [Example; 4] = [
     // What an input cites takes its place among the citations.
     nested!(b"\\citation{c}\n" => Done, "a\nc\nb\n", ""),
     nested!(b"\\@input{x}\n" => BadData, "", "bad data q16.aux 1:1 TooDeep\n"),

@@ -2,8 +2,7 @@
 
 use crate::command::command;
 use crate::generating::generate;
-use crate::tests::words::USAGE;
-use crate::tests::{Example, Failing, compare, owned};
+use crate::tests::owned;
 use bv_base::mem_files::MemFiles;
 use bv_base::mem_sink::MemSink;
 use bv_base::status::Status;
@@ -28,6 +27,13 @@ ITERATE{f4}
 ITERATE{f5}
 ";
 
+#[test]
+fn a_style_is_made_from_a_seed(rt: HostRuntime) -> Result<(), Fail> {
+    let text = generate(rt.alloc(), 3, 5)?;
+    assert_eq!(&rt; text.as_slice(), FIVE.as_bytes());
+    Ok(())
+}
+
 /// A seed, a number of functions, and the bytes of the style that is made.
 #[derive(Clone, Copy)]
 struct Made {
@@ -44,6 +50,14 @@ macro_rules! made {
             bytes: $bytes,
         }
     };
+}
+
+#[test]
+fn styles_that_are_made_are_shown(rt: HostRuntime) -> Result<(), Fail> {
+    for row in &MADE {
+        compare_made(&rt, rt.alloc(), row)?;
+    }
+    Ok(())
 }
 
 /// Styles that are read and shown: no seed was found for which that fails.
@@ -70,48 +84,6 @@ static MADE: [Made; 20] = [
     made!("999999998", "30" => "1845"),
     made!("999999999", "30" => "1740"),
 ];
-
-/// Numbers that the words may have and may not, and sinks that fail. No file is begun, so none can fail.
-static WORDS: [Example; 18] = [
-    answered!(["gen", "1", "1"], &[], Failing::Nothing => Done, "functions 1\nbytes 129\naccepted\n", ""),
-    answered!(["gen", "0", "1"], &[], Failing::Files(1) => Done, "functions 1\nbytes 123\naccepted\n", ""),
-    answered!(["gen", "999999999", "1"], &[], Failing::Nothing => Done, "functions 1\nbytes 95\naccepted\n", ""),
-    answered!(["gen", "1", "1"], &[], Failing::Out => WriteFailed, "", ""),
-    answered!(["gen", "1", "1"], &[], Failing::Err => Done, "functions 1\nbytes 129\naccepted\n", ""),
-    answered!(["gen", "1", "0"], &[], Failing::Nothing => Usage, "", USAGE),
-    answered!(["gen", "1", "0"], &[], Failing::Err => WriteFailed, "", ""),
-    answered!(["gen", "1", "2001"], &[], Failing::Nothing => Usage, "", USAGE),
-    answered!(["gen", "1", "01"], &[], Failing::Nothing => Usage, "", USAGE),
-    answered!(["gen", "01", "1"], &[], Failing::Nothing => Usage, "", USAGE),
-    answered!(["gen", "00", "1"], &[], Failing::Nothing => Usage, "", USAGE),
-    answered!(["gen", "1000000000", "1"], &[], Failing::Nothing => Usage, "", USAGE),
-    answered!(["gen", "4294967296", "1"], &[], Failing::Nothing => Usage, "", USAGE),
-    answered!(["gen", "-1", "1"], &[], Failing::Nothing => Usage, "", USAGE),
-    answered!(["gen", "", "1"], &[], Failing::Nothing => Usage, "", USAGE),
-    answered!(["gen", "1"], &[], Failing::Nothing => Usage, "", USAGE),
-    answered!(["gen", "1", "1", "1"], &[], Failing::Nothing => Usage, "", USAGE),
-    answered!(["Gen", "1", "1"], &[], Failing::Nothing => Usage, "", USAGE),
-];
-
-#[test]
-fn numbers_of_seeds_and_functions_have_one_spelling(rt: HostRuntime) -> Result<(), Fail> {
-    compare(&rt, rt.alloc(), &WORDS)
-}
-
-#[test]
-fn a_style_is_made_from_a_seed(rt: HostRuntime) -> Result<(), Fail> {
-    let text = generate(rt.alloc(), 3, 5)?;
-    assert_eq!(&rt; text.as_slice(), FIVE.as_bytes());
-    Ok(())
-}
-
-#[test]
-fn styles_that_are_made_are_shown(rt: HostRuntime) -> Result<(), Fail> {
-    for row in &MADE {
-        compare_made(&rt, rt.alloc(), row)?;
-    }
-    Ok(())
-}
 
 /// Asserts what is answered for a seed and a number of functions.
 fn compare_made(rt: &impl Abort, alloc: Global, row: &Made) -> Result<(), Fail> {

@@ -1,8 +1,9 @@
 //! Runs, what they write, and where they come to a fault.
 
 use crate::tests::check::JOINS;
-use crate::tests::{Example, Failing, File};
+use crate::tests::{Example, Failing, File, compare};
 use bv_base::status::Status;
+use std::test::Fail;
 
 /// Cites one entry.
 pub const ONE: &[u8] = b"\\citation{k}\n\\bibstyle{s}\n\\bibdata{d}\n";
@@ -21,8 +22,8 @@ const FORMAT: &[u8] =
 pub const TYPES: &[u8] =
     b"ENTRY{}{}{} FUNCTION{output}{write$ newline$} FUNCTION{misc}{\"x\" output} READ ITERATE{call.type$}";
 
-/// Writes the names of each entry as a list.
-const NAMES: &[u8] = b"ENTRY{author}{}{}
+/// Writes the authors of each entry as a list, the last of them behind `and`, or `et al.` where that is `others`.
+pub const NAMES: &[u8] = b"ENTRY{author}{}{}
 INTEGERS{nameptr namesleft numnames}
 STRINGS{s t}
 FUNCTION{format.names}
@@ -41,8 +42,13 @@ READ
 ITERATE{call.type$}
 ";
 
+#[test]
+fn a_run_writes_its_lines_and_its_log(rt: HostRuntime) -> Result<(), Fail> {
+    compare(&rt, rt.alloc(), &RUNS)
+}
+
 /// Runs with their lines and their logs.
-pub static RUNS: [Example; 10] = [
+static RUNS: [Example; 10] = [
     ran!(ONE, b"", FORMAT, b"@misc{k, author = {Charles Louis Xavier Joseph de la Vall{\\'e}e Poussin}}\n", "1000" => Done, "de~la Vall{\\'e}e~Poussin, C.~L. X.~J?\n", ""),
     ran!(ONE, b"", NAMES, b"@misc{k, author = {Ann Lee and Bo Ray and Cy Fox}}\n", "1000" => Done, "Ann Lee, Bo~Ray, and Cy~Fox\n", ""),
     // The number of steps: all of them, one less, and fewer than the first line takes.
@@ -59,8 +65,13 @@ pub static RUNS: [Example; 10] = [
     ran!(b"\\citation{k}\n\\bibstyle{s}\n\\bibdata{d, i.aux}\n", b"", KEYS, b"@misc{k}", "99" => NoFile, "", "no file i.aux.bib\n"),
 ];
 
+#[test]
+fn a_fault_has_its_place_and_its_key(rt: HostRuntime) -> Result<(), Fail> {
+    compare(&rt, rt.alloc(), &FAULTS)
+}
+
 /// Runs that come to a fault.
-pub static FAULTS: [Example; 5] = [
+static FAULTS: [Example; 5] = [
     ran!(ONE, b"", NAMES, b"@misc{k, author = {Smith, John,}}\n", "1000" => Fault, "", "fault 7:38 BadName k\n"),
     ran!(ONE, b"", TYPES, b"@output{k}\n", "1000" => Fault, "", "fault 1:30 EmptyPop k\n"),
     // The lines before the fault are written. The key is the citation's, in the order of the visit.
@@ -82,9 +93,14 @@ macro_rules! failed {
     };
 }
 
+#[test]
+fn failing_files_and_sinks_of_a_run_are_named(rt: HostRuntime) -> Result<(), Fail> {
+    compare(&rt, rt.alloc(), &FAILING_RUNS)
+}
+
 /// Each of the three files is begun, read and read to its end. Then a call of standard output or of standard error
 /// fails, and what was written before it stands.
-pub static FAILING_RUNS: [Example; 7] = [
+static FAILING_RUNS: [Example; 7] = [
     failed!(ONE, Failing::Files(1) => ReadFailed, "", "read failed p.aux\n"),
     failed!(ONE, Failing::Files(3) => ReadFailed, "", "read failed p.aux\n"),
     failed!(ONE, Failing::Files(4) => ReadFailed, "", "read failed s.bst\n"),

@@ -1,25 +1,14 @@
 //! Runs under certificates.
 
-use crate::tests::check::{JOINS, NO_ENTRIES};
+use crate::tests::check::{JOINS, NINES, NO_ENTRIES};
 use crate::tests::run::{KEYS, ONE, TYPES, ZZ};
-use crate::tests::{Example, Failing, File};
+use crate::tests::{Example, Failing, File, compare};
 use bv_base::status::Status;
+use std::test::Fail;
 
-/// Lets in entries of every type.
-const NINES: &[u8] =
-    b"bstcert 1\nentries 9\nkey 9\npreamble 9\nlength 9\nothertype yes\nend\ndone\n";
-
-/// The same, and entries of the style's own type `misc`.
+/// Lets in entries of every type, those of the style's own type `misc` too.
 const MISC: &[u8] =
     b"bstcert 1\nentries 9\nkey 9\npreamble 9\nlength 9\ntype misc\nothertype yes\nend\ndone\n";
-
-/// Enters the function of each entry's type once more while it is running.
-const AGAIN: &[u8] =
-    b"ENTRY{}{}{} INTEGERS{n} FUNCTION{misc}{cite$ write$ newline$ n #0 > {#0 'n := call.type$} 'skip$ if$} FUNCTION{f}{#1 'n := call.type$} READ ITERATE{f}";
-
-/// Its summary is used in its own check.
-const AGAIN_CERT: &[u8] =
-    b"bstcert 1\nentries 9\nkey 9\npreamble 9\nlength 9\ntype misc\nothertype no\nend\nsummary misc\nentry\nwrites n\npre\npost\nhints\nkeep\nkeep\nuse 0\ncase 0\ncase 0\nend\ncommand 5\nhints\nuse 0\nend\ndone\n";
 
 /// What is answered to a run of so many steps under a certificate over the files `p.aux`, `s.bst`, `d.bib` and `b.cert`.
 macro_rules! under {
@@ -32,15 +21,21 @@ macro_rules! under {
     };
 }
 
+#[test]
+fn a_run_under_a_certificate_tells_of_its_condition(rt: HostRuntime) -> Result<(), Fail> {
+    compare(&rt, rt.alloc(), &UNDER)
+}
+
 /// Whether the entries meet the condition stands before all warnings, also where the steps are taken.
-pub static UNDER: [Example; 10] = [
+static UNDER: [Example; 10] = [
     under!(ONE, TYPES, b"@misc{k}\n", MISC, "1000" => Done, "x\n", "inside\n"),
     under!(ONE, TYPES, b"@output{k}\n", MISC, "1000" => Fault, "", "outside\nunmet k othertype yes\nfault 1:30 EmptyPop k\n"),
     under!(ONE, KEYS, b"@misc{k}", NO_ENTRIES, "99" => Done, "k\n", "outside\nunmet - entries 0\n"),
     under!(b"\\citation{longer.key}\n\\bibstyle{s}\n\\bibdata{d}\n", KEYS, b"@misc{longer.key}", NINES, "99" => Done, "longer.key\n", "outside\nunmet longer.key key 9\n"),
     under!(ZZ, JOINS, b"", NINES, "11" => Done, "ab\n", "inside\nWarning--no entry zz\n"),
     under!(ZZ, JOINS, b"", NINES, "10" => Budget, "ab\n", "inside\nWarning--no entry zz\nbudget 10\n"),
-    under!(ONE, AGAIN, b"@misc{k}", AGAIN_CERT, "99" => Done, "k\nk\n", "inside\n"),
+    // Each entry's type is entered once more while it is running, and its summary is used in its own check.
+    under!(ONE, b"ENTRY{}{}{} INTEGERS{n} FUNCTION{misc}{cite$ write$ newline$ n #0 > {#0 'n := call.type$} 'skip$ if$} FUNCTION{f}{#1 'n := call.type$} READ ITERATE{f}", b"@misc{k}", b"bstcert 1\nentries 9\nkey 9\npreamble 9\nlength 9\ntype misc\nothertype no\nend\nsummary misc\nentry\nwrites n\npre\npost\nhints\nkeep\nkeep\nuse 0\ncase 0\ncase 0\nend\ncommand 5\nhints\nuse 0\nend\ndone\n", "99" => Done, "k\nk\n", "inside\n"),
     // A last line stands alone.
     under!(ONE, KEYS, b"@misc{k}", b"", "99" => BadCert, "", "bad certificate 1:1 Syntax\n"),
     under!(ONE, b"ENTRY{}{}{} FUNCTION{f}{*} READ EXECUTE{f}", b"@misc{k}", NINES, "99" => Refused, "", "refused 1:25 EmptyPop 1\n"),
@@ -59,9 +54,14 @@ const LISTED: &[u8] =
 const OTHERS: &[u8] =
     b"bstcert 1\nentries 3\nkey 4\npreamble 4\nlength 13\nnames author 2\nnonblank title\ntype misc\nothertype yes\nend\ndone\n";
 
+#[test]
+fn the_first_line_that_is_not_kept_is_told(rt: HostRuntime) -> Result<(), Fail> {
+    compare(&rt, rt.alloc(), &UNMET)
+}
+
 /// The first line that isn't kept is told with the entry: each line unmet on the first entry, where later lines and later
 /// entries are unmet too, and on the last.
-pub static UNMET: [Example; 17] = [
+static UNMET: [Example; 17] = [
     // All lines are kept, up to their numbers.
     under!(b"\\citation{a,b,last}\n\\bibstyle{s}\n\\bibdata{d}\n", TITLES, b"@preamble{{1234}}@misc{a,title={1234567890123}}@misc{b,title={t},author={A and B}}@misc{last,title={t}}", LISTED, "999" => Done, "a\nb\nlast\n", "inside\n"),
     // The number of entries comes before all else, and the preamble before each entry.

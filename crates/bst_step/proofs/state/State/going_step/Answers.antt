@@ -1,20 +1,16 @@
 -- The innermost frame has moved on, and what is left of the step is the step.
-use Rattle.std.proofs.Common.{◌≡◌, ◌∙◌, arith, false, subst, true}
-use Rattle.std.specs.Result.{OnOk}
-use Rattle.bst_meaning.specs.Config.{Config}
-use Rattle.bst_step.specs.Marks.{Marks}
+use Rattle.std.proofs.Common.{◌≡◌, ◌∙◌, arith, false, true}
 use Rattle.bst_step.specs.State.{config_of}
+use Rattle.bst_step.proofs.AssignSteps.{comes_to}
 use Rattle.bst_step.proofs.state.State.going_step.Goals as goal
 
 pub returns-in-Token-clause-moved : goal.returns-in-Token-clause-moved
 returns-in-Token-clause-moved c =
-    subst (λ (d : Config). OnOk c.token_step.result (config_of c.token_step.new.self ≡ d))
-    (c.in-Token.ensures.moved c.args.style.now (config_of c.args.self.now)) c.token_step.ensures.moved
+    comes_to c.token_step.result _ _ _ (c.in-Token.ensures.moved c.args.style.now (config_of c.args.self.now)) c.token_step.ensures.moved
 
 pub returns-in-Token-clause-marks : goal.returns-in-Token-clause-marks
 returns-in-Token-clause-marks c =
-    subst (λ (m : Marks). OnOk c.token_step.result (c.token_step.new.self.values.marks ≡ m))
-    (c.in-Token.ensures.marks c.args.style.now (config_of c.args.self.now) c.args.self.now.values.marks) c.token_step.ensures.marks
+    comes_to c.token_step.result _ _ _ (c.in-Token.ensures.marks c.args.style.now (config_of c.args.self.now) c.args.self.now.values.marks) c.token_step.ensures.marks
 
 pub returns-in-Token-clause-fits : goal.returns-in-Token-clause-fits
 returns-in-Token-clause-fits c = λ takes room.
@@ -23,23 +19,19 @@ returns-in-Token-clause-fits c = λ takes room.
 
 pub returns-in-Return-clause-moved : goal.returns-in-Return-clause-moved
 returns-in-Return-clause-moved c =
-    subst (λ (d : Config). OnOk c.return_step.result (config_of c.return_step.new.self ≡ d))
-    (c.in-Return.ensures.moved c.args.style.now (config_of c.args.self.now)) c.return_step.ensures.moved
+    comes_to c.return_step.result _ _ _ (c.in-Return.ensures.moved c.args.style.now (config_of c.args.self.now)) c.return_step.ensures.moved
 
 pub returns-in-Return-clause-marks : goal.returns-in-Return-clause-marks
 returns-in-Return-clause-marks c =
-    subst (λ (m : Marks). OnOk c.return_step.result (c.return_step.new.self.values.marks ≡ m))
-    (c.in-Return.ensures.marks c.args.style.now (config_of c.args.self.now) c.args.self.now.values.marks) c.return_step.ensures.marks
+    comes_to c.return_step.result _ _ _ (c.in-Return.ensures.marks c.args.style.now (config_of c.args.self.now) c.args.self.now.values.marks) c.return_step.ensures.marks
 
 pub returns-in-Outer-clause-moved : goal.returns-in-Outer-clause-moved
 returns-in-Outer-clause-moved c =
-    subst (λ (d : Config). OnOk c.outer_step.result (config_of c.outer_step.new.self ≡ d))
-    (c.in-Outer.ensures.moved c.args.style.now (config_of c.args.self.now)) c.outer_step.ensures.moved
+    comes_to c.outer_step.result _ _ _ (c.in-Outer.ensures.moved c.args.style.now (config_of c.args.self.now)) c.outer_step.ensures.moved
 
 pub returns-in-Outer-clause-marks : goal.returns-in-Outer-clause-marks
 returns-in-Outer-clause-marks c =
-    subst (λ (m : Marks). OnOk c.outer_step.result (c.outer_step.new.self.values.marks ≡ m))
-    (c.in-Outer.ensures.marks c.args.style.now (config_of c.args.self.now) c.args.self.now.values.marks) c.outer_step.ensures.marks
+    comes_to c.outer_step.result _ _ _ (c.in-Outer.ensures.marks c.args.style.now (config_of c.args.self.now) c.args.self.now.values.marks) c.outer_step.ensures.marks
 
 -- a step of the commands isn't one that takes room alone
 pub returns-in-Outer-clause-fits : goal.returns-in-Outer-clause-fits
