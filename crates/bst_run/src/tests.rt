@@ -1,12 +1,12 @@
 //! What no clause says: that the answers are the worked ones, with ample memory, over files and sinks in memory. An
 //! example has words, files, what fails, and what is answered. Each table stands beside its test, in a file of its own kind.
 
-/// A file of this name, with these bytes.
+/// A file of this name, with this text.
 macro_rules! file_of {
-    ($name:expr, $bytes:expr) => {
+    ($name:expr, $text:expr) => {
         File {
             name: $name,
-            bytes: $bytes,
+            text: $text,
         }
     };
 }
@@ -37,6 +37,27 @@ macro_rules! told {
 macro_rules! checked {
     ($style:expr, $cert:expr => $status:ident, $out:expr, $err:expr) => {
         told!(["check", "a.bst", "b.cert"], [file_of!("a.bst", $style), file_of!("b.cert", $cert)] => $status, $out, $err)
+    };
+}
+
+/// The certificate with these lines of its condition, and these behind it.
+macro_rules! cert {
+    ($condition:literal, $lines:literal) => {
+        concat!("bstcert 1\n", $condition, "end\n", $lines, "done\n")
+    };
+}
+
+/// The certificate with a nine for each number of its condition, and these lines behind it.
+macro_rules! nines {
+    ($lines:literal) => {
+        cert!("entries 9\nkey 9\npreamble 9\nlength 9\nothertype yes\n", $lines)
+    };
+}
+
+/// The certificate under which no entry is let in, with these lines behind its condition.
+macro_rules! zeros {
+    ($lines:literal) => {
+        cert!("entries 0\nkey 0\npreamble 0\nlength 0\nothertype no\n", $lines)
     };
 }
 
@@ -130,11 +151,11 @@ use std::alloc::{AllocError, Global};
 use std::process::Abort;
 use std::test::Fail;
 
-/// A file, and its bytes.
+/// A file, and its text.
 #[derive(Clone, Copy)]
 pub struct File {
     name: &'static str,
-    bytes: &'static [u8],
+    text: &'static str,
 }
 
 /// Which call fails.
@@ -188,7 +209,7 @@ fn compare_long(rt: &impl Abort, alloc: Global, rows: &[(usize, Example)]) -> Re
         let style = vec![in alloc; b' '; *length]?;
         let mut files = MemFiles::new(alloc);
         files.add("a.bst", style.as_slice())?;
-        files.add("b.cert", NO_ENTRIES)?;
+        files.add("b.cert", NO_ENTRIES.as_bytes())?;
         compare_over(rt, alloc, example, &mut files)?;
     }
     Ok(())
@@ -250,7 +271,7 @@ fn compare_over(
 /// Adds these files.
 fn add_files(files: &mut MemFiles, added: &[File]) -> Result<(), Fail> {
     for file in added {
-        files.add(file.name, file.bytes)?;
+        files.add(file.name, file.text.as_bytes())?;
     }
     Ok(())
 }

@@ -11,60 +11,55 @@ use std::alloc::Global;
 use std::process::Abort;
 use std::test::Fail;
 
-/// A style and a condition, and whether a certificate is found.
-#[derive(Clone, Copy)]
-struct Sought {
-    style: &'static [u8],
-    cond: &'static [u8],
-    status: Status,
-}
-
 macro_rules! sought {
     ($style:expr, $cond:expr => $status:ident) => {
-        Sought {
-            style: $style,
-            cond: $cond,
-            status: Status::$status,
-        }
+        ($style, $cond, Status::$status)
     };
 }
 
 /// Writes a letter for each entry.
-const LETTERS: &[u8] = b"INTEGERS{n} ENTRY{}{}{} FUNCTION{init}{\"a\" chr.to.int$ 'n :=}
+const LETTERS: &str = "INTEGERS{n} ENTRY{}{}{} FUNCTION{init}{\"a\" chr.to.int$ 'n :=}
 FUNCTION{next}{n int.to.chr$ write$ n #1 + 'n :=}
 READ EXECUTE{init} ITERATE{next}
 ";
 
 /// Nine fields that may be missing, in a style for which kinds aren't enough.
-const WIDE: &[u8] =
-    b"ENTRY{a b c d e f g h i}{}{} FUNCTION{o}{duplicate$ missing$ 'pop$ 'write$ if$} FUNCTION{p}{a o b o c o d o e o f o g o h o i o #1 #1 + pop$} READ ITERATE{p}";
+const WIDE: &str =
+    "ENTRY{a b c d e f g h i}{}{} FUNCTION{o}{duplicate$ missing$ 'pop$ 'write$ if$} FUNCTION{p}{a o b o c o d o e o f o g o h o i o #1 #1 + pop$} READ ITERATE{p}";
 
 #[test]
 fn loops_and_visits_are_found(rt: HostRuntime) -> Result<(), Fail> {
-    for row in &SOUGHT {
-        compare_sought(&rt, rt.alloc(), row)?;
+    for (style, cond, status) in &SOUGHT {
+        compare_sought(&rt, rt.alloc(), style, cond, *status)?;
     }
     Ok(())
 }
 
-static SOUGHT: [Sought; 6] = [
+/// A style and a condition, and whether a certificate is found.
+static SOUGHT: [(&str, &str, Status); 6] = [
     // A field that is never cut has the names that the condition allows, and one that may be cut any number.
-    sought!(NAMES, b"entries 10000\nkey 250\npreamble 20000\nlength 20000\nnames author 1000\ntype misc\nothertype yes\nend\n" => Done),
-    sought!(NAMES, b"entries 10000\nkey 250\npreamble 20000\nlength 30000\nnames author 1000\ntype misc\nothertype yes\nend\n" => Unknown),
+    sought!(NAMES, "entries 10000\nkey 250\npreamble 20000\nlength 20000\nnames author 1000\ntype misc\nothertype yes\nend\n" => Done),
+    sought!(NAMES, "entries 10000\nkey 250\npreamble 20000\nlength 30000\nnames author 1000\ntype misc\nothertype yes\nend\n" => Unknown),
     // The letters from `a` on end behind the 31st.
-    sought!(LETTERS, b"entries 31\nkey 9\npreamble 0\nlength 0\nothertype yes\nend\n" => Done),
-    sought!(LETTERS, b"entries 32\nkey 9\npreamble 0\nlength 0\nothertype yes\nend\n" => Unknown),
+    sought!(LETTERS, "entries 31\nkey 9\npreamble 0\nlength 0\nothertype yes\nend\n" => Done),
+    sought!(LETTERS, "entries 32\nkey 9\npreamble 0\nlength 0\nothertype yes\nend\n" => Unknown),
     // A loop that never turns.
-    sought!(b"ENTRY{}{}{} FUNCTION{f}{{#0} 'skip$ while$} READ EXECUTE{f}", b"entries 9\nkey 9\npreamble 9\nlength 9\nothertype yes\nend\n" => Done),
-    sought!(WIDE, b"entries 9\nkey 9\npreamble 9\nlength 9\nothertype yes\nend\n" => Unknown),
+    sought!("ENTRY{}{}{} FUNCTION{f}{{#0} 'skip$ while$} READ EXECUTE{f}", "entries 9\nkey 9\npreamble 9\nlength 9\nothertype yes\nend\n" => Done),
+    sought!(WIDE, "entries 9\nkey 9\npreamble 9\nlength 9\nothertype yes\nend\n" => Unknown),
 ];
 
 /// Asserts for a style and a condition whether a certificate is found, and that it is accepted.
-fn compare_sought(rt: &impl Abort, alloc: Global, row: &Sought) -> Result<(), Fail> {
+fn compare_sought(
+    rt: &impl Abort,
+    alloc: Global,
+    style: &str,
+    cond: &str,
+    status: Status,
+) -> Result<(), Fail> {
     let mut files = MemFiles::new(alloc);
-    files.add("a.bst", row.style)?;
-    files.add("c.cond", row.cond)?;
-    compare_answer(rt, alloc, &mut files, row.status)
+    files.add("a.bst", style.as_bytes())?;
+    files.add("c.cond", cond.as_bytes())?;
+    compare_answer(rt, alloc, &mut files, status)
 }
 
 /// Asserts what is found for the style and the condition in these files.
