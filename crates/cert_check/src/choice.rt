@@ -21,8 +21,8 @@ use sym_state::symbol::{Kinds, Sym};
 #[derive(Drop)]
 pub(crate) struct Three {
     pub(crate) lowest: Sym,
-    pub(crate) middle: Sym,
-    pub(crate) top: Sym,
+    middle: Sym,
+    top: Sym,
     pub(crate) rest: State,
 }
 

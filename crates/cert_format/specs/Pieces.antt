@@ -14,13 +14,13 @@ use Rattle.sym_state.specs.declared.symbol.Sym.{Sym}
 use Rattle.cert_format.specs.Items.{among, last_of, name_in}
 use Rattle.cert_format.specs.Lines.{Item, Line, line_end, next_item}
 use Rattle.cert_format.specs.PieceItems as items
+use Rattle.cert_format.specs.declared.limits.TheConstants.{MOST_ITEMS, MOST_TERMS}
 use Rattle.cert_format.specs.declared.piece_items.TheConstants.{ROW_SIZE}
 use Rattle.cert_format.specs.declared.piece_lines.PieceSoFar.{PieceSoFar}
-use Rattle.cert_format.specs.declared.piece_lines.PieceStage.{PieceStage}
-use Rattle.cert_format.specs.declared.piece_lines.PieceStage.TheVariants as stage
-use Rattle.cert_format.specs.declared.piece_lines.PieceWord.{PieceWord}
-use Rattle.cert_format.specs.declared.piece_lines.PieceWord.TheVariants.{Stack, Var, Field, Is, Int, Text, Call, Block, Blank, Nonblank, Wellformed, Row}
-use Rattle.cert_format.specs.declared.piece_lines.TheConstants.{MOST_ITEMS, MOST_TERMS}
+use Rattle.cert_format.specs.declared.stages.PieceStage.{PieceStage}
+use Rattle.cert_format.specs.declared.stages.PieceStage.TheVariants as stage
+use Rattle.cert_format.specs.declared.stages.PieceWord.{PieceWord}
+use Rattle.cert_format.specs.declared.stages.PieceWord.TheVariants.{Stack, Var, Field, Is, Int, Text, Call, Block, Blank, Nonblank, Wellformed, Row}
 use Rattle.cert_format.specs.declared.stop.Stop.{Stop}
 use Rattle.cert_format.specs.declared.stop.Stop.TheVariants.{TooMany}
 

@@ -8,48 +8,18 @@ ghost use Rattle.cert_format.specs.Pieces as pieces;
 ghost use Rattle.cert_format.specs.declared.stop.Stop.TheVariants.{NoMemory as WantOfMemory};
 
 use crate::items::among;
-use crate::lines::{Item, Line, Worded};
+use crate::limits::{MOST_ITEMS, MOST_TERMS};
+use crate::lines::{Item, Line};
+use crate::stages::{PieceStage, PieceWord};
 use crate::stop::Stop;
 use crate::styled::Styled;
+use crate::worded::Worded;
 use bv_base::seq::Seq;
 use lin_facts::row::{Part, Row};
 use name_table::names::{NameId, Names};
 use std::alloc::Global;
 use sym_state::piece::Piece;
 use sym_state::symbol::{Bind, Fact, Sym};
-
-/// The most symbols of a stack, facts and rows of a piece, and uses of a proof.
-pub const MOST_ITEMS: usize = 64;
-
-/// The most terms of a row.
-pub const MOST_TERMS: usize = 32;
-
-/// The line of a piece that comes next: one of this kind or a later one.
-#[derive(Clone, Copy, Debug, PartialEq, Eq)]
-pub(crate) enum PieceStage {
-    Stack,
-    Vars,
-    Fields,
-    Facts,
-    Rows,
-}
-
-/// The word with which a line of a piece begins.
-#[derive(Clone, Copy, Debug, PartialEq, Eq)]
-pub(crate) enum PieceWord {
-    Stack,
-    Var,
-    Field,
-    Is,
-    Int,
-    Text,
-    Call,
-    Block,
-    Blank,
-    Nonblank,
-    Wellformed,
-    Row,
-}
 
 /// What has been read of a piece.
 #[derive(Drop)]

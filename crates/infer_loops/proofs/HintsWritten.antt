@@ -9,8 +9,8 @@ use Rattle.name_table.specs.declared.style.Style.{Style}
 use Rattle.bst_meaning.specs.declared.condition.Cond.{Cond}
 use Rattle.lin_facts.specs.declared.row.Row.{Row}
 use Rattle.cert_format.specs.CertText.{IsHint, IsProof, IsUse, reference_number}
-use Rattle.cert_format.specs.declared.cond_lines.TheConstants.{MOST}
 use Rattle.cert_format.specs.declared.items.TheConstants.{MOST_NUMBER}
+use Rattle.cert_format.specs.declared.limits.TheConstants.{MOST}
 use Rattle.cert_format.proofs.Plain.{each_append}
 use Rattle.sym_state.specs.Entailing.{match_of}
 use Rattle.sym_state.specs.Renaming.{row_renamed}

@@ -11,8 +11,8 @@ use Rattle.bst_meaning.specs.declared.value.Target.{Target}
 use Rattle.cert_format.specs.CertText.{reference_number}
 use Rattle.cert_format.specs.declared.cert.Cert.{Cert}
 use Rattle.cert_format.specs.declared.cert.Loop.{Loop}
-use Rattle.cert_format.specs.declared.cond_lines.TheConstants.{MOST}
 use Rattle.cert_format.specs.declared.items.TheConstants.{MOST_NUMBER}
+use Rattle.cert_format.specs.declared.limits.TheConstants.{MOST}
 use Rattle.sym_state.specs.State.{State}
 use Rattle.sym_state.specs.declared.hint.Hint.{Hint}
 use Rattle.sym_state.specs.declared.hint.Hint.TheVariants.{Apply, Case, Drop, Loop as LoopHint, Step as StepHint}

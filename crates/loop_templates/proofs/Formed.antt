@@ -21,8 +21,8 @@ use Rattle.bst_meaning.specs.declared.condition.Cond.{Cond}
 use Rattle.cert_format.specs.CertText.{IsPart, IsRow, IsTerm, is_within}
 use Rattle.cert_format.specs.CondText.{is_chain}
 use Rattle.cert_format.specs.PieceItems.{is_before, is_zero, term_rank, term_symbol}
+use Rattle.cert_format.specs.declared.limits.TheConstants.{MOST_ITEMS}
 use Rattle.cert_format.specs.declared.piece_items.TheConstants.{ROW_SIZE}
-use Rattle.cert_format.specs.declared.piece_lines.TheConstants.{MOST_ITEMS}
 use Rattle.sym_state.proofs.Sums.{size_within}
 use Rattle.sym_state.specs.Changes.{symbol_at}
 use Rattle.sym_state.specs.Renaming.{term_renamed}

@@ -19,8 +19,8 @@ use Rattle.name_table.specs.declared.style.Style.{Style}
 use Rattle.cert_format.specs.CertText.{IsFact, IsVariable, are_placed, is_within, next_behind}
 use Rattle.cert_format.specs.CondText.{IsField, is_below, is_chain}
 use Rattle.cert_format.specs.PieceItems.{next_after}
-use Rattle.cert_format.specs.declared.cond_lines.TheConstants.{MOST}
 use Rattle.cert_format.specs.declared.items.TheConstants.{MOST_NUMBER}
+use Rattle.cert_format.specs.declared.limits.TheConstants.{MOST}
 use Rattle.cert_format.proofs.CertTargets.{block_number_found}
 use Rattle.sym_state.specs.Decided.{says_nothing}
 use Rattle.sym_state.specs.Fitting.{FactFits}
