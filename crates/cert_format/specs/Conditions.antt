@@ -46,6 +46,13 @@ preamble_line word line p = numbered (codes "preamble") MOST (λ number. record 
 abbrev pub length_line : Item → Line → CondSoFar → Result CondSoFar Stop
 length_line word line p = numbered (codes "length") MOST (λ number. record { stage = Names; cond = record p.cond { length = number } }) word line
 
+-- a line of a word and a number, by what comes next
+abbrev pub number_at : CondStage → Item → Line → CondSoFar → Result CondSoFar Stop
+number_at Entries word line p = entries_line word line p
+number_at Key word line p = key_line word line p
+number_at Preamble word line p = preamble_line word line p
+number_at _ word line p = length_line word line p
+
 -- the field of the last of some lines on names
 abbrev pub last_field : List NamesLine → Option NameId
 last_field lines = option_map (λ line. line.field) (last_of lines)

@@ -56,51 +56,37 @@ impl CondSoFar {
         ensures { Leaves WantOfMemory (conditions.worded_line names.now self.old.stage line.old.word line.old.rest self.old) self.new result }
     {
         match self.stage {
-            CondStage::Entries => self.take_entries(line),
-            CondStage::Key => self.take_key(line),
-            CondStage::Preamble => self.take_preamble(line),
-            CondStage::Length => self.take_length(line),
             CondStage::Names | CondStage::Nonblank | CondStage::Types => self.take_listed(
                 names, line,
             ),
             CondStage::End => self.take_end(line),
             CondStage::Done => Err(Stop::Syntax(line.word.left())),
+            _ => self.take_number(line),
         }
     }
 
-    /// Takes the line of `entries`.
-    fn take_entries(&mut self, line: &mut Worded<'_>) -> Result<(), Stop>
-        ensures { Leaves WantOfMemory (conditions.entries_line line.old.word line.old.rest self.old) self.new result }
+    /// Takes a line of a word and a number.
+    fn take_number(&mut self, line: &mut Worded<'_>) -> Result<(), Stop>
+        ensures { Leaves WantOfMemory (conditions.number_at self.old.stage line.old.word line.old.rest self.old) self.new result }
     {
-        self.cond.entries = number_line(b"entries", MOST_ENTRIES, line)?;
-        self.stage = CondStage::Key;
-        Ok(())
-    }
-
-    /// Takes the line of `key`.
-    fn take_key(&mut self, line: &mut Worded<'_>) -> Result<(), Stop>
-        ensures { Leaves WantOfMemory (conditions.key_line line.old.word line.old.rest self.old) self.new result }
-    {
-        self.cond.key = number_line(b"key", MOST, line)?;
-        self.stage = CondStage::Preamble;
-        Ok(())
-    }
-
-    /// Takes the line of `preamble`.
-    fn take_preamble(&mut self, line: &mut Worded<'_>) -> Result<(), Stop>
-        ensures { Leaves WantOfMemory (conditions.preamble_line line.old.word line.old.rest self.old) self.new result }
-    {
-        self.cond.preamble = number_line(b"preamble", MOST, line)?;
-        self.stage = CondStage::Length;
-        Ok(())
-    }
-
-    /// Takes the line of `length`.
-    fn take_length(&mut self, line: &mut Worded<'_>) -> Result<(), Stop>
-        ensures { Leaves WantOfMemory (conditions.length_line line.old.word line.old.rest self.old) self.new result }
-    {
-        self.cond.length = number_line(b"length", MOST, line)?;
-        self.stage = CondStage::Names;
+        match self.stage {
+            CondStage::Entries => {
+                self.cond.entries = number_line(b"entries", MOST_ENTRIES, line)?;
+                self.stage = CondStage::Key;
+            }
+            CondStage::Key => {
+                self.cond.key = number_line(b"key", MOST, line)?;
+                self.stage = CondStage::Preamble;
+            }
+            CondStage::Preamble => {
+                self.cond.preamble = number_line(b"preamble", MOST, line)?;
+                self.stage = CondStage::Length;
+            }
+            _ => {
+                self.cond.length = number_line(b"length", MOST, line)?;
+                self.stage = CondStage::Names;
+            }
+        }
         Ok(())
     }
 

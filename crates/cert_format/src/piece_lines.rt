@@ -72,8 +72,7 @@ impl PieceSoFar {
     {
         match kind {
             PieceWord::Stack => self.take_stack(line),
-            PieceWord::Var => self.take_var(style.names(), line),
-            PieceWord::Field => self.take_field(style.names(), line),
+            PieceWord::Var | PieceWord::Field => self.take_bound(kind, style.names(), line),
             PieceWord::Row => self.take_row(line),
             _ => self.take_fact(kind, style, line),
         }
@@ -114,38 +113,46 @@ impl PieceSoFar {
         Ok(())
     }
 
-    /// Takes the line of a variable, after its word.
-    fn take_var(&mut self, names: &Names, line: &mut Worded<'_>) -> Result<(), Stop>
-        ensures { Leaves WantOfMemory (pieces.var_line names.now line.old.rest self.old) self.new result }
+    /// Takes the line of a variable or of a field, after its word.
+    fn take_bound(
+        &mut self,
+        kind: PieceWord,
+        names: &Names,
+        line: &mut Worded<'_>,
+    ) -> Result<(), Stop>
+        ensures { Leaves WantOfMemory (pieces.bound_line kind names.now line.old.rest self.old) self.new result }
     {
         let item = line.rest.item()?;
-        let name = item.variable_above(
-            self.at_entry,
-            last_bound(self.piece.vars.as_slice()),
-            names,
-        )?;
+        let name = self.bound_name(kind, names, &item)?;
         let bind = bound(self.next, name, &mut line.rest)?;
-        self.piece.vars.push(bind)?;
         self.next = next_after(self.next, bind.sym);
-        self.stage = PieceStage::Vars;
+        match kind {
+            PieceWord::Var => {
+                self.piece.vars.push(bind)?;
+                self.stage = PieceStage::Vars;
+            }
+            _ => {
+                self.piece.fields.push(bind)?;
+                self.stage = PieceStage::Fields;
+            }
+        }
         Ok(())
     }
 
-    /// Takes the line of a field, after its word.
-    fn take_field(&mut self, names: &Names, line: &mut Worded<'_>) -> Result<(), Stop>
-        ensures { Leaves WantOfMemory (pieces.field_line names.now line.old.rest self.old) self.new result }
+    /// The name of a variable or of a field, above the last one.
+    fn bound_name(&self, kind: PieceWord, names: &Names, item: &Item<'_>) -> Result<NameId, Stop>
+        ensures { Gives WantOfMemory (pieces.bound_name kind names.now self.now item.now) result }
     {
-        let item = line.rest.item()?;
-        let name = item.entry_field(
-            self.at_entry,
-            last_bound(self.piece.fields.as_slice()),
-            names,
-        )?;
-        let bind = bound(self.next, name, &mut line.rest)?;
-        self.piece.fields.push(bind)?;
-        self.next = next_after(self.next, bind.sym);
-        self.stage = PieceStage::Fields;
-        Ok(())
+        match kind {
+            PieceWord::Var => {
+                item.variable_above(self.at_entry, last_bound(self.piece.vars.as_slice()), names)
+            }
+            _ => item.entry_field(
+                self.at_entry,
+                last_bound(self.piece.fields.as_slice()),
+                names,
+            ),
+        }
     }
 
     /// Takes a fact, after the word of its line.
@@ -230,7 +237,7 @@ const WORDS: [(&[u8], PieceWord); 12] = [
 fn where_due(stage: PieceStage, word: PieceWord) -> Option<PieceWord>
     ensures { result ≡ pieces.where_due stage word }
 {
-    if stage_rank(stage) <= word_rank(word) {
+    if stage_rank(stage) <= stage_rank(stage_of(word)) {
         Some(word)
     } else {
         None
@@ -250,16 +257,16 @@ fn stage_rank(stage: PieceStage) -> u8
     }
 }
 
-/// The order of the lines of a piece, by their words.
-fn word_rank(word: PieceWord) -> u8
-    ensures { result ≡ pieces.word_rank word }
+/// The line that a word begins.
+fn stage_of(word: PieceWord) -> PieceStage
+    ensures { result ≡ pieces.stage_of word }
 {
     match word {
-        PieceWord::Stack => 0,
-        PieceWord::Var => 1,
-        PieceWord::Field => 2,
-        PieceWord::Row => 4,
-        _ => 3,
+        PieceWord::Stack => PieceStage::Stack,
+        PieceWord::Var => PieceStage::Vars,
+        PieceWord::Field => PieceStage::Fields,
+        PieceWord::Row => PieceStage::Rows,
+        _ => PieceStage::Facts,
     }
 }
 
