@@ -10,3 +10,4 @@ mod Opened
 mod Permuted
 pub mod Placed
 pub mod Replacing
+pub mod Stepping
