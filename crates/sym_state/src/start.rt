@@ -2,13 +2,10 @@
 
 ghost use Rattle.std.specs.Prelude.{◌≡◌, ◌+◌, ◌<◌, ◌++◌, List, Some, length, map, nat_eq, OnOk, IfOk};
 ghost use Rattle.std.specs.List.{All, filter, flat_map, list_any};
-ghost use Rattle.bst_meaning.specs.Config.{Config};
 ghost use Rattle.bst_meaning.specs.StyleParts.{kind_of};
-ghost use Rattle.bst_meaning.specs.declared.entry.EntryList.{EntryList};
-ghost use Rattle.bst_meaning.specs.declared.value.Value.{Value};
 ghost use Rattle.sym_state.specs.Opening.{CanStart, StandsOpen};
 ghost use Rattle.sym_state.specs.Starting as rule;
-ghost use Rattle.sym_state.specs.Symbols.{Valuation};
+ghost use Rattle.sym_state.specs.Subjects.{Config, EntryList, Valuation, Value};
 ghost use Rattle.sym_state.specs.WellMade as made;
 
 use crate::bindings::symbol_at;
