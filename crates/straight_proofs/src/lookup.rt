@@ -3,8 +3,7 @@
 ghost use Rattle.std.specs.Prelude.{◌≡◌, ◌≤◌, ◌++◌, ◌^◌, length, map, option_map, IfOk, OnOk};
 ghost use Rattle.std.specs.List.{All, flat_map, range_with_len};
 ghost use Rattle.std.specs.Option.{option_to_list};
-ghost use Rattle.lin_facts.specs.Rows.{IsSmall};
-ghost use Rattle.sym_state.specs.WellMade.{HasBounds};
+ghost use Rattle.straight_proofs.specs.Subjects.{HasBounds, IsSmall};
 ghost use Rattle.straight_proofs.specs.Lookup as rule;
 ghost use Rattle.straight_proofs.specs.Remainders.{HasRoom};
 ghost use Rattle.straight_proofs.specs.Straight as order;

@@ -3,9 +3,8 @@
 ghost use Rattle.std.specs.Prelude.{◌≡◌, ◌++◌, IfOk, IfSome, OnOk};
 ghost use Rattle.std.specs.List.{All, filter_map};
 ghost use Rattle.std.specs.Option.{option_to_list};
-ghost use Rattle.lin_facts.specs.Rows.{IsSmall};
 ghost use Rattle.sym_state.specs.References as said;
-ghost use Rattle.sym_state.specs.WellMade.{HasBounds};
+ghost use Rattle.straight_proofs.specs.Subjects.{HasBounds, IsSmall};
 ghost use Rattle.straight_proofs.specs.Lookup as rule;
 
 use crate::lookup::push_on_term;

@@ -2,9 +2,8 @@
 
 ghost use Rattle.std.specs.Prelude.{◌≡◌, ℕ, ◌+◌, ◌*◌, ◌<◌, ◌≤◌, ◌^◌, [], ◌+ℤ◌, ◌-ℤ◌, length, pos, int_lt, IfOk, IfSome, OnOk};
 ghost use Rattle.std.specs.List.{All, fold};
-ghost use Rattle.lin_facts.specs.Rows.{IsSmall, IsWithin};
 ghost use Rattle.lin_facts.specs.Rows as sums;
-ghost use Rattle.sym_state.specs.Cases.{absurdity};
+ghost use Rattle.straight_proofs.specs.Subjects.{IsSmall, IsWithin, absurdity};
 ghost use Rattle.straight_proofs.specs.Remainders as rule;
 ghost use Rattle.straight_proofs.specs.Remainders.{Alike, HasRoom};
 

@@ -1,9 +1,7 @@
 //! The straight proofs of a goal and of an absurdity (docs/STATES.md, "Straight proofs").
 
 ghost use Rattle.std.specs.Prelude.{◌≡◌, ◌≤◌, true, length, map, option_map, reverse, IfOk, IfSome};
-ghost use Rattle.sym_state.specs.Cases.{absurdity};
-ghost use Rattle.sym_state.specs.References.{shows};
-ghost use Rattle.sym_state.specs.WellMade.{HasBounds, IsBounded};
+ghost use Rattle.straight_proofs.specs.Subjects.{HasBounds, IsBounded, absurdity, shows};
 ghost use Rattle.straight_proofs.specs.Asked.{IsReady};
 ghost use Rattle.straight_proofs.specs.Straight as rule;
 

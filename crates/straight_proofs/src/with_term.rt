@@ -2,8 +2,7 @@
 
 ghost use Rattle.std.specs.Prelude.{◌≡◌, ◌++◌, IfOk, OnOk};
 ghost use Rattle.std.specs.List.{All, filter};
-ghost use Rattle.lin_facts.specs.Rows.{IsSmall};
-ghost use Rattle.sym_state.specs.WellMade.{HasBounds};
+ghost use Rattle.straight_proofs.specs.Subjects.{HasBounds, IsSmall};
 ghost use Rattle.straight_proofs.specs.Lookup as rule;
 ghost use Rattle.straight_proofs.specs.Remembered.{AreWith, HaveRows};
 
