@@ -2,7 +2,7 @@
 
 ghost use Rattle.std.specs.Prelude.{◌≡◌, [], ◌∷◌, IfOk};
 ghost use Rattle.straight_hints.specs.Found as rule;
-ghost use Rattle.sym_state.specs.WellMade.{HasBounds, IsBounded};
+ghost use Rattle.straight_hints.specs.Subjects.{HasBounds, IsBounded};
 
 use crate::at::At;
 use crate::finding::Finding;
