@@ -197,18 +197,13 @@ pub(crate) fn marked_rows(alloc: Global, rows: &[Row], marks: &[bool]) -> Result
 }
 
 /// Whether a state entails, but for the rows, an added case of its skeleton.
-pub(crate) fn is_met(
-    alloc: Global,
-    cond: &Cond,
-    added: &[Added],
-    state: &State,
-) -> Result<bool, NoMemory>
+pub(crate) fn is_met(cond: &Cond, added: &[Added], state: &State) -> Result<bool, NoMemory>
     requires state { HasBounds state.now }
     requires made { All rule.IsMade added.now }
     ensures { IfOk result (λ met. met ≡ rule.is_met cond.now added.now state.now) }
 {
     for one in added {
-        if is_met_by(alloc, cond, one, state)? {
+        if is_met_by(cond, one, state)? {
             return Ok(true);
         }
     }
@@ -216,11 +211,12 @@ pub(crate) fn is_met(
 }
 
 /// Whether it does so by one of them.
-fn is_met_by(alloc: Global, cond: &Cond, one: &Added, state: &State) -> Result<bool, NoMemory>
+fn is_met_by(cond: &Cond, one: &Added, state: &State) -> Result<bool, NoMemory>
     requires state { HasBounds state.now }
     requires made { rule.IsMade one.now }
     ensures { IfOk result (λ met. met ≡ (same_skeleton one.now.bones (skeleton_of state.now) && rule.agrees_with cond.now state.now one.now.case)) }
 {
+    let alloc = state.alloc();
     if has_skeleton(alloc, state, one.bones.as_slice())? {
         agrees_with(alloc, cond, state, &one.case)
     } else {
