@@ -2,10 +2,10 @@
 
 ghost use Rattle.std.specs.Prelude.{◌≡◌, ◌<◌, ◌++◌, [], map, true, IfOk, IfSome, OnOk};
 ghost use Rattle.std.specs.List.{All, list_all};
-ghost use Rattle.sym_state.specs.WellMade.{HasBounds, WellMade};
 ghost use Rattle.loop_templates.specs.Candidates as rule;
 ghost use Rattle.loop_templates.specs.Cases as cases;
 ghost use Rattle.loop_templates.specs.Skeletons as skeletons;
+ghost use Rattle.loop_templates.specs.Subjects.{HasBounds, WellMade};
 
 use crate::cases::{Frame, case_of, entering_case};
 use crate::copies::cases_copied;

@@ -3,11 +3,9 @@
 ghost use Rattle.std.specs.Prelude.{◌≡◌, ◌++◌, IfOk, OnOk};
 ghost use Rattle.std.specs.List.{All};
 ghost use Rattle.cert_format.specs.PieceItems as items;
-ghost use Rattle.lin_facts.specs.Rows.{IsWithin};
-ghost use Rattle.sym_state.specs.Changes.{symbol_at};
-ghost use Rattle.sym_state.specs.Renaming.{term_renamed};
 ghost use Rattle.loop_templates.specs.Rows as rule;
 ghost use Rattle.loop_templates.specs.Sums.{IsSmallSum};
+ghost use Rattle.loop_templates.specs.Subjects.{IsWithin, symbol_at, term_renamed};
 
 use bv_base::memory::NoMemory;
 use bv_base::seq::Seq;

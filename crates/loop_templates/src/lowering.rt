@@ -4,11 +4,10 @@ ghost use Rattle.std.specs.Prelude.{◌≡◌, Bool, true, ◌&&◌, ◌||◌, �
 ghost use Rattle.std.specs.List.{All, filter, list_all, list_any};
 ghost use Rattle.sym_state.specs.Entailing.{line_count};
 ghost use Rattle.sym_state.specs.Matches.{matched_by};
-ghost use Rattle.sym_state.specs.Renaming.{row_renamed};
-ghost use Rattle.sym_state.specs.WellMade.{HasBounds, IsBounded};
 ghost use Rattle.straight_proofs.specs.Straight as straight;
 ghost use Rattle.loop_templates.specs.Candidates as rule;
 ghost use Rattle.loop_templates.specs.Skeletons.{skeleton as skeleton_of, same_skeleton};
+ghost use Rattle.loop_templates.specs.Subjects.{HasBounds, IsBounded, row_renamed};
 
 use crate::candidates::Added;
 use crate::copies::{added_with, case_with};

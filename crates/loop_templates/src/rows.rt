@@ -6,9 +6,9 @@ ghost use Rattle.std.specs.Option.{option_map_or};
 ghost use Rattle.std.specs.Cmp.Lexicographic.{pointwise};
 ghost use Rattle.cert_format.specs.CertText.{is_within};
 ghost use Rattle.sym_state.specs.Starting as begin;
-ghost use Rattle.sym_state.specs.WellMade.{HasBounds};
 ghost use Rattle.loop_templates.specs.Rows as rule;
 ghost use Rattle.loop_templates.specs.Sums.{IsSmallSum};
+ghost use Rattle.loop_templates.specs.Subjects.{HasBounds};
 
 use crate::claims::rows_of_sum;
 use crate::in_piece::row_in_piece;

@@ -3,10 +3,10 @@
 ghost use Rattle.std.specs.Prelude.{◌≡◌, map, length, IfOk};
 ghost use Rattle.std.specs.List.{All};
 ghost use Rattle.sym_state.specs.Positions.{AtNext, row_moved};
-ghost use Rattle.sym_state.specs.WellMade.{IsBounded, WellMade};
 ghost use Rattle.loop_templates.specs.Candidates.{CanMatch, IsCase};
 ghost use Rattle.loop_templates.specs.Cases.{IsFrame};
 ghost use Rattle.loop_templates.specs.Visits as rule;
+ghost use Rattle.loop_templates.specs.Subjects.{IsBounded, WellMade};
 
 use crate::cases::{Frame, bare_case, each, with_rows};
 use crate::lowering::{marked_rows, proved_in_all};
