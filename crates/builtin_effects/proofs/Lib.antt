@@ -3,6 +3,7 @@ pub mod Assigned
 pub mod CharactersCover
 pub mod CountsCover
 pub mod Covering
+pub mod Dispatched
 pub mod EffectsCover
 pub mod EntryCovers
 pub mod FormatCovers
