@@ -122,9 +122,9 @@ hints_at_end frame candidate exits end = end.hints ++ shown_at_end frame candida
 abbrev pub hints_of : Frame → Candidate → List Added → Tour → List Hint
 hints_of frame candidate exits tour = flat_map (hints_at_end frame candidate exits) tour.ends ++ found_since tour
 
--- the loop of a candidate with its exits
-abbrev pub loop_with : Frame → Turning → Candidate → Tour → List Added → Loop
-loop_with frame one candidate tour exits = record {
+-- the loop of a candidate with these exits and hints
+abbrev pub loop_with : Frame → Turning → Candidate → List Added → List Hint → Loop
+loop_with frame one candidate exits hints = record {
   test = one.test;
   body = one.body;
   entry = one.entry;
@@ -132,7 +132,7 @@ loop_with frame one candidate tour exits = record {
   writes = frame.writes;
   cases = cases_of candidate;
   exits = added_cases exits;
-  hints = hints_of frame candidate exits tour;
+  hints = hints;
 }
 
 -- cases and exits may be written together
@@ -165,9 +165,8 @@ is_hint _ = true
 abbrev pub loop_of : Frame → Turning → Candidate → Tour → Option Loop
 loop_of frame one candidate tour =
     let exits = exits_of frame (ended_states false tour.ends) in
-    if may_be_written candidate exits && list_all is_hint (hints_of frame candidate exits tour)
-    then Some (loop_with frame one candidate tour exits)
-    else None
+    let hints = hints_of frame candidate exits tour in
+    if may_be_written candidate exits && list_all is_hint hints then Some (loop_with frame one candidate exits hints) else None
 
 -- what comes of a candidate that was walked: its loop where it passes, and else what the next one gives
 abbrev pub settled_by : Frame → Turning → Candidate → Tour → (Candidate → Option Loop) → Next → Option Loop
