@@ -111,6 +111,6 @@ fn drop_found(finding: Finding, state: &State, cond: &Cond) -> Result<Option<Pro
 {
     match finding {
         Finding::Bare => Ok(None),
-        Finding::Straight => drop_proof(state.alloc(), state, cond),
+        Finding::Straight => drop_proof(state, cond),
     }
 }

@@ -67,7 +67,7 @@ fn proof_found(at: &At<'_>, row: &Row) -> Result<Option<Proof>, NoMemory>
 {
     match at.finding {
         Finding::Bare => Ok(None),
-        Finding::Straight => straight_proof(at.state.alloc(), at.state, at.cond, row),
+        Finding::Straight => straight_proof(at.state, at.cond, row),
     }
 }
 

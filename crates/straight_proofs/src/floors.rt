@@ -21,18 +21,17 @@ use crate::with_term::rows_with;
 use bst_meaning::condition::Cond;
 use bv_base::memory::NoMemory;
 use lin_facts::row::{Row, Term};
-use std::alloc::Global;
 use sym_state::state::State;
 
 /// The floor of a sum in a state: the greatest number for which a straight proof shows that the sum is at least it. `None`
 /// comes exactly where no number has one. It goes once over what each list of at most eight references leaves.
-pub fn floor(alloc: Global, state: &State, cond: &Cond, sum: &Row) -> Result<Option<i64>, NoMemory>
+pub fn floor(state: &State, cond: &Cond, sum: &Row) -> Result<Option<i64>, NoMemory>
     requires state { HasBounds state.now }
     requires sum { IsBounded sum.now }
     ensures greatest { IfOk result (λ found. found ≡ rule.floor cond.now state.now sum.now) }
     ensures small { IfOk result (λ found. IfSome found (IsWithin (2 ^ 49))) }
 {
-    let mut search = Search::new(alloc, state, cond)?;
+    let mut search = Search::new(state.alloc(), state, cond)?;
     search.floor(sum)
 }
 

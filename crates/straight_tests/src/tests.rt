@@ -259,7 +259,7 @@ fn compare(rt: &impl Abort, alloc: Global, examples: &[Example]) {
 /// Whether the straight proof that a case can't come about is the one that is wanted.
 fn is_dropped(alloc: Global, example: &Example) -> Result<bool, NoMemory> {
     let state = state(alloc, example.given)?;
-    let proof = drop_proof(alloc, &state, &condition(alloc))?;
+    let proof = drop_proof(&state, &condition(alloc))?;
     Ok(is_wanted(&proof, example.proof))
 }
 
@@ -267,7 +267,7 @@ fn is_dropped(alloc: Global, example: &Example) -> Result<bool, NoMemory> {
 fn is_found(alloc: Global, example: &Example) -> Result<bool, NoMemory> {
     let state = state(alloc, example.given)?;
     let goal = row(alloc, example.goal)?;
-    let proof = straight_proof(alloc, &state, &condition(alloc), &goal)?;
+    let proof = straight_proof(&state, &condition(alloc), &goal)?;
     Ok(is_wanted(&proof, example.proof))
 }
 
@@ -275,7 +275,7 @@ fn is_found(alloc: Global, example: &Example) -> Result<bool, NoMemory> {
 fn has_floor(alloc: Global, example: &Floored) -> Result<bool, NoMemory> {
     let state = state(alloc, example.given)?;
     let sum = row(alloc, example.sum)?;
-    Ok(floor(alloc, &state, &condition(alloc), &sum)? == example.floor)
+    Ok(floor(&state, &condition(alloc), &sum)? == example.floor)
 }
 
 /// Whether one search of a state gives the floors of sums that are wanted.
