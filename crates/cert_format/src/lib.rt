@@ -24,3 +24,5 @@ mod stop;
 mod styled;
 mod unit_lines;
 mod worded;
+
+pub use crate::piece_items::is_before;

@@ -294,7 +294,7 @@ fn is_later(last: Option<&Part>, term: Term) -> bool
 }
 
 /// Whether a term stands before another in a row.
-fn is_before(a: Term, b: Term) -> bool
+pub fn is_before(a: Term, b: Term) -> bool
     ensures { result ≡ items.is_before a b }
 {
     term_rank(a) < term_rank(b) || (term_rank(a) == term_rank(b) && term_symbol(a) < term_symbol(b))
