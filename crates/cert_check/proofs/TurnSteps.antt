@@ -8,6 +8,7 @@ use Rattle.bv_base.specs.Answers.{then_do}
 use Rattle.bv_base.specs.declared.place.Place.{Place}
 use Rattle.name_table.specs.Sound.{IsSound}
 use Rattle.name_table.specs.declared.names.NameId.{NameId}
+use Rattle.name_table.specs.declared.style.BodyId.{BodyId}
 use Rattle.name_table.specs.declared.style.Style.{Style}
 use Rattle.bst_meaning.specs.declared.condition.Cond.{Cond}
 use Rattle.bst_meaning.specs.declared.value.Target.{Target}
@@ -205,6 +206,17 @@ pub record AreLoopParts (scope : Scope) (one : Loop) (place : Place) (course : C
   pub unmade : scope.make ≡ None
   pub place_is : place ≡ place_of scope.style (body_of scope.style one.body)
   pub course_is : course ≡ beginning one.hints
+
+pub loop_parts : (scope : Scope) (one : Loop) (first second : Style) (body : Option BodyId) (place : Place) (hints : List Hint) (course : Course)
+    → scope.writes ≡ Some one.writes → scope.make ≡ None → first ≡ scope.style → second ≡ scope.style → body ≡ body_of first one.body
+    → place ≡ place_of second body → hints ≡ one.hints → course ≡ beginning hints → AreLoopParts scope one place course
+loop_parts scope one first second body place hints course writes unmade same_first same_second body_is place_is same_hints course_is = record {
+  writes = writes;
+  unmade = unmade;
+  place_is = place_is ∙ ap (λ (style : Style). place_of style body) same_second
+      ∙ ap (place_of scope.style) (body_is ∙ ap (λ (style : Style). body_of style one.body) same_first);
+  course_is = course_is ∙ ap beginning same_hints;
+}
 
 parts_are : (scope : Scope) (one : Loop) (place : Place) (course : Course) → AreLoopParts scope one place course
     → loop_checked scope.style scope.cert one ≡ then_do (turned_from scope place one one.cases course) (λ after. none_left place after.hints)

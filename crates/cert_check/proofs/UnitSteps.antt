@@ -57,6 +57,19 @@ pub record AreParts (scope : Scope) (summary : Summary) (body : Option BodyId) (
   pub state_is : state ≡ started scope.style scope.cert.cond (summary.pre ∷ []) summary.whole summary.entry
   pub kept_is : kept ≡ symbols_of summary.pre
 
+pub summary_parts : (scope : Scope) (summary : Summary) (first second : Style) (body : Option BodyId) (place : Place) (state : State) (kept : ℕ)
+    → scope.writes ≡ Some summary.writes → scope.make ≡ None → first ≡ scope.style → second ≡ scope.style → body ≡ body_of first summary.body
+    → place ≡ place_of second body → state ≡ started scope.style scope.cert.cond (summary.pre ∷ []) summary.whole summary.entry
+    → kept ≡ symbols_of summary.pre → AreParts scope summary body place state kept
+summary_parts scope summary first second body place state kept writes unmade same_first same_second body_is place_is state_is kept_is = record {
+  writes = writes;
+  unmade = unmade;
+  body_is = body_is ∙ ap (λ (style : Style). body_of style summary.body) same_first;
+  place_is = place_is ∙ ap (λ (style : Style). place_of style body) same_second;
+  state_is = state_is;
+  kept_is = kept_is;
+}
+
 parts_are : (scope : Scope) (summary : Summary) (body : Option BodyId) (place : Place) (state : State) (kept : ℕ) → AreParts scope summary body place state kept
     → summary_checked scope.style scope.cert summary ≡ by_parts scope summary body place state kept
 parts_are scope summary body place state kept parts =
