@@ -111,3 +111,21 @@ body_next found next bodies id d number some inside is put before =
     subst (λ (l : List (Option BodyId)). AreBodies (id - 1) l (drop (id - 1) bodies)) (sym put)
     (body_placed found (id - 1) id (get_or bodies (id - 1) d) (drop id bodies) (drop (id - 1) bodies) number is (item_before bodies id d some inside)
     (omega (arith, some)) before)
+
+-- a summary of another kind of target marks none of this one
+target_passed : (target : ℕ → Target) (marks : List Bool) (summaries : List Summary) (k : ℕ) (d : Summary) → 0 < k → k ≤ length summaries
+    → ((id : ℕ) → is_target (get_or summaries (k - 1) d).body (target id) ≡ false) → AreMarks target marks (drop k summaries)
+    → AreMarks target marks (drop (k - 1) summaries)
+target_passed target marks summaries k d some inside other before =
+    subst (AreMarks target marks) (sym (item_before summaries k d some inside))
+    (λ id mark e. before id mark e ∙ sym (ap (λ (t : Bool). t || list_any (λ s. is_target s.body (target id)) (drop k summaries)) (other id)))
+
+pub name_passed : (marks : List Bool) (summaries : List Summary) (k : ℕ) (d : Summary) (name : NameId) → 0 < k → k ≤ length summaries
+    → (get_or summaries (k - 1) d).body ≡ Named name → AreMarks block_of_id marks (drop k summaries) → AreMarks block_of_id marks (drop (k - 1) summaries)
+name_passed marks summaries k d name some inside is =
+    target_passed block_of_id marks summaries k d some inside (λ id. ap (λ (t : Target). is_target t (block_of_id id)) is)
+
+pub block_passed : (marks : List Bool) (summaries : List Summary) (k : ℕ) (d : Summary) (body : BodyId) → 0 < k → k ≤ length summaries
+    → (get_or summaries (k - 1) d).body ≡ Block body → AreMarks name_of_id marks (drop k summaries) → AreMarks name_of_id marks (drop (k - 1) summaries)
+block_passed marks summaries k d body some inside is =
+    target_passed name_of_id marks summaries k d some inside (λ id. ap (λ (t : Target). is_target t (name_of_id id)) is)
