@@ -1,16 +1,11 @@
 //! A run of a style over the entries that an `.aux` file asks for.
 
 ghost use Rattle.std.specs.Prelude.{◌≡◌, ◌++◌, IfOk, OnOk};
-ghost use Rattle.bib_read.specs.Additions.{AreKeyed};
-ghost use Rattle.bst_meaning.specs.Entries.{Fits};
-ghost use Rattle.bst_meaning.specs.Lines.{lines_after};
-ghost use Rattle.bst_step.specs.Machine.{configuration};
-ghost use Rattle.entry_list.specs.Joining.{joined};
-ghost use Rattle.entry_list.specs.Keys.{AreCitations};
 ghost use Rattle.bst_run.specs.FilesBegun.{Begins, sources_begun};
 ghost use Rattle.bst_run.specs.Ran as rule;
 ghost use Rattle.bst_run.specs.Reads.{Reads};
 ghost use Rattle.bst_run.specs.Stops.{IsDecided};
+ghost use Rattle.bst_run.specs.Subjects.{AreCitations, AreKeyed, Fits, configuration, joined, lines_after};
 
 use crate::files::sources::{Sources, sources_of};
 use crate::outcome::Outcome;

@@ -1,16 +1,10 @@
 //! A run under a certificate: whether the entries meet its condition, and then the run.
 
 ghost use Rattle.std.specs.Prelude.{◌≡◌, ◌+◌, ◌<◌, ◌≤◌, length, None, IfOk, IfErr};
-ghost use Rattle.bib_read.specs.Additions.{AreKeyed};
-ghost use Rattle.bst_meaning.specs.Condition.{Meets};
-ghost use Rattle.bst_meaning.specs.Safe.{Safe};
-ghost use Rattle.cond_eval.specs.Unmet.{first_unmet};
-ghost use Rattle.bst_step.specs.Machine.{key_of};
-ghost use Rattle.entry_list.specs.Keys.{AreCitations};
-ghost use Rattle.name_table.specs.Sound.{IsSound};
 ghost use Rattle.bst_run.specs.FilesBegun.{Begins, under_begun};
 ghost use Rattle.bst_run.specs.Reads.{Reads};
 ghost use Rattle.bst_run.specs.Stops.{Decides, IsDecided, IsInside};
+ghost use Rattle.bst_run.specs.Subjects.{AreCitations, AreKeyed, IsSound, Meets, Safe, first_unmet, key_of};
 ghost use Rattle.bst_run.specs.Under as rule;
 
 use crate::check::{cert_from, holds};

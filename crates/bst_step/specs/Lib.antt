@@ -17,3 +17,4 @@ pub mod Room
 pub mod Frames
 pub mod Lines
 pub mod Machine
+pub mod Subjects
