@@ -3,14 +3,11 @@
 ghost use Rattle.std.specs.Prelude.{◌≡◌, ◌≤◌, ◌+ℤ◌, ◌-ℤ◌, length, pos, drop};
 ghost use Rattle.text_ops.specs.IntToStr.{numeral};
 ghost use Rattle.bst_meaning.specs.declared.value.Value.TheVariants.{Str};
-ghost use Rattle.bst_meaning.specs.Effect.{pushed};
-ghost use Rattle.bst_meaning.specs.Operands.{two_operands, truth, is_positive, ranged};
+ghost use Rattle.bst_meaning.specs.Operands.{is_positive};
 ghost use Rattle.bst_meaning.specs.Builtins as rule;
-ghost use Rattle.bst_meaning.specs.Builtins.{integers, string, byte_number, byte_string};
-ghost use Rattle.bst_step.specs.Operands.{integer};
-ghost use Rattle.bst_step.specs.Effects.{Leaves};
+ghost use Rattle.bst_meaning.specs.Builtins.{byte_number, byte_string};
 ghost use Rattle.bst_step.specs.Marks as mark;
-ghost use Rattle.bst_step.specs.Room.{Fits};
+ghost use Rattle.bst_step.specs.Subjects.{Fits, Leaves, integer, integers, pushed, ranged, string, truth, two_operands};
 
 use crate::held::Operand;
 use crate::operands::{one_integer, one_string, truth, two, two_integers};
@@ -116,8 +113,7 @@ pub fn int_to_str_of(alloc: Global, values: &mut Values<'_>) -> Result<(), Stop>
     ensures { Leaves result values.old values.new (integer (λ n rest. pushed (Str (numeral n)) rest) values.old.stack) (mark.resulting 1 mark.Made) }
 {
     let digits = int_to_str(alloc, one_integer(values)?)?;
-    values.make(1, digits.as_slice())?;
-    Ok(())
+    Ok(values.make(1, digits.as_slice())?)
 }
 
 /// Puts a count in the place of the top, where it has 32 bits.
