@@ -3,7 +3,7 @@ use Rattle.std.proofs.Common.{◌≡◌, ℕ, zero, suc, ◌+◌, ◌⊎◌, inl
 use Rattle.std.proofs.lemmas.List.{append-nil, length-append, length-map, map-append}
 use Rattle.name_table.specs.declared.names.NameId.{NameId}
 use Rattle.name_table.specs.declared.names.Kind.{Kind}
-use Rattle.name_table.specs.declared.names.Kind.TheVariants.{Builtin, Wizard, Field, IntEntry, StrEntry, IntGlobal, StrGlobal}
+use Rattle.name_table.specs.declared.names.Kind.TheVariants.{IntEntry, StrEntry, IntGlobal, StrGlobal}
 use Rattle.bst_meaning.specs.Config.{Variable, opening_entry_variable, opening_global}
 use Rattle.bst_meaning.specs.Invariant.{names_of}
 use Rattle.bst_step.specs.declared.opening.Owner.{Owner}
@@ -64,22 +64,14 @@ grown places id before after more long stand is (inr next) =
     (subst (λ (l : List NameId). StandAt (places ++ length (names_of before) ∷ []) l) same (name_more places (names_of before) id long stand))
 
 one_global : (id : ℕ) (kind : Kind) → IsNone-or-next id (opening_global id kind [])
-one_global id (Builtin op) = inl refl
-one_global id (Wizard body) = inl refl
-one_global id Field = inl refl
-one_global id IntEntry = inl refl
-one_global id StrEntry = inl refl
 one_global id IntGlobal = inr refl
 one_global id StrGlobal = inr refl
+one_global id _ = inl refl
 
 one_entry_variable : (id : ℕ) (kind : Kind) → IsNone-or-next id (opening_entry_variable id kind [])
-one_entry_variable id (Builtin op) = inl refl
-one_entry_variable id (Wizard body) = inl refl
-one_entry_variable id Field = inl refl
 one_entry_variable id IntEntry = inr refl
 one_entry_variable id StrEntry = inr refl
-one_entry_variable id IntGlobal = inl refl
-one_entry_variable id StrGlobal = inl refl
+one_entry_variable id _ = inl refl
 
 -- the table has a place for each name that was looked at
 pub one_more : (places more : List ℕ) (place id : ℕ) → more ≡ places ++ place ∷ [] → length places ≡ id → length more ≡ id + 1
