@@ -58,13 +58,7 @@ pub fn plus(values: &mut Values<'_>) -> Result<(), Stop>
     ensures fits { Fits result }
 {
     let (a, b) = two_integers(values)?;
-    match a.checked_add(b) {
-        Some(sum) => {
-            values.put(2, Operand::Int(sum));
-            Ok(())
-        }
-        None => Err(Stop::Fault(Fault::IntRange)),
-    }
+    put_ranged(i64::from(a) + i64::from(b), values)
 }
 
 /// `-`
@@ -73,12 +67,21 @@ pub fn minus(values: &mut Values<'_>) -> Result<(), Stop>
     ensures fits { Fits result }
 {
     let (a, b) = two_integers(values)?;
-    match a.checked_sub(b) {
-        Some(difference) => {
-            values.put(2, Operand::Int(difference));
+    put_ranged(i64::from(a) - i64::from(b), values)
+}
+
+/// Puts an integer in the place of the two topmost values, where it has 32 bits.
+fn put_ranged(n: i64, values: &mut Values<'_>) -> Result<(), Stop>
+    requires { 2 ≤ length values.old.stack }
+    ensures left { Leaves result values.old values.new (ranged n (drop 2 values.old.stack)) (mark.resulting 2 mark.NoString) }
+    ensures fits { Fits result }
+{
+    match i32::try_from(n) {
+        Ok(n) => {
+            values.put(2, Operand::Int(n));
             Ok(())
         }
-        None => Err(Stop::Fault(Fault::IntRange)),
+        Err(_) => Err(Stop::Fault(Fault::IntRange)),
     }
 }
 
