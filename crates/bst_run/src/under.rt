@@ -74,12 +74,7 @@ fn under(alloc: Global, sources: Sources, cond: &Cond, steps: u32) -> Result<Out
     ensures exact { IfOk result (λ outcome. outcome ≡ rule.run_under steps cond.now sources) }
     ensures outside { IfOk result rule.FaultsOutside }
 {
-    let Sources {
-        style,
-        items,
-        database,
-    } = sources;
-    let (found, reading) = join_all(alloc, &style, items, database)?;
+    let (style, found, reading) = join_all(alloc, sources)?;
     let front = meeting_text(alloc, &style, cond, &found.list)?;
     let outcome = run_joined(alloc, &style, reading.as_slice(), steps, found)?;
     logged(front, outcome)
