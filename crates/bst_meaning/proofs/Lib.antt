@@ -5,6 +5,7 @@ mod Formed
 pub mod FormattedBytes
 mod Giving
 mod Kept
+pub mod NameByName
 pub mod Naming
 mod Opened
 mod Permuted
