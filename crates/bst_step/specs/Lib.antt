@@ -1,3 +1,4 @@
+pub mod ById
 pub mod Held
 pub mod Stack
 pub mod Operands
