@@ -41,7 +41,7 @@ pub fn entries_renewed<'a>(
     ensures grown { take (length fresh.old.items) fresh.new.items ≡ fresh.old.items }
     ensures marks { IfOk result (λ renewed. map marked_in renewed.items ≡ map marked_in entries.now) }
 {
-    let mut renewed = Vec::new(*fresh.allocator());
+    let mut renewed = Vec::with_capacity(*fresh.allocator(), entries.len())?;
     for state in entries {
         renewed.push(EntryState {
             entry: state.entry.copied()?,

@@ -169,7 +169,7 @@ fn entry_states<'a>(
     ensures marks { IfOk result (λ states. AreLentIn states.items) }
     ensures opened { IfOk result (λ states. map (state_in []) states.items ≡ config.opening_entries (map (variable_in []) variables.now) 0 entries.now) }
 {
-    let mut states = Vec::new(alloc);
+    let mut states = Vec::with_capacity(alloc, entries.len())?;
     for entry in entries {
         let position = states.as_slice().len() as u64;
         let variables = variables.copied(alloc)?;

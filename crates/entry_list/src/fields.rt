@@ -130,7 +130,7 @@ pub(crate) fn join_entries(
     ensures bytes { IfOk result HaveBytes }
 {
     let listed = listed_keys(alloc, list)?;
-    let mut found = Seq::new(alloc);
+    let mut found = Seq::from_vec(Vec::with_capacity(alloc, list.len())?);
     for chosen in list {
         found.push(join_entry(alloc, declared, table, &listed, chosen)?)?;
     }
