@@ -109,7 +109,9 @@ fn executed(at: &At<'_>, name: NameId, parts: Parts<'_>, between: Between) -> Fl
     ensures ready { IfOk result (AreReady at.now.style.now) }
 {
     let Parts {
-        after, mut hints, ..
+        after,
+        mut hints,
+        ..
     } = parts;
     execute_walked(at, name, &between.globals, &after, &mut hints)?;
     Ok(Between {
@@ -214,7 +216,10 @@ fn visits_kept(
     ensures { Takes (rule.called at.now.checker.now.style at.now.checker.now.cert name at.now.command.place
         (started at.now.style.now at.now.cond.now (visit ∷ (entry ∷ [])) true true) (moved AtNext visit ∷ (keeps ∷ [])) hints.old) [] result }
 {
-    let next = held(at.command.place, piece_moved(at.alloc, Moment::Next, &visit))?;
+    let next = held(
+        at.command.place,
+        piece_moved(at.alloc, Moment::Next, &visit),
+    )?;
     let starts = [visit, entry];
     let ends = [next, keeps];
     visit_walked(at, name, &starts, &ends, hints)
