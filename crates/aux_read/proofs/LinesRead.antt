@@ -275,19 +275,14 @@ pub line_read : (number : ℕ) (line : List ℕ) (aux next : Aux) → take_line 
     → LineRead number line aux next
 line_read number line aux next e =
     let place = start_of number in
-    let goal = LineRead number line aux next in
-    or_case goal (λ rest. take_citations place rest aux) (after_front (codes "\\citation{") line) _ (Ok next) e
-    (λ rest found gives. citations_read number line rest aux next (front_read (codes "\\citation{") line rest found) gives)
-    (λ no_citation gives.
-    or_case goal (λ rest. take_databases place rest aux) (after_front (codes "\\bibdata{") line) _ (Ok next) gives
-    (λ rest found gives. databases_read number line rest aux next (front_read (codes "\\bibdata{") line rest found) gives)
-    (λ no_databases gives.
-    or_case goal (λ rest. take_style place rest aux) (after_front (codes "\\bibstyle{") line) _ (Ok next) gives
-    (λ rest found gives. style_read number line rest aux next (front_read (codes "\\bibstyle{") line rest found) gives)
-    (λ no_style gives.
-    or_case goal (λ rest. take_input place rest aux) (after_front (codes "\\@input{") line) _ (Ok next) gives
-    (λ rest found gives. input_read number line rest aux next (front_read (codes "\\@input{") line rest found) gives)
-    (λ no_input gives.
+    by_front (codes "\\citation{") (λ rest. take_citations place rest aux) _ e
+    (λ rest is gives. citations_read number line rest aux next is gives) (λ no_citation gives.
+    by_front (codes "\\bibdata{") (λ rest. take_databases place rest aux) _ gives
+    (λ rest is gives. databases_read number line rest aux next is gives) (λ no_databases gives.
+    by_front (codes "\\bibstyle{") (λ rest. take_style place rest aux) _ gives
+    (λ rest is gives. style_read number line rest aux next is gives) (λ no_style gives.
+    by_front (codes "\\@input{") (λ rest. take_input place rest aux) _ gives
+    (λ rest is gives. input_read number line rest aux next is gives) (λ no_input gives.
     let same : aux ≡ next = cc in
     record {
       line = Other;
@@ -300,6 +295,14 @@ line_read number line aux next e =
       );
       meant = ap Some same;
     }))))
+  where
+    by_front : (word : List ℕ) (take : List ℕ → Result Aux AuxFault) (other : Result Aux AuxFault)
+        → option_map_or take (after_front word line) other ≡ Ok next
+        → ((rest : List ℕ) → line ≡ word ++ rest → take rest ≡ Ok next → LineRead number line aux next)
+        → (after_front word line ≡ None → other ≡ Ok next → LineRead number line aux next) → LineRead number line aux next
+    by_front word take other is read missed =
+        or_case (LineRead number line aux next) take (after_front word line) other (Ok next) is
+        (λ rest found gives. read rest (front_read word line rest found) gives) missed
 
 -- what each of the five looks for, in their order
 abbrev after_databases : Place → Aux → List ℕ → Result Aux AuxFault

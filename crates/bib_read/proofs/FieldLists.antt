@@ -1,5 +1,5 @@
 -- The fields of an entry, in one piece of memory and in two parts.
-use Rattle.std.proofs.Common.{◌≡◌, ℕ, zero, suc, ◌+◌, ◌*◌, ◌/◌, ◌<◌, ◌≤◌, le_refl, refl, sym, ap, subst, ◌∙◌, Bool, true, false, cond, ◌||◌, List, [], ◌∷◌, ◌++◌, Option, None, Some, Result, Ok, Err, is_some, append_assoc, drop, get_or, length, slice_get, take, arith}
+use Rattle.std.proofs.Common.{◌≡◌, ℕ, zero, suc, ◌+◌, ◌*◌, ◌/◌, ◌<◌, ◌≤◌, le_refl, refl, sym, ap, subst, ◌∙◌, Bool, true, false, cond, ◌||◌, List, [], ◌∷◌, ◌++◌, Option, None, Some, Result, Ok, Err, is_some, option_map, append_assoc, drop, get_or, length, slice_get, take, arith}
 use Rattle.std.proofs.lemmas.List.{drop-append-le, drop_all, length-append, take-append-drop, take_all}
 use Rattle.std.proofs.lemmas.List.Folds.{list_any-append}
 use Rattle.std.proofs.lemmas.Option.{slice_get_past}
@@ -56,6 +56,18 @@ field_at (Some n ∷ Some v ∷ texts) (suc at) paired =
 field_at (Some n ∷ None ∷ texts) at paired = absurd paired
 field_at (None ∷ second ∷ texts) at paired = absurd paired
 
+-- the name of the field at a place
+pub name_at : (texts : List (Option (List ℕ))) (at : ℕ) → ArePaired texts
+    → get_or texts (at * 2) None ≡ option_map (λ (f : RawField). f.name) (slice_get (fields_in texts) at)
+name_at [] at paired = refl
+name_at (first ∷ []) at paired = absurd paired
+name_at (Some n ∷ Some v ∷ texts) zero paired = refl
+name_at (Some n ∷ Some v ∷ texts) (suc at) paired =
+    let place : suc at * 2 ≡ suc (suc (at * 2)) = omega arith in
+    ap (λ (i : ℕ). get_or (Some n ∷ Some v ∷ texts) i None) place ∙ name_at texts at paired
+name_at (Some n ∷ None ∷ texts) at paired = absurd paired
+name_at (None ∷ second ∷ texts) at paired = absurd paired
+
 -- a name that isn't among so many fields, nor the name of the next, isn't among one more
 pub not_yet : (name : List ℕ) (fields : List RawField) (at : ℕ) (field : RawField) → text_of name (take at fields) ≡ None
     → slice_get fields at ≡ Some field → same_name name field.name ≡ false → text_of name (take (suc at) fields) ≡ None
@@ -89,6 +101,31 @@ found_here name (first ∷ fields) (suc at) (suc most) field early before here s
         → Some field.value ≡ cond t (Some first.value) (text_of name (take most fields))
     by true e later = absurd (cc)
     by false e later = later e
+
+-- a field that is read has the name that was read at its place
+pub named_as : (fields : List RawField) (at : ℕ) (found : List ℕ) (field : RawField) → Some found ≡ option_map (λ (f : RawField). f.name) (slice_get fields at)
+    → slice_get fields at ≡ Some field → found ≡ field.name
+named_as fields at found field named here =
+    let both : Some found ≡ Some field.name = named ∙ ap (λ (o : Option RawField). option_map (λ (f : RawField). f.name) o) here in
+    cc
+
+-- where a name was read there is a field
+pub some_named : (fields : List RawField) (at : ℕ) (found : List ℕ) → Some found ≡ option_map (λ (f : RawField). f.name) (slice_get fields at)
+    → None ≡ slice_get fields at → ⊥
+some_named fields at found named none =
+    let both : Some found ≡ None = named ∙ ap (λ (o : Option RawField). option_map (λ (f : RawField). f.name) o) (sym none) in
+    cc
+
+-- a name that isn't among so many fields, nor the one that is read behind them, isn't among one more
+pub not_named : (name : List ℕ) (fields : List RawField) (at : ℕ) (found : List ℕ) → text_of name (take at fields) ≡ None
+    → Some found ≡ option_map (λ (f : RawField). f.name) (slice_get fields at) → same_name name found ≡ false → text_of name (take (suc at) fields) ≡ None
+not_named name fields at found before named other = by (slice_get fields at) refl named
+  where
+    by : (o : Option RawField) → slice_get fields at ≡ o → Some found ≡ option_map (λ (f : RawField). f.name) o → text_of name (take (suc at) fields) ≡ None
+    by None here named = absurd (cc)
+    by (Some field) here named =
+        let it : found ≡ field.name = cc in
+        not_yet name fields at field before here (subst (λ n. same_name name n ≡ false) it other)
 
 -- no field stands behind so many
 pub found_nowhere : (name : List ℕ) (fields : List RawField) (at most : ℕ) → at < most → text_of name (take at fields) ≡ None
@@ -178,6 +215,18 @@ pub none_behind : (texts : List (Option (List ℕ))) (count at : ℕ) (seen : Li
 none_behind texts count at seen paired long past view =
     let late : length (fields_in texts) ≤ at = omega (arith, long, past, two_each texts paired) in
     sym (slice_get_past (fields_in texts) at late) ∙ ap (λ (l : List RawField). slice_get l at) view
+
+-- no name stands behind the last field
+pub no_name_behind : (texts : List (Option (List ℕ))) (count at : ℕ) (seen : List RawField) → ArePaired texts → count ≡ length texts → count / 2 ≤ at
+    → fields_in texts ≡ seen → None ≡ option_map (λ (f : RawField). f.name) (slice_get seen at)
+no_name_behind texts count at seen paired long past view =
+    ap (λ (o : Option RawField). option_map (λ (f : RawField). f.name) o) (none_behind texts count at seen paired long past view)
+
+-- a name that is read is that of its field
+pub name_read : (texts : List (Option (List ℕ))) (at : ℕ) (seen : List RawField) (name : Option (List ℕ)) → ArePaired texts → fields_in texts ≡ seen
+    → name ≡ get_or texts (at * 2) None → name ≡ option_map (λ (f : RawField). f.name) (slice_get seen at)
+name_read texts at seen name paired view is =
+    is ∙ name_at texts at paired ∙ ap (λ (l : List RawField). option_map (λ (f : RawField). f.name) (slice_get l at)) view
 
 no_pair : (name : Option (List ℕ)) → pair_of name None ≡ None
 no_pair (Some name) = refl

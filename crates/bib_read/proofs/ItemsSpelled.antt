@@ -24,7 +24,7 @@ use Rattle.bib_read.specs.Values.{take_equals, take_value}
 use Rattle.bib_read.proofs.Enough.{same_fields}
 use Rattle.bib_read.proofs.Gaps.{after_gap, at, gap_before, gap_joined, gap_passed, mark_first, mark_read, mark_taken, run_before, run_taken}
 use Rattle.bib_read.proofs.FieldsSpelled.{IsCloser, closer, fields_read, fields_taken, mark_no_hash, with_fields}
-use Rattle.bib_read.proofs.Pieces.{equals_read, equals_taken, identifier_read, identifier_taken, valued, value_read, value_taken}
+use Rattle.bib_read.proofs.Pieces.{EqualsRead, equals_read, equals_taken, identifier_read, identifier_taken, valued, value_read, value_taken}
 use Rattle.bib_read.proofs.Shorter.{Below, dropped, item_below}
 use Rattle.bv_base.proofs.ThenLemmas.{ok, ok_is, then_ok, unless_ok}
 
@@ -82,20 +82,25 @@ close_before : (close : ℕ) (between rest : List ℕ) → IsCloser close → Ma
 close_before close between rest c m = gap_passed between (close ∷ rest) m c.black
 
 -- the definition of a macro, after its name
-record DefinitionRead (close : ℕ) (name bytes : List ℕ) (p q : Progress) : Type 0 where
-  more : List ℕ
-  value : List Piece
-  rest : List ℕ
-  mark : Mark 61 bytes more
-  spelled : IsValue value more rest
-  closes : Mark close rest q.left
+record DefinitionRead (close : ℕ) (name : List ℕ) (p q : Progress) : Type 0 where
+  between : Progress
+  equals : EqualsRead p.left p between
+  closes : Mark close equals.rest q.left
   is : database q ≡ record (database p) {
-    macros = defined name (squeezed false (value_text p.macros value)) p.macros;
-    warnings = p.warnings ++ value_warnings p.macros value;
+    macros = defined name (squeezed false (value_text p.macros equals.value)) p.macros;
+    warnings = p.warnings ++ value_warnings p.macros equals.value;
   }
 
+-- the closing byte stands behind a value, and maybe white space
+closes_value : (close : ℕ) (value : List Piece) (rest left : List ℕ) (p q r : Progress) → q ≡ valued value (after_white rest) p
+    → Mark close q.left r.left → left ≡ r.left → Mark close rest left
+closes_value close value rest left p q r is m same =
+    close_after close rest left
+    (subst (λ (l : List ℕ). Mark close (after_white rest) l) (sym same)
+    (subst (λ (l : List ℕ). Mark close l r.left) (ap (λ (x : Progress). x.left) is) m))
+
 definition_read : (close : ℕ) (name : List ℕ) (p q : Progress) → take_definition close name p ≡ Ok q
-    → DefinitionRead close name p.left p q
+    → DefinitionRead close name p q
 definition_read close name p q e =
     let t = then_ok (take_equals p) (λ (x : Progress). then_do (take_mark close x) (λ (r : Progress). ok (with_definition name r))) q e in
     let v = equals_read p t.0 t.1 in
@@ -106,14 +111,9 @@ definition_read close name p q e =
     let q_is : q ≡ with_definition name (valued v.value (u.0).left p) = same ∙ ap (λ (x : Progress). with_definition name x) b in
     let left : q.left ≡ (u.0).left = ap (λ (x : Progress). x.left) same in
     record {
-      more = v.more;
-      value = v.value;
-      rest = v.rest;
-      mark = v.mark;
-      spelled = v.spelled;
-      closes = close_after close v.rest q.left
-          (subst (λ (l : List ℕ). Mark close (after_white v.rest) l) (sym left)
-          (subst (λ (l : List ℕ). Mark close l (u.0).left) (ap (λ (x : Progress). x.left) v.is) m.0));
+      between = t.0;
+      equals = v;
+      closes = closes_value close v.value v.rest q.left p t.0 u.0 v.is m.0 left;
       is = ap (λ (x : Progress). database x) q_is;
     }
 
@@ -137,11 +137,12 @@ string_read close word bytes p o q is a i opens left same e =
     let e2 : take_definition close (lowered n.0) (at l o) ≡ Ok q =
     sym (ap (λ (f : List ℕ × Progress). take_definition close f.0 f.1) n.2) ∙ t.2 in
     let d = definition_read close (lowered n.0) (at l o) q e2 in
+    let v = d.equals in
     record {
-      item = Definition word n.0 d.value;
-      spelled = subst (λ (b : List ℕ). IsItem (Definition word n.0 d.value) b q.left) (sym left)
-          (close, a, o.left, l, d.more, d.rest, i, is, opens, n.1, d.mark, d.spelled, d.closes);
-      meant = ap (λ (x : Database). and_item (Definition word n.0 d.value) x) (sym same) ∙ ap Some (sym d.is);
+      item = Definition word n.0 v.value;
+      spelled = subst (λ (b : List ℕ). IsItem (Definition word n.0 v.value) b q.left) (sym left)
+          (close, a, o.left, l, v.more, v.rest, i, is, opens, n.1, v.mark, v.spelled, d.closes);
+      meant = ap (λ (x : Database). and_item (Definition word n.0 v.value) x) (sym same) ∙ ap Some (sym d.is);
     }
 
 preamble_read : (close : ℕ) (word bytes : List ℕ) (p : Progress) (o q : Progress) → is_word (codes "preamble") word ≡ true
@@ -155,10 +156,7 @@ preamble_read close word bytes p o q is a i opens left same e =
     let q_same : q ≡ with_preamble u.0 = ok_is (with_preamble u.0) q u.2 in
     let b : u.0 ≡ valued v.value (u.0).left o = m.1 ∙ ap (λ (x : Progress). at (u.0).left x) v.is in
     let q_left : q.left ≡ (u.0).left = ap (λ (x : Progress). x.left) q_same in
-    let closes : Mark close v.rest q.left =
-    close_after close v.rest q.left
-    (subst (λ (l : List ℕ). Mark close (after_white v.rest) l) (sym q_left)
-    (subst (λ (l : List ℕ). Mark close l (u.0).left) (ap (λ (x : Progress). x.left) v.is) m.0)) in
+    let closes = closes_value close v.value v.rest q.left o t.0 u.0 v.is m.0 q_left in
     record {
       item = Preamble word v.value;
       spelled = subst (λ (l : List ℕ). IsItem (Preamble word v.value) l q.left) (sym left)

@@ -185,10 +185,22 @@ pub record PieceRead (p q : Progress) : Type 0 where
   pub spelled : IsPiece piece p.left q.left
   pub is : q ≡ with_piece piece q.left p
 
-closed_piece : (mark opens : ℕ) (bytes : List ℕ) (p q : Progress) → Mark opens p.left bytes → (c : ClosedRead mark bytes p q)
-    → Mark opens p.left (c.text ++ mark ∷ q.left)
-closed_piece mark opens bytes p q m c =
-    (m.0, m.1, m.2 ∙ ap (λ (l : List ℕ). m.0 ++ opens ∷ l) c.spelled)
+-- a text in braces or quotes, with the mark that begins it
+record ClosedPiece (mark opens : ℕ) (p q : Progress) : Type 0 where
+  text : List ℕ
+  spelled : Mark opens p.left (text ++ mark ∷ q.left) × (is_inside mark 0 text ≡ true)
+  is : q ≡ record p { left = q.left; text = p.text ++ text; warnings = p.warnings ++ [] }
+
+closed_piece : (mark opens b : ℕ) (bytes : List ℕ) (p q : Progress) → Gap p.left (b ∷ bytes) → nat_eq b opens ≡ true
+    → take_closed mark bytes p ≡ Ok q → ClosedPiece mark opens p q
+closed_piece mark opens b bytes p q gap first e =
+    let c = take_closed_read mark bytes p q e in
+    let m : Mark opens p.left bytes = subst (λ (k : ℕ). Gap p.left (k ∷ bytes)) (eqb-true b opens first) gap in
+    record {
+      text = c.text;
+      spelled = ((m.0, m.1, m.2 ∙ ap (λ (l : List ℕ). m.0 ++ opens ∷ l) c.spelled), c.inside);
+      is = c.is ∙ joined_is c.text q.left p;
+    }
 
 digits_length : (b : ℕ) (bytes : List ℕ) (n : ℕ) → is_digit b ≡ true
     → 0 < length (take (cond (ends_digits b) 0 (suc n)) (b ∷ bytes))
@@ -232,21 +244,9 @@ piece_case : (b : ℕ) (bytes : List ℕ) (p q : Progress) → Gap p.left (b ∷
     → cond x (take_closed 125 bytes p) (cond y (take_closed 34 bytes p) (cond z (Ok (take_digits (b ∷ bytes) p)) (take_macro p))) ≡ Ok q
     → PieceRead p q
 piece_case b bytes p q gap true y z f g h e =
-    let c = take_closed_read 125 bytes p q e in
-    let m : Mark 123 p.left bytes = subst (λ (k : ℕ). Gap p.left (k ∷ bytes)) (eqb-true b 123 f) gap in
-    record {
-      piece = Braced c.text;
-      spelled = (closed_piece 125 123 bytes p q m c, c.inside);
-      is = c.is ∙ joined_is c.text q.left p;
-    }
+    let c = closed_piece 125 123 b bytes p q gap f e in record { piece = Braced c.text; spelled = c.spelled; is = c.is }
 piece_case b bytes p q gap false true z f g h e =
-    let c = take_closed_read 34 bytes p q e in
-    let m : Mark 34 p.left bytes = subst (λ (k : ℕ). Gap p.left (k ∷ bytes)) (eqb-true b 34 g) gap in
-    record {
-      piece = Quoted c.text;
-      spelled = (closed_piece 34 34 bytes p q m c, c.inside);
-      is = c.is ∙ joined_is c.text q.left p;
-    }
+    let c = closed_piece 34 34 b bytes p q gap g e in record { piece = Quoted c.text; spelled = c.spelled; is = c.is }
 piece_case b bytes p q gap false false true f g h e = digits_read b bytes p q gap h e
 piece_case b bytes p q gap false false false f g h e = macro_read p q e
 

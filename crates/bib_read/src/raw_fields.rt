@@ -76,15 +76,28 @@ impl RawFields {
         Some(RawField { name, value })
     }
 
+    /// The name of the field at a place.
+    fn name(&self, at: usize) -> Option<&[u8]>
+        ensures { option_map (λ name. name.now) result ≡ option_map (λ f. f.name) (slice_get self.now at) }
+    {
+        if at >= self.texts.len() / 2 {
+            return None;
+        }
+        self.texts.at(at * 2)
+    }
+
     /// The value of the field of this name, where it is among the first so many.
     pub fn find_among(&self, most: usize, name: &[u8]) -> Option<&[u8]>
         ensures { option_map (λ value. value.now) result ≡ text_of name.now (take most self.now) }
     {
         for at in 0..most {
-            let Some(field) = self.get(at) else {
+            let Some(found) = self.name(at) else {
                 return None;
             };
-            if name == field.name {
+            if name == found {
+                let Some(field) = self.get(at) else {
+                    return None;
+                };
                 return Some(field.value);
             }
         }

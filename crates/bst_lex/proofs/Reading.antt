@@ -135,12 +135,13 @@ integer_read place false (d ∷ digits) rest none ends some =
     {x = 1 + length (d ∷ digits)} {y = suc (length (d ∷ digits))} (omega arith)
 
 text_read : (place : Place) (inside rest : List ℕ) → NoneOf ends_inside inside
-    → text_at place (inside ++ 34 ∷ rest)
+    → text_at place ((inside ++ 34 ∷ []) ++ rest)
     ≡ followed place (record { length = length (34 ∷ (inside ++ 34 ∷ [])); shape = Text }) rest
 text_read place inside rest none =
     let all : List ℕ = inside ++ 34 ∷ rest in
     let count : length inside + 2 ≡ length (34 ∷ (inside ++ 34 ∷ [])) = simp length-append (omega arith) in
-    ap (λ n. cond (first_is (nat_eq 34) (drop n all)) (followed place (record { length = n + 2; shape = Text }) (drop 1 (drop n all)))
+    ap (text_at place) (append_assoc inside (34 ∷ []) rest)
+    ∙ ap (λ n. cond (first_is (nat_eq 34) (drop n all)) (followed place (record { length = n + 2; shape = Text }) (drop 1 (drop n all)))
     (Err (NoEndQuote place))) (length_before_is ends_inside inside (34 ∷ rest) none refl)
     ∙ ap (λ xs. cond (first_is (nat_eq 34) xs) (followed place (record { length = length inside + 2; shape = Text }) (drop 1 xs))
     (Err (NoEndQuote place))) (drop-append_seam inside (34 ∷ rest))
@@ -243,9 +244,7 @@ lexeme_read place Text text rest (inside, is, follows) =
     subst (λ t. Begins place (t ++ rest) (Ok (record { length = length t; shape = Text }))) (sym is.spelled)
     (record {
       piece_is =
-          ap (text_at place) (append_assoc inside (34 ∷ []) rest)
-          ∙ text_read place inside rest is.plain
-          ∙ cond-true (may_follow rest) _ _ follows;
+          text_read place inside rest is.plain ∙ cond-true (may_follow rest) _ _ follows;
       gap_is = refl;
       some = omega arith;
     })
@@ -345,9 +344,7 @@ fault_read place bytes (StuffAfterToken at) (text, rest, is, at_is, stuff, inr (
     (ap StuffAfterToken (at_is ∙ ap (λ t. along place (length t)) text_is.spelled))
     (record {
       piece_is =
-          ap (text_at place) (append_assoc inside (34 ∷ []) rest)
-          ∙ text_read place inside rest text_is.plain
-          ∙ cond-false (may_follow rest) _ _ stuff;
+          text_read place inside rest text_is.plain ∙ cond-false (may_follow rest) _ _ stuff;
       gap_is = refl;
       some = omega arith;
     })

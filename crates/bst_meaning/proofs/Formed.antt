@@ -48,6 +48,7 @@ use Rattle.bst_meaning.proofs.FineEffects.{IsEntered, IsFine, fine}
 use Rattle.bst_meaning.proofs.Kept.{entries_seen}
 use Rattle.bst_meaning.proofs.Opened.{opening_formed}
 use Rattle.bst_meaning.proofs.Permuted.{sorted_all, sorted_permutes}
+use Rattle.bst_meaning.proofs.Stepping.{kept_step, kept_steps}
 
 -- an element that is found or replaced
 all_got : {X : Type 0} (P : X → Type 0) (xs : List X) (k : ℕ) → AllByRecursion P xs → IfSome (slice_get xs k) P
@@ -346,15 +347,7 @@ module _ (style : Style) where
     going_formed (frame ∷ frames) c all h = inner_formed frame frames frame.tokens c all.0.tokens all.0.part all.1 h
 
     pub step_formed : (c : Config) → Formed c → Formed (step style c)
-    step_formed c h = by c.stopped
-      where
-        by : (stopped : Option Stopped) → Formed (unless_stopped stopped c (going_step style c.frames c))
-        by None = going_formed c.frames c h.frames h
-        by (Some stopped) = h
-
-    steps_formed : (n : ℕ) (c : Config) → Formed c → Formed (steps style n c)
-    steps_formed zero c h = h
-    steps_formed (suc n) c h = steps_formed n (step style c) (step_formed c h)
+    step_formed = kept_step style Formed (λ c h. going_formed c.frames c h.frames h)
 
     pub run_formed : (n : ℕ) → Formed (run style list n)
-    run_formed n = steps_formed n (opening style list) (opening_formed style list sound fits)
+    run_formed n = kept_steps style Formed step_formed n (opening style list) (opening_formed style list sound fits)

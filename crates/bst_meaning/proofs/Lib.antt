@@ -5,8 +5,10 @@ mod Formed
 pub mod FormattedBytes
 mod Giving
 mod Kept
+pub mod NameByName
 pub mod Naming
 mod Opened
 mod Permuted
 pub mod Placed
 pub mod Replacing
+pub mod Stepping

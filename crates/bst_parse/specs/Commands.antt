@@ -36,31 +36,26 @@ command_words =
 abbrev pub word_of : List ℕ → Option Word
 word_of name = word_among name command_words
 
+-- the command of a word, where it names no function, and the parts that follow the word
+abbrev pub begun_by : Word → Option Command × List Part
+begun_by Entry = (Some command.Entry, Open ∷ Names Field ∷ Open ∷ Names IntEntry ∷ Open ∷ Names StrEntry ∷ [])
+begun_by Execute = (None, Open ∷ Target caller.Execute ∷ Close ∷ [])
+begun_by Function = (None, Open ∷ FunctionName ∷ Close ∷ Body ∷ [])
+begun_by Integers = (Some command.Integers, Open ∷ Names IntGlobal ∷ [])
+begun_by Iterate = (None, Open ∷ Target caller.Iterate ∷ Close ∷ [])
+begun_by Macro = (Some command.Macro, Open ∷ MacroName ∷ Close ∷ Open ∷ MacroText ∷ Close ∷ [])
+begun_by Read = (Some command.Read, [])
+begun_by Reverse = (None, Open ∷ Target caller.Reverse ∷ Close ∷ [])
+begun_by Sort = (Some command.Sort, [])
+begun_by Strings = (Some command.Strings, Open ∷ Names StrGlobal ∷ [])
+
 -- the parts that follow a command's word
 abbrev pub parts_of : Word → List Part
-parts_of Entry = Open ∷ Names Field ∷ Open ∷ Names IntEntry ∷ Open ∷ Names StrEntry ∷ []
-parts_of Execute = Open ∷ Target caller.Execute ∷ Close ∷ []
-parts_of Function = Open ∷ FunctionName ∷ Close ∷ Body ∷ []
-parts_of Integers = Open ∷ Names IntGlobal ∷ []
-parts_of Iterate = Open ∷ Target caller.Iterate ∷ Close ∷ []
-parts_of Macro = Open ∷ MacroName ∷ Close ∷ Open ∷ MacroText ∷ Close ∷ []
-parts_of Read = []
-parts_of Reverse = Open ∷ Target caller.Reverse ∷ Close ∷ []
-parts_of Sort = []
-parts_of Strings = Open ∷ Names StrGlobal ∷ []
+parts_of word = (begun_by word).1
 
 -- the command of a word that names no function
 abbrev pub declaration_of : Word → Option Command
-declaration_of Entry = Some command.Entry
-declaration_of Integers = Some command.Integers
-declaration_of Macro = Some command.Macro
-declaration_of Read = Some command.Read
-declaration_of Sort = Some command.Sort
-declaration_of Strings = Some command.Strings
-declaration_of Execute = None
-declaration_of Function = None
-declaration_of Iterate = None
-declaration_of Reverse = None
+declaration_of word = (begun_by word).0
 
 -- the command that calls a function
 abbrev pub call_of : Caller → NameId → Command

@@ -83,49 +83,60 @@ fn word_among(name: &[u8], words: &[(&[u8], Word)]) -> Option<Word>
     None
 }
 
-/// The parts that follow a command's word.
-pub(crate) fn parts_of(word: Word) -> &'static [Part]
-    ensures { result.now ≡ commands.parts_of word }
-{
-    match word {
-        Word::Entry => &[
-            Part::Open,
-            Part::Names(Kind::Field),
-            Part::Open,
-            Part::Names(Kind::IntEntry),
-            Part::Open,
-            Part::Names(Kind::StrEntry),
-        ],
-        Word::Execute => &[Part::Open, Part::Target(Caller::Execute), Part::Close],
-        Word::Function => &[Part::Open, Part::FunctionName, Part::Close, Part::Body],
-        Word::Integers => &[Part::Open, Part::Names(Kind::IntGlobal)],
-        Word::Iterate => &[Part::Open, Part::Target(Caller::Iterate), Part::Close],
-        Word::Macro => &[
-            Part::Open,
-            Part::MacroName,
-            Part::Close,
-            Part::Open,
-            Part::MacroText,
-            Part::Close,
-        ],
-        Word::Read | Word::Sort => &[],
-        Word::Reverse => &[Part::Open, Part::Target(Caller::Reverse), Part::Close],
-        Word::Strings => &[Part::Open, Part::Names(Kind::StrGlobal)],
-    }
-}
+/// The parts of the fields and the entry variables.
+const ENTRY_PARTS: [Part; 6] = [
+    Part::Open,
+    Part::Names(Kind::Field),
+    Part::Open,
+    Part::Names(Kind::IntEntry),
+    Part::Open,
+    Part::Names(Kind::StrEntry),
+];
 
-/// The command of a word that names no function.
-pub(crate) fn declaration_of(word: Word) -> Option<Command>
-    ensures { result ≡ commands.declaration_of word }
+/// The parts of a macro.
+const MACRO_PARTS: [Part; 6] = [
+    Part::Open,
+    Part::MacroName,
+    Part::Close,
+    Part::Open,
+    Part::MacroText,
+    Part::Close,
+];
+
+/// The command of a word, where it names no function, and the parts that follow the word.
+pub(crate) fn begun_by(word: Word) -> (Option<Command>, &'static [Part])
+    ensures command { result.0 ≡ commands.declaration_of word }
+    ensures parts { result.1.now ≡ commands.parts_of word }
 {
     match word {
-        Word::Entry => Some(Command::Entry),
-        Word::Integers => Some(Command::Integers),
-        Word::Macro => Some(Command::Macro),
-        Word::Read => Some(Command::Read),
-        Word::Sort => Some(Command::Sort),
-        Word::Strings => Some(Command::Strings),
-        Word::Execute | Word::Function | Word::Iterate | Word::Reverse => None,
+        Word::Entry => (Some(Command::Entry), &ENTRY_PARTS),
+        Word::Execute => (
+            None,
+            &[Part::Open, Part::Target(Caller::Execute), Part::Close],
+        ),
+        Word::Function => (
+            None,
+            &[Part::Open, Part::FunctionName, Part::Close, Part::Body],
+        ),
+        Word::Integers => (
+            Some(Command::Integers),
+            &[Part::Open, Part::Names(Kind::IntGlobal)],
+        ),
+        Word::Iterate => (
+            None,
+            &[Part::Open, Part::Target(Caller::Iterate), Part::Close],
+        ),
+        Word::Macro => (Some(Command::Macro), &MACRO_PARTS),
+        Word::Read => (Some(Command::Read), &[]),
+        Word::Reverse => (
+            None,
+            &[Part::Open, Part::Target(Caller::Reverse), Part::Close],
+        ),
+        Word::Sort => (Some(Command::Sort), &[]),
+        Word::Strings => (
+            Some(Command::Strings),
+            &[Part::Open, Part::Names(Kind::StrGlobal)],
+        ),
     }
 }
 

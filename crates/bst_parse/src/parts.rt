@@ -19,7 +19,8 @@ use name_table::names::{DefineFault, Kind, NameId, Names};
 use name_table::style::{Command, CommandAt, MOST_BODIES, Macro};
 
 impl Parser {
-    /// Takes a lexeme of a part, after which the rest of the command's parts are to come.
+    /// Takes a lexeme of a part, after which the rest of the command's parts are to come: a list of names is done with
+    /// its closing brace, every other part with one lexeme.
     pub(crate) fn take_part(
         &mut self,
         part: Part,
@@ -31,68 +32,24 @@ impl Parser {
             (progress_of self.new)
             result }
     {
-        match part {
-            Part::Names(kind) => return self.take_names(kind, rest, lexeme),
-            Part::Open => self.take_open(lexeme)?,
-            Part::Close => self.take_close(lexeme)?,
-            Part::Target(caller) => self.take_target(caller, lexeme)?,
-            Part::FunctionName => self.take_function_name(lexeme)?,
-            Part::Body => self.take_body(lexeme)?,
-            Part::MacroName => self.take_macro_name(lexeme)?,
-            Part::MacroText => self.take_macro_text(lexeme)?,
+        let place = lexeme.place;
+        match (part, lexeme.shape) {
+            (Part::Open, Shape::OpenBrace) => {}
+            (Part::Open, _) => return Err(StyleFault::Expected(place, Shape::OpenBrace)),
+            (Part::Close | Part::Names(_), Shape::CloseBrace) => {}
+            (Part::Close, _) => return Err(StyleFault::Expected(place, Shape::CloseBrace)),
+            (Part::Names(kind), _) => {
+                self.define(kind, lexeme)?;
+                return Ok(());
+            }
+            (Part::Target(caller), _) => self.take_target(caller, lexeme)?,
+            (Part::FunctionName, _) => self.take_function_name(lexeme)?,
+            (Part::Body, _) => self.take_body(lexeme)?,
+            (Part::MacroName, _) => self.take_macro_name(lexeme)?,
+            (Part::MacroText, _) => self.take_macro_text(lexeme)?,
         }
         self.parts = rest;
         Ok(())
-    }
-
-    /// Takes `{`.
-    fn take_open(&self, lexeme: &Lexeme<'_>) -> Result<(), StyleFault>
-        ensures { Leaves StyleFault.NoMemory
-            (parts.take_open lexeme.now.shape lexeme.now.place (progress_of self.now))
-            (progress_of self.now)
-            result }
-    {
-        match lexeme.shape {
-            Shape::OpenBrace => Ok(()),
-            _ => Err(StyleFault::Expected(lexeme.place, Shape::OpenBrace)),
-        }
-    }
-
-    /// Takes `}`.
-    fn take_close(&self, lexeme: &Lexeme<'_>) -> Result<(), StyleFault>
-        ensures { Leaves StyleFault.NoMemory
-            (parts.take_close lexeme.now.shape lexeme.now.place (progress_of self.now))
-            (progress_of self.now)
-            result }
-    {
-        match lexeme.shape {
-            Shape::CloseBrace => Ok(()),
-            _ => Err(StyleFault::Expected(lexeme.place, Shape::CloseBrace)),
-        }
-    }
-
-    /// Takes a name of a list of names, or the brace after them.
-    fn take_names(
-        &mut self,
-        kind: Kind,
-        rest: &'static [Part],
-        lexeme: &Lexeme<'_>,
-    ) -> Result<(), StyleFault>
-        ensures { Leaves StyleFault.NoMemory
-            (parts.take_names kind rest.now lexeme.now.shape lexeme.now.place lexeme.now.text.now (progress_of self.old))
-            (progress_of self.new)
-            result }
-    {
-        match lexeme.shape {
-            Shape::CloseBrace => {
-                self.parts = rest;
-                Ok(())
-            }
-            _ => {
-                self.define(kind, lexeme)?;
-                Ok(())
-            }
-        }
     }
 
     /// Takes a name that is defined.

@@ -6,7 +6,7 @@ ghost use Rattle.bst_parse.specs.Progressing.{progress_of};
 ghost use Rattle.bst_parse.specs.Words as words;
 
 use crate::fault::StyleFault;
-use crate::grammar::{Word, declaration_of, parts_of, word_of};
+use crate::grammar::{Word, begun_by, word_of};
 use crate::parser::{Parser, lower_into};
 use bst_lex::lexeme::{Lexeme, Shape};
 use bv_base::place::Place;
@@ -40,12 +40,13 @@ impl Parser {
         if let Some(fault) = self.order_fault(word, place) {
             return Err(fault);
         }
-        if let Some(command) = declaration_of(word) {
+        let (declared, parts) = begun_by(word);
+        if let Some(command) = declared {
             self.commands.push(CommandAt { command, place })?;
         }
         self.has_entry = self.has_entry || matches!(word, Word::Entry);
         self.has_read = self.has_read || matches!(word, Word::Read);
-        self.parts = parts_of(word);
+        self.parts = parts;
         self.place = place;
         Ok(())
     }

@@ -17,7 +17,7 @@ use Rattle.bst_run.specs.Sources.{read_style}
 use Rattle.bst_run.specs.Stops.{Gives, Decides, IsInside}
 use Rattle.bst_run.specs.Top.{after_style, check_outcome, text_judged, IsAcceptance, IsTextJudgedWell, IsJudgedWell}
 use Rattle.bst_run.proofs.ReadsLemmas.{reads_next, reads_nothing}
-use Rattle.bst_run.proofs.StyleLemmas.{is_style, style_reads, there}
+use Rattle.bst_run.proofs.StyleLemmas.{holds_style, style_reads, there}
 
 -- the files are read in turn
 pub check_reads : {F : Type 0} (see : Ghosts F) (old mid new : F) (style_name cert_name bytes bytes' text text' : List ℕ) (style : Style) (result : Result Outcome Stop)
@@ -46,10 +46,8 @@ accepts (Some t) told' style_name cert_name bytes bytes' text text' style (Ok ou
     subst (λ (o : Option Listing). Gives {A = List ℕ} o (λ u. file_in u STYLE_BYTES cert_name) (Ok text)) same cert_file in
     record {
       found = record {
-        bytes = bytes;
-        style_file = there style_name bytes (get t style_name) style_file;
         style = style;
-        style_read = is_style (style_of bytes) style (subst (λ (b : List ℕ). read_style (style_of b) ≡ Ok style) e read);
+        style_held = holds_style t style_name bytes bytes' style e style_file read;
         text = text;
         cert_file = there cert_name text (get t cert_name) there_now;
         cert = well.cert;

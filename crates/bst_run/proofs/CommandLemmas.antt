@@ -16,11 +16,11 @@ use Rattle.bst_run.specs.Forms.{Form, Check, Infer, Run, RunUnder, Gen}
 use Rattle.bst_run.specs.Generated.{IsGenerating, gen_outcome}
 use Rattle.bst_run.specs.Reads.{Reads}
 use Rattle.bst_run.specs.Report.{usage, absent, unread, too_long}
-use Rattle.bst_run.specs.Stops.{Gives, Decides, HasCause, IsDecided, IsInside as IsFromInside, IsRefusing, told_of}
+use Rattle.bst_run.specs.Stops.{Gives, Decides, HasCause, IsDecided, IsInside as IsFromInside, IsRefusal, IsRefusing, told_of}
 use Rattle.bst_run.specs.Top.{CausedBy, IsWanted, IsAnswer, IsAnswered, Promises, IsPromised, IsDoneWell, IsInside, IsMade, IsMadeOf, IsMaking, Makes, IsUnder, SaysDone, ended, outcome_in}
 use Rattle.bst_run.specs.Under.{FaultsOutside}
 use Rattle.std.proofs.lemmas.List.{append_cancel_left}
-use Rattle.bst_run.proofs.DeliveryLemmas.{appended_nothing, delivered_front, silent, wanting}
+use Rattle.bst_run.proofs.DeliveryLemmas.{appended_nothing, delivered_front, delivered_whole, silent, wanting}
 
 -- a status that the files decide has no cause outside
 decided_cause : (given : Status) (outcome : Outcome) (begun : Option Begun) (f f' : ℕ) → IsDecided given → CausedBy given outcome begun f f'
@@ -38,107 +38,84 @@ refusing_decided status.Fault refusing = absurd refusing
 refusing_decided status.Budget refusing = absurd refusing
 refusing_decided _ refusing = refusing
 
+-- the outcome that is told is the one that comes of it
+same_told : (o outcome : Outcome) → Some o ≡ Some outcome → o ≡ outcome
+same_told o outcome is = cc
+
 -- what the outside shows of a command's result, it shows of the outcome
 told_cause : (result : Result Outcome Stop) (outcome : Outcome) (begun : Option Begun) (f f' : ℕ) → told_of result ≡ Some outcome
     → IfOk result (λ o. IsDecided o.status) → IfErr result (λ stop. HasCause stop begun f f') → CausedBy outcome.status outcome begun f f'
 told_cause (Ok o) outcome begun f f' is decided cause =
-    let same : o ≡ outcome = cc in
-    decided_cause outcome.status outcome begun f f' (subst (λ (x : Outcome). IsDecided x.status) same decided)
+    decided_cause outcome.status outcome begun f f' (subst (λ (x : Outcome). IsDecided x.status) (same_told o outcome is) decided)
 told_cause (Err (Told o)) outcome begun f f' is decided cause =
-    let same : o ≡ outcome = cc in
-    decided_cause outcome.status outcome begun f f' (subst (λ (x : Outcome). IsDecided x.status) same (refusing_decided o.status cause.1))
+    decided_cause outcome.status outcome begun f f'
+    (subst (λ (x : Outcome). IsDecided x.status) (same_told o outcome is) (refusing_decided o.status cause.1))
 told_cause (Err (Absent name)) outcome begun f f' is decided cause =
-    let same : absent (string_bytes name) ≡ outcome = cc in
-    subst (λ (x : Outcome). CausedBy x.status x begun f f') same (rw cause (refl, refl))
+    subst (λ (x : Outcome). CausedBy x.status x begun f f') (same_told (absent (string_bytes name)) outcome is) (rw cause (refl, refl))
 told_cause (Err (Failed name)) outcome begun f f' is decided cause =
-    let same : unread (string_bytes name) ≡ outcome = cc in
     let opened = cause.0 in
-    subst (λ (x : Outcome). CausedBy x.status x begun f f') same (rw opened (cause.1, (refl, refl)))
+    subst (λ (x : Outcome). CausedBy x.status x begun f f') (same_told (unread (string_bytes name)) outcome is) (rw opened (cause.1, (refl, refl)))
 told_cause (Err (TooLong name)) outcome begun f f' is decided cause =
-    let same : too_long (string_bytes name) ≡ outcome = cc in
-    subst (λ (x : Outcome). CausedBy x.status x begun f f') same tt
+    subst (λ (x : Outcome). CausedBy x.status x begun f f') (same_told (too_long (string_bytes name)) outcome is) tt
 told_cause (Err Wanting) outcome begun f f' is decided cause = absurd (cc)
 
 -- the outcome of a command's result is the one that is wanted of the files, where they tell
 told_wanted : (t : Option Listing) (wanted : Listing → Result Outcome Outcome) (result : Result Outcome Stop) (outcome : Outcome) → told_of result ≡ Some outcome
     → Gives {A = Outcome} t wanted result → IfSome t (λ told. IsWanted (ended (wanted told)) outcome)
 told_wanted None wanted result outcome is gives = tt
-told_wanted (Some t) wanted (Ok o) outcome is gives =
-    let same : o ≡ outcome = cc in
-    inl (sym same ∙ sym (ap ended gives))
-told_wanted (Some t) wanted (Err (Told o)) outcome is gives =
-    let same : o ≡ outcome = cc in
-    inl (sym same ∙ sym (ap ended gives))
+told_wanted (Some t) wanted (Ok o) outcome is gives = inl (sym (same_told o outcome is) ∙ sym (ap ended gives))
+told_wanted (Some t) wanted (Err (Told o)) outcome is gives = inl (sym (same_told o outcome is) ∙ sym (ap ended gives))
 told_wanted (Some t) wanted (Err (Absent name)) outcome is gives =
-    let same : absent (string_bytes name) ≡ outcome = cc in
-    inl (sym same ∙ sym (ap ended gives))
+    inl (sym (same_told (absent (string_bytes name)) outcome is) ∙ sym (ap ended gives))
 told_wanted (Some t) wanted (Err (Failed name)) outcome is gives =
-    let same : unread (string_bytes name) ≡ outcome = cc in
-    inr (string_bytes name, sym same)
+    inr (string_bytes name, sym (same_told (unread (string_bytes name)) outcome is))
 told_wanted (Some t) wanted (Err (TooLong name)) outcome is gives =
-    let same : too_long (string_bytes name) ≡ outcome = cc in
-    inl (sym same ∙ sym (ap ended gives))
+    inl (sym (same_told (too_long (string_bytes name)) outcome is) ∙ sym (ap ended gives))
 told_wanted (Some t) wanted (Err Wanting) outcome is gives = absurd (cc)
 
--- an outcome without a text for standard output whose status isn't Done doesn't say that something was done
-says_nothing : (o outcome : Outcome) → o ≡ outcome → o.out ≡ [] → (o.status ≡ status.Done → ⊥) → SaysDone outcome → ⊥
-says_nothing o outcome same none other (inl done) = other (ap (λ (x : Outcome). x.status) same ∙ done)
-says_nothing o outcome same none other (inr some) = some (ap (λ (x : Outcome). x.out) (sym same) ∙ none)
+-- an outcome has no text for standard output, and is neither that of something done nor an execution error
+record IsBare (outcome : Outcome) : Type 0 where
+  none : outcome.out ≡ []
+  not_done : outcome.status ≡ status.Done → ⊥
+  no_fault : outcome.status ≡ status.Fault → ⊥
 
--- a status of a refusal isn't Done
-not_done : (given : Status) → IsRefusing given → given ≡ status.Done → ⊥
-not_done given refusing done = subst IsRefusing done refusing
+-- so is one that the bytes of the files decide and that stops a command, and that of each stop
+refusal_bare : (outcome : Outcome) → IsRefusal outcome → IsBare outcome
+refusal_bare outcome refusal = record {
+  none = refusal.0;
+  not_done = λ done. subst IsRefusing done refusal.1;
+  no_fault = λ fault. subst IsRefusing fault refusal.1;
+}
 
--- a stop doesn't say that something was done, so what a command promises of an outcome that does is promised of the outcome
+stop_bare : (stop : Stop) (outcome : Outcome) (begun : Option Begun) (f f' : ℕ) → told_of (Err stop) ≡ Some outcome → HasCause stop begun f f' → IsBare outcome
+stop_bare (Told o) outcome begun f f' is cause = subst IsBare (same_told o outcome is) (refusal_bare o cause)
+stop_bare (Absent name) outcome begun f f' is cause =
+    subst IsBare (same_told (absent (string_bytes name)) outcome is) (record { none = refl; not_done = λ done. cc; no_fault = λ fault. cc })
+stop_bare (Failed name) outcome begun f f' is cause =
+    subst IsBare (same_told (unread (string_bytes name)) outcome is) (record { none = refl; not_done = λ done. cc; no_fault = λ fault. cc })
+stop_bare (TooLong name) outcome begun f f' is cause =
+    subst IsBare (same_told (too_long (string_bytes name)) outcome is) (record { none = refl; not_done = λ done. cc; no_fault = λ fault. cc })
+stop_bare Wanting outcome begun f f' is cause = absurd (cc)
+
+-- such an outcome doesn't say that something was done
+says_nothing : (outcome : Outcome) → IsBare outcome → SaysDone outcome → ⊥
+says_nothing outcome bare (inl done) = bare.not_done done
+says_nothing outcome bare (inr some) = some bare.none
+
+-- so what a command promises of an outcome that does is promised of the outcome
 told_safe : (t : Option Listing) (form : Form) (result : Result Outcome Stop) (outcome : Outcome) (begun : Option Begun) (f f' : ℕ) → told_of result ≡ Some outcome
     → IfErr result (λ stop. HasCause stop begun f f') → IfOk result (λ o. IfSome t (λ told. Promises told form o))
     → IfSome t (λ told. SaysDone outcome → Promises told form outcome)
 told_safe None form result outcome begun f f' is cause safe = tt
-told_safe (Some t) form (Ok o) outcome begun f f' is cause safe =
-    let same : o ≡ outcome = cc in
-    λ says. subst (λ (x : Outcome). Promises t form x) same safe
-told_safe (Some t) form (Err (Told o)) outcome begun f f' is cause safe =
-    let same : o ≡ outcome = cc in
-    λ says. absurd (says_nothing o outcome same cause.0 (not_done o.status cause.1) says)
-told_safe (Some t) form (Err (Absent name)) outcome begun f f' is cause safe =
-    let same : absent (string_bytes name) ≡ outcome = cc in
-    λ says. absurd (says_nothing (absent (string_bytes name)) outcome same refl (λ done. absurd (cc)) says)
-told_safe (Some t) form (Err (Failed name)) outcome begun f f' is cause safe =
-    let same : unread (string_bytes name) ≡ outcome = cc in
-    λ says. absurd (says_nothing (unread (string_bytes name)) outcome same refl (λ done. absurd (cc)) says)
-told_safe (Some t) form (Err (TooLong name)) outcome begun f f' is cause safe =
-    let same : too_long (string_bytes name) ≡ outcome = cc in
-    λ says. absurd (says_nothing (too_long (string_bytes name)) outcome same refl (λ done. absurd (cc)) says)
-told_safe (Some t) form (Err Wanting) outcome begun f f' is cause safe = absurd (cc)
+told_safe (Some t) form (Ok o) outcome begun f f' is cause safe = λ says. subst (λ (x : Outcome). Promises t form x) (same_told o outcome is) safe
+told_safe (Some t) form (Err stop) outcome begun f f' is cause safe =
+    λ says. absurd (says_nothing outcome (stop_bare stop outcome begun f f' is cause) says)
 
--- no stop is an execution error, so what holds of those of a command's result holds of those of its outcome
+-- and what holds of the execution errors of a command's result holds of those of its outcome
 told_outside : (result : Result Outcome Stop) (outcome : Outcome) (begun : Option Begun) (f f' : ℕ) → told_of result ≡ Some outcome
     → IfErr result (λ stop. HasCause stop begun f f') → IfOk result FaultsOutside → FaultsOutside outcome
-told_outside (Ok o) outcome begun f f' is cause outside =
-    let same : o ≡ outcome = cc in
-    subst FaultsOutside same outside
-told_outside (Err (Told o)) outcome begun f f' is cause outside =
-    let same : o ≡ outcome = cc in
-    λ fault. absurd (subst IsRefusing (ap (λ (x : Outcome). x.status) same ∙ fault) cause.1)
-told_outside (Err (Absent name)) outcome begun f f' is cause outside =
-    let same : absent (string_bytes name) ≡ outcome = cc in
-    λ fault. absurd (no_file_fault (ap (λ (x : Outcome). x.status) same ∙ fault))
-  where
-    no_file_fault : status.NoFile ≡ status.Fault → ⊥
-    no_file_fault is = cc
-told_outside (Err (Failed name)) outcome begun f f' is cause outside =
-    let same : unread (string_bytes name) ≡ outcome = cc in
-    λ fault. absurd (failed_fault (ap (λ (x : Outcome). x.status) same ∙ fault))
-  where
-    failed_fault : status.ReadFailed ≡ status.Fault → ⊥
-    failed_fault is = cc
-told_outside (Err (TooLong name)) outcome begun f f' is cause outside =
-    let same : too_long (string_bytes name) ≡ outcome = cc in
-    λ fault. absurd (long_fault (ap (λ (x : Outcome). x.status) same ∙ fault))
-  where
-    long_fault : status.TooLong ≡ status.Fault → ⊥
-    long_fault is = cc
-told_outside (Err Wanting) outcome begun f f' is cause outside = absurd (cc)
+told_outside (Ok o) outcome begun f f' is cause outside = subst FaultsOutside (same_told o outcome is) outside
+told_outside (Err stop) outcome begun f f' is cause outside = λ fault. absurd ((stop_bare stop outcome begun f f' is cause).no_fault fault)
 
 -- what the words of a form come to
 pub told_answer : {F : Type 0} (see : Ghosts F) (old new : F) (form : Form) (wanted : Listing → Result Outcome Outcome) (result : Result Outcome Stop) (found : Result Outcome NoMemory)
@@ -191,27 +168,21 @@ pub no_file_shown : {F : Type 0} (see : Ghosts F) (old new : F) (form : Form) (f
     → IfOk found (λ o. IsAnswer {F = F} see old new form o) → Delivers found given out err → given ≡ status.NoFile
     → IsSomeAnd (last_begun (see.begun new)) (λ b. (b.absent ≡ true) × (err.after ≡ appended err.before (absent b.name).err))
 no_file_shown see old new form (Err refused) given out err answer delivered is = let e = delivered.0 in absurd (cc)
-no_file_shown see old new form (Ok o) given out err answer (Whole e put last) is =
-    named_shown true absent o err last.taken (last_begun (see.begun new))
-    (subst (λ (s : Status). CausedBy s o (last_begun (see.begun new)) (see.faults old) (see.faults new)) (sym e ∙ is) answer.cause)
-no_file_shown see old new form (Ok o) given out err answer (OutFailed e cut last) is = absurd (cc)
-no_file_shown see old new form (Ok o) given out err answer (ErrFailed e put cut) is = absurd (cc)
-no_file_shown see old new form (Ok o) given out err answer (OutWanting e front last) is = absurd (cc)
-no_file_shown see old new form (Ok o) given out err answer (ErrWanting e put front) is = absurd (cc)
+no_file_shown see old new form (Ok o) given out err answer delivered is =
+    let whole = delivered_whole o given out err delivered (λ e. cc) (λ e. cc) in
+    named_shown true absent o err whole.1.taken (last_begun (see.begun new))
+    (subst (λ (s : Status). CausedBy s o (last_begun (see.begun new)) (see.faults old) (see.faults new)) (sym whole.0 ∙ is) answer.cause)
 
 -- an answer ReadFailed names the file that couldn't be read
 pub read_failed_shown : {F : Type 0} (see : Ghosts F) (old new : F) (form : Form) (found : Result Outcome NoMemory) (given : Status) (out err : Sunk)
     → IfOk found (λ o. IsAnswer {F = F} see old new form o) → Delivers found given out err → given ≡ status.ReadFailed
     → Rose (see.faults old) (see.faults new) × IsSomeAnd (last_begun (see.begun new)) (λ b. (b.absent ≡ false) × (err.after ≡ appended err.before (unread b.name).err))
 read_failed_shown see old new form (Err refused) given out err answer delivered is = let e = delivered.0 in absurd (cc)
-read_failed_shown see old new form (Ok o) given out err answer (Whole e put last) is =
+read_failed_shown see old new form (Ok o) given out err answer delivered is =
+    let whole = delivered_whole o given out err delivered (λ e. cc) (λ e. cc) in
     let cause : CausedBy status.ReadFailed o (last_begun (see.begun new)) (see.faults old) (see.faults new) =
-    subst (λ (s : Status). CausedBy s o (last_begun (see.begun new)) (see.faults old) (see.faults new)) (sym e ∙ is) answer.cause in
-    (cause.0, named_shown false unread o err last.taken (last_begun (see.begun new)) cause.1)
-read_failed_shown see old new form (Ok o) given out err answer (OutFailed e cut last) is = absurd (cc)
-read_failed_shown see old new form (Ok o) given out err answer (ErrFailed e put cut) is = absurd (cc)
-read_failed_shown see old new form (Ok o) given out err answer (OutWanting e front last) is = absurd (cc)
-read_failed_shown see old new form (Ok o) given out err answer (ErrWanting e put front) is = absurd (cc)
+    subst (λ (s : Status). CausedBy s o (last_begun (see.begun new)) (see.faults old) (see.faults new)) (sym whole.0 ∙ is) answer.cause in
+    (cause.0, named_shown false unread o err whole.1.taken (last_begun (see.begun new)) cause.1)
 
 -- an answer WriteFailed comes from a sink
 pub write_failed_shown : {F : Type 0} (see : Ghosts F) (old new : F) (form : Form) (found : Result Outcome NoMemory) (given : Status) (out err : Sunk)
@@ -229,12 +200,9 @@ write_failed_shown see old new form (Ok o) given out err answer (Whole e put las
 pub form_not_usage : {F : Type 0} (see : Ghosts F) (old new : F) (form : Form) (found : Result Outcome NoMemory) (given : Status) (out err : Sunk)
     → IfOk found (λ o. IsAnswer {F = F} see old new form o) → Delivers found given out err → given ≡ status.Usage → ⊥
 form_not_usage see old new form (Err refused) given out err answer delivered is = let e = delivered.0 in cc
-form_not_usage see old new form (Ok o) given out err answer (Whole e put last) is =
-    subst (λ (s : Status). CausedBy s o (last_begun (see.begun new)) (see.faults old) (see.faults new)) (sym e ∙ is) answer.cause
-form_not_usage see old new form (Ok o) given out err answer (OutFailed e cut last) is = cc
-form_not_usage see old new form (Ok o) given out err answer (ErrFailed e put cut) is = cc
-form_not_usage see old new form (Ok o) given out err answer (OutWanting e front last) is = cc
-form_not_usage see old new form (Ok o) given out err answer (ErrWanting e put front) is = cc
+form_not_usage see old new form (Ok o) given out err answer delivered is =
+    let whole = delivered_whole o given out err delivered (λ e. cc) (λ e. cc) in
+    subst (λ (s : Status). CausedBy s o (last_begun (see.begun new)) (see.faults old) (see.faults new)) (sym whole.0 ∙ is) answer.cause
 
 -- what an outcome promises, a front of its text on standard output promises
 promised : (told : Listing) (form : Form) (o : Outcome) (out : Sunk) → IsFront o.out out → Promises told form o → IsPromised told form out
@@ -276,20 +244,20 @@ done_well told (Run aux steps) o acceptance = tt
 done_well told (RunUnder aux steps cert) o acceptance = tt
 done_well told (Gen seed count) o generating = generating.made
 
+-- a status that is delivered as Done is that of the outcome
+given_done : (o : Outcome) (given : Status) (out err : Sunk) → IsDelivered o given out err → given ≡ status.Done → o.status ≡ status.Done
+given_done o given out err delivered is = sym (delivered_whole o given out err delivered (λ e. cc) (λ e. cc)).0 ∙ is
+
 -- the answer Done promises what the outcome does
 pub form_done : {F : Type 0} (see : Ghosts F) (old new : F) (form : Form) (found : Result Outcome NoMemory) (given : Status) (out err : Sunk)
     → IfOk found (λ o. IsAnswer {F = F} see old new form o) → Delivers found given out err → given ≡ status.Done
     → IfSome (see.told old) (λ told. IsDoneWell told form)
 form_done see old new form (Err refused) given out err answer delivered is = let e = delivered.0 in absurd (cc)
-form_done see old new form (Ok o) given out err answer (Whole e put last) is = shown (see.told old) answer.safe
+form_done see old new form (Ok o) given out err answer delivered is = shown (see.told old) answer.safe
   where
     shown : (t : Option Listing) → IfSome t (λ told. SaysDone o → Promises told form o) → IfSome t (λ told. IsDoneWell told form)
     shown None safe = tt
-    shown (Some t) safe = done_well t form o (safe (inl (sym e ∙ is)))
-form_done see old new form (Ok o) given out err answer (OutFailed e cut last) is = absurd (cc)
-form_done see old new form (Ok o) given out err answer (ErrFailed e put cut) is = absurd (cc)
-form_done see old new form (Ok o) given out err answer (OutWanting e front last) is = absurd (cc)
-form_done see old new form (Ok o) given out err answer (ErrWanting e put front) is = absurd (cc)
+    shown (Some t) safe = done_well t form o (safe (inl (given_done o given out err delivered is)))
 
 -- two logs behind the same bytes of which one begins with `inside` and the other with `outside`
 apart : (before inside outside : List ℕ) (log : List ℕ) → log ≡ codes "outside\n" ++ outside
@@ -312,14 +280,11 @@ apart before inside outside log is same =
 pub form_inside : {F : Type 0} (see : Ghosts F) (old new : F) (form : Form) (found : Result Outcome NoMemory) (given : Status) (out err : Sunk)
     → IfOk found (λ o. IsAnswer {F = F} see old new form o) → Delivers found given out err → IsInside form err → given ≡ status.Fault → ⊥
 form_inside see old new form (Err refused) given out err answer delivered inside is = let e = delivered.0 in cc
-form_inside see old new form (Ok o) given out err answer (Whole e put last) inside is =
-    let log = answer.outside inside.under (sym e ∙ is) in
+form_inside see old new form (Ok o) given out err answer delivered inside is =
+    let whole = delivered_whole o given out err delivered (λ e. cc) (λ e. cc) in
+    let log = answer.outside inside.under (sym whole.0 ∙ is) in
     apart inside.before inside.rest log.0 o.err log.1
-    (ap (λ (b : Option (List ℕ)). appended b o.err) (sym inside.was) ∙ sym last.taken ∙ inside.is)
-form_inside see old new form (Ok o) given out err answer (OutFailed e cut last) inside is = cc
-form_inside see old new form (Ok o) given out err answer (ErrFailed e put cut) inside is = cc
-form_inside see old new form (Ok o) given out err answer (OutWanting e front last) inside is = cc
-form_inside see old new form (Ok o) given out err answer (ErrWanting e put front) inside is = cc
+    (ap (λ (b : Option (List ℕ)). appended b o.err) (sym inside.was) ∙ sym whole.1.taken ∙ inside.is)
 
 -- the words `run AUX N` promise nothing of a text
 pub run_promises : (t : Option Listing) (aux : List ℕ) (steps : ℕ) (result : Result Outcome Stop) → IfOk result (λ o. IfSome t (λ told. Promises told (Run aux steps) o))
@@ -340,18 +305,18 @@ pub gen_told : (seed count : ℕ) (result : Result Outcome Stop) (found : Result
     → IfErr result IsFromInside → IfOk found (λ o. told_of result ≡ Some o) → IfOk found (IsMadeOf seed count)
 gen_told seed count result (Err refused) decides decided safe inside is = tt
 gen_told seed count (Ok o) (Ok outcome) decides decided safe inside is =
-    let same : o ≡ outcome = cc in
+    let same : o ≡ outcome = same_told o outcome is in
     record {
       wanted = sym same ∙ sym (ap ended decides);
       decided = subst (λ (x : Outcome). IsDecided x.status) same decided;
       safe = λ says. subst (IsGenerating seed count) same safe;
     }
 gen_told seed count (Err (Told o)) (Ok outcome) decides decided safe inside is =
-    let same : o ≡ outcome = cc in
+    let same : o ≡ outcome = same_told o outcome is in
     record {
       wanted = sym same ∙ sym (ap ended decides);
       decided = subst (λ (x : Outcome). IsDecided x.status) same (refusing_decided o.status inside.1);
-      safe = λ says. absurd (says_nothing o outcome same inside.0 (not_done o.status inside.1) says);
+      safe = λ says. absurd (says_nothing outcome (subst IsBare same (refusal_bare o inside)) says);
     }
 gen_told seed count (Err (Absent name)) (Ok outcome) decides decided safe inside is = absurd inside
 gen_told seed count (Err (Failed name)) (Ok outcome) decides decided safe inside is = absurd inside
@@ -377,14 +342,6 @@ gen_answer {F = F} see files seed count form (Ok o) same made = subst (λ (f : F
     as_safe : (t : Option Listing) → IfSome t (λ told. SaysDone o → Promises told (Gen seed count) o)
     as_safe None = tt
     as_safe (Some t) = made.safe
-
--- a status that is delivered as Done is that of the outcome
-given_done : (o : Outcome) (given : Status) (out err : Sunk) → IsDelivered o given out err → given ≡ status.Done → o.status ≡ status.Done
-given_done o given out err (Whole e put last) is = sym e ∙ is
-given_done o given out err (OutFailed e cut last) is = absurd (cc)
-given_done o given out err (ErrFailed e put cut) is = absurd (cc)
-given_done o given out err (OutWanting e front last) is = absurd (cc)
-given_done o given out err (ErrWanting e put front) is = absurd (cc)
 
 -- what they come to is delivered, and says of the style that is made what it promises
 making : (seed count : ℕ) (found : Result Outcome NoMemory) (given : Status) (out err : Sunk)

@@ -30,6 +30,15 @@ delivered_front outcome given out err (ErrFailed e put cut) = whole_front outcom
 delivered_front outcome given out err (OutWanting e held last) = held.front
 delivered_front outcome given out err (ErrWanting e put held) = whole_front outcome.out out put
 
+-- a status that neither a sink nor want of memory makes is the outcome's, whose text for standard error was taken
+pub delivered_whole : (outcome : Outcome) (given : Status) (out err : Sunk) → IsDelivered outcome given out err → given ≢ status.WriteFailed
+    → given ≢ status.NoMemory → (given ≡ outcome.status) × IsPut outcome.err err
+delivered_whole outcome given out err (Whole e put last) taken held = (e, last)
+delivered_whole outcome given out err (OutFailed e cut last) taken held = absurd (taken e)
+delivered_whole outcome given out err (ErrFailed e put cut) taken held = absurd (taken e)
+delivered_whole outcome given out err (OutWanting e front last) taken held = absurd (held e)
+delivered_whole outcome given out err (ErrWanting e put front) taken held = absurd (held e)
+
 -- nothing has no front but itself
 take_nothing : (n : ℕ) → take {A = ℕ} n [] ≡ []
 take_nothing zero = refl

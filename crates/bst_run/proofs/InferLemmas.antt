@@ -1,7 +1,6 @@
 -- From the style and the condition to the certificate that is found.
 use Rattle.std.proofs.Common.{◌≡◌, ◌↔◌, ℕ, List, Option, None, Some, Result, Ok, Err, subst}
 use Rattle.std.specs.Prelude.{IfSome, IfOk, IfErr}
-use Rattle.std.specs.FinMap.{get}
 use Rattle.bv_base.specs.Outside.{Listing}
 use Rattle.bv_base.specs.declared.files.Files.{Ghosts}
 use Rattle.bv_base.specs.declared.limits.TheConstants.{STYLE_BYTES}
@@ -21,7 +20,7 @@ use Rattle.bst_run.specs.Reads.{Reads}
 use Rattle.bst_run.specs.Sources.{read_style}
 use Rattle.bst_run.specs.Stops.{Gives, Decides, IsInside}
 use Rattle.bst_run.proofs.ReadsLemmas.{reads_next, reads_nothing, reads_stopped}
-use Rattle.bst_run.proofs.StyleLemmas.{is_style, style_reads, there}
+use Rattle.bst_run.proofs.StyleLemmas.{holds_style, style_reads}
 
 -- the style and the condition are read in turn, and then a certificate is looked for
 pub infer_reads : {F : Type 0} (see : Ghosts F) (old mid new : F) (style_name : List ℕ) (cond_name : Option (List ℕ)) (bytes bytes' : List ℕ)
@@ -58,10 +57,8 @@ writes told told' style_name cond_name bytes bytes' style admits (Err stop) same
 writes None told' style_name cond_name bytes bytes' style admits (Ok outcome) same e style_file read cond_file written = tt
 writes (Some t) told' style_name cond_name bytes bytes' style admits (Ok outcome) same e style_file read cond_file written = record {
   found = record {
-    bytes = bytes;
-    style_file = there style_name bytes (get t style_name) style_file;
     style = style;
-    style_read = is_style (style_of bytes) style (subst (λ (b : List ℕ). read_style (style_of b) ≡ Ok style) e read);
+    style_held = holds_style t style_name bytes bytes' style e style_file read;
     admits = admits;
     cond_given = subst (λ (o : Option Listing). Gives {A = Cond} o (λ u. cond_for u cond_name style) (Ok admits)) same cond_file;
     text = written.text;

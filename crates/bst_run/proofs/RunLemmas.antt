@@ -58,10 +58,11 @@ outcome_at count result log turn reading reading' joining joining' c c' whole e 
     (subst (λ (l : List ℕ). IfOk result (λ o. o ≡ (answered count l turn c))) whole h))))
 
 -- the joined entries are those of the sources
-pub joined_outcome : (count : ℕ) (sources : Sources) (reading reading' : List (List ℕ)) (found : Joined) (result : Result Outcome NoMemory)
-    → found ≡ joined sources.style sources.items sources.database → reading' ≡ reading → reading ≡ sources.database.warnings
-    → IfOk result (λ o. o ≡ (run_joined count sources.style reading' found))
+pub joined_outcome : (count : ℕ) (sources : Sources) (style : Style) (reading reading' : List (List ℕ)) (found : Joined) (result : Result Outcome NoMemory)
+    → style ≡ sources.style → found ≡ joined sources.style sources.items sources.database → reading' ≡ reading → reading ≡ sources.database.warnings
+    → IfOk result (λ o. o ≡ (run_joined count style reading' found))
     → IfOk result (λ o. o ≡ (run_over count sources))
-joined_outcome count sources reading reading' found result is same warned h =
+joined_outcome count sources style reading reading' found result own is same warned h =
     subst (λ (j : Joined). IfOk result (λ o. o ≡ (run_joined count sources.style sources.database.warnings j))) is
-    (subst (λ (r : List (List ℕ)). IfOk result (λ o. o ≡ (run_joined count sources.style r found))) (same ∙ warned) h)
+    (subst (λ (r : List (List ℕ)). IfOk result (λ o. o ≡ (run_joined count sources.style r found))) (same ∙ warned)
+    (subst (λ (s : Style). IfOk result (λ o. o ≡ (run_joined count s reading' found))) own h))

@@ -31,6 +31,7 @@ use Rattle.bst_meaning.specs.Operands.{is_positive}
 use Rattle.bst_meaning.specs.Builtins.{built_in}
 use Rattle.bst_meaning.specs.Machine.{assigned_by, call_end_step, call_ended, call_step, command_step, context_of, frame_step, going_step, outer_step, return_step, run, step, steps, stopped_by, test_ended, token_step, unless_stopped, visit_of, visit_step, with_assigned, with_call, with_effect, with_entered, with_found, with_frame, with_value}
 use Rattle.name_table.proofs.Within.{each_kept, got}
+use Rattle.bst_meaning.proofs.Stepping.{kept_step, kept_steps}
 
 module _ (source : List ℕ) where
   -- a frame and each token that it has left stand at a byte
@@ -171,19 +172,11 @@ module _ (source : List ℕ) where
     going_stands (frame ∷ frames) c each s = inner_stands frame frames frame.tokens c each.0.place each.0.tokens each.1 s
 
     step_stands : (c : Config) → Stands c → Stands (step style c)
-    step_stands c s = by c.stopped
-      where
-        by : (stopped : Option Stopped) → Stands (unless_stopped stopped c (going_step style c.frames c))
-        by None = going_stands c.frames c s.frames s
-        by (Some stopped) = s
-
-    steps_stand : (n : ℕ) (c : Config) → Stands c → Stands (steps style n c)
-    steps_stand zero c s = s
-    steps_stand (suc n) c s = steps_stand n (step style c) (step_stands c s)
+    step_stands = kept_step style Stands (λ c s. going_stands c.frames c s.frames s)
 
     -- the site of a fault
     pub site_stands : (list : EntryList) (n : ℕ) (stopped : Stopped) → (run style list n).stopped ≡ Some stopped → IsOfByte source stopped.site.place
     site_stands list n stopped is =
         let opened : Stands (opening style list) =
         record { commands = each_kept (λ command. IsOfByte source command.place) (λ c. is_step c.command) style.commands stands.commands; frames = tt; stopped = tt } in
-        subst (λ (o : Option Stopped). IfSome o (λ stopped. IsOfByte source stopped.site.place)) is (steps_stand n (opening style list) opened).stopped
+        subst (λ (o : Option Stopped). IfSome o (λ stopped. IsOfByte source stopped.site.place)) is (kept_steps style Stands step_stands n (opening style list) opened).stopped

@@ -1,5 +1,6 @@
 -- A style that is read, and what comes after it.
 use Rattle.std.proofs.Common.{◌≡◌, ℕ, true, false, cond, nat_lt, List, length, Option, None, Some, Result, Ok, Err, refl, ap, subst}
+use Rattle.std.specs.FinMap.{get}
 use Rattle.bv_base.specs.Answers.{then_do}
 use Rattle.bv_base.specs.Outside.{Listing}
 use Rattle.bv_base.specs.declared.files.Begun.{Begun}
@@ -14,7 +15,7 @@ use Rattle.bst_run.specs.Files.{whole_file, file_in}
 use Rattle.bst_run.specs.FilesBegun.{Begins, file_begun, style_begun, then_begun}
 use Rattle.bst_run.specs.Reads.{Reads}
 use Rattle.bst_run.specs.Report.{too_long}
-use Rattle.bst_run.specs.Sources.{read_style}
+use Rattle.bst_run.specs.Sources.{HoldsStyle, read_style}
 use Rattle.bst_run.specs.Stops.{Gives, Decides}
 use Rattle.bst_run.proofs.BegunLemmas.{begins_after, begins_next, begins_refused, begins_stopped}
 use Rattle.bst_run.proofs.ReadsLemmas.{reads_next, reads_nothing}
@@ -47,6 +48,16 @@ is_style (Ok s) style is =
     let same : s ≡ style = cc in
     ap Ok same
 is_style (Err fault) style is = absurd (cc)
+
+-- a style that was read of a file is the one that the file holds
+pub holds_style : (told : Listing) (name bytes bytes' : List ℕ) (style : Style) → bytes' ≡ bytes
+    → Gives {A = List ℕ} (Some told) (λ t. file_in t STYLE_BYTES name) (Ok bytes) → Decides {A = Style} (read_style (style_of bytes')) (Ok style)
+    → HoldsStyle told name style
+holds_style told name bytes bytes' style e file read = record {
+  bytes = bytes;
+  file = there name bytes (get told name) file;
+  read = is_style (style_of bytes) style (subst (λ (b : List ℕ). read_style (style_of b) ≡ Ok style) e read);
+}
 
 -- what is begun after a style that is read
 module _ (after : Listing → List Begun) where

@@ -130,12 +130,13 @@ under_is (Ok o) steps style cond reading found front outcome is told ran =
 under_is (Err refused) steps style cond reading found front outcome is told ran = tt
 
 -- the joined entries are those of the sources
-pub sources_under : (result : Result Outcome NoMemory) (steps : ℕ) (cond : Cond) (sources : Sources) (reading : List (List ℕ)) (found : Joined)
-    → found ≡ joined sources.style sources.items sources.database → reading ≡ sources.database.warnings
-    → IfOk result (λ o. o ≡ joined_under steps sources.style cond reading found) → IfOk result (λ o. o ≡ run_under steps cond sources)
-sources_under result steps cond sources reading found is warned h =
+pub sources_under : (result : Result Outcome NoMemory) (steps : ℕ) (cond : Cond) (sources : Sources) (style : Style) (reading : List (List ℕ)) (found : Joined)
+    → style ≡ sources.style → found ≡ joined sources.style sources.items sources.database → reading ≡ sources.database.warnings
+    → IfOk result (λ o. o ≡ joined_under steps style cond reading found) → IfOk result (λ o. o ≡ run_under steps cond sources)
+sources_under result steps cond sources style reading found own is warned h =
     subst (λ (j : Joined). IfOk result (λ o. o ≡ joined_under steps sources.style cond sources.database.warnings j)) is
-    (subst (λ (r : List (List ℕ)). IfOk result (λ o. o ≡ joined_under steps sources.style cond r found)) warned h)
+    (subst (λ (r : List (List ℕ)). IfOk result (λ o. o ≡ joined_under steps sources.style cond r found)) warned
+    (subst (λ (s : Style). IfOk result (λ o. o ≡ joined_under steps s cond reading found)) own h))
 
 -- what holds of the outcome that is given
 pub outcome_holds : (P : Outcome → Type 0) (result : Result Outcome NoMemory) (outcome : Outcome) → IfOk result (λ o. o ≡ outcome) → P outcome → IfOk result P

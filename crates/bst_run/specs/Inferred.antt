@@ -1,6 +1,5 @@
 -- What the words `infer STYLE` and `infer STYLE COND` come to (docs/COMMANDS.md, "A certificate that is found").
 use Rattle.std.specs.Prelude.{◌≡◌, ℕ, ◌≤◌, nat_lt, if◌then◌else◌, List, [], length, codes, Option, None, Some, Result, Ok, Err}
-use Rattle.std.specs.FinMap.{get}
 use Rattle.bv_base.specs.Answers.{then_do}
 use Rattle.bv_base.specs.Outside.{Listing}
 use Rattle.bv_base.specs.Places.{first_place}
@@ -23,7 +22,7 @@ use Rattle.bst_run.specs.declared.outcome.Outcome.{Outcome}
 use Rattle.bst_run.specs.Delivery.{Sunk, IsFront}
 use Rattle.bst_run.specs.Files.{file_in}
 use Rattle.bst_run.specs.Report.{bad_cert, unknown, written}
-use Rattle.bst_run.specs.Sources.{read_style}
+use Rattle.bst_run.specs.Sources.{HoldsStyle, read_style}
 use Rattle.bst_run.specs.Unknowns.{reason_text}
 
 -- the certificate that is found
@@ -89,10 +88,8 @@ pub record IsWritten (style : Style) (admits : Cond) (outcome : Outcome) : Type 
 
 -- the style that the first file holds has such a text under the condition that the second holds, or the default one
 pub record IsInferred (told : Listing) (style_name : List ℕ) (cond_name : Option (List ℕ)) : Type 0 where
-  pub bytes : List ℕ
-  pub style_file : get told style_name ≡ Some bytes
   pub style : Style
-  pub style_read : style_of bytes ≡ Ok style
+  pub style_held : HoldsStyle told style_name style
   pub admits : Cond
   pub cond_given : cond_for told cond_name style ≡ Ok admits
   pub text : List ℕ

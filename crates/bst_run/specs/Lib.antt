@@ -1,3 +1,4 @@
+pub mod Subjects
 pub mod DataFaults
 pub mod Refusals
 pub mod Unknowns

@@ -1,5 +1,6 @@
 -- What a run reads: the .aux file with its inputs, the style and the databases (docs/COMMANDS.md, "The files of a run").
-use Rattle.std.specs.Prelude.{ℕ, List, [], ◌∷◌, codes, Result, Ok, Err}
+use Rattle.std.specs.Prelude.{◌≡◌, ℕ, List, [], ◌∷◌, codes, Some, Result, Ok, Err}
+use Rattle.std.specs.FinMap.{get}
 use Rattle.bv_base.specs.Outside.{Listing}
 use Rattle.name_table.specs.declared.style.Style.{Style}
 use Rattle.bib_read.specs.declared.database.Database.{Database}
@@ -23,6 +24,12 @@ use Rattle.bst_run.specs.Report.{bad_cert, bad_data, bad_style}
 abbrev pub read_style : Result Style StyleFault → Result Style Outcome
 read_style (Ok style) = Ok style
 read_style (Err fault) = Err (bad_style fault)
+
+-- a file holds a style
+pub record HoldsStyle (told : Listing) (name : List ℕ) (style : Style) : Type 0 where
+  pub bytes : List ℕ
+  pub file : get told name ≡ Some bytes
+  pub read : style_of bytes ≡ Ok style
 
 -- the certificate that was read, or its first fault
 abbrev pub read_cert : Result Cert CertFault → Result Cert Outcome

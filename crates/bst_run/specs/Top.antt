@@ -22,7 +22,7 @@ use Rattle.bst_run.specs.Generated.{IsGenerated, IsGenerating, IsSafelyGenerated
 use Rattle.bst_run.specs.Inferred.{IsInferred, IsSafelyInferred, IsWriting, infer_outcome}
 use Rattle.bst_run.specs.Ran.{run_outcome}
 use Rattle.bst_run.specs.Report.{absent, accepted, holding, unread}
-use Rattle.bst_run.specs.Sources.{read_cert, read_style}
+use Rattle.bst_run.specs.Sources.{HoldsStyle, read_cert, read_style}
 use Rattle.bst_run.specs.Stops.{IsDecided}
 use Rattle.bst_run.specs.Under.{FaultsOutside, IsBegunBy, under_outcome}
 
@@ -70,10 +70,8 @@ pub record IsTextJudgedWell (style : Style) (text : List ℕ) (outcome : Outcome
 
 -- two files for which the rules hold: the first holds a style and the second a certificate, under whose condition the style is safe
 pub record IsAccepted (told : Listing) (style_name cert_name : List ℕ) : Type 0 where
-  pub bytes : List ℕ
-  pub style_file : get told style_name ≡ Some bytes
   pub style : Style
-  pub style_read : style_of bytes ≡ Ok style
+  pub style_held : HoldsStyle told style_name style
   pub text : List ℕ
   pub cert_file : get told cert_name ≡ Some text
   pub cert : Cert

@@ -1,16 +1,12 @@
 //! The words `check STYLE CERT`: from the two files to the decision.
 
 ghost use Rattle.std.specs.Prelude.{◌≡◌, ◌≤◌, [], length, Ok, IfOk, IfErr, IfSome};
-ghost use Rattle.cert_check.specs.Certified.{IsCertified};
-ghost use Rattle.bst_meaning.specs.Safe.{Safe};
-ghost use Rattle.cert_format.specs.Texts.{cert_of};
-ghost use Rattle.command_flow.specs.Checks.{checked};
-ghost use Rattle.name_table.specs.Sound.{IsSound};
 ghost use Rattle.bst_run.specs.FilesBegun.{Begins, check_begun};
 ghost use Rattle.bst_run.specs.Reads.{Reads};
 ghost use Rattle.bst_run.specs.Report.{holding};
 ghost use Rattle.bst_run.specs.Sources.{read_cert};
 ghost use Rattle.bst_run.specs.Stops as stops;
+ghost use Rattle.bst_run.specs.Subjects.{IsCertified, IsSound, Safe, cert_of, checked};
 ghost use Rattle.bst_run.specs.Top as top;
 
 use crate::files::style::style_from;

@@ -147,8 +147,7 @@ fn answer_check<F: Files>(
     ensures answer { IfOk result (λ outcome. top.IsAnswer ⟦<F as Files>⟧ files.old files.new (forms.Check style.now cert.now) outcome) }
     ensures begun { IfSome (F.told files.old) (λ told. HasBegun ⟦<F as Files>⟧ files.old files.new (files_begun told (forms.Check style.now cert.now)) (given_of result)) }
 {
-    let found = check(alloc, files, style, cert);
-    told(alloc, found)
+    told(alloc, check(alloc, files, style, cert))
 }
 
 /// What the words `infer STYLE` and `infer STYLE COND` come to.
@@ -162,8 +161,7 @@ fn answer_infer<F: Files>(
     ensures begun { IfSome (F.told files.old) (λ told.
         HasBegun ⟦<F as Files>⟧ files.old files.new (files_begun told (forms.Infer style.now (forms.name_in cond.entry))) (given_of result)) }
 {
-    let found = infer(alloc, files, style, cond);
-    told(alloc, found)
+    told(alloc, infer(alloc, files, style, cond))
 }
 
 /// What the words `run AUX N` come to.
@@ -176,8 +174,7 @@ fn answer_run<F: Files>(
     ensures answer { IfOk result (λ outcome. top.IsAnswer ⟦<F as Files>⟧ files.old files.new (forms.Run aux.now steps) outcome) }
     ensures begun { IfSome (F.told files.old) (λ told. HasBegun ⟦<F as Files>⟧ files.old files.new (files_begun told (forms.Run aux.now steps)) (given_of result)) }
 {
-    let found = run(alloc, files, aux, steps);
-    told(alloc, found)
+    told(alloc, run(alloc, files, aux, steps))
 }
 
 /// What the words `run AUX N CERT` come to.
@@ -192,8 +189,7 @@ fn answer_run_under<F: Files>(
     ensures begun { IfSome (F.told files.old) (λ told.
         HasBegun ⟦<F as Files>⟧ files.old files.new (files_begun told (forms.RunUnder aux.now steps cert.now)) (given_of result)) }
 {
-    let found = run_under(alloc, files, aux, steps, cert);
-    told(alloc, found)
+    told(alloc, run_under(alloc, files, aux, steps, cert))
 }
 
 /// What the words `gen SEED COUNT` come to.
@@ -202,8 +198,7 @@ fn answer_gen(alloc: Global, seed: u32, count: u32) -> Result<Outcome, NoMemory>
     requires few { count ≤ MOST_FUNCTIONS }
     ensures answer { IfOk result (top.IsMadeOf seed count) }
 {
-    let found = make_and_show(alloc, seed, count);
-    told(alloc, found)
+    told(alloc, make_and_show(alloc, seed, count))
 }
 
 /// The outcome that a command's result comes to.

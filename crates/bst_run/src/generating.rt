@@ -2,9 +2,9 @@
 
 ghost use Rattle.std.specs.Prelude.{◌≡◌, ◌≤◌, ◌++◌, IfOk, IfErr, OnOk};
 ghost use Rattle.std.specs.String.{string_bytes};
-ghost use Rattle.name_table.specs.Sound.{IsSound};
 ghost use Rattle.bst_run.specs.Generated as rule;
 ghost use Rattle.bst_run.specs.Stops as stops;
+ghost use Rattle.bst_run.specs.Subjects.{IsSound};
 
 use crate::files::style::style_from;
 use crate::inferring::{found, unrejected};

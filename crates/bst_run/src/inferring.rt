@@ -1,19 +1,12 @@
 //! The words `infer STYLE` and `infer STYLE COND`: from the files to a certificate that is found.
 
 ghost use Rattle.std.specs.Prelude.{◌≡◌, ◌≤◌, [], length, Ok, IfOk, IfErr, IfSome};
-ghost use Rattle.bst_meaning.specs.Safe.{Safe};
-ghost use Rattle.cert_check.specs.Certified.{IsCertified};
-ghost use Rattle.cert_format.specs.CertText.{IsCert};
-ghost use Rattle.cert_format.specs.CondText.{IsCond};
-ghost use Rattle.cert_format.specs.Texts.{cond_of};
-ghost use Rattle.command_flow.specs.Checks.{checked};
-ghost use Rattle.infer.specs.Infer.{infer_of};
-ghost use Rattle.name_table.specs.Sound.{IsSound};
 ghost use Rattle.bst_run.specs.FilesBegun.{Begins, cond_begun, file_begun, infer_begun};
 ghost use Rattle.bst_run.specs.Forms.{name_in};
 ghost use Rattle.bst_run.specs.Inferred as rule;
 ghost use Rattle.bst_run.specs.Reads.{Reads};
 ghost use Rattle.bst_run.specs.Stops as stops;
+ghost use Rattle.bst_run.specs.Subjects.{IsCert, IsCertified, IsCond, IsSound, Safe, checked, cond_of, infer_of};
 
 use crate::files::style::style_from;
 use crate::files::whole::style_file;

@@ -1,20 +1,11 @@
 //! What holds of every style that is checked or run and of the files of every run.
 
 ghost use Rattle.std.specs.Prelude.{◌≡◌, ◌↔◌, ℕ, List, Some, Ok, Err};
-ghost use Rattle.bv_base.specs.Outside.{Listing};
-ghost use Rattle.bv_base.specs.Places.{StandsIn};
-ghost use Rattle.bst_meaning.specs.Config.{Stopped};
 ghost use Rattle.bst_meaning.specs.Machine.{run};
-ghost use Rattle.bst_meaning.specs.declared.entry.EntryList.{EntryList};
-ghost use Rattle.bst_parse.specs.PlacesStand.{IsOfByte};
-ghost use Rattle.bst_parse.specs.Reading.{style_of};
-ghost use Rattle.name_table.specs.declared.style.Style.{Style};
-ghost use Rattle.cert_check.specs.declared.refusal.Refusal.{Refusal};
-ghost use Rattle.cert_format.specs.declared.cert.Cert.{Cert};
-ghost use Rattle.command_flow.specs.Checks.{checked};
 ghost use Rattle.bst_run.specs.AuxChain.{needs_after, needs_of};
 ghost use Rattle.bst_run.specs.FileFaults.{IsFileFault};
 ghost use Rattle.bst_run.specs.InputTrees.{NeedsRead};
+ghost use Rattle.bst_run.specs.Subjects.{Cert, EntryList, IsOfByte, Listing, Refusal, StandsIn, Stopped, Style, checked, style_of};
 ghost use Rattle.bst_run.specs.declared.files.requests.Needs.{Needs};
 ghost use Rattle.bst_run.specs.declared.outcome.Outcome.{Outcome};
 

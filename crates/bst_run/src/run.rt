@@ -1,22 +1,16 @@
 //! A run of a style over the entries that an `.aux` file asks for.
 
 ghost use Rattle.std.specs.Prelude.{◌≡◌, ◌++◌, IfOk, OnOk};
-ghost use Rattle.bib_read.specs.Additions.{AreKeyed};
-ghost use Rattle.bst_meaning.specs.Entries.{Fits};
-ghost use Rattle.bst_meaning.specs.Lines.{lines_after};
-ghost use Rattle.bst_step.specs.Machine.{configuration};
-ghost use Rattle.entry_list.specs.Joining.{joined};
-ghost use Rattle.entry_list.specs.Keys.{AreCitations};
 ghost use Rattle.bst_run.specs.FilesBegun.{Begins, sources_begun};
 ghost use Rattle.bst_run.specs.Ran as rule;
 ghost use Rattle.bst_run.specs.Reads.{Reads};
 ghost use Rattle.bst_run.specs.Stops.{IsDecided};
+ghost use Rattle.bst_run.specs.Subjects.{AreCitations, AreKeyed, Fits, configuration, joined, lines_after};
 
 use crate::files::sources::{Sources, sources_of};
 use crate::outcome::Outcome;
 use crate::report::{budget_line, fault_line};
 use crate::stop::Stop;
-use aux_read::aux::AuxItem;
 use bib_read::database::Database;
 use bst_meaning::entry::EntryList;
 use bst_step::machine::{Machine, Turn};
@@ -47,32 +41,28 @@ fn run_over(alloc: Global, sources: Sources, steps: u32) -> Result<Outcome, NoMe
     requires keyed { AreKeyed sources.database.entries }
     ensures { IfOk result (λ outcome. outcome ≡ rule.run_over steps sources) }
 {
+    let (style, found, reading) = join_all(alloc, sources)?;
+    run_joined(alloc, &style, reading.as_slice(), steps, found)
+}
+
+/// The style, the joined entries, and the warnings of the databases. What was read of the databases ends here, so that no
+/// run holds it.
+pub fn join_all(alloc: Global, sources: Sources) -> Result<(Style, Joined, Seq<Text>), NoMemory>
+    requires cited { AreCitations sources.items }
+    requires keyed { AreKeyed sources.database.entries }
+    ensures style { IfOk result (λ all. all.0 ≡ sources.style) }
+    ensures found { IfOk result (λ all. all.1 ≡ joined sources.style sources.items sources.database) }
+    ensures reading { IfOk result (λ all. all.2 ≡ sources.database.warnings) }
+    ensures fits { IfOk result (λ all. Fits all.0 all.1.list) }
+{
     let Sources {
         style,
         items,
         database,
     } = sources;
-    let (found, reading) = join_all(alloc, &style, items, database)?;
-    run_joined(alloc, &style, reading.as_slice(), steps, found)
-}
-
-/// The joined entries, and the warnings of the databases. What was read of the databases ends here, so that no run
-/// holds it.
-pub fn join_all(
-    alloc: Global,
-    style: &Style,
-    items: Seq<AuxItem>,
-    database: Database,
-) -> Result<(Joined, Seq<Text>), NoMemory>
-    requires cited { AreCitations items }
-    requires keyed { AreKeyed database.entries }
-    ensures found { IfOk result (λ both. both.0 ≡ joined style.now items database) }
-    ensures reading { IfOk result (λ both. both.1 ≡ database.warnings) }
-    ensures fits { IfOk result (λ both. Fits style.now both.0.list) }
-{
-    let found = join(alloc, style, items.as_slice(), &database)?;
+    let found = join(alloc, &style, items.as_slice(), &database)?;
     let Database { warnings, .. } = database;
-    Ok((found, warnings))
+    Ok((style, found, warnings))
 }
 
 /// Takes the first steps of the style over the joined entries.

@@ -1,12 +1,12 @@
 //! What no clause says: that the answers are the worked ones, with ample memory, over files and sinks in memory. An
-//! example has words, files, what fails, and what is answered. Each table stands in a file of its own kind.
+//! example has words, files, what fails, and what is answered. Each table stands beside its test, in a file of its own kind.
 
-/// A file of this name, with these bytes.
+/// A file of this name, with this text.
 macro_rules! file_of {
-    ($name:expr, $bytes:expr) => {
+    ($name:expr, $text:expr) => {
         File {
             name: $name,
-            bytes: $bytes,
+            text: $text,
         }
     };
 }
@@ -37,6 +37,27 @@ macro_rules! told {
 macro_rules! checked {
     ($style:expr, $cert:expr => $status:ident, $out:expr, $err:expr) => {
         told!(["check", "a.bst", "b.cert"], [file_of!("a.bst", $style), file_of!("b.cert", $cert)] => $status, $out, $err)
+    };
+}
+
+/// The certificate with these lines of its condition, and these behind it.
+macro_rules! cert {
+    ($condition:literal, $lines:literal) => {
+        concat!("bstcert 1\n", $condition, "end\n", $lines, "done\n")
+    };
+}
+
+/// The certificate with a nine for each number of its condition, and these lines behind it.
+macro_rules! nines {
+    ($lines:literal) => {
+        cert!("entries 9\nkey 9\npreamble 9\nlength 9\nothertype yes\n", $lines)
+    };
+}
+
+/// The certificate under which no entry is let in, with these lines behind its condition.
+macro_rules! zeros {
+    ($lines:literal) => {
+        cert!("entries 0\nkey 0\npreamble 0\nlength 0\nothertype no\n", $lines)
     };
 }
 
@@ -84,29 +105,45 @@ macro_rules! judged {
     };
 }
 
+/// The certificate that is found for a style.
+macro_rules! found {
+    ($style:expr, $lists:expr => $lines:expr) => {
+        Found {
+            style: $style,
+            lists: $lists,
+            lines: $lines,
+        }
+    };
+}
+
+mod around;
+mod bare;
 mod begun;
 mod check;
-mod commands;
+mod counted;
 mod data;
+mod demands;
+mod executed;
+mod found;
 mod generating;
-mod inferring;
-mod loops;
-mod refusals;
+mod given;
+mod leaving;
+mod limits;
 mod run;
+mod shaped;
+mod sought;
+mod straight;
+mod turns;
+mod typed;
 mod under;
+mod unfound;
+mod units;
+mod uses;
+mod visited;
 mod words;
 
 use crate::command::command;
-use crate::tests::check::{
-    CERTIFICATES, CHECKS, CONDITIONS, FAILING_CHECKS, HINTED, LONG_STYLES, NO_ENTRIES,
-};
-use crate::tests::commands::{COUNTED, EXECUTED, SHAPED, TYPED, VISITED};
-use crate::tests::data::{BAD_AUX, BAD_DATABASES, NESTED};
-use crate::tests::loops::{AROUND, LEAVING, LONG_TURNS, TURNS};
-use crate::tests::refusals::{COUNTS, DEMANDS, UNITS, USES};
-use crate::tests::run::{FAILING_RUNS, FAULTS, RUNS};
-use crate::tests::under::{UNDER, UNMET};
-use crate::tests::words::{STEPS, WORDS};
+use crate::tests::check::NO_ENTRIES;
 use bv_base::mem_files::MemFiles;
 use bv_base::mem_sink::MemSink;
 use bv_base::status::Status;
@@ -114,11 +151,11 @@ use std::alloc::{AllocError, Global};
 use std::process::Abort;
 use std::test::Fail;
 
-/// A file, and its bytes.
+/// A file, and its text.
 #[derive(Clone, Copy)]
 pub struct File {
     name: &'static str,
-    bytes: &'static [u8],
+    text: &'static str,
 }
 
 /// Which call fails.
@@ -155,143 +192,6 @@ pub struct Judged {
     answer: &'static str,
 }
 
-#[test]
-fn check_gives_the_worked_answers(rt: HostRuntime) -> Result<(), Fail> {
-    compare(&rt, rt.alloc(), &CHECKS)
-}
-
-#[test]
-fn certificates_have_one_spelling(rt: HostRuntime) -> Result<(), Fail> {
-    compare(&rt, rt.alloc(), &CERTIFICATES)
-}
-
-#[test]
-fn conditions_are_printed_as_they_stand(rt: HostRuntime) -> Result<(), Fail> {
-    compare(&rt, rt.alloc(), &CONDITIONS)
-}
-
-#[test]
-fn hints_and_summaries_decide(rt: HostRuntime) -> Result<(), Fail> {
-    compare(&rt, rt.alloc(), &HINTED)
-}
-
-#[test]
-fn long_styles_are_refused_by_their_length(rt: HostRuntime) -> Result<(), Fail> {
-    compare_long(&rt, rt.alloc(), &LONG_STYLES)
-}
-
-#[test]
-fn hints_and_entailment_have_their_places(rt: HostRuntime) -> Result<(), Fail> {
-    compare_judged(&rt, rt.alloc(), &UNITS)
-}
-
-#[test]
-fn used_summaries_leave_what_they_say(rt: HostRuntime) -> Result<(), Fail> {
-    compare_judged(&rt, rt.alloc(), &USES)
-}
-
-#[test]
-fn demands_and_limits_have_their_places(rt: HostRuntime) -> Result<(), Fail> {
-    compare_judged(&rt, rt.alloc(), &DEMANDS)
-}
-
-#[test]
-fn walks_count_to_their_limit(rt: HostRuntime) -> Result<(), Fail> {
-    compare_judged(&rt, rt.alloc(), &COUNTS)
-}
-
-#[test]
-fn loops_are_checked_turn_by_turn(rt: HostRuntime) -> Result<(), Fail> {
-    compare_judged(&rt, rt.alloc(), &TURNS)
-}
-
-#[test]
-fn turns_count_on_to_the_limit(rt: HostRuntime) -> Result<(), Fail> {
-    compare_judged(&rt, rt.alloc(), &LONG_TURNS)
-}
-
-#[test]
-fn a_state_comes_to_a_loop_by_a_case(rt: HostRuntime) -> Result<(), Fail> {
-    compare_judged(&rt, rt.alloc(), &AROUND)
-}
-
-#[test]
-fn used_loops_leave_by_their_exits(rt: HostRuntime) -> Result<(), Fail> {
-    compare_judged(&rt, rt.alloc(), &LEAVING)
-}
-
-#[test]
-fn what_a_visit_keeps_is_known_at_the_next(rt: HostRuntime) -> Result<(), Fail> {
-    compare_judged(&rt, rt.alloc(), &VISITED)
-}
-
-#[test]
-fn visits_are_counted(rt: HostRuntime) -> Result<(), Fail> {
-    compare_judged(&rt, rt.alloc(), &COUNTED)
-}
-
-#[test]
-fn what_a_call_says_is_known_behind_it(rt: HostRuntime) -> Result<(), Fail> {
-    compare_judged(&rt, rt.alloc(), &EXECUTED)
-}
-
-#[test]
-fn types_of_the_condition_are_entered(rt: HostRuntime) -> Result<(), Fail> {
-    compare_judged(&rt, rt.alloc(), &TYPED)
-}
-
-#[test]
-fn records_fit_their_commands(rt: HostRuntime) -> Result<(), Fail> {
-    compare_judged(&rt, rt.alloc(), &SHAPED)
-}
-
-#[test]
-fn words_and_missing_files_are_named(rt: HostRuntime) -> Result<(), Fail> {
-    compare(&rt, rt.alloc(), &WORDS)
-}
-
-#[test]
-fn numbers_of_steps_have_one_spelling(rt: HostRuntime) -> Result<(), Fail> {
-    compare(&rt, rt.alloc(), &STEPS)
-}
-
-#[test]
-fn failing_files_and_sinks_are_named(rt: HostRuntime) -> Result<(), Fail> {
-    compare(&rt, rt.alloc(), &FAILING_CHECKS)?;
-    compare(&rt, rt.alloc(), &FAILING_RUNS)
-}
-
-#[test]
-fn a_run_writes_its_lines_and_its_log(rt: HostRuntime) -> Result<(), Fail> {
-    compare(&rt, rt.alloc(), &RUNS)
-}
-
-#[test]
-fn a_run_under_a_certificate_tells_of_its_condition(rt: HostRuntime) -> Result<(), Fail> {
-    compare(&rt, rt.alloc(), &UNDER)
-}
-
-#[test]
-fn the_first_line_that_is_not_kept_is_told(rt: HostRuntime) -> Result<(), Fail> {
-    compare(&rt, rt.alloc(), &UNMET)
-}
-
-#[test]
-fn a_fault_has_its_place_and_its_key(rt: HostRuntime) -> Result<(), Fail> {
-    compare(&rt, rt.alloc(), &FAULTS)
-}
-
-#[test]
-fn bad_data_is_named_with_its_place(rt: HostRuntime) -> Result<(), Fail> {
-    compare(&rt, rt.alloc(), &BAD_DATABASES)?;
-    compare(&rt, rt.alloc(), &BAD_AUX)
-}
-
-#[test]
-fn inputs_nest_sixteen_deep(rt: HostRuntime) -> Result<(), Fail> {
-    compare(&rt, rt.alloc(), &NESTED)
-}
-
 /// Asserts what each example is answered.
 fn compare(rt: &impl Abort, alloc: Global, examples: &[Example]) -> Result<(), Fail> {
     for example in examples {
@@ -309,7 +209,7 @@ fn compare_long(rt: &impl Abort, alloc: Global, rows: &[(usize, Example)]) -> Re
         let style = vec![in alloc; b' '; *length]?;
         let mut files = MemFiles::new(alloc);
         files.add("a.bst", style.as_slice())?;
-        files.add("b.cert", NO_ENTRIES)?;
+        files.add("b.cert", NO_ENTRIES.as_bytes())?;
         compare_over(rt, alloc, example, &mut files)?;
     }
     Ok(())
@@ -371,7 +271,7 @@ fn compare_over(
 /// Adds these files.
 fn add_files(files: &mut MemFiles, added: &[File]) -> Result<(), Fail> {
     for file in added {
-        files.add(file.name, file.bytes)?;
+        files.add(file.name, file.text.as_bytes())?;
     }
     Ok(())
 }

@@ -1,16 +1,10 @@
 //! A run under a certificate: whether the entries meet its condition, and then the run.
 
 ghost use Rattle.std.specs.Prelude.{◌≡◌, ◌+◌, ◌<◌, ◌≤◌, length, None, IfOk, IfErr};
-ghost use Rattle.bib_read.specs.Additions.{AreKeyed};
-ghost use Rattle.bst_meaning.specs.Condition.{Meets};
-ghost use Rattle.bst_meaning.specs.Safe.{Safe};
-ghost use Rattle.cond_eval.specs.Unmet.{first_unmet};
-ghost use Rattle.bst_step.specs.Machine.{key_of};
-ghost use Rattle.entry_list.specs.Keys.{AreCitations};
-ghost use Rattle.name_table.specs.Sound.{IsSound};
 ghost use Rattle.bst_run.specs.FilesBegun.{Begins, under_begun};
 ghost use Rattle.bst_run.specs.Reads.{Reads};
 ghost use Rattle.bst_run.specs.Stops.{Decides, IsDecided, IsInside};
+ghost use Rattle.bst_run.specs.Subjects.{AreCitations, AreKeyed, IsSound, Meets, Safe, first_unmet, key_of};
 ghost use Rattle.bst_run.specs.Under as rule;
 
 use crate::check::{cert_from, holds};
@@ -80,12 +74,7 @@ fn under(alloc: Global, sources: Sources, cond: &Cond, steps: u32) -> Result<Out
     ensures exact { IfOk result (λ outcome. outcome ≡ rule.run_under steps cond.now sources) }
     ensures outside { IfOk result rule.FaultsOutside }
 {
-    let Sources {
-        style,
-        items,
-        database,
-    } = sources;
-    let (found, reading) = join_all(alloc, &style, items, database)?;
+    let (style, found, reading) = join_all(alloc, sources)?;
     let front = meeting_text(alloc, &style, cond, &found.list)?;
     let outcome = run_joined(alloc, &style, reading.as_slice(), steps, found)?;
     logged(front, outcome)

@@ -28,6 +28,11 @@ pub moved_where_ok : {A E : Type 0} (s : State) (v : Holding) (stack : List Valu
 moved_where_ok s v stack (Ok a) is globals entries = values_moved s v stack is globals entries
 moved_where_ok s v stack (Err e) is globals entries = tt
 
+-- what comes to something comes to what that equals
+pub comes_to : {A E X : Type 0} (r : Result A E) (new other same : X) → other ≡ same → OnOk r (new ≡ other) → OnOk r (new ≡ same)
+comes_to (Ok a) new other same is comes = comes ∙ is
+comes_to (Err e) new other same is comes = tt
+
 -- what holds anyway holds where there is an error
 pub anyway : {A E P : Type 0} (r : Result A E) → P → OnErr r P
 anyway (Ok a) holds = tt

@@ -6,14 +6,14 @@ use Rattle.std.proofs.lemmas.List.{append-nil, drop_more, length-append}
 use Rattle.std.proofs.lemmas.Option.{get_or_from_slice_get, slice_get-get_or, slice_get-map, slice_get_within}
 use Rattle.name_table.specs.declared.names.NameId.{NameId}
 use Rattle.name_table.specs.declared.names.Kind.{Kind}
-use Rattle.name_table.specs.declared.names.Kind.TheVariants.{Builtin, Wizard, Field, IntEntry, StrEntry, IntGlobal, StrGlobal}
+use Rattle.name_table.specs.declared.names.Kind.TheVariants.{Field}
 use Rattle.name_table.specs.Names.{kind_at}
 use Rattle.bst_meaning.specs.FieldValues.{FieldValue}
 use Rattle.bst_meaning.specs.declared.value.Value.TheVariants.{Missing}
 use Rattle.bst_meaning.specs.Entries.{field_ids_at, field_ids_from}
 use Rattle.bst_meaning.specs.Machine.{field_in, field_value}
 use Rattle.bst_step.specs.Places.{StandAt, place_of}
-use Rattle.bst_step.proofs.PlaceLookups.{another_there, at_place, field_names, field_nowhere, field_there, no_place}
+use Rattle.bst_step.proofs.PlaceLookups.{another_stands_there, at_place, field_names, field_nowhere, field_there, no_place}
 use Rattle.bst_step.proofs.PlacesMade.{longer_table, name_more}
 
 -- the names before a place stand at their places
@@ -67,16 +67,7 @@ nowhere : (places : List ℕ) (fields : List FieldValue) (name : NameId) (at : �
     → slice_get places name.0 ≡ Some at → (o : Option FieldValue) → slice_get fields at ≡ o → ((f : FieldValue) → o ≡ Some f → f.name.0 ≡ name.0 → ⊥)
     → Missing name ≡ field_in name fields
 nowhere places fields name at stand has o is other =
-    sym (field_nowhere name fields
-    (another_there places (field_names fields) name.0 at stand has
-    (λ it here. by it o other (sym (ap (λ (o : Option FieldValue). option_map (λ (g : FieldValue). g.name) o) is)
-    ∙ sym (slice_get-map (λ (g : FieldValue). g.name) fields at) ∙ here))))
-  where
-    by : (it : NameId) (o : Option FieldValue) → ((f : FieldValue) → o ≡ Some f → f.name.0 ≡ name.0 → ⊥) → option_map (λ (g : FieldValue). g.name) o ≡ Some it
-        → it.0 ≡ name.0 → ⊥
-    by it None other e is = absurd (cc)
-    by it (Some f) other e is =
-        let same : f.name ≡ it = cc in other f refl (ap (λ (n : NameId). n.0) same ∙ is)
+    sym (field_nowhere name fields (another_stands_there (λ (g : FieldValue). g.name) places fields name.0 at o stand has is other))
 
 -- another field stands there
 pub another_field : (places : List ℕ) (fields : List FieldValue) (name : NameId) (at : ℕ) (f : FieldValue) → StandAt places (field_names fields)
@@ -91,13 +82,8 @@ pub no_field : (places : List ℕ) (fields : List FieldValue) (name : NameId) (a
 no_field places fields name at stand has none = nowhere places fields name at stand has None none (λ g same is. absurd (cc))
 
 field_last : (at : ℕ) (kind : Kind) (ids more : List NameId) → field_ids_at at kind (ids ++ more) ≡ field_ids_at at kind ids ++ more
-field_last at (Builtin op) ids more = refl
-field_last at (Wizard body) ids more = refl
 field_last at Field ids more = refl
-field_last at IntEntry ids more = refl
-field_last at StrEntry ids more = refl
-field_last at IntGlobal ids more = refl
-field_last at StrGlobal ids more = refl
+field_last at _ ids more = refl
 
 next_field : (names : List (List ℕ × Kind)) (i at : ℕ) (k : Kind) → kind_at (record { 0 = i }) names ≡ Some k
     → field_ids_from at (take (suc i) names) ≡ field_ids_from at (take i names) ++ field_ids_at (at + i) k []
@@ -122,13 +108,8 @@ fields_so_far names id k e =
     ∙ ap (λ (n : ℕ). field_ids_from 0 (take id names) ++ field_ids_at n k []) here
 
 one_field : (id : ℕ) (kind : Kind) → (field_ids_at id kind [] ≡ []) ⊎ (field_ids_at id kind [] ≡ record { 0 = id } ∷ [])
-one_field id (Builtin op) = inl refl
-one_field id (Wizard body) = inl refl
 one_field id Field = inr refl
-one_field id IntEntry = inl refl
-one_field id StrEntry = inl refl
-one_field id IntGlobal = inl refl
-one_field id StrGlobal = inl refl
+one_field id _ = inl refl
 
 -- the table after a name of a kind
 pub field_place_stands : (places more : List ℕ) (place id : ℕ) (kind : Kind) (names : List (List ℕ × Kind)) → more ≡ places ++ place ∷ []

@@ -12,7 +12,7 @@ use Rattle.bst_step.specs.declared.held.Held.TheVariants.{Int, Str as LentStr, M
 use Rattle.bst_step.specs.declared.variables.Variable.{Variable}
 use Rattle.bst_step.specs.EntryStates.{EntriesWithin, state_in, with_held_in}
 use Rattle.bst_step.specs.Held.{end_of, value_in}
-use Rattle.bst_step.specs.Values.{IsHeld, StackWithin}
+use Rattle.bst_step.specs.Values.{Holding, IsHeld, StackWithin, holding_in}
 use Rattle.bst_step.specs.Variables.{VariablesWithin, held_at, variable_in, with_held}
 
 -- two pools that have the same bytes before a place
@@ -138,6 +138,17 @@ pub entries_grown : (pool later : List ℕ) (kept : ℕ) (hs : List Held) (gs : 
 entries_grown pool later kept hs gs es front held =
     same_entries (length pool) later pool (same_front pool later front) es (entries_later kept (length pool) held.in_front es held.in_entries)
 
+-- so the variables are seen as before
+pub globals_seen : (pool later : List ℕ) (kept : ℕ) (hs : List Held) (room : ℕ) (gs : List Variable) (es : List EntryState) (seen : Holding)
+    → take (length pool) later ≡ pool → IsHeld pool kept hs gs es → holding_in pool hs room gs es ≡ seen → map (variable_in later) gs ≡ seen.globals
+globals_seen pool later kept hs room gs es seen front held is =
+    globals_grown pool later kept hs gs es front held ∙ ap (λ (h : Holding). h.globals) is
+
+pub entries_seen : (pool later : List ℕ) (kept : ℕ) (hs : List Held) (room : ℕ) (gs : List Variable) (es : List EntryState) (seen : Holding)
+    → take (length pool) later ≡ pool → IsHeld pool kept hs gs es → holding_in pool hs room gs es ≡ seen → map (state_in later) es ≡ seen.entries
+entries_seen pool later kept hs room gs es seen front held is =
+    entries_grown pool later kept hs gs es front held ∙ ap (λ (h : Holding). h.entries) is
+
 -- a value more is on the stack, whose bytes stand in the pool, or fewer are
 pub held_pushed : (pool : List ℕ) (kept : ℕ) (h : Held) (hs more : List Held) (gs : List Variable) (es : List EntryState) → more ≡ h ∷ hs
     → end_of h ≤ length pool → IsHeld pool kept hs gs es → IsHeld pool kept more gs es
@@ -198,6 +209,16 @@ pub stack_end : (pool : List ℕ) (kept : ℕ) (hs : List Held) (gs : List Varia
     → IsHeld pool kept hs gs es → slice_get hs n ≡ Some h → end_of h ≤ length pool
 stack_end pool kept hs gs es n h held is = below_within (length pool) hs n h held.on_stack is
 
+pub top_within : (pool : List ℕ) (kept : ℕ) (hs : List Held) (gs : List Variable) (es : List EntryState) (h : Held)
+    → IsHeld pool kept hs gs es → hs ≡ h ∷ drop 1 hs → end_of h ≤ length pool
+top_within pool kept hs gs es h held top = stack_end pool kept hs gs es 0 h held (ap (λ (l : List Held). slice_get l 0) top)
+
+-- the top stands in the pool as it was lent
+pub top_in_lent : (pool lent : List ℕ) (kept : ℕ) (hs : List Held) (gs : List Variable) (es : List EntryState) (h : Held)
+    → IsHeld pool kept hs gs es → hs ≡ h ∷ drop 1 hs → lent ≡ pool → end_of h ≤ length lent
+top_in_lent pool lent kept hs gs es h held top is =
+    omega (arith, top_within pool kept hs gs es h held top, ap (λ (l : List ℕ). length l) is)
+
 pub global_end : (pool : List ℕ) (kept : ℕ) (hs : List Held) (gs : List Variable) (es : List EntryState) (id : ℕ) (h : Held)
     → IsHeld pool kept hs gs es → held_at id gs ≡ Some h → end_of h ≤ length pool
 global_end pool kept hs gs es id h held is = omega (arith, held.in_front, held_within kept id gs h held.in_globals is)
@@ -255,10 +276,10 @@ written_back new at lent es later more n is count written =
     ∙ ap (λ (l : List EntryState). with_held_in new at l) is
 
 pub held_given : (pool : List ℕ) (kept more : ℕ) (h : Held) (name : NameId) (hs fewer : List Held) (gs later : List Variable) (es : List EntryState)
-    → slice_get hs 0 ≡ Some h → fewer ≡ drop 1 hs → more ≡ max kept (end_of h) → later ≡ with_held (record { name = name; value = h }) gs
+    → hs ≡ h ∷ drop 1 hs → fewer ≡ drop 1 hs → more ≡ max kept (end_of h) → later ≡ with_held (record { name = name; value = h }) gs
     → IsHeld pool kept hs gs es → IsHeld pool more fewer later es
 held_given pool kept more h name hs fewer gs later es top is end given held =
-    let here : end_of h ≤ length pool = below_within (length pool) hs 0 h held.on_stack top in
+    let here : end_of h ≤ length pool = top_within pool kept hs gs es h held top in
     let last : end_of h ≤ more = omega (arith, end) in
     let first : kept ≤ more = omega (arith, end) in
     record {
@@ -271,10 +292,10 @@ held_given pool kept more h name hs fewer gs later es top is end given held =
     }
 
 pub held_given_in : (pool : List ℕ) (kept more at : ℕ) (h : Held) (name : NameId) (hs fewer : List Held) (gs : List Variable) (es later : List EntryState)
-    → slice_get hs 0 ≡ Some h → fewer ≡ drop 1 hs → more ≡ max kept (end_of h) → later ≡ with_held_in (record { name = name; value = h }) at es
+    → hs ≡ h ∷ drop 1 hs → fewer ≡ drop 1 hs → more ≡ max kept (end_of h) → later ≡ with_held_in (record { name = name; value = h }) at es
     → IsHeld pool kept hs gs es → IsHeld pool more fewer gs later
 held_given_in pool kept more at h name hs fewer gs es later top is end given held =
-    let here : end_of h ≤ length pool = below_within (length pool) hs 0 h held.on_stack top in
+    let here : end_of h ≤ length pool = top_within pool kept hs gs es h held top in
     let last : end_of h ≤ more = omega (arith, end) in
     let first : kept ≤ more = omega (arith, end) in
     record {

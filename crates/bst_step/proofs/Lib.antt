@@ -1,3 +1,4 @@
+pub mod OneMore
 pub mod StackSteps
 pub mod VariableSteps
 pub mod PlaceLookups

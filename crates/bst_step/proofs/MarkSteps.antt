@@ -1,8 +1,8 @@
 -- The marks of values as they are held.
-use Rattle.std.proofs.Common.{◌≡◌, ℕ, zero, suc, nat_eq, ◌<◌, ◌≤◌, ◌+◌, arith, refl, sym, ap, ◌∙◌, subst, cond, Bool, true, false, List, [], ◌∷◌, ◌++◌, drop, get_or, length, map, slice_get, take, Option, None, Some}
+use Rattle.std.proofs.Common.{◌≡◌, ℕ, zero, suc, nat_eq, ◌≤◌, ◌+◌, arith, refl, sym, ap, ◌∙◌, subst, cond, Bool, true, false, List, [], ◌∷◌, ◌++◌, drop, get_or, length, map, slice_get, Option, None, Some}
 use Rattle.std.specs.Option.{option_and_then, option_map, option_map_or}
 use Rattle.std.proofs.Math.ListN.{set}
-use Rattle.std.proofs.lemmas.List.{drop-map, map-set, map_more, map_push}
+use Rattle.std.proofs.lemmas.List.{drop-map, map-set, map_push}
 use Rattle.std.proofs.lemmas.Option.{slice_get-map}
 use Rattle.name_table.specs.declared.names.NameId.{NameId}
 use Rattle.bst_step.specs.declared.entry_states.EntryState.{EntryState}
@@ -31,7 +31,7 @@ put_marks n hs more h mark is own =
     ∙ ap (λ (m : Mark). m ∷ map mark_of (drop n hs)) own
     ∙ ap (λ (l : List Mark). mark ∷ l) (sym (drop-map mark_of n hs))
 
-pub doubled_marks : (hs more : List Held) (h : Held) → slice_get hs 0 ≡ Some h → more ≡ h ∷ hs → map mark_of more ≡ doubled (map mark_of hs)
+pub doubled_marks : (hs more : List Held) (h : Held) → hs ≡ h ∷ drop 1 hs → more ≡ h ∷ hs → map mark_of more ≡ doubled (map mark_of hs)
 doubled_marks [] more h is adds = absurd (cc)
 doubled_marks (x ∷ hs) more h is adds =
     let same : h ≡ x = cc in
@@ -72,7 +72,7 @@ none_doubled [] gs es is = refl
 none_doubled (h ∷ hs) gs es is = absurd (cc)
 
 -- a part of a string stands in its place
-pub cut_marks : (hs more : List Held) (h part : Held) → slice_get hs 0 ≡ Some h → more ≡ part ∷ drop 1 hs → mark_of part ≡ mark_of h
+pub cut_marks : (hs more : List Held) (h part : Held) → hs ≡ h ∷ drop 1 hs → more ≡ part ∷ drop 1 hs → mark_of part ≡ mark_of h
     → map mark_of more ≡ map mark_of hs
 cut_marks [] more h part top is same = absurd (cc)
 cut_marks (x ∷ hs) more h part top is same =
@@ -140,7 +140,7 @@ none_found None m is = refl
 none_found (Some mark) m is = absurd (cc)
 
 -- the top goes to a variable of the whole style
-pub given_marks : (name : NameId) (hs more : List Held) (gs later : List Variable) (es : List EntryState) (h : Held) → slice_get hs 0 ≡ Some h
+pub given_marks : (name : NameId) (hs more : List Held) (gs later : List Variable) (es : List EntryState) (h : Held) → hs ≡ h ∷ drop 1 hs
     → more ≡ drop 1 hs → later ≡ with_held (record { name = name; value = h }) gs
     → marks_in more later es ≡ given_globally name (map mark_of hs) (marks_in hs gs es)
 given_marks name [] more gs later es h top left given = absurd (cc)
@@ -152,7 +152,7 @@ given_marks name (x ∷ hs) more gs later es h top left given =
     ∙ ap (λ (k : Held). let m : Marks = record (marks_in hs gs es) { globals = with_marked (record { name = name; mark = mark_of k }) (map marked_of gs) } in m) same
 
 -- the top goes to a variable of an entry
-pub given_in_marks : (name : NameId) (at : ℕ) (hs more : List Held) (gs : List Variable) (es later : List EntryState) (h : Held) → slice_get hs 0 ≡ Some h
+pub given_in_marks : (name : NameId) (at : ℕ) (hs more : List Held) (gs : List Variable) (es later : List EntryState) (h : Held) → hs ≡ h ∷ drop 1 hs
     → more ≡ drop 1 hs → later ≡ with_held_in (record { name = name; value = h }) at es
     → marks_in more gs later ≡ given_in_entry name (Some at) (map mark_of hs) (marks_in hs gs es)
 given_in_marks name at [] more gs es later h top left given = absurd (cc)
@@ -185,28 +185,6 @@ lent_held pool zero (Missing name ∷ hs) = refl
 lent_held pool zero (Func target ∷ hs) = refl
 lent_held pool zero (held.Made start count ∷ hs) = refl
 lent_held pool (suc depth) (h ∷ hs) = lent_held pool depth hs
-
--- variables so far, and one more
-pub mark_more_of : (done more items : List Variable) (i : ℕ) (d v : Variable) → more ≡ done ++ v ∷ [] → i < length items
-    → marked_of v ≡ marked_of (get_or items i d) → map marked_of done ≡ map marked_of (take i items)
-    → map marked_of more ≡ map marked_of (take (i + 1) items)
-mark_more_of done more items i d v is within one so_far =
-    ap (λ (l : List Variable). map marked_of l) is
-    ∙ map_push marked_of done v
-    ∙ ap (λ (l : List Marked). l ++ marked_of v ∷ []) so_far
-    ∙ ap (λ (m : Marked). map marked_of (take i items) ++ m ∷ []) one
-    ∙ sym (map_more marked_of items i d within)
-
--- entries so far, and one more
-pub entry_mark_more : (done more items : List EntryState) (i : ℕ) (d e : EntryState) → more ≡ done ++ e ∷ [] → i < length items
-    → map marked_of e.variables ≡ marked_in (get_or items i d) → map marked_in done ≡ map marked_in (take i items)
-    → map marked_in more ≡ map marked_in (take (i + 1) items)
-entry_mark_more done more items i d e is within one so_far =
-    ap (λ (l : List EntryState). map marked_in l) is
-    ∙ map_push marked_in done e
-    ∙ ap (λ (l : List (List Marked)). l ++ map marked_of e.variables ∷ []) so_far
-    ∙ ap (λ (m : List Marked). map marked_in (take i items) ++ m ∷ []) one
-    ∙ sym (map_more marked_in items i d within)
 
 pub same_marked : (v w : Variable) → v.name ≡ w.name → mark_of v.value ≡ mark_of w.value → marked_of v ≡ marked_of w
 same_marked v w name mark =

@@ -3,6 +3,7 @@ use Rattle.std.proofs.Common.{◌≡◌, ℕ, zero, suc, refl, sym, ap, ◌∙�
 use Rattle.std.specs.Option.{option_map}
 use Rattle.std.proofs.Math.ListN.{set}
 use Rattle.std.proofs.lemmas.Bool.{eqb-true, eq-eqb}
+use Rattle.std.proofs.lemmas.Option.{slice_get-map}
 use Rattle.name_table.specs.declared.names.NameId.{NameId}
 use Rattle.bst_meaning.specs.FieldValues.{FieldValue}
 use Rattle.bst_meaning.specs.declared.value.Value.TheVariants.{Missing}
@@ -85,7 +86,7 @@ at_place places names at name stand here = by (place_of name.0 names) refl
         cc
 
 -- where another name stands at the place, or none, the id isn't there
-pub another_there : (places : List ℕ) (names : List NameId) (id at : ℕ) → StandAt places names → slice_get places id ≡ Some at
+another_there : (places : List ℕ) (names : List NameId) (id at : ℕ) → StandAt places names → slice_get places id ≡ Some at
     → ((name : NameId) → slice_get names at ≡ Some name → name.0 ≡ id → ⊥) → place_of id names ≡ None
 another_there places names id at stand has other = by (place_of id names) refl
   where
@@ -96,6 +97,17 @@ another_there places names id at stand has other = by (place_of id names) refl
         let also : slice_get places id ≡ Some k = table_has places names id k stand is in
         let same : at ≡ k = cc in
         absurd (other there.name (ap (λ (n : ℕ). slice_get names n) same ∙ there.here) there.named)
+
+-- where a thing of another name stands at the place, or none, no thing of the id does
+pub another_stands_there : {X : Type 0} (named : X → NameId) (places : List ℕ) (things : List X) (id at : ℕ) (o : Option X) → StandAt places (map named things)
+    → slice_get places id ≡ Some at → slice_get things at ≡ o → ((x : X) → o ≡ Some x → (named x).0 ≡ id → ⊥) → place_of id (map named things) ≡ None
+another_stands_there {X} named places things id at o stand has is other =
+    another_there places (map named things) id at stand has
+    (λ it here. by it o other (sym (ap (λ (p : Option X). option_map named p) is) ∙ sym (slice_get-map named things at) ∙ here))
+  where
+    by : (it : NameId) (o : Option X) → ((x : X) → o ≡ Some x → (named x).0 ≡ id → ⊥) → option_map named o ≡ Some it → it.0 ≡ id → ⊥
+    by it None other e called = absurd (cc)
+    by it (Some x) other e called = let same : named x ≡ it = cc in other x refl (ap (λ (n : NameId). n.0) same ∙ called)
 
 -- what the variable at a place holds
 pub value_there : (id : ℕ) (variables : List Variable) (at : ℕ) → place_of id (names_in variables) ≡ Some at

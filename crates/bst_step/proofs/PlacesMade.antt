@@ -3,9 +3,12 @@ use Rattle.std.proofs.Common.{◌≡◌, ℕ, zero, suc, ◌+◌, ◌⊎◌, inl
 use Rattle.std.proofs.lemmas.List.{append-nil, length-append, length-map, map-append}
 use Rattle.name_table.specs.declared.names.NameId.{NameId}
 use Rattle.name_table.specs.declared.names.Kind.{Kind}
-use Rattle.name_table.specs.declared.names.Kind.TheVariants.{Builtin, Wizard, Field, IntEntry, StrEntry, IntGlobal, StrGlobal}
+use Rattle.name_table.specs.declared.names.Kind.TheVariants.{IntEntry, StrEntry, IntGlobal, StrGlobal}
 use Rattle.bst_meaning.specs.Config.{Variable, opening_entry_variable, opening_global}
 use Rattle.bst_meaning.specs.Invariant.{names_of}
+use Rattle.bst_step.specs.declared.opening.Owner.{Owner}
+use Rattle.bst_step.specs.declared.opening.Owner.TheVariants.{Style, Entry}
+use Rattle.bst_step.specs.Opening.{opening_of}
 use Rattle.bst_step.specs.Places.{StandAt}
 
 get_front : {A : Type 0} (xs ys : List A) (i : ℕ) (x : A) → slice_get xs i ≡ Some x → slice_get (xs ++ ys) i ≡ Some x
@@ -61,39 +64,28 @@ grown places id before after more long stand is (inr next) =
     (subst (λ (l : List NameId). StandAt (places ++ length (names_of before) ∷ []) l) same (name_more places (names_of before) id long stand))
 
 one_global : (id : ℕ) (kind : Kind) → IsNone-or-next id (opening_global id kind [])
-one_global id (Builtin op) = inl refl
-one_global id (Wizard body) = inl refl
-one_global id Field = inl refl
-one_global id IntEntry = inl refl
-one_global id StrEntry = inl refl
 one_global id IntGlobal = inr refl
 one_global id StrGlobal = inr refl
+one_global id _ = inl refl
 
 one_entry_variable : (id : ℕ) (kind : Kind) → IsNone-or-next id (opening_entry_variable id kind [])
-one_entry_variable id (Builtin op) = inl refl
-one_entry_variable id (Wizard body) = inl refl
-one_entry_variable id Field = inl refl
 one_entry_variable id IntEntry = inr refl
 one_entry_variable id StrEntry = inr refl
-one_entry_variable id IntGlobal = inl refl
-one_entry_variable id StrGlobal = inl refl
+one_entry_variable id _ = inl refl
 
 -- the table has a place for each name that was looked at
 pub one_more : (places more : List ℕ) (place id : ℕ) → more ≡ places ++ place ∷ [] → length places ≡ id → length more ≡ id + 1
 one_more places more place id is long = ap (λ (l : List ℕ). length l) is ∙ length-append places (place ∷ []) ∙ ap (λ (n : ℕ). n + 1) long
 
--- the table after a name of a kind, where the variables are those of the whole style
-pub global_stands : (places more : List ℕ) (place id : ℕ) (kind : Kind) (before after : List Variable) → more ≡ places ++ place ∷ []
-    → place ≡ length before → length places ≡ id → StandAt places (names_of before)
-    → ((later : List Variable) → after ++ later ≡ before ++ opening_global id kind later) → StandAt more (names_of after)
-global_stands places more place id kind before after is next long stand adds =
-    subst (λ (l : List ℕ). StandAt l (names_of after)) (sym (is ∙ ap (λ (n : ℕ). places ++ n ∷ []) next))
-    (grown places id before after (opening_global id kind []) long stand (adds []) (one_global id kind))
+-- of an owner's variables a name is one or none
+one_variable : (owner : Owner) (id : ℕ) (kind : Kind) → IsNone-or-next id (opening_of owner id kind [])
+one_variable Style id kind = one_global id kind
+one_variable Entry id kind = one_entry_variable id kind
 
--- the table after a name of a kind, where the variables are those of an entry
-pub entry_variable_stands : (places more : List ℕ) (place id : ℕ) (kind : Kind) (before after : List Variable) → more ≡ places ++ place ∷ []
+-- the table after a name of a kind
+pub variable_stands : (owner : Owner) (places more : List ℕ) (place id : ℕ) (kind : Kind) (before after : List Variable) → more ≡ places ++ place ∷ []
     → place ≡ length before → length places ≡ id → StandAt places (names_of before)
-    → ((later : List Variable) → after ++ later ≡ before ++ opening_entry_variable id kind later) → StandAt more (names_of after)
-entry_variable_stands places more place id kind before after is next long stand adds =
+    → ((later : List Variable) → after ++ later ≡ before ++ opening_of owner id kind later) → StandAt more (names_of after)
+variable_stands owner places more place id kind before after is next long stand adds =
     subst (λ (l : List ℕ). StandAt l (names_of after)) (sym (is ∙ ap (λ (n : ℕ). places ++ n ∷ []) next))
-    (grown places id before after (opening_entry_variable id kind []) long stand (adds []) (one_entry_variable id kind))
+    (grown places id before after (opening_of owner id kind []) long stand (adds []) (one_variable owner id kind))

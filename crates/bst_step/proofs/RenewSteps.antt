@@ -1,6 +1,6 @@
 -- What variables hold is copied into a fresh pool.
 use Rattle.std.proofs.Common.{◌≡◌, ℕ, ◌+◌, ◌<◌, ◌≤◌, le_refl, refl, sym, ap, subst, ◌∙◌, List, [], ◌∷◌, ◌++◌, get_or, length, map, take, arith}
-use Rattle.std.proofs.lemmas.List.{length-take, map-append, take-take, take_all, take_more}
+use Rattle.std.proofs.lemmas.List.{length-take, take-take, take_all}
 use Rattle.name_table.specs.declared.names.NameId.{NameId}
 use Rattle.bst_meaning.specs.Config as config
 use Rattle.bst_step.specs.declared.entry_states.EntryState.{EntryState}
@@ -10,9 +10,10 @@ use Rattle.bst_step.specs.EntryStates.{EntriesWithin, state_in}
 use Rattle.bst_step.specs.Held.{end_of, value_in}
 use Rattle.bst_step.specs.Marks.{marks_in}
 use Rattle.bst_step.specs.Values.{Holding, IsHeld, holding_in}
-use Rattle.bst_step.specs.Variables.{VariablesWithin, names_in, variable_in}
+use Rattle.bst_step.specs.Variables.{VariablesWithin, variable_in}
 use Rattle.bst_meaning.specs.declared.value.Value.{Value}
 use Rattle.bst_step.proofs.HeldSteps.{entries_later, entries_trimmed, globals_trimmed, none_within, same_entries, same_variables, variables_later}
+use Rattle.bst_step.proofs.OneMore.{mapped_more}
 
 -- a pool that grows twice
 pub grown_twice : (first fresh later : List ℕ) → take (length first) fresh ≡ first → take (length fresh) later ≡ fresh → take (length first) later ≡ first
@@ -45,22 +46,8 @@ variable_more pool fresh later done more items i d v is front within value named
     let one : variable_in later v ≡ variable_in pool (get_or items i d) =
     ap (λ (n : NameId). record { name = n; value = value_in later v.value }) named
     ∙ ap (λ w. record { name = (get_or items i d).name; value = w }) value in
-    ap (λ (l : List Variable). map (variable_in later) l) is
-    ∙ map-append (variable_in later) done (v ∷ [])
-    ∙ ap (λ (l : List config.Variable). l ++ variable_in later v ∷ []) (same_variables (length fresh) later fresh (front_same fresh later front) done ends ∙ so_far)
-    ∙ ap (λ (w : config.Variable). map (variable_in pool) (take i items) ++ w ∷ []) one
-    ∙ sym (map-append (variable_in pool) (take i items) (get_or items i d ∷ []))
-    ∙ sym (ap (λ (l : List Variable). map (variable_in pool) l) (take_more items i d within))
-
-pub name_more_of : (done more items : List Variable) (i : ℕ) (d v : Variable) → more ≡ done ++ v ∷ [] → i < length items
-    → v.name ≡ (get_or items i d).name → names_in done ≡ names_in (take i items) → names_in more ≡ names_in (take (i + 1) items)
-name_more_of done more items i d v is within named so_far =
-    ap (λ (l : List Variable). names_in l) is
-    ∙ map-append (λ (w : Variable). w.name) done (v ∷ [])
-    ∙ ap (λ (l : List NameId). l ++ v.name ∷ []) so_far
-    ∙ ap (λ (n : NameId). names_in (take i items) ++ n ∷ []) named
-    ∙ sym (map-append (λ (w : Variable). w.name) (take i items) (get_or items i d ∷ []))
-    ∙ sym (ap (λ (l : List Variable). names_in l) (take_more items i d within))
+    mapped_more (variable_in later) (variable_in pool) done more items i d v is within one
+    (same_variables (length fresh) later fresh (front_same fresh later front) done ends ∙ so_far)
 
 pub variable_more_within : (fresh later : List ℕ) (done more : List Variable) (v : Variable) → more ≡ done ++ v ∷ []
     → take (length fresh) later ≡ fresh → end_of v.value ≤ length later → VariablesWithin (length fresh) done → VariablesWithin (length later) more
@@ -82,12 +69,8 @@ pub entry_more : (pool fresh later : List ℕ) (done more items : List EntryStat
     → EntriesWithin (length fresh) done → map (state_in fresh) done ≡ map (state_in pool) (take i items)
     → map (state_in later) more ≡ map (state_in pool) (take (i + 1) items)
 entry_more pool fresh later done more items i d e is front within one ends so_far =
-    ap (λ (l : List EntryState). map (state_in later) l) is
-    ∙ map-append (state_in later) done (e ∷ [])
-    ∙ ap (λ (l : List config.EntryState). l ++ state_in later e ∷ []) (same_entries (length fresh) later fresh (front_same fresh later front) done ends ∙ so_far)
-    ∙ ap (λ (s : config.EntryState). map (state_in pool) (take i items) ++ s ∷ []) one
-    ∙ sym (map-append (state_in pool) (take i items) (get_or items i d ∷ []))
-    ∙ sym (ap (λ (l : List EntryState). map (state_in pool) l) (take_more items i d within))
+    mapped_more (state_in later) (state_in pool) done more items i d e is within one
+    (same_entries (length fresh) later fresh (front_same fresh later front) done ends ∙ so_far)
 
 pub entry_more_within : (fresh later : List ℕ) (done more : List EntryState) (e : EntryState) → more ≡ done ++ e ∷ []
     → take (length fresh) later ≡ fresh → VariablesWithin (length later) e.variables → EntriesWithin (length fresh) done

@@ -1,8 +1,8 @@
 -- Variables are found and written at their places.
-use Rattle.std.proofs.Common.{◌≡◌, ℕ, zero, suc, ◌<◌, Bool, true, false, cond, nat_eq, refl, sym, ap, subst, ◌∙◌, List, [], ◌∷◌, length, slice_get, get_or, Option, None, Some}
+use Rattle.std.proofs.Common.{◌≡◌, ℕ, ◌<◌, Bool, true, false, cond, nat_eq, refl, sym, ap, subst, ◌∙◌, List, [], ◌∷◌, length, slice_get, get_or, Option, None, Some}
 use Rattle.std.specs.Option.{option_map}
 use Rattle.std.proofs.Math.ListN.{set}
-use Rattle.std.proofs.lemmas.Option.{slice_get-get_or}
+use Rattle.std.proofs.lemmas.Option.{slice_get-get_or, slice_get-map}
 use Rattle.name_table.specs.declared.names.NameId.{NameId}
 use Rattle.bst_meaning.specs.declared.value.Value.{Value}
 use Rattle.bst_meaning.specs.Config as config
@@ -11,12 +11,7 @@ use Rattle.bst_meaning.specs.Sorting.{string_at, string_of}
 use Rattle.bst_step.specs.declared.variables.Variable.{Variable}
 use Rattle.bst_step.specs.Places.{StandAt, place_of}
 use Rattle.bst_step.specs.Variables.{held_at, names_in, with_held}
-use Rattle.bst_step.proofs.PlaceLookups.{another_there, at_place, no_place, same_names, set_nowhere, set_there, value_nowhere, value_there}
-
-name_there : (variables : List Variable) (at : ℕ) → slice_get (names_in variables) at ≡ option_map (λ (v : Variable). v.name) (slice_get variables at)
-name_there [] at = refl
-name_there (v ∷ variables) zero = refl
-name_there (v ∷ variables) (suc at) = name_there variables at
+use Rattle.bst_step.proofs.PlaceLookups.{another_stands_there, at_place, no_place, same_names, set_nowhere, set_there, value_nowhere, value_there}
 
 -- a table has no place for a name
 pub placeless : (places : List ℕ) (variables : List Variable) (name : NameId) → StandAt places (names_in variables)
@@ -28,7 +23,7 @@ pub stands_there : (places : List ℕ) (variables : List Variable) (name : NameI
     → slice_get variables at ≡ Some v → v.name.0 ≡ name.0 → Some at ≡ place_of name.0 (names_in variables)
 stands_there places variables name at v stand here named =
     let is : slice_get (names_in variables) at ≡ Some v.name =
-    name_there variables at ∙ ap (λ (o : Option Variable). option_map (λ (v : Variable). v.name) o) here in
+    slice_get-map (λ (v : Variable). v.name) variables at ∙ ap (λ (o : Option Variable). option_map (λ (v : Variable). v.name) o) here in
     sym (at_place places (names_in variables) at v.name stand is) ∙ ap (λ (id : ℕ). place_of id (names_in variables)) named
 
 -- at the place that a table has no variable of the name stands
@@ -36,13 +31,7 @@ nowhere : (places : List ℕ) (variables : List Variable) (name : NameId) (at : 
     → slice_get places name.0 ≡ Some at → (o : Option Variable) → slice_get variables at ≡ o → ((v : Variable) → o ≡ Some v → v.name.0 ≡ name.0 → ⊥)
     → None ≡ place_of name.0 (names_in variables)
 nowhere places variables name at stand has o is other =
-    sym (another_there places (names_in variables) name.0 at stand has (λ it here. by it o other (sym (ap (λ (o : Option Variable). option_map (λ (v : Variable). v.name) o) is) ∙ sym (name_there variables at) ∙ here)))
-  where
-    by : (it : NameId) (o : Option Variable) → ((v : Variable) → o ≡ Some v → v.name.0 ≡ name.0 → ⊥) → option_map (λ (v : Variable). v.name) o ≡ Some it
-        → it.0 ≡ name.0 → ⊥
-    by it None other e named = absurd (cc)
-    by it (Some v) other e named =
-        let same : v.name ≡ it = cc in other v refl (ap (λ (n : NameId). n.0) same ∙ named)
+    sym (another_stands_there (λ (v : Variable). v.name) places variables name.0 at o stand has is other)
 
 -- another variable stands there
 pub another_stands : (places : List ℕ) (variables : List Variable) (name : NameId) (at : ℕ) (v : Variable) → StandAt places (names_in variables)

@@ -3,7 +3,7 @@ use Rattle.std.proofs.Common.{◌≡◌, ℕ, zero, suc, ◌-◌, ◌<◌, ◌�
 use Rattle.std.specs.Borrow.{Bor}
 use Rattle.std.specs.Option.{option_map, IfSome}
 use Rattle.std.proofs.Math.ListN.{get_or-map, set}
-use Rattle.std.proofs.lemmas.Option.{slice_get-map}
+use Rattle.std.proofs.lemmas.Option.{slice_get-map, slice_get_past, slice_get_read}
 use Rattle.std.proofs.Math.Seq.{drop-append_seam, take-append_seam}
 use Rattle.std.proofs.lemmas.List.{drop-append-le, take_all, take_rest}
 use Rattle.name_table.specs.declared.names.NameId.{NameId}
@@ -19,7 +19,7 @@ use Rattle.bst_step.specs.declared.variables.Variable.{Variable}
 use Rattle.bst_step.specs.EntryStates.{state_in, with_held_in}
 use Rattle.bst_step.specs.Held.{end_of, lent_of, part_from, value_in}
 use Rattle.bst_step.specs.Stack.{doubled, swapped}
-use Rattle.bst_step.specs.Values.{cut, given_globally, given_in_entry, joined}
+use Rattle.bst_step.specs.Values.{Holding, cut, given_globally, given_in_entry, holding_in, joined}
 use Rattle.bst_step.specs.Variables.{variable_in, with_held}
 use Rattle.bst_step.proofs.HeldSteps.{same_value}
 use Rattle.bst_step.proofs.ValueSteps.{with_entry_held, with_variable_held}
@@ -91,21 +91,30 @@ second_left [] fewer h is left = absurd (cc)
 second_left (x ∷ []) fewer h is left = absurd (cc)
 second_left (x ∷ y ∷ hs) fewer h is left = omega (arith, ap (λ (l : List Held). length l) left)
 
--- an entry as it is seen
-pub seen_at : {A : Type 0} (pool : List ℕ) (es : List EntryState) (at : ℕ) (e : EntryState) (f : config.EntryState → A) → slice_get es at ≡ Some e
-    → option_map f (slice_get (map (state_in pool) es) at) ≡ Some (f (state_in pool e))
-seen_at {A} pool es at e f here =
-    ap (λ (o : Option config.EntryState). option_map f o)
-    (slice_get-map (state_in pool) es at ∙ ap (λ (o : Option EntryState). option_map (state_in pool) o) here)
+-- what is seen at a place is what stands there in the entries that were lent
+seen_where : {A : Type 0} (pool : List ℕ) (hs : List Held) (room : ℕ) (gs : List Variable) (es lent : List EntryState) (seen : Holding) (at : ℕ)
+    (o : Option EntryState) (f : config.EntryState → A) → holding_in pool hs room gs es ≡ seen → lent ≡ es → slice_get lent at ≡ o
+    → option_map f (option_map (state_in pool) o) ≡ option_map f (slice_get seen.entries at)
+seen_where {A} pool hs room gs es lent seen at o f is all here =
+    ap (λ (l : Option EntryState). option_map f (option_map (state_in pool) l)) (sym here ∙ ap (λ (l : List EntryState). slice_get l at) all)
+    ∙ ap (λ (l : Option config.EntryState). option_map f l) (sym (slice_get-map (state_in pool) es at))
+    ∙ ap (λ (h : Holding). option_map f (slice_get h.entries at)) is
 
-pub none_seen : {A : Type 0} (pool : List ℕ) (es : List EntryState) (at : ℕ) (f : config.EntryState → A) → slice_get es at ≡ None
-    → option_map f (slice_get (map (state_in pool) es) at) ≡ None
-none_seen {A} pool es at f here =
-    ap (λ (o : Option config.EntryState). option_map f o)
-    (slice_get-map (state_in pool) es at ∙ ap (λ (o : Option EntryState). option_map (state_in pool) o) here)
+-- an entry that was read is seen, and where none was, none is
+pub read_seen : {A : Type 0} (pool : List ℕ) (hs : List Held) (room : ℕ) (gs : List Variable) (es lent : List EntryState) (seen : Holding) (at : ℕ)
+    (e : EntryState) (f : config.EntryState → A) → holding_in pool hs room gs es ≡ seen → lent ≡ es → at < length lent → e ≡ get_or lent at e
+    → Some (f (state_in pool e)) ≡ option_map f (slice_get seen.entries at)
+read_seen {A} pool hs room gs es lent seen at e f is all within here =
+    seen_where pool hs room gs es lent seen at (Some e) f is all (slice_get_read lent (length lent) at e refl within here)
+
+pub none_seen : {A : Type 0} (pool : List ℕ) (hs : List Held) (room : ℕ) (gs : List Variable) (es lent : List EntryState) (seen : Holding) (at : ℕ)
+    (f : config.EntryState → A) → holding_in pool hs room gs es ≡ seen → lent ≡ es → length lent ≤ at
+    → None ≡ option_map f (slice_get seen.entries at)
+none_seen {A} pool hs room gs es lent seen at f is all past =
+    seen_where pool hs room gs es lent seen at None f is all (slice_get_past lent at past)
 
 -- the top once more
-pub doubled_view : (pool : List ℕ) (hs : List Held) (h : Held) → slice_get hs 0 ≡ Some h
+pub doubled_view : (pool : List ℕ) (hs : List Held) (h : Held) → hs ≡ h ∷ drop 1 hs
     → map (value_in pool) (h ∷ hs) ≡ doubled (map (value_in pool) hs)
 doubled_view pool [] h is = absurd (cc)
 doubled_view pool (x ∷ hs) h is =
@@ -138,7 +147,7 @@ joined_view pool later (x ∷ y ∷ hs) more b a h top below is same value =
     ∙ ap (λ (l : List Value). Str (string_of (value_in pool y) ++ string_of (value_in pool x)) ∷ drop 2 l) same
 
 -- a string on top is cut
-pub cut_view : (pool : List ℕ) (hs more : List Held) (h part : Held) (from count : ℕ) → slice_get hs 0 ≡ Some h → more ≡ part ∷ drop 1 hs
+pub cut_view : (pool : List ℕ) (hs more : List Held) (h part : Held) (from count : ℕ) → hs ≡ h ∷ drop 1 hs → more ≡ part ∷ drop 1 hs
     → value_in pool part ≡ part_from from count (value_in pool h) → map (value_in pool) more ≡ cut from count (map (value_in pool) hs)
 cut_view pool [] more h part from count top is value = absurd (cc)
 cut_view pool (x ∷ hs) more h part from count top is value =
@@ -148,7 +157,7 @@ cut_view pool (x ∷ hs) more h part from count top is value =
     ∙ ap (λ (k : Held). part_from from count (value_in pool k) ∷ map (value_in pool) hs) same
 
 -- the top is given to a variable
-pub given_view : (pool : List ℕ) (hs : List Held) (gs : List Variable) (name : NameId) (h : Held) → slice_get hs 0 ≡ Some h
+pub given_view : (pool : List ℕ) (hs : List Held) (gs : List Variable) (name : NameId) (h : Held) → hs ≡ h ∷ drop 1 hs
     → map (variable_in pool) (with_held (record { name = name; value = h }) gs) ≡ given_globally name (map (value_in pool) hs) (map (variable_in pool) gs)
 given_view pool [] gs name h is = absurd (cc)
 given_view pool (x ∷ hs) gs name h is =
@@ -156,7 +165,7 @@ given_view pool (x ∷ hs) gs name h is =
     with_variable_held pool (record { name = name; value = h }) gs
     ∙ ap (λ (k : Held). with_variable (record { name = name; value = value_in pool k }) (map (variable_in pool) gs)) same
 
-pub given_in_view : (pool : List ℕ) (hs : List Held) (es : List EntryState) (name : NameId) (at : ℕ) (h : Held) → slice_get hs 0 ≡ Some h
+pub given_in_view : (pool : List ℕ) (hs : List Held) (es : List EntryState) (name : NameId) (at : ℕ) (h : Held) → hs ≡ h ∷ drop 1 hs
     → map (state_in pool) (with_held_in (record { name = name; value = h }) at es) ≡ given_in_entry name (Some at) (map (value_in pool) hs) (map (state_in pool) es)
 given_in_view pool [] es name at h is = absurd (cc)
 given_in_view pool (x ∷ hs) es name at h is =

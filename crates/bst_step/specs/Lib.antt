@@ -1,3 +1,4 @@
+pub mod ById
 pub mod Held
 pub mod Stack
 pub mod Operands
@@ -9,6 +10,7 @@ pub mod Effects
 pub mod Assignments
 pub mod Surroundings
 pub mod Places
+pub mod Opening
 pub mod State
 pub mod Moves
 pub mod MarkRules
@@ -16,3 +18,4 @@ pub mod Room
 pub mod Frames
 pub mod Lines
 pub mod Machine
+pub mod Subjects

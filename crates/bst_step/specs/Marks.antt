@@ -1,5 +1,5 @@
 -- The marks of values (docs/MACHINE.md, "Lent and made strings"): whether the bytes of a string are lent, or were made by the machine.
-use Rattle.std.specs.Prelude.{◌≡◌, ℕ, zero, suc, nat_eq, if◌then◌else◌, List, [], ◌∷◌, drop, map, slice_get, slice_set, Option, None, Some}
+use Rattle.std.specs.Prelude.{◌≡◌, ℕ, zero, suc, if◌then◌else◌, List, [], ◌∷◌, drop, map, slice_get, slice_set, Option, None, Some}
 use Rattle.std.specs.Ordering.{nat_cmp, is_le}
 use Rattle.std.specs.Cmp.Lexicographic.{slice_cmp}
 use Rattle.std.specs.Option.{option_map_or}
@@ -8,6 +8,7 @@ use Rattle.bst_meaning.specs.declared.value.Value.{Value}
 use Rattle.bst_meaning.specs.declared.value.Value.TheVariants.{Str}
 use Rattle.bst_meaning.specs.Config.{Config, EntryState, Variable}
 use Rattle.bst_meaning.specs.Sorting.{sort_key, sorted}
+use Rattle.bst_step.specs.ById.{replaced_by_id, seen_by_id}
 use Rattle.bst_step.specs.declared.entry_states.EntryState.{EntryState as HeldState}
 use Rattle.bst_step.specs.declared.held.Held.{Held}
 use Rattle.bst_step.specs.declared.held.Held.TheVariants as held
@@ -110,14 +111,11 @@ cleared m = record m { stack = [] }
 
 -- the mark of the variable with this id
 abbrev pub mark_at : ℕ → List Marked → Option Mark
-mark_at id [] = None
-mark_at id (variable ∷ variables) = if nat_eq variable.name.0 id then Some variable.mark else mark_at id variables
+mark_at id variables = seen_by_id (λ (v : Marked). v.name) (λ (v : Marked). v.mark) id variables
 
 -- variables of which one has another value
 abbrev pub with_marked : Marked → List Marked → List Marked
-with_marked new [] = []
-with_marked new (variable ∷ variables) =
-    if nat_eq variable.name.0 new.name.0 then new ∷ variables else variable ∷ with_marked new variables
+with_marked new variables = replaced_by_id (λ (v : Marked). v.name) new variables
 
 -- entries of which one has a variable with another value
 abbrev pub with_entry_marked : Marked → Option ℕ → List (List Marked) → List (List Marked)

@@ -1,9 +1,10 @@
 -- Variables and entries, as the machine's definition has them.
-use Rattle.std.specs.Prelude.{ℕ, ◌≤◌, nat_eq, if◌then◌else◌, List, [], ◌∷◌, map, Option, None, Some}
+use Rattle.std.specs.Prelude.{ℕ, ◌≤◌, List, [], ◌∷◌, map, Option}
 use Rattle.name_table.specs.declared.names.NameId.{NameId}
 use Rattle.bst_meaning.specs.Config as config
 use Rattle.bst_step.specs.declared.held.Held.{Held}
 use Rattle.bst_step.specs.declared.variables.Variable.{Variable}
+use Rattle.bst_step.specs.ById.{replaced_by_id, seen_by_id}
 use Rattle.bst_step.specs.Held.{end_of, value_in}
 
 -- a variable with its value, whose bytes may stand in a pool
@@ -16,14 +17,11 @@ names_in variables = map (λ v. v.name) variables
 
 -- what the variable with this id holds
 abbrev pub held_at : ℕ → List Variable → Option Held
-held_at id [] = None
-held_at id (variable ∷ variables) = if nat_eq variable.name.0 id then Some variable.value else held_at id variables
+held_at id variables = seen_by_id (λ (v : Variable). v.name) (λ (v : Variable). v.value) id variables
 
 -- variables of which one holds another value
 abbrev pub with_held : Variable → List Variable → List Variable
-with_held new [] = []
-with_held new (variable ∷ variables) =
-    if nat_eq variable.name.0 new.name.0 then new ∷ variables else variable ∷ with_held new variables
+with_held new variables = replaced_by_id (λ (v : Variable). v.name) new variables
 
 -- the bytes of what variables hold end there at the latest
 abbrev pub VariablesWithin : ℕ → List Variable → Type 0

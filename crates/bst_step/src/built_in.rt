@@ -2,11 +2,9 @@
 
 ghost use Rattle.std.specs.Prelude.{◌≡◌, true, OnErr};
 ghost use Rattle.bst_meaning.specs.Builtins as rule;
-ghost use Rattle.bst_meaning.specs.Machine.{context_of};
-ghost use Rattle.bst_step.specs.Effects.{Makes};
 ghost use Rattle.bst_step.specs.MarkRules.{built_in_marks};
-ghost use Rattle.bst_step.specs.Room.{Fits, built_in_takes_room};
-ghost use Rattle.bst_step.specs.State.{config_of, HasRoom};
+ghost use Rattle.bst_step.specs.Room.{built_in_takes_room};
+ghost use Rattle.bst_step.specs.Subjects.{Fits, HasRoom, Makes, config_of, context_of};
 
 use crate::held::Operand;
 use crate::state::State;

@@ -1,25 +1,17 @@
 //! What built-in functions do beside what they leave on the literal stack: they enter functions, assign, write and log.
 
 ghost use Rattle.std.specs.Prelude.{◌≡◌, ◌≤◌, true, ◌∷◌, [], drop, map, OnErr, OnOk};
-ghost use Rattle.bv_base.specs.declared.place.Place.{Place};
-ghost use Rattle.name_table.specs.declared.style.Style.{Style};
 ghost use Rattle.bst_meaning.specs.Config as config;
-ghost use Rattle.bst_meaning.specs.Effect.{pushed, with_entered, with_logged, with_written};
+ghost use Rattle.bst_meaning.specs.Effect.{with_entered, with_logged, with_written};
 ghost use Rattle.bst_meaning.specs.StyleParts as parts;
 ghost use Rattle.bst_meaning.specs.Builtins as rule;
-ghost use Rattle.bst_meaning.specs.Builtins.{string};
-ghost use Rattle.bst_meaning.specs.Operands.{one_operand};
-ghost use Rattle.bst_meaning.specs.Machine.{context_of, visited_index};
-ghost use Rattle.bst_step.specs.Effects.{Makes};
-ghost use Rattle.bst_step.specs.Held.{value_of};
+ghost use Rattle.bst_meaning.specs.Machine.{visited_index};
 ghost use Rattle.bst_step.specs.MarkRules as rules;
 ghost use Rattle.bst_step.specs.Marks as mark;
-ghost use Rattle.bst_step.specs.Marks.{lent_mark};
-ghost use Rattle.bst_step.specs.Room.{Fits, cuts_nothing};
-ghost use Rattle.bst_step.specs.State.{config_of, LeavesRoom};
 ghost use Rattle.bst_step.specs.Frames.{part_of, tokens_left};
 ghost use Rattle.bst_step.specs.Moves as change;
 ghost use Rattle.bst_step.specs.Moves.{with_log, with_second_assigned, with_second_cut, with_entry_assigned, with_stack, with_top_assigned};
+ghost use Rattle.bst_step.specs.Subjects.{Fits, LeavesRoom, Makes, Place, Style, config_of, context_of, cuts_nothing, lent_mark, one_operand, pushed, string, value_of};
 
 use crate::assign::{Assignment, assignment_of};
 use crate::held::Operand;

@@ -1,14 +1,9 @@
 //! The built-in functions that read the visited entry.
 
 ghost use Rattle.std.specs.Prelude.{◌≡◌, ◌≤◌, OnErr};
-ghost use Rattle.bv_base.specs.declared.place.Place.{Place};
-ghost use Rattle.name_table.specs.declared.style.Style.{Style};
-ghost use Rattle.bst_meaning.specs.Builtins.{built_in, type_name};
-ghost use Rattle.bst_meaning.specs.Machine.{context_of};
-ghost use Rattle.bst_step.specs.Effects.{Makes};
+ghost use Rattle.bst_meaning.specs.Builtins.{type_name};
 ghost use Rattle.bst_step.specs.Marks as mark;
-ghost use Rattle.bst_step.specs.Room.{Fits};
-ghost use Rattle.bst_step.specs.State.{config_of};
+ghost use Rattle.bst_step.specs.Subjects.{Fits, Makes, Place, Style, built_in, config_of, context_of};
 
 use crate::held::Operand;
 use crate::state::State;

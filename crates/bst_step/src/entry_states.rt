@@ -41,15 +41,15 @@ pub fn entries_renewed<'a>(
     ensures grown { take (length fresh.old.items) fresh.new.items ≡ fresh.old.items }
     ensures marks { IfOk result (λ renewed. map marked_in renewed.items ≡ map marked_in entries.now) }
 {
-    let mut renewed = Vec::new(*fresh.allocator());
+    let mut states = Vec::with_capacity(*fresh.allocator(), entries.len())?;
     for state in entries {
-        renewed.push(EntryState {
+        states.push(EntryState {
             entry: state.entry.copied()?,
             variables: state.variables.renewed(pool, fresh)?,
             position: state.position,
         })?;
     }
-    Ok(renewed)
+    Ok(states)
 }
 
 /// Gives a variable of the entry at a place in the list, where there is one, its value.

@@ -2,12 +2,8 @@
 
 ghost use Rattle.std.specs.Prelude.{◌≡◌, ◌≤◌, OnErr};
 ghost use Rattle.bst_meaning.specs.Builtins as rule;
-ghost use Rattle.bst_meaning.specs.Builtins.{built_in};
-ghost use Rattle.bst_meaning.specs.Machine.{context_of};
-ghost use Rattle.bst_step.specs.Effects.{Makes};
 ghost use Rattle.bst_step.specs.Marks as mark;
-ghost use Rattle.bst_step.specs.Room.{Fits};
-ghost use Rattle.bst_step.specs.State.{config_of};
+ghost use Rattle.bst_step.specs.Subjects.{Fits, Makes, built_in, config_of, context_of};
 
 use crate::held::Operand;
 use crate::operands::{three, two};

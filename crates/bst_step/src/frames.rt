@@ -4,7 +4,7 @@ ghost use Rattle.std.specs.Prelude.{◌≡◌, ◌≤◌, true, map, IsOk, OnErr
 ghost use Rattle.name_table.specs.declared.style.Style.{Style};
 ghost use Rattle.bst_meaning.specs.Machine as rule;
 ghost use Rattle.bst_step.specs.State.{config_of, HasRoom, LeavesRoom};
-ghost use Rattle.bst_step.specs.Frames.{frame_of, part_of};
+ghost use Rattle.bst_step.specs.Frames.{frame_of, marks_after_next, next_takes_room, part_of, with_next};
 ghost use Rattle.bst_step.specs.MarkRules as rules;
 ghost use Rattle.bst_step.specs.Room.{frames_take_room};
 
@@ -28,7 +28,20 @@ impl<'a> State<'a> {
         ensures fits { frames_take_room style.now (map frame_of self.old.frames.items) (config_of self.old) ≡ true → HasRoom self.old → IsOk result }
         ensures room { OnOk result (LeavesRoom 1 self.old self.new) }
     {
-        match self.frames.next() {
+        let next = self.frames.next();
+        self.step_left(style, next)
+    }
+
+    /// What is left of a step, once the innermost frame has moved on.
+    #[inline(always)]
+    fn step_left(&mut self, style: &'a Style, next: Next) -> Result<(), NoMemory>
+        ensures moved { OnOk result (config_of self.new ≡ with_next style.now next (config_of self.old)) }
+        ensures entries { OnErr result (self.new.values.entries ≡ self.old.values.entries) }
+        ensures marks { OnOk result (self.new.values.marks ≡ marks_after_next style.now next (config_of self.old) self.old.values.marks) }
+        ensures fits { next_takes_room style.now next (config_of self.old) ≡ true → HasRoom self.old → IsOk result }
+        ensures room { OnOk result (LeavesRoom 1 self.old self.new) }
+    {
+        match next {
             Next::Token(token, place) => self.token_step(style, token, place),
             Next::Return(part, place) => self.return_step(style, part, place),
             Next::Outer => self.outer_step(),

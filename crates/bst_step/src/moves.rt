@@ -1,11 +1,9 @@
 //! The built-in functions that only move values.
 
 ghost use Rattle.std.specs.Prelude.{◌≡◌, ◌≤◌, ◌∷◌, Ok};
-ghost use Rattle.bst_meaning.specs.Effect.{left, pushed};
-ghost use Rattle.bst_meaning.specs.Operands.{one_operand, two_operands};
-ghost use Rattle.bst_step.specs.Effects.{Leaves};
+ghost use Rattle.bst_meaning.specs.Effect.{left};
 ghost use Rattle.bst_step.specs.Marks as mark;
-ghost use Rattle.bst_step.specs.Room.{Fits};
+ghost use Rattle.bst_step.specs.Subjects.{Fits, Leaves, one_operand, pushed, two_operands};
 
 use crate::operands::{one, two};
 use crate::stop::Stop;

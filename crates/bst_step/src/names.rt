@@ -2,12 +2,9 @@
 
 ghost use Rattle.std.specs.Prelude.{◌≡◌, pos, length};
 ghost use Rattle.name_split.specs.Names.{names_of};
-ghost use Rattle.bst_meaning.specs.Operands.{ranged};
 ghost use Rattle.bst_meaning.specs.Builtins as rule;
-ghost use Rattle.bst_meaning.specs.Builtins.{string};
-ghost use Rattle.bst_step.specs.Effects.{Leaves};
 ghost use Rattle.bst_step.specs.Marks as mark;
-ghost use Rattle.bst_step.specs.Room.{Fits};
+ghost use Rattle.bst_step.specs.Subjects.{Fits, Leaves, ranged, string};
 
 use crate::held::Operand;
 use crate::numbers::count;
@@ -34,10 +31,7 @@ pub fn format_name(alloc: Global, values: &mut Values<'_>) -> Result<(), Stop>
     match three(values)? {
         (Operand::Str(text), Operand::Int(index), Operand::Str(pattern)) => {
             match format(alloc, text, index, pattern) {
-                Ok(name) => {
-                    values.make(3, name.as_slice())?;
-                    Ok(())
-                }
+                Ok(name) => Ok(values.make(3, name.as_slice())?),
                 Err(FormatFault::BadNameIndex) => Err(Stop::Fault(Fault::BadNameIndex)),
                 Err(FormatFault::BadName) => Err(Stop::Fault(Fault::BadName)),
                 Err(FormatFault::BadPattern) => Err(Stop::Fault(Fault::BadPattern)),

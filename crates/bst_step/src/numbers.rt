@@ -3,14 +3,11 @@
 ghost use Rattle.std.specs.Prelude.{◌≡◌, ◌≤◌, ◌+ℤ◌, ◌-ℤ◌, length, pos, drop};
 ghost use Rattle.text_ops.specs.IntToStr.{numeral};
 ghost use Rattle.bst_meaning.specs.declared.value.Value.TheVariants.{Str};
-ghost use Rattle.bst_meaning.specs.Effect.{pushed};
-ghost use Rattle.bst_meaning.specs.Operands.{two_operands, truth, is_positive, ranged};
+ghost use Rattle.bst_meaning.specs.Operands.{is_positive};
 ghost use Rattle.bst_meaning.specs.Builtins as rule;
-ghost use Rattle.bst_meaning.specs.Builtins.{integers, string, byte_number, byte_string};
-ghost use Rattle.bst_step.specs.Operands.{integer};
-ghost use Rattle.bst_step.specs.Effects.{Leaves};
+ghost use Rattle.bst_meaning.specs.Builtins.{byte_number, byte_string};
 ghost use Rattle.bst_step.specs.Marks as mark;
-ghost use Rattle.bst_step.specs.Room.{Fits};
+ghost use Rattle.bst_step.specs.Subjects.{Fits, Leaves, integer, integers, pushed, ranged, string, truth, two_operands};
 
 use crate::held::Operand;
 use crate::operands::{one_integer, one_string, truth, two, two_integers};
@@ -61,13 +58,7 @@ pub fn plus(values: &mut Values<'_>) -> Result<(), Stop>
     ensures fits { Fits result }
 {
     let (a, b) = two_integers(values)?;
-    match a.checked_add(b) {
-        Some(sum) => {
-            values.put(2, Operand::Int(sum));
-            Ok(())
-        }
-        None => Err(Stop::Fault(Fault::IntRange)),
-    }
+    put_ranged(i64::from(a) + i64::from(b), values)
 }
 
 /// `-`
@@ -76,12 +67,21 @@ pub fn minus(values: &mut Values<'_>) -> Result<(), Stop>
     ensures fits { Fits result }
 {
     let (a, b) = two_integers(values)?;
-    match a.checked_sub(b) {
-        Some(difference) => {
-            values.put(2, Operand::Int(difference));
+    put_ranged(i64::from(a) - i64::from(b), values)
+}
+
+/// Puts an integer in the place of the two topmost values, where it has 32 bits.
+fn put_ranged(n: i64, values: &mut Values<'_>) -> Result<(), Stop>
+    requires { 2 ≤ length values.old.stack }
+    ensures left { Leaves result values.old values.new (ranged n (drop 2 values.old.stack)) (mark.resulting 2 mark.NoString) }
+    ensures fits { Fits result }
+{
+    match i32::try_from(n) {
+        Ok(n) => {
+            values.put(2, Operand::Int(n));
             Ok(())
         }
-        None => Err(Stop::Fault(Fault::IntRange)),
+        Err(_) => Err(Stop::Fault(Fault::IntRange)),
     }
 }
 
@@ -116,8 +116,7 @@ pub fn int_to_str_of(alloc: Global, values: &mut Values<'_>) -> Result<(), Stop>
     ensures { Leaves result values.old values.new (integer (λ n rest. pushed (Str (numeral n)) rest) values.old.stack) (mark.resulting 1 mark.Made) }
 {
     let digits = int_to_str(alloc, one_integer(values)?)?;
-    values.make(1, digits.as_slice())?;
-    Ok(())
+    Ok(values.make(1, digits.as_slice())?)
 }
 
 /// Puts a count in the place of the top, where it has 32 bits.

@@ -6,6 +6,7 @@ ghost use Rattle.bst_meaning.specs.Entries.{field_ids_at, field_ids_from};
 ghost use Rattle.bst_step.specs.EntryStates.{EntriesWithin, state_in};
 ghost use Rattle.bst_step.specs.Held.{value_of};
 ghost use Rattle.bst_step.specs.Marks.{AreLent, AreLentIn, lent_marks};
+ghost use Rattle.bst_step.specs.Opening.{opening_of};
 ghost use Rattle.bst_step.specs.Places.{StandAt};
 ghost use Rattle.bst_step.specs.State.{config_of};
 ghost use Rattle.bst_step.specs.Variables.{VariablesWithin, variable_in};
@@ -27,6 +28,15 @@ use name_table::style::Style;
 use std::alloc::Global;
 use std::rc::Rc;
 
+/// Whose variables are meant.
+#[derive(Clone, Copy)]
+pub enum Owner {
+    /// The whole style.
+    Style,
+    /// An entry.
+    Entry,
+}
+
 /// The state in which a run of the style over the list opens.
 pub fn opening<'a>(
     alloc: Global,
@@ -36,10 +46,10 @@ pub fn opening<'a>(
     ensures opened { IfOk result (λ state. config_of state ≡ config.opening style.now list.now) }
     ensures marks { IfOk result (λ state. state.values.marks ≡ lent_marks (config.opening style.now list.now)) }
 {
-    let variables = entry_variables(alloc, &style.names)?;
+    let own = variables(alloc, Owner::Entry, &style.names)?;
     let places = field_places(alloc, &style.names)?;
-    let globals = globals(alloc, &style.names)?;
-    let entries = entry_states(alloc, &places, &variables, list.entries.as_slice())?;
+    let globals = variables(alloc, Owner::Style, &style.names)?;
+    let entries = entry_states(alloc, &places, &own, list.entries.as_slice())?;
     Ok(State {
         alloc,
         preamble: list.preamble.as_slice(),
@@ -67,64 +77,41 @@ fn opening_integer(id: u32) -> i32
     }
 }
 
-/// The variables of the whole style, as a run opens.
-fn globals<'a>(alloc: Global, names: &Names) -> Result<Variables<'a>, NoMemory>
+/// The variables of the whole style, or those of an entry, as a run opens.
+fn variables<'a>(alloc: Global, owner: Owner, names: &Names) -> Result<Variables<'a>, NoMemory>
     ensures within { IfOk result (VariablesWithin 0) }
     ensures marks { IfOk result AreLent }
-    ensures opened { IfOk result (λ variables. map (variable_in []) variables ≡ config.opening_variables config.opening_global 0 names.now) }
+    ensures opened { IfOk result (λ variables. map (variable_in []) variables ≡ config.opening_variables (opening_of owner) 0 names.now) }
 {
     let mut places = Vec::new(alloc);
     let mut variables = Vec::new(alloc);
     for id in 0..names.len() {
         places.push(variables.as_slice().len())?;
-        push_global(&mut variables, NameId(id), names.kind(NameId(id)))?;
+        push_declared(&mut variables, owner, NameId(id), names.kind(NameId(id)))?;
     }
     Variables::new(alloc, places, variables)
 }
 
-/// Appends the variable of the whole style that a name of a kind is, if it is one.
-fn push_global(variables: &mut Vec<Variable<'_>>, name: NameId, kind: Kind) -> Result<(), NoMemory>
-    ensures within { OnOk result (VariablesWithin 0 variables.old.items → VariablesWithin 0 variables.new.items) }
-    ensures marks { OnOk result (AreLent variables.old.items → AreLent variables.new.items) }
-    ensures opened { OnOk result ((later : List config.Variable) →
-        map (variable_in []) variables.new.items ++ later ≡ map (variable_in []) variables.old.items ++ config.opening_global name.0 kind later) }
-{
-    match kind {
-        Kind::IntGlobal => push_variable(variables, name, Operand::Int(opening_integer(name.0))),
-        Kind::StrGlobal => push_variable(variables, name, Operand::Str(&[])),
-        _ => Ok(()),
-    }
-}
-
-/// The variables of an entry, as a run opens.
-fn entry_variables<'a>(alloc: Global, names: &Names) -> Result<Variables<'a>, NoMemory>
-    ensures within { IfOk result (VariablesWithin 0) }
-    ensures marks { IfOk result AreLent }
-    ensures opened { IfOk result (λ variables. map (variable_in []) variables ≡ config.opening_variables config.opening_entry_variable 0 names.now) }
-{
-    let mut places = Vec::new(alloc);
-    let mut variables = Vec::new(alloc);
-    for id in 0..names.len() {
-        places.push(variables.as_slice().len())?;
-        push_entry_variable(&mut variables, NameId(id), names.kind(NameId(id)))?;
-    }
-    Variables::new(alloc, places, variables)
-}
-
-/// Appends the variable of an entry that a name of a kind is, if it is one.
-fn push_entry_variable(
+/// Appends the variable that a name of a kind is, if it is one of this owner.
+fn push_declared(
     variables: &mut Vec<Variable<'_>>,
+    owner: Owner,
     name: NameId,
     kind: Kind,
 ) -> Result<(), NoMemory>
     ensures within { OnOk result (VariablesWithin 0 variables.old.items → VariablesWithin 0 variables.new.items) }
     ensures marks { OnOk result (AreLent variables.old.items → AreLent variables.new.items) }
     ensures opened { OnOk result ((later : List config.Variable) →
-        map (variable_in []) variables.new.items ++ later ≡ map (variable_in []) variables.old.items ++ config.opening_entry_variable name.0 kind later) }
+        map (variable_in []) variables.new.items ++ later ≡ map (variable_in []) variables.old.items ++ opening_of owner name.0 kind later) }
 {
-    match kind {
-        Kind::IntEntry => push_variable(variables, name, Operand::Int(0)),
-        Kind::StrEntry => push_variable(variables, name, Operand::Str(&[])),
+    match (owner, kind) {
+        (Owner::Style, Kind::IntGlobal) => {
+            push_variable(variables, name, Operand::Int(opening_integer(name.0)))
+        }
+        (Owner::Entry, Kind::IntEntry) => push_variable(variables, name, Operand::Int(0)),
+        (Owner::Style, Kind::StrGlobal) | (Owner::Entry, Kind::StrEntry) => {
+            push_variable(variables, name, Operand::Str(&[]))
+        }
         _ => Ok(()),
     }
 }
@@ -182,7 +169,7 @@ fn entry_states<'a>(
     ensures marks { IfOk result (λ states. AreLentIn states.items) }
     ensures opened { IfOk result (λ states. map (state_in []) states.items ≡ config.opening_entries (map (variable_in []) variables.now) 0 entries.now) }
 {
-    let mut states = Vec::new(alloc);
+    let mut states = Vec::with_capacity(alloc, entries.len())?;
     for entry in entries {
         let position = states.as_slice().len() as u64;
         let variables = variables.copied(alloc)?;

@@ -7,14 +7,10 @@ ghost use Rattle.text_ops.specs.Substring.{last_bytes, substring_of};
 ghost use Rattle.text_ops.specs.TextLength.{text_length_of};
 ghost use Rattle.text_ops.specs.Width.{width_of};
 ghost use Rattle.bst_meaning.specs.declared.value.Value.TheVariants.{Str};
-ghost use Rattle.bst_meaning.specs.Effect.{pushed};
-ghost use Rattle.bst_meaning.specs.Operands.{truth, ranged};
 ghost use Rattle.bst_meaning.specs.Builtins as rule;
-ghost use Rattle.bst_meaning.specs.Builtins.{string, is_empty, case_of, change_case_in};
-ghost use Rattle.bst_step.specs.Operands.{field, strings};
-ghost use Rattle.bst_step.specs.Effects.{Leaves};
+ghost use Rattle.bst_meaning.specs.Builtins.{is_empty, case_of, change_case_in};
 ghost use Rattle.bst_step.specs.Marks as mark;
-ghost use Rattle.bst_step.specs.Room.{Fits};
+ghost use Rattle.bst_step.specs.Subjects.{Fits, Leaves, field, pushed, ranged, string, strings, truth};
 
 use crate::held::Operand;
 use crate::numbers::count;
@@ -49,8 +45,7 @@ pub fn add_period(alloc: Global, values: &mut Values<'_>) -> Result<(), Stop>
     ensures { Leaves result values.old values.new (string (λ a rest. pushed (Str (with_period a)) rest) values.old.stack) (mark.resulting 1 mark.Made) }
 {
     let text = text_ops::add_period::add_period(alloc, one_string(values)?)?;
-    values.make(1, text.as_slice())?;
-    Ok(())
+    Ok(values.make(1, text.as_slice())?)
 }
 
 /// The case that a text names by its one byte.
@@ -70,14 +65,11 @@ pub fn change_case(alloc: Global, values: &mut Values<'_>) -> Result<(), Stop>
     ensures { Leaves result values.old values.new (strings (λ a mode rest. change_case_in (case_of mode) a rest) values.old.stack) (mark.resulting 2 mark.Made) }
 {
     let (text, mode) = two_strings(values)?;
-    match case_named(mode) {
-        Some(case) => {
-            let changed = text_ops::change_case::change_case(alloc, text, case)?;
-            values.make(2, changed.as_slice())?;
-            Ok(())
-        }
-        None => Err(Stop::Fault(Fault::BadCase)),
-    }
+    let Some(case) = case_named(mode) else {
+        return Err(Stop::Fault(Fault::BadCase));
+    };
+    let changed = text_ops::change_case::change_case(alloc, text, case)?;
+    Ok(values.make(2, changed.as_slice())?)
 }
 
 /// `empty$`
@@ -108,8 +100,7 @@ pub fn purify(alloc: Global, values: &mut Values<'_>) -> Result<(), Stop>
     ensures { Leaves result values.old values.new (string (λ a rest. pushed (Str (purified a)) rest) values.old.stack) (mark.resulting 1 mark.Made) }
 {
     let text = text_ops::purify::purify(alloc, one_string(values)?)?;
-    values.make(1, text.as_slice())?;
-    Ok(())
+    Ok(values.make(1, text.as_slice())?)
 }
 
 /// Where the part of a text by its place and its length begins, and how many bytes it has.
@@ -168,8 +159,7 @@ pub fn text_prefix(alloc: Global, values: &mut Values<'_>) -> Result<(), Stop>
     match two(values)? {
         (Operand::Str(text), Operand::Int(count)) => {
             let prefix = text_ops::text_prefix::text_prefix(alloc, text, count)?;
-            values.make(2, prefix.as_slice())?;
-            Ok(())
+            Ok(values.make(2, prefix.as_slice())?)
         }
         _ => Err(Stop::Fault(Fault::WrongKind)),
     }

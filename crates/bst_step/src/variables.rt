@@ -108,7 +108,7 @@ fn items_renewed<'a>(
     ensures grown { take (length fresh.old.items) fresh.new.items ≡ fresh.old.items }
     ensures marks { IfOk result (λ renewed. map marked_of renewed.items ≡ map marked_of items.now) }
 {
-    let mut renewed = Vec::new(*fresh.allocator());
+    let mut renewed = Vec::with_capacity(*fresh.allocator(), items.len())?;
     for variable in items {
         let value = variable.value.renewed(pool, fresh)?;
         renewed.push(Variable {

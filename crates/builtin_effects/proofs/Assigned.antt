@@ -19,6 +19,7 @@ use Rattle.sym_state.specs.Changes.{with_bind}
 use Rattle.sym_state.specs.Stands.{IsVisiting, Stands, value_by}
 use Rattle.sym_state.specs.Symbols.{Valuation}
 use Rattle.sym_state.specs.WellMade.{is_variable}
+use Rattle.sym_state.proofs.Pushing.{satisfies_same}
 use Rattle.sym_state.proofs.Spots.{Spot}
 use Rattle.builtin_effects.proofs.Rebinding.{Kept, Unique, bound_at, rebound_bound}
 
@@ -195,13 +196,7 @@ pub rebound_stands : (s : Spot) (w : Valuation) (state : State) (c after : Confi
     → Stands s.style s.admits s.list w state c s.below → Unique state.vars → Unique state.fields
     → Assigned s.style name (w.value sym_of.0) c after → Stands s.style s.admits s.list w (with_bind name sym_of state) after s.below
 rebound_stands s w state c after name sym_of h vars fields a = record {
-  satisfied = record {
-    values = h.satisfied.values;
-    count = h.satisfied.count;
-    position = h.satisfied.position;
-    facts = h.satisfied.facts;
-    rows = h.satisfied.rows;
-  };
+  satisfied = satisfies_same s.style s.admits w state (with_bind name sym_of state) refl refl refl h.satisfied;
   has_list = record {
     fits = h.has_list.fits;
     meets = h.has_list.meets;

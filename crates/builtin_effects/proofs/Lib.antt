@@ -3,6 +3,7 @@ pub mod Assigned
 pub mod CharactersCover
 pub mod CountsCover
 pub mod Covering
+pub mod Dispatched
 pub mod EffectsCover
 pub mod EntryCovers
 pub mod FormatCovers
@@ -16,4 +17,3 @@ pub mod StringsCover
 pub mod SubstringCovers
 pub mod SumsCover
 pub mod TextSizes
-pub mod Uses

@@ -1,22 +1,12 @@
 //! What the effects of the built-in functions cover and keep.
 
 ghost use Rattle.std.specs.Prelude.{◌≡◌, ℕ, List, Ok, drop};
-ghost use Rattle.bv_base.specs.declared.place.Place.{Place};
-ghost use Rattle.name_table.specs.declared.builtin.Builtin.{Builtin};
-ghost use Rattle.name_table.specs.declared.style.Style.{Style};
-ghost use Rattle.bst_meaning.specs.declared.condition.Cond.{Cond};
-ghost use Rattle.bst_meaning.specs.declared.entry.EntryList.{EntryList};
-ghost use Rattle.bst_meaning.specs.declared.value.Value.{Value};
-ghost use Rattle.bst_meaning.specs.Config.{Config};
-ghost use Rattle.sym_state.specs.declared.hint.Hint.{Hint};
-ghost use Rattle.sym_state.specs.State.{State};
+ghost use Rattle.sym_state.specs.Subjects.{Builtin, Cond, Config, EntryList, Hint, Place, Stands, State, Style, Valuation, Value, WellMade};
 ghost use Rattle.sym_state.specs.Covers.{Covers};
 ghost use Rattle.sym_state.specs.Demands.{After};
 ghost use Rattle.sym_state.specs.Effects.{effect_of};
 ghost use Rattle.sym_state.specs.Frames.{EffectFrame};
-ghost use Rattle.sym_state.specs.Stands.{Stands};
-ghost use Rattle.sym_state.specs.Symbols.{Valuation};
-ghost use Rattle.sym_state.specs.WellMade.{HasSmallLimits, WellMade};
+ghost use Rattle.sym_state.specs.WellMade.{HasSmallLimits};
 
 /// Where a well-made state stands for a configuration and a built-in function has an effect on it, the function gives no
 /// fault, and the state after the effect stands for the configuration after the function.

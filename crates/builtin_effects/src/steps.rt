@@ -1,7 +1,6 @@
 //! Steps of hints (docs/EFFECTS.md, "Steps").
 
-ghost use Rattle.std.specs.Prelude.{◌≡◌, ◌≢◌, List, [], ◌∷◌, Err, if◌then◌else◌, IfSome, MatchOption, MatchResult};
-ghost use Rattle.std.specs.List.{All};
+ghost use Rattle.std.specs.Prelude.{◌≡◌, ◌≢◌, List, Err, if◌then◌else◌, MatchResult};
 ghost use Rattle.sym_state.specs.declared.demand.EffectFault.TheVariants.{NoMemory as WantOfMemory};
 ghost use Rattle.sym_state.specs.declared.hint.Hint.{Hint};
 ghost use Rattle.sym_state.specs.Demands as rule;
@@ -49,7 +48,7 @@ pub fn step(
         (λ _. (next : List Hint → Outcome) → rule.step at.now.cond.now at.now.state.now row.now fault hints.old next ≡ next hints.new)
         (λ f. f ≢ WantOfMemory → (next : List Hint → Outcome) → rule.step at.now.cond.now at.now.state.now row.now fault hints.old next ≡ Err f) }
 {
-    match taken(hints) {
+    match hints.next_short() {
         Some(hint) => step_by(at, row, fault, hint),
         None => Err(EffectFault::HintsShort),
     }
@@ -77,19 +76,6 @@ fn step_by(at: &At<'_>, row: &Row, fault: EffectFault, hint: &Hint) -> Result<()
     }
 }
 
-/// Takes the first hint that is left.
-fn taken<'a>(hints: &mut Hints<'a>) -> Option<&'a Hint>
-    requires { All HasFewUses hints.old }
-    ensures first { MatchOption result ((hints.old ≡ []) × (hints.new ≡ [])) (λ hint. hints.old ≡ hint.now ∷ hints.new) }
-    ensures few { All HasFewUses hints.new }
-    ensures uses { IfSome result (λ hint. HasFewUses hint.now) }
-{
-    match hints.next() {
-        Some(hint) => Some(hint),
-        None => None,
-    }
-}
-
 /// Takes `plain`, or a step that shows a row where one is wanted, and says whether it took the step.
 pub fn choice(
     at: &At<'_>,
@@ -105,7 +91,7 @@ pub fn choice(
         (λ f. f ≢ WantOfMemory → (first second : List Hint → Outcome)
         → rule.choice at.now.cond.now at.now.state.now wanted row.now hints.old first second ≡ Err f) }
 {
-    match taken(hints) {
+    match hints.next_short() {
         Some(hint) => choice_by(at, wanted, row, hint),
         None => Err(EffectFault::HintsShort),
     }

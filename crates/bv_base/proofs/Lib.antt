@@ -1,4 +1,5 @@
 pub mod Appended
+pub mod Inserted
 pub mod KeyLists
 pub mod Listed
 pub mod Packing

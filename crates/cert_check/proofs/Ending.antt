@@ -1,7 +1,8 @@
 -- A unit's own check ends by its posts, and what comes after the use is safe where it ends.
-use Rattle.std.proofs.Common.{◌≡◌, ℕ, zero, suc, Bool, true, false, cond, nat_eq, List, [], ◌∷◌, length, map, slice_get, Option, None, Some, Ok, Err, refl, sym, ap, subst, arith, inl, inr}
+use Rattle.std.proofs.Common.{◌≡◌, ℕ, zero, suc, Bool, true, false, cond, nat_eq, List, [], ◌∷◌, length, map, slice_get, Option, None, Some, Result, Ok, Err, refl, sym, ap, subst, ◌∙◌, arith, inl, inr}
 use Rattle.std.specs.List.{list_all}
 use Rattle.std.proofs.lemmas.Bool.Decides.{nat_tests}
+use Rattle.bv_base.specs.Answers.{then_do}
 use Rattle.bv_base.specs.declared.place.Place.{Place}
 use Rattle.bv_base.proofs.ThenLemmas.{then_ok}
 use Rattle.bst_meaning.specs.Config.{Frame}
@@ -45,16 +46,23 @@ one_ends admits kept posts end [] left e = absurd (cc)
 one_ends admits kept posts end (hint.Case k ∷ hints) left e = post_ends admits kept posts end k (slice_get posts k) hints left refl e
 one_ends admits kept posts end (_ ∷ hints) left e = absurd (cc)
 
+-- what holds of each that passes holds of one among those that pass one after the other
+pub each_passes : {X S E : Type 0} (P : X → Type 0) (step : X → S → Result S E) (all : List X → S → Result S E)
+    → ((x : X) (xs : List X) (s : S) → all (x ∷ xs) s ≡ then_do (step x s) (all xs)) → ((x : X) (s t : S) → step x s ≡ Ok t → P x)
+    → (xs : List X) (x : X) (s t : S) → all xs s ≡ Ok t → IsAmong x xs → P x
+each_passes P step all goes holds [] x s t e among = absurd among
+each_passes P step all goes holds (first ∷ xs) x s t e among =
+    let one = then_ok (step first s) (all xs) t (sym (goes first xs s) ∙ e) in
+    elim among [
+      | inl is ↦ subst P (sym is) (holds first s one.0 one.1)
+      | inr later ↦ each_passes P step all goes holds xs x one.0 t one.2 later
+    ]
+
 -- each of the states does
 pub each_ends : (admits : Cond) (kept : ℕ) (posts : List Piece) (states : List State) (end : State) (hints left : List Hint)
     → all_end admits kept posts states hints ≡ Ok left → IsAmong end states → EndsIn admits kept posts end
-each_ends admits kept posts [] end hints left e among = absurd among
-each_ends admits kept posts (state ∷ states) end hints left e among =
-    let first = then_ok (ends admits kept posts state hints) (all_end admits kept posts states) left e in
-    elim among [
-      | inl is ↦ subst (λ (s : State). EndsIn admits kept posts s) (sym is) (one_ends admits kept posts state hints first.0 first.1)
-      | inr later ↦ each_ends admits kept posts states end first.0 left first.2 later
-    ]
+each_ends admits kept posts =
+    each_passes (EndsIn admits kept posts) (ends admits kept posts) (all_end admits kept posts) (λ state states hints. refl) (one_ends admits kept posts)
 
 -- what it gives is among what all give
 given_there : {X : Type 0} (f : X → State) (xs : List X) (k : ℕ) (x : X) → slice_get xs k ≡ Some x → IsAmong (f x) (map f xs)

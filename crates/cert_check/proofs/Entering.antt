@@ -25,7 +25,7 @@ use Rattle.sym_state.specs.declared.hint.Hint.{Hint}
 use Rattle.sym_state.specs.declared.hint.Hint.TheVariants as hint
 use Rattle.sym_state.specs.declared.test.Test.{Test}
 use Rattle.cert_check.specs.Courses.{Course}
-use Rattle.cert_check.specs.Walks.{Enter, Onward, Scope, built_in, entered, entered_by, entering_nothing, has_summary, is_target, named, summary_used, test_of, use_of, variable}
+use Rattle.cert_check.specs.Walks.{Enter, Onward, Scope, built_in, entered, entered_by, entering_nothing, enters, has_summary, is_target, named, summary_used, test_of, use_of, variable}
 use Rattle.cert_check.proofs.Bodies.{EnterSafe, returned}
 use Rattle.cert_check.proofs.Keeping.{Told}
 use Rattle.cert_check.proofs.Plain.{plain_safe}
@@ -114,12 +114,19 @@ nothing_safe : (scope : Scope) (list : EntryList) (n : ℕ) (o : Builtin) (asked
 nothing_safe scope list n o (Some asked) place at s told is tested formed course after e safe = test_safe scope list n s o asked place at course after tested formed e safe
 nothing_safe scope list n o None place at s told is tested formed course after e safe = plain_safe scope list n s o place at course after told is formed e safe
 
-plain_enters_nothing : (scope : Scope) (enter : Enter) (other : Onward) (o : Builtin) (place : Place) (state : State) (course : Course) → is_plain o ≡ true
+-- a built-in function that enters nothing
+pub enters_nothing : (scope : Scope) (enter : Enter) (other : Onward) (o : Builtin) (place : Place) (state : State) (course : Course) → enters o ≡ false
     → built_in scope enter other o place state course ≡ entering_nothing scope o (test_of o) place state course
-plain_enters_nothing scope enter other op.IfElse place state course is = absurd (cc)
-plain_enters_nothing scope enter other op.WhileDo place state course is = absurd (cc)
-plain_enters_nothing scope enter other op.CallType place state course is = absurd (cc)
-plain_enters_nothing scope enter other _ place state course is = refl
+enters_nothing scope enter other op.IfElse place state course e = absurd (cc)
+enters_nothing scope enter other op.WhileDo place state course e = absurd (cc)
+enters_nothing scope enter other op.CallType place state course e = absurd (cc)
+enters_nothing scope enter other _ place state course e = refl
+
+plain_enters : (o : Builtin) → is_plain o ≡ true → enters o ≡ false
+plain_enters op.IfElse is = absurd (cc)
+plain_enters op.WhileDo is = absurd (cc)
+plain_enters op.CallType is = absurd (cc)
+plain_enters _ is = refl
 
 -- a built-in function is safe where those are that enter a function
 pub built_in_safe : (scope : Scope) (list : EntryList) (n : ℕ) (enter : Enter) (other : Onward) (o : Builtin) (place at : Place) (s : Start scope list) → Told scope
@@ -129,7 +136,7 @@ pub built_in_safe : (scope : Scope) (list : EntryList) (n : ℕ) (enter : Enter)
 built_in_safe scope list n enter other o place at s told formed entering course after e safe =
     elim (is_plain o) as (λ (t : Bool). is_plain o ≡ t → SafeFor scope.style n (after_function scope list o at s)) [
       | true ↦ λ is. nothing_safe scope list n o (test_of o) place at s told is refl formed course after
-          (sym (plain_enters_nothing scope enter other o place s.state course is) ∙ e) safe
+          (sym (enters_nothing scope enter other o place s.state course (plain_enters o is)) ∙ e) safe
       | false ↦ λ is. entering is course after e safe
     ] refl
 

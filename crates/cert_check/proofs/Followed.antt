@@ -107,17 +107,23 @@ ended_on : (room low middle high : ℕ) (start : State) (states : List State) �
 ended_on room low middle high start states less few =
     All-weaker (HasFewNew room low middle start) (HasFewNew room low high start) (λ state h. omega (arith, h, less)) states few
 
-pub moved_self : (scope : Scope) (room : ℕ) (start : State) (course : Course) → Moved scope room start course course
-moved_self scope room start course = record {
+-- a rule that gives no state, and counts nothing
+nothing_given : (scope : Scope) (room : ℕ) (start : State) (before after : Course) → after.given ≡ before.given → after.count ≡ before.count
+    → after.stay ≡ before.stay → (All HasFewUses before.hints → All HasFewUses after.hints) → KeepsLoops scope before after
+    → Moved scope room start before after
+nothing_given scope room start before after given count stay short loops = record {
   more = [];
-  given = sym (append-nil course.given);
+  given = given ∙ sym (append-nil before.given);
   follow = All-nil (Follows scope start);
-  few = All-nil (HasFewNew room course.count course.count start);
-  count = omega arith;
-  short = λ short. short;
-  loops = λ makes all. all;
-  stay = refl;
+  few = All-nil (HasFewNew room before.count after.count start);
+  count = omega (arith, count);
+  short = short;
+  loops = loops;
+  stay = stay;
 }
+
+pub moved_self : (scope : Scope) (room : ℕ) (start : State) (course : Course) → Moved scope room start course course
+moved_self scope room start course = nothing_given scope room start course course refl refl refl (λ short. short) (λ makes all. all)
 
 pub moved_twice : (scope : Scope) (room : ℕ) (start : State) (first second third : Course) → Moved scope room start first second
     → Moved scope room start second third → Moved scope room start first third
@@ -134,78 +140,58 @@ moved_twice scope room start first second third one other = record {
   stay = other.stay ∙ one.stay;
 }
 
--- the states follow an earlier one, that has no fewer symbols but for so many
-pub moved_from : (scope : Scope) (room more : ℕ) (start middle : State) (before after : Course) → Follows scope start middle
-    → middle.next + room ≤ start.next + more → Moved scope room middle before after → Moved scope more start before after
-moved_from scope room more start middle before after follows few moved = record {
+-- the states follow another one, and have few new symbols beside it
+moved_beside : (scope : Scope) (room more : ℕ) (start middle : State) (before after : Course) → (moved : Moved scope room middle before after)
+    → All (Follows scope start) moved.more → All (HasFewNew more before.count after.count start) moved.more → Moved scope more start before after
+moved_beside scope room more start middle before after moved follow few = record {
   more = moved.more;
   given = moved.given;
-  follow = All-weaker (Follows scope middle) (Follows scope start) (λ state h. follows_twice scope start middle state follows h) moved.more moved.follow;
-  few = All-weaker (HasFewNew room before.count after.count middle) (HasFewNew more before.count after.count start)
-      (λ state h. omega (arith, h, few)) moved.more moved.few;
+  follow = follow;
+  few = few;
   count = moved.count;
   short = moved.short;
   loops = moved.loops;
   stay = moved.stay;
 }
+
+-- the states follow an earlier one, that has no fewer symbols but for so many
+pub moved_from : (scope : Scope) (room more : ℕ) (start middle : State) (before after : Course) → Follows scope start middle
+    → middle.next + room ≤ start.next + more → Moved scope room middle before after → Moved scope more start before after
+moved_from scope room more start middle before after follows few moved =
+    moved_beside scope room more start middle before after moved
+    (All-weaker (Follows scope middle) (Follows scope start) (λ state h. follows_twice scope start middle state follows h) moved.more moved.follow)
+    (All-weaker (HasFewNew room before.count after.count middle) (HasFewNew more before.count after.count start) (λ state h. omega (arith, h, few))
+    moved.more moved.few)
 
 -- there may be more room
 pub moved_within : (scope : Scope) (room more : ℕ) (start : State) (before after : Course) → room ≤ more → Moved scope room start before after
     → Moved scope more start before after
-moved_within scope room more start before after less moved = record {
-  more = moved.more;
-  given = moved.given;
-  follow = moved.follow;
-  few = All-weaker (HasFewNew room before.count after.count start) (HasFewNew more before.count after.count start)
-      (λ state h. omega (arith, h, less)) moved.more moved.few;
-  count = moved.count;
-  short = moved.short;
-  loops = moved.loops;
-  stay = moved.stay;
-}
+moved_within scope room more start before after less moved =
+    moved_beside scope room more start start before after moved moved.follow
+    (All-weaker (HasFewNew room before.count after.count start) (HasFewNew more before.count after.count start) (λ state h. omega (arith, h, less))
+    moved.more moved.few)
 
 -- hints that are taken don't matter
 pub rehinted : (scope : Scope) (room : ℕ) (start : State) (before after : Course) (hints : List Hint) → (All HasFewUses before.hints → All HasFewUses hints)
     → Moved scope room start (record before { hints = hints }) after → Moved scope room start before after
-rehinted scope room start before after hints short moved = record {
-  short = λ all. moved.short (short all);
-  loops = moved.loops;
-  stay = moved.stay;
-  count = moved.count;
-  more = moved.more;
-  given = moved.given;
-  follow = moved.follow;
-  few = moved.few;
-}
+rehinted scope room start before after hints short =
+    moved_twice scope room start before (record before { hints = hints }) after
+    (nothing_given scope room start before (record before { hints = hints }) refl refl refl short (λ makes all. all))
 
 -- so do those that were found
 pub refound : (scope : Scope) (room : ℕ) (start : State) (before after : Course) (found : List Hint)
     → Moved scope room start (record before { found = found }) after → Moved scope room start before after
-refound scope room start before after found moved = record {
-  short = moved.short;
-  loops = moved.loops;
-  stay = moved.stay;
-  count = moved.count;
-  more = moved.more;
-  given = moved.given;
-  follow = moved.follow;
-  few = moved.few;
-}
+refound scope room start before after found =
+    moved_twice scope room start before (record before { found = found }) after
+    (nothing_given scope room start before (record before { found = found }) refl refl refl (λ short. short) (λ makes all. all))
 
 -- and loops that were made
 pub remade : (scope : Scope) (room : ℕ) (start : State) (before after : Course) (loops : List Loop)
     → (IfSome scope.make (MakesStanding scope.style) → All (IsStanding scope.style) after.loops → All (IsStanding scope.style) loops)
     → Moved scope room start before after → Moved scope room start before (record after { loops = loops })
-remade scope room start before after loops keeps moved = record {
-  short = moved.short;
-  loops = λ makes all. keeps makes (moved.loops makes all);
-  stay = moved.stay;
-  count = moved.count;
-  more = moved.more;
-  given = moved.given;
-  follow = moved.follow;
-  few = moved.few;
-}
+remade scope room start before after loops keeps moved =
+    moved_twice scope room start before after (record after { loops = loops }) moved
+    (nothing_given scope room start after (record after { loops = loops }) refl refl refl (λ short. short) keeps)
 
 -- so do those that were found for a rule
 left_short : (finding : Option Finding) (left after : List Hint) (find : Finding → List Hint)
@@ -217,16 +203,10 @@ left_short (Some finding) left after find short all = all
 pub behind_moved : (scope : Scope) (room : ℕ) (start : State) (before after : Course) (find : Finding → List Hint) (hints : List Hint)
     → (All HasFewUses (handed before.finding before.hints find) → All HasFewUses hints)
     → Moved scope room start (behind (handed before.finding before.hints find) hints before) after → Moved scope room start before after
-behind_moved scope room start before after find hints short moved = record {
-  short = λ all. moved.short (left_short before.finding before.hints hints find short all);
-  loops = moved.loops;
-  stay = moved.stay;
-  count = moved.count;
-  more = moved.more;
-  given = moved.given;
-  follow = moved.follow;
-  few = moved.few;
-}
+behind_moved scope room start before after find hints short =
+    let next = behind (handed before.finding before.hints find) hints before in
+    moved_twice scope room start before next after
+    (nothing_given scope room start before next refl refl refl (left_short before.finding before.hints hints find short) (λ makes all. all))
 
 -- what counts makes room
 pub counted_moved : (scope : Scope) (n room : ℕ) (start : State) (place : Place) (course middle after : Course) → counts n place course ≡ Ok middle

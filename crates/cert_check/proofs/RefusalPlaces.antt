@@ -46,7 +46,7 @@ use Rattle.cert_check.proofs.ReadPieces.{each_each}
 use Rattle.cert_check.specs.declared.limits.TheConstants.{MOST_DEPTH}
 use Rattle.cert_check.specs.declared.refusal.Reason.{Reason}
 use Rattle.cert_check.specs.declared.refusal.Refusal.{Refusal}
-use Rattle.cert_check.specs.Courses.{Course, behind, counts, first_number, gives, gives_all, placed, refuses}
+use Rattle.cert_check.specs.Courses.{Course, Walk, behind, counts, first_number, gives, gives_all, placed, refuses}
 use Rattle.cert_check.specs.Places.{IsOfBody, IsOfUnit}
 use Rattle.cert_check.specs.Units.{all_end, all_entail, all_tested, all_turned, beginning, body_of, call_walked, loop_checked, none_left, own_walked, place_of, summary_checked, target_entered, target_from, tested, turn, turn_state, turned, turned_from}
 use Rattle.cert_check.specs.Uses.{Passage, around, comes_by, left_state, passage}
@@ -84,10 +84,19 @@ module _ (P : Place → Type 0) where
   gives_fails : (place : Place) (state : State) (course : Course) → P place → Fails (gives place state course)
   gives_fails place state course at = where_fails _ place _ (Ok (record course { given = course.given ++ state ∷ [] })) at tt
 
+  -- rules that are taken one after the other, each of which fails at such a place alone
+  in_order_fail : {X : Type 0} (rule : X → Course → Walk) (all : List X → Course → Walk) → ((course : Course) → all [] course ≡ Ok course)
+      → ((x : X) (xs : List X) (course : Course) → all (x ∷ xs) course ≡ then_do (rule x course) (all xs))
+      → ((x : X) (course : Course) → Fails (rule x course)) → (xs : List X) (course : Course) → Fails (all xs course)
+  in_order_fail rule all none more fails [] course = subst (λ (r : Walk). Fails r) (sym (none course)) tt
+  in_order_fail rule all none more fails (x ∷ xs) course =
+      subst (λ (r : Walk). Fails r) (sym (more x xs course))
+      (then_faulty FailsAt (rule x course) (all xs) (fails x course) (λ after _. in_order_fail rule all none more fails xs after))
+
   gives_all_fails : (place : Place) (states : List State) (course : Course) → P place → Fails (gives_all place states course)
-  gives_all_fails place [] course at = tt
-  gives_all_fails place (state ∷ states) course at =
-      then_faulty FailsAt (gives place state course) (gives_all place states) (gives_fails place state course at) (λ after _. gives_all_fails place states after at)
+  gives_all_fails place states course at =
+      in_order_fail (gives place) (gives_all place) (λ course. refl) (λ state states course. refl) (λ state course. gives_fails place state course at)
+      states course
 
   -- rules that enter nothing
   plain_fails : (scope : Scope) (o : Builtin) (place : Place) (state : State) (course : Course) → P place → Fails (plain scope o place state course)
@@ -165,11 +174,10 @@ module _ (P : Place → Type 0) where
 
   cases_fail : (scope : Scope) (enter : Enter) (call : Call) (place : Place) (three : Three) (cases : List (Bool × State)) (course : Course) → P place
       → EnterFails enter → CallFails call → Fails (cases_entered scope enter call place three cases course)
-  cases_fail scope enter call place three [] course at enters calls = tt
-  cases_fail scope enter call place three (case ∷ cases) course at enters calls =
-      let target = exact_target scope.style case.1 (cond case.0 three.middle three.top) in
-      then_faulty FailsAt (function_entered scope enter call place target case.1 course) (cases_entered scope enter call place three cases)
-      (function_fails scope enter call place target at enters calls case.1 course) (λ after _. cases_fail scope enter call place three cases after at enters calls)
+  cases_fail scope enter call place three cases course at enters calls =
+      let target : Bool × State → Option Target = λ case. exact_target scope.style case.1 (cond case.0 three.middle three.top) in
+      in_order_fail (λ (case : Bool × State). function_entered scope enter call place (target case) case.1) (cases_entered scope enter call place three)
+      (λ course. refl) (λ case cases course. refl) (λ case course. function_fails scope enter call place (target case) at enters calls case.1 course) cases course
 
   chosen_fails : (scope : Scope) (enter : Enter) (call : Call) (place : Place) (stack : List Sym) → P place → EnterFails enter → CallFails call
       → OnwardFails (chosen scope enter call place stack)
@@ -267,13 +275,12 @@ module _ (P : Place → Type 0) where
 
   types_fail : (scope : Scope) (enter : Enter) (place : Place) (names : List NameId) → P place → EnterFails enter
       → OnwardFails (types_called scope enter place names)
-  types_fail scope enter place [] at enters state course = tt
-  types_fail scope enter place (name ∷ names) at enters state course =
-      let walk = type_walked enter (kind_of scope.style name) place in
-      then_faulty FailsAt (type_called scope enter place name state course) (types_called scope enter place names state)
-      (then_faulty FailsAt (counts 1 place course) (entered scope place (Named name) walk state) (counts_fails 1 place course at)
-      (λ after _. entered_fails scope place (Named name) walk at (type_walk_fails enter (kind_of scope.style name) place at enters) state after))
-      (λ after _. types_fail scope enter place names at enters state after)
+  types_fail scope enter place names at enters state =
+      let walk : NameId → Onward = λ name. type_walked enter (kind_of scope.style name) place in
+      in_order_fail (λ (name : NameId). type_called scope enter place name state) (λ (names : List NameId). types_called scope enter place names state)
+      (λ course. refl) (λ name names course. refl)
+      (λ name course. then_faulty FailsAt (counts 1 place course) (entered scope place (Named name) (walk name) state) (counts_fails 1 place course at)
+      (λ after _. entered_fails scope place (Named name) (walk name) at (type_walk_fails enter (kind_of scope.style name) place at enters) state after)) names
 
   -- names
   built_in_fails : (scope : Scope) (enter : Enter) (other : Onward) (o : Builtin) (place : Place) → P place → EnterFails enter → OnwardFails other
@@ -334,12 +341,10 @@ module _ (P : Place → Type 0) where
 
   each_fails : (scope : Scope) (enter : Enter) (t : TokenAt) (states : List State) (course : Course) → P t.place → EnterFails enter
       → Fails (each_taken scope enter t states course)
-  each_fails scope enter t [] course at enters = tt
-  each_fails scope enter t (state ∷ states) course at enters =
-      then_faulty FailsAt (taken scope enter t state course) (each_taken scope enter t states)
-      (then_faulty FailsAt (counts 1 t.place course) (token_taken scope enter t.token t.place state) (counts_fails 1 t.place course at)
-      (λ after _. token_fails scope enter t.token t.place at enters state after))
-      (λ after _. each_fails scope enter t states after at enters)
+  each_fails scope enter t states course at enters =
+      in_order_fail (taken scope enter t) (each_taken scope enter t) (λ course. refl) (λ state states course. refl)
+      (λ state course. then_faulty FailsAt (counts 1 t.place course) (token_taken scope enter t.token t.place state) (counts_fails 1 t.place course at)
+      (λ after _. token_fails scope enter t.token t.place at enters state after)) states course
 
   from_fails : (scope : Scope) (enter : Enter) (t : TokenAt) (states : List State) (course : Course) → P t.place → EnterFails enter
       → Fails (taken_from scope enter t states course)
@@ -423,10 +428,9 @@ module _ (P : Place → Type 0) where
 
   all_turned_fail : (scope : Scope) (place : Place) (one : Loop) (cases : List (Bool × State)) (course : Course) → P place → TokensAt scope.style
       → Fails (all_turned scope place one cases course)
-  all_turned_fail scope place one [] course at tokens = tt
-  all_turned_fail scope place one (case ∷ cases) course at tokens =
-      then_faulty FailsAt (turned scope place one case.0 case.1 course) (all_turned scope place one cases)
-      (turned_fails scope place one case.0 case.1 course at tokens) (λ after _. all_turned_fail scope place one cases after at tokens)
+  all_turned_fail scope place one cases course at tokens =
+      in_order_fail (λ (case : Bool × State). turned scope place one case.0 case.1) (all_turned scope place one) (λ course. refl) (λ case cases course. refl)
+      (λ case course. turned_fails scope place one case.0 case.1 course at tokens) cases course
 
   tested_fails : (scope : Scope) (place : Place) (one : Loop) → P place → TokensAt scope.style → OnwardFails (tested scope place one)
   tested_fails scope place one at tokens state course =
@@ -440,10 +444,9 @@ module _ (P : Place → Type 0) where
 
   all_tested_fail : (scope : Scope) (place : Place) (one : Loop) (states : List State) (course : Course) → P place → TokensAt scope.style
       → Fails (all_tested scope place one states course)
-  all_tested_fail scope place one [] course at tokens = tt
-  all_tested_fail scope place one (state ∷ states) course at tokens =
-      then_faulty FailsAt (tested scope place one state course) (all_tested scope place one states)
-      (tested_fails scope place one at tokens state course) (λ after _. all_tested_fail scope place one states after at tokens)
+  all_tested_fail scope place one states course at tokens =
+      in_order_fail (tested scope place one) (all_tested scope place one) (λ course. refl) (λ state states course. refl)
+      (λ state course. tested_fails scope place one at tokens state course) states course
 
   turn_fails : (scope : Scope) (place : Place) (one : Loop) → P place → TokensAt scope.style → OnwardFails (turn scope place one)
   turn_fails scope place one at tokens state course =
@@ -453,10 +456,9 @@ module _ (P : Place → Type 0) where
 
   turns_fail : (scope : Scope) (place : Place) (one : Loop) (cases : List Piece) (course : Course) → P place → TokensAt scope.style
       → Fails (turned_from scope place one cases course)
-  turns_fail scope place one [] course at tokens = tt
-  turns_fail scope place one (case ∷ cases) course at tokens =
-      then_faulty FailsAt (turn scope place one (turn_state scope one case) course) (turned_from scope place one cases)
-      (turn_fails scope place one at tokens (turn_state scope one case) course) (λ after _. turns_fail scope place one cases after at tokens)
+  turns_fail scope place one cases course at tokens =
+      in_order_fail (λ (case : Piece). turn scope place one (turn_state scope one case)) (turned_from scope place one) (λ course. refl)
+      (λ case cases course. refl) (λ case course. turn_fails scope place one at tokens (turn_state scope one case) course) cases course
 
   check_fails : (style : Style) (cert : Cert) (one : Loop) → P (place_of style (body_of style one.body)) → TokensAt style → Fails (loop_checked style cert one)
   check_fails style cert one at tokens =
@@ -467,10 +469,9 @@ module _ (P : Place → Type 0) where
 
   targets_fail : (scope : Scope) (place : Place) (target : Target) (states : List State) (course : Course) → P place → TokensAt scope.style
       → Fails (target_from scope place target states course)
-  targets_fail scope place target [] course at tokens = tt
-  targets_fail scope place target (state ∷ states) course at tokens =
-      then_faulty FailsAt (target_entered scope place target state course) (target_from scope place target states)
-      (target_fails scope place target at tokens state course) (λ after _. targets_fail scope place target states after at tokens)
+  targets_fail scope place target states course at tokens =
+      in_order_fail (target_entered scope place target) (target_from scope place target) (λ course. refl) (λ state states course. refl)
+      (λ state course. target_fails scope place target at tokens state course) states course
 
 -- the places of a style's bodies
 pub element_at : {X : Type 0} (P : X → Type 0) (xs : List X) → ((k : ℕ) (x : X) → slice_get xs k ≡ Some x → P x) → Each P xs

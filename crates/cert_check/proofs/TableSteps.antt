@@ -42,21 +42,14 @@ other_number a b differs = grind (arith, nat_tests)
 one_number : (a : ℕ) → nat_eq a a ≡ true
 one_number a = grind (arith, nat_tests)
 
-name_marked : (marks : List Bool) (summary : Summary) (summaries left : List Summary) (name : NameId) → summary.body ≡ Named name → left ≡ summary ∷ summaries
-    → AreMarks name_of_id marks summaries → AreMarks name_of_id (slice_set marks name.0 true) left
-name_marked marks summary summaries left name is begins before =
-    subst (AreMarks name_of_id (slice_set marks name.0 true)) (sym begins)
-    (marks_set name_of_id marks summary summaries name.0
-    (ap (λ (t : Target). is_target t (name_of_id name.0)) is ∙ one_number name.0)
-    (λ k differs. ap (λ (t : Target). is_target t (name_of_id k)) is ∙ other_number name.0 k differs) before)
-
-block_marked : (marks : List Bool) (summary : Summary) (summaries left : List Summary) (body : BodyId) → summary.body ≡ Block body → left ≡ summary ∷ summaries
-    → AreMarks block_of_id marks summaries → AreMarks block_of_id (slice_set marks body.0 true) left
-block_marked marks summary summaries left body is begins before =
-    subst (AreMarks block_of_id (slice_set marks body.0 true)) (sym begins)
-    (marks_set block_of_id marks summary summaries body.0
-    (ap (λ (t : Target). is_target t (block_of_id body.0)) is ∙ one_number body.0)
-    (λ k differs. ap (λ (t : Target). is_target t (block_of_id k)) is ∙ other_number body.0 k differs) before)
+target_marked : (target : ℕ → Target) (marks : List Bool) (summary : Summary) (summaries left : List Summary) (id : ℕ)
+    → ((a b : ℕ) → is_target (target a) (target b) ≡ nat_eq a b) → summary.body ≡ target id → left ≡ summary ∷ summaries
+    → AreMarks target marks summaries → AreMarks target (slice_set marks id true) left
+target_marked target marks summary summaries left id apart is begins before =
+    subst (AreMarks target (slice_set marks id true)) (sym begins)
+    (marks_set target marks summary summaries id
+    (ap (λ (t : Target). is_target t (target id)) is ∙ apart id id ∙ one_number id)
+    (λ k differs. ap (λ (t : Target). is_target t (target k)) is ∙ apart id k ∙ other_number id k differs) before)
 
 body_placed : (found : List (Option BodyId)) (id later : ℕ) (body : Body) (bodies left : List Body) (number : ℕ) → body.block ≡ Some number → left ≡ body ∷ bodies
     → later ≡ suc id → AreBodies later found bodies → AreBodies id (slice_set found number (Some (record { 0 = id }))) left
@@ -93,19 +86,23 @@ item_before {X} xs k d some inside =
     drop-cons xs (k - 1) d (omega (arith, some, inside)) ∙ ap (λ (n : ℕ). get_or xs (k - 1) d ∷ drop n xs) last
 
 -- a summary that is looked at marks its target, and a block's body is put at its number
+target_next : (target : ℕ → Target) (marks next : List Bool) (summaries : List Summary) (k : ℕ) (d : Summary) (id : ℕ)
+    → ((a b : ℕ) → is_target (target a) (target b) ≡ nat_eq a b) → 0 < k → k ≤ length summaries → (get_or summaries (k - 1) d).body ≡ target id
+    → next ≡ slice_set marks id true → AreMarks target marks (drop k summaries) → AreMarks target next (drop (k - 1) summaries)
+target_next target marks next summaries k d id apart some inside is put before =
+    subst (λ (l : List Bool). AreMarks target l (drop (k - 1) summaries)) (sym put)
+    (target_marked target marks (get_or summaries (k - 1) d) (drop k summaries) (drop (k - 1) summaries) id apart is (item_before summaries k d some inside)
+    before)
+
 pub name_next : (marks next : List Bool) (summaries : List Summary) (k : ℕ) (d : Summary) (name : NameId) → 0 < k → k ≤ length summaries
     → (get_or summaries (k - 1) d).body ≡ Named name → next ≡ slice_set marks name.0 true → AreMarks name_of_id marks (drop k summaries)
     → AreMarks name_of_id next (drop (k - 1) summaries)
-name_next marks next summaries k d name some inside is put before =
-    subst (λ (l : List Bool). AreMarks name_of_id l (drop (k - 1) summaries)) (sym put)
-    (name_marked marks (get_or summaries (k - 1) d) (drop k summaries) (drop (k - 1) summaries) name is (item_before summaries k d some inside) before)
+name_next marks next summaries k d name = target_next name_of_id marks next summaries k d name.0 (λ a b. refl)
 
 pub block_next : (marks next : List Bool) (summaries : List Summary) (k : ℕ) (d : Summary) (body : BodyId) → 0 < k → k ≤ length summaries
     → (get_or summaries (k - 1) d).body ≡ Block body → next ≡ slice_set marks body.0 true → AreMarks block_of_id marks (drop k summaries)
     → AreMarks block_of_id next (drop (k - 1) summaries)
-block_next marks next summaries k d body some inside is put before =
-    subst (λ (l : List Bool). AreMarks block_of_id l (drop (k - 1) summaries)) (sym put)
-    (block_marked marks (get_or summaries (k - 1) d) (drop k summaries) (drop (k - 1) summaries) body is (item_before summaries k d some inside) before)
+block_next marks next summaries k d body = target_next block_of_id marks next summaries k d body.0 (λ a b. refl)
 
 pub body_next : (found next : List (Option BodyId)) (bodies : List Body) (id : ℕ) (d : Body) (number : ℕ) → 0 < id → id ≤ length bodies
     → (get_or bodies (id - 1) d).block ≡ Some number → next ≡ slice_set found number (Some (record { 0 = id - 1 })) → AreBodies id found (drop id bodies)
@@ -114,3 +111,21 @@ body_next found next bodies id d number some inside is put before =
     subst (λ (l : List (Option BodyId)). AreBodies (id - 1) l (drop (id - 1) bodies)) (sym put)
     (body_placed found (id - 1) id (get_or bodies (id - 1) d) (drop id bodies) (drop (id - 1) bodies) number is (item_before bodies id d some inside)
     (omega (arith, some)) before)
+
+-- a summary of another kind of target marks none of this one
+target_passed : (target : ℕ → Target) (marks : List Bool) (summaries : List Summary) (k : ℕ) (d : Summary) → 0 < k → k ≤ length summaries
+    → ((id : ℕ) → is_target (get_or summaries (k - 1) d).body (target id) ≡ false) → AreMarks target marks (drop k summaries)
+    → AreMarks target marks (drop (k - 1) summaries)
+target_passed target marks summaries k d some inside other before =
+    subst (AreMarks target marks) (sym (item_before summaries k d some inside))
+    (λ id mark e. before id mark e ∙ sym (ap (λ (t : Bool). t || list_any (λ s. is_target s.body (target id)) (drop k summaries)) (other id)))
+
+pub name_passed : (marks : List Bool) (summaries : List Summary) (k : ℕ) (d : Summary) (name : NameId) → 0 < k → k ≤ length summaries
+    → (get_or summaries (k - 1) d).body ≡ Named name → AreMarks block_of_id marks (drop k summaries) → AreMarks block_of_id marks (drop (k - 1) summaries)
+name_passed marks summaries k d name some inside is =
+    target_passed block_of_id marks summaries k d some inside (λ id. ap (λ (t : Target). is_target t (block_of_id id)) is)
+
+pub block_passed : (marks : List Bool) (summaries : List Summary) (k : ℕ) (d : Summary) (body : BodyId) → 0 < k → k ≤ length summaries
+    → (get_or summaries (k - 1) d).body ≡ Block body → AreMarks name_of_id marks (drop k summaries) → AreMarks name_of_id marks (drop (k - 1) summaries)
+block_passed marks summaries k d body some inside is =
+    target_passed name_of_id marks summaries k d some inside (λ id. ap (λ (t : Target). is_target t (name_of_id id)) is)

@@ -25,7 +25,7 @@ use Rattle.cert_check.specs.declared.tours.Turning.{Turning}
 use Rattle.straight_hints.specs.Found.{above_hints}
 use Rattle.cert_check.proofs.PieceUses.{turn_room}
 use Rattle.cert_check.proofs.RoomLeft.{room_on, target_leaves, target_room}
-use Rattle.cert_check.proofs.TourSteps.{count_ended, none_ended}
+use Rattle.cert_check.proofs.TourSteps.{body_leaves}
 use Rattle.cert_check.proofs.TurnSteps.{signs_room}
 
 -- the states at the ends of a tour are well made
@@ -74,14 +74,12 @@ module _ (scope : Scope) (one : Turning) (sound : IsSound scope.style) (cert : I
   body_keeps : (place : Place) (state : State) (tour : Tour) (mid : Course) → HasRoom scope.style 64 tour.course.count state → GivesNone tour
       → target_entered scope place one.body state tour.course ≡ Ok mid → KeepsEnds scope.style tour (turn_ended tour.ends mid)
   body_keeps place state tour mid room none e =
-      let start : Tour = record { course = record mid { given = [] }; ends = tour.ends } in
-      let rises = (target_room scope place one.body state tour.course mid sound cert makes room e).count in
-      let same = count_ended true mid.given start in
+      let left = body_leaves scope place one state tour mid sound cert makes room none e in
       record {
-        none = none_ended true mid.given start refl;
-        count = omega (arith, rises, same);
-        ends = all_made scope.style true mid.given start
-            (roomy_made scope.style 0 mid.count mid.given (target_leaves scope place one.body 0 state tour.course mid sound cert makes room none e));
+        none = left.none;
+        count = left.count;
+        ends = all_made scope.style true mid.given (record { course = record mid { given = [] }; ends = tour.ends })
+            (roomy_made scope.style 0 mid.count mid.given left.room);
       }
 
   -- a case of the test's integer

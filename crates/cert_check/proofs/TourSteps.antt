@@ -139,21 +139,37 @@ pub count_ended : (turned : Bool) (states : List State) (tour : Tour) → (all_e
 count_ended turned [] tour = refl
 count_ended turned (state ∷ states) tour = count_ended turned states (ended turned state tour)
 
--- what the body leaves has turned
-pub turned_keeps : (scope : Scope) (place : Place) (one : Turning) (state : State) (tour : Tour) (mid : Course) → IsSound scope.style
+-- what the body leaves: its states have room, and the course gives none and counts on
+pub record BodyLeft (style : Style) (tour after : Tour) (mid : Course) : Type 0 where
+  pub none : GivesNone after
+  pub count : tour.course.count ≤ after.course.count
+  pub room : All (HasRoom style 0 mid.count) mid.given
+
+pub body_leaves : (scope : Scope) (place : Place) (one : Turning) (state : State) (tour : Tour) (mid : Course) → IsSound scope.style
     → IsCertified scope.style scope.cert → IfSome scope.make (MakesLoops scope.style) → HasRoom scope.style 64 tour.course.count state → GivesNone tour
-    → target_entered scope place one.body state tour.course ≡ Ok mid → mid.count ≤ MOST_COUNT → Each IsHint mid.found
-    → KeepsTour scope.style tour (turn_ended tour.ends mid)
-turned_keeps scope place one state tour mid sound cert makes room none e most written =
+    → target_entered scope place one.body state tour.course ≡ Ok mid → BodyLeft scope.style tour (turn_ended tour.ends mid) mid
+body_leaves scope place one state tour mid sound cert makes room none e =
     let start : Tour = record { course = record mid { given = [] }; ends = tour.ends } in
     let rises = (target_room scope place one.body state tour.course mid sound cert makes room e).count in
     let same = count_ended true mid.given start in
     record {
       none = none_ended true mid.given start refl;
       count = omega (arith, rises, same);
-      ends = all_end_so scope.style true mid.given start
-          (All-weaker (HasRoom scope.style 0 mid.count) (IsEnd scope.style) (λ inner there. end_of scope.style 0 mid.count inner most there) mid.given
-          (target_leaves scope place one.body 0 state tour.course mid sound cert makes room none e))
+      room = target_leaves scope place one.body 0 state tour.course mid sound cert makes room none e;
+    }
+
+-- what the body leaves has turned
+pub turned_keeps : (scope : Scope) (place : Place) (one : Turning) (state : State) (tour : Tour) (mid : Course) → IsSound scope.style
+    → IsCertified scope.style scope.cert → IfSome scope.make (MakesLoops scope.style) → HasRoom scope.style 64 tour.course.count state → GivesNone tour
+    → target_entered scope place one.body state tour.course ≡ Ok mid → mid.count ≤ MOST_COUNT → Each IsHint mid.found
+    → KeepsTour scope.style tour (turn_ended tour.ends mid)
+turned_keeps scope place one state tour mid sound cert makes room none e most written =
+    let left = body_leaves scope place one state tour mid sound cert makes room none e in
+    record {
+      none = left.none;
+      count = left.count;
+      ends = all_end_so scope.style true mid.given (record { course = record mid { given = [] }; ends = tour.ends })
+          (All-weaker (HasRoom scope.style 0 mid.count) (IsEnd scope.style) (λ inner there. end_of scope.style 0 mid.count inner most there) mid.given left.room)
           written;
     }
 

@@ -8,6 +8,7 @@ use Rattle.bv_base.specs.Answers.{then_do}
 use Rattle.bv_base.specs.declared.place.Place.{Place}
 use Rattle.name_table.specs.Sound.{IsSound}
 use Rattle.name_table.specs.declared.names.NameId.{NameId}
+use Rattle.name_table.specs.declared.style.BodyId.{BodyId}
 use Rattle.name_table.specs.declared.style.Style.{Style}
 use Rattle.bst_meaning.specs.declared.condition.Cond.{Cond}
 use Rattle.bst_meaning.specs.declared.value.Target.{Target}
@@ -37,7 +38,7 @@ use Rattle.cert_check.proofs.Inverted.{placed_ok}
 use Rattle.cert_check.proofs.PieceUses.{turn_room as case_room}
 use Rattle.cert_check.proofs.RoomLeft.{cases_room, room_on, target_leaves, target_room}
 use Rattle.cert_check.proofs.LoopTurns.{one_ok}
-use Rattle.cert_check.proofs.UnitSteps.{Checks}
+use Rattle.cert_check.proofs.UnitSteps.{Checks, unit_at_checks}
 use Rattle.cert_check.proofs.Walked.{found_one}
 use Rattle.cert_check.proofs.WalkSteps.{then_goes, wanted_same}
 
@@ -190,11 +191,7 @@ rest_signs style low high cases rest case is rises room =
 -- the loop of a number
 pub loop_checks : {T : Type 0} (style : Style) (cert : Cert) (k : ℕ) (scope : Scope) (one : Loop) (result : Result T Refusal) → Some one ≡ slice_get cert.loops k
     → scope.style ≡ style → scope.cert ≡ cert → Checks (loop_checked scope.style scope.cert one) result → Checks (loop_checked_at style cert k) result
-loop_checks {T} style cert k scope one result found same_style same_cert checks =
-    subst (λ (r : Result (List Hint) Refusal). Checks r result)
-    (ap (λ (s : Style). loop_checked s scope.cert one) same_style ∙ ap (λ (c : Cert). loop_checked style c one) same_cert
-    ∙ ap (λ (o : Option Loop). option_map_or (loop_checked style cert) o (Ok [])) found)
-    checks
+loop_checks {T} style cert k = unit_at_checks loop_checked style cert cert.loops k
 
 pub no_loop : (style : Style) (cert : Cert) (k : ℕ) → None ≡ slice_get cert.loops k → loop_checked_at style cert k ≡ Ok []
 no_loop style cert k found = ap (λ (o : Option Loop). option_map_or (loop_checked style cert) o (Ok [])) (sym found)
@@ -209,6 +206,17 @@ pub record AreLoopParts (scope : Scope) (one : Loop) (place : Place) (course : C
   pub unmade : scope.make ≡ None
   pub place_is : place ≡ place_of scope.style (body_of scope.style one.body)
   pub course_is : course ≡ beginning one.hints
+
+pub loop_parts : (scope : Scope) (one : Loop) (first second : Style) (body : Option BodyId) (place : Place) (hints : List Hint) (course : Course)
+    → scope.writes ≡ Some one.writes → scope.make ≡ None → first ≡ scope.style → second ≡ scope.style → body ≡ body_of first one.body
+    → place ≡ place_of second body → hints ≡ one.hints → course ≡ beginning hints → AreLoopParts scope one place course
+loop_parts scope one first second body place hints course writes unmade same_first same_second body_is place_is same_hints course_is = record {
+  writes = writes;
+  unmade = unmade;
+  place_is = place_is ∙ ap (λ (style : Style). place_of style body) same_second
+      ∙ ap (place_of scope.style) (body_is ∙ ap (λ (style : Style). body_of style one.body) same_first);
+  course_is = course_is ∙ ap beginning same_hints;
+}
 
 parts_are : (scope : Scope) (one : Loop) (place : Place) (course : Course) → AreLoopParts scope one place course
     → loop_checked scope.style scope.cert one ≡ then_do (turned_from scope place one one.cases course) (λ after. none_left place after.hints)

@@ -57,6 +57,19 @@ pub record AreParts (scope : Scope) (summary : Summary) (body : Option BodyId) (
   pub state_is : state ≡ started scope.style scope.cert.cond (summary.pre ∷ []) summary.whole summary.entry
   pub kept_is : kept ≡ symbols_of summary.pre
 
+pub summary_parts : (scope : Scope) (summary : Summary) (first second : Style) (body : Option BodyId) (place : Place) (state : State) (kept : ℕ)
+    → scope.writes ≡ Some summary.writes → scope.make ≡ None → first ≡ scope.style → second ≡ scope.style → body ≡ body_of first summary.body
+    → place ≡ place_of second body → state ≡ started scope.style scope.cert.cond (summary.pre ∷ []) summary.whole summary.entry
+    → kept ≡ symbols_of summary.pre → AreParts scope summary body place state kept
+summary_parts scope summary first second body place state kept writes unmade same_first same_second body_is place_is state_is kept_is = record {
+  writes = writes;
+  unmade = unmade;
+  body_is = body_is ∙ ap (λ (style : Style). body_of style summary.body) same_first;
+  place_is = place_is ∙ ap (λ (style : Style). place_of style body) same_second;
+  state_is = state_is;
+  kept_is = kept_is;
+}
+
 parts_are : (scope : Scope) (summary : Summary) (body : Option BodyId) (place : Place) (state : State) (kept : ℕ) → AreParts scope summary body place state kept
     → summary_checked scope.style scope.cert summary ≡ by_parts scope summary body place state kept
 parts_are scope summary body place state kept parts =
@@ -159,15 +172,21 @@ own_ends scope place target body state course after hints sound cert makes room 
     ((own_kept scope place target body state course after sound cert makes room e).given
     (subst (GivesRoom scope.style) (sym is) (All-nil (HasRoom scope.style 0 0))))
 
+-- the unit of a number
+pub unit_at_checks : {X T : Type 0} (check : Style → Cert → X → Result (List Hint) Refusal) (style : Style) (cert : Cert) (units : List X) (k : ℕ)
+    (scope : Scope) (unit : X) (result : Result T Refusal) → Some unit ≡ slice_get units k → scope.style ≡ style → scope.cert ≡ cert
+    → Checks (check scope.style scope.cert unit) result → Checks (option_map_or (check style cert) (slice_get units k) (Ok [])) result
+unit_at_checks {X} {T} check style cert units k scope unit result found same_style same_cert checks =
+    subst (λ (r : Result (List Hint) Refusal). Checks r result)
+    (ap (λ (s : Style). check s scope.cert unit) same_style ∙ ap (λ (c : Cert). check style c unit) same_cert
+    ∙ ap (λ (o : Option X). option_map_or (check style cert) o (Ok [])) found)
+    checks
+
 -- the summary of a number
 pub number_checks : {T : Type 0} (style : Style) (cert : Cert) (k : ℕ) (scope : Scope) (summary : Summary) (result : Result T Refusal)
     → Some summary ≡ slice_get cert.summaries k → scope.style ≡ style → scope.cert ≡ cert → Checks (summary_checked scope.style scope.cert summary) result
     → Checks (checked_at style cert k) result
-number_checks {T} style cert k scope summary result found same_style same_cert checks =
-    subst (λ (r : Result (List Hint) Refusal). Checks r result)
-    (ap (λ (s : Style). summary_checked s scope.cert summary) same_style ∙ ap (λ (c : Cert). summary_checked style c summary) same_cert
-    ∙ ap (λ (o : Option Summary). option_map_or (summary_checked style cert) o (Ok [])) found)
-    checks
+number_checks {T} style cert k = unit_at_checks summary_checked style cert cert.summaries k
 
 pub none_checks : (style : Style) (cert : Cert) (k : ℕ) → None ≡ slice_get cert.summaries k → checked_at style cert k ≡ Ok []
 none_checks style cert k found = ap (λ (o : Option Summary). option_map_or (summary_checked style cert) o (Ok [])) (sym found)

@@ -1,12 +1,11 @@
 -- What the steps of the walk's functions come to.
-use Rattle.std.proofs.Common.{◌≡◌, ℕ, zero, suc, ◌+◌, ◌-◌, ◌<◌, ◌≤◌, Bool, false, cond, List, [], ◌∷◌, drop, length, get_or, reverse, Option, None, Some, Result, Ok, refl, sym, ap, subst, ◌∙◌, add-one, arith, drop-cons, IfSome}
+use Rattle.std.proofs.Common.{◌≡◌, ℕ, zero, suc, ◌+◌, ◌-◌, ◌<◌, ◌≤◌, Bool, false, cond, List, [], ◌∷◌, drop, length, get_or, reverse, Option, None, Some, Result, Ok, sym, ap, subst, ◌∙◌, add-one, arith, drop-cons, IfSome}
 use Rattle.std.specs.List.{All}
 use Rattle.std.proofs.lemmas.List.Elements.{All-cons, All-head, All-nil, All-tail, All-weaker}
 use Rattle.bv_base.specs.Answers.{then_do}
 use Rattle.bv_base.specs.declared.place.Place.{Place}
 use Rattle.name_table.specs.Sound.{Each, IsSound, IsTokenSound}
 use Rattle.name_table.specs.declared.builtin.Builtin.{Builtin}
-use Rattle.name_table.specs.declared.builtin.Builtin.TheVariants as op
 use Rattle.name_table.specs.declared.names.Kind.{Kind}
 use Rattle.name_table.specs.declared.names.Kind.TheVariants as kind
 use Rattle.name_table.specs.declared.names.NameId.{NameId}
@@ -24,7 +23,8 @@ use Rattle.cert_check.specs.Certified.{IsCertified, MakesLoops}
 use Rattle.cert_check.specs.Courses.{Course, Walk, gives_all}
 use Rattle.cert_check.specs.Given.{Refused, Takes}
 use Rattle.cert_check.specs.Room.{GivesRoom, HasRoom, IsCaseWithin, KeepsRoom}
-use Rattle.cert_check.specs.Walks.{Enter, Onward, Scope, body_walked, built_in, cases_entered, chosen, chosen_in, each_taken, entering_nothing, enters, exact_target, function_entered, named, taken, taken_from, test_of, walked}
+use Rattle.cert_check.specs.Walks.{Enter, Onward, Scope, body_walked, cases_entered, chosen, chosen_in, each_taken, entering_nothing, enters, exact_target, function_entered, named, taken, taken_from, test_of, walked}
+use Rattle.cert_check.proofs.Entering.{enters_nothing}
 use Rattle.cert_check.proofs.Keeping.{told_by}
 use Rattle.cert_check.proofs.OwnStacks.{by_own_stack, chosen_own, one_deeper}
 use Rattle.cert_check.proofs.RoomLeft.{all_room, entered_room, moved_room, room_on, taken_from_room, taken_room}
@@ -44,15 +44,7 @@ wanted_same {T} wanted other after result same takes = subst (λ (w : Walk). Tak
 pub refused_same : (wanted other : Walk) (refusal : Refusal) → wanted ≡ other → Refused other refusal → Refused wanted refusal
 refused_same wanted other refusal same refused differs = same ∙ refused differs
 
--- a built-in function that enters nothing
-enters_nothing : (scope : Scope) (enter : Enter) (other : Onward) (o : Builtin) (place : Place) (state : State) (course : Course) → enters o ≡ false
-    → built_in scope enter other o place state course ≡ entering_nothing scope o (test_of o) place state course
-enters_nothing scope enter other op.IfElse place state course e = absurd (cc)
-enters_nothing scope enter other op.WhileDo place state course e = absurd (cc)
-enters_nothing scope enter other op.CallType place state course e = absurd (cc)
-enters_nothing scope enter other _ place state course e = refl
-
--- the call of one
+-- the call of a built-in function that enters nothing
 pub built_in_takes : {T : Type 0} (scope : Scope) (enter : Enter) (other : Onward) (found : Option Kind) (o : Builtin) (name : NameId) (place : Place) (state : State)
     (course after : Course) (result : Result T Refusal) → found ≡ Some (kind.Builtin o) → enters o ≡ false
     → Takes (entering_nothing scope o (test_of o) place state course) after result → Takes (named scope enter other found name place state course) after result

@@ -143,21 +143,26 @@ none_enters scope one states rest state left held is lacks e =
     ap (entering_with scope one) is
     ∙ ap (λ (o : Option State). cons_option o (entering_with scope one rest)) (e ∙ ap (λ (b : Bool). cond b (Some left) None) lacks)
 
--- the states that are left, where the first is counted or passed over
-pub counts_one : (scope : Scope) (one : While) (states rest : List State) (state left : State) (held : Bool) (count now all : ℕ) → states ≡ state ∷ rest
-    → held ≡ true → option_and_then (rest_of one) (while_in scope state) ≡ cond held (Some left) None → now ≡ count + 1
-    → count + length (entering_with scope one states) ≡ all → now + length (entering_with scope one rest) ≡ all
-counts_one scope one states rest state left held count now all is holds e more before =
-    let longer : length (entering_with scope one states) ≡ length (entering_with scope one rest) + 1 =
-    ap length (one_enters scope one states rest state left held is holds e) ∙ sym (add-one (length (entering_with scope one rest))) in
-    omega (arith, longer, more, before)
+-- a state is counted, or passed over
+abbrev pub IsCounted : Bool → ℕ → ℕ → Type 0
+IsCounted true count now = now ≡ count + 1
+IsCounted false count now = now ≡ count
 
-pub counts_none : (scope : Scope) (one : While) (states rest : List State) (state left : State) (held : Bool) (count now all : ℕ) → states ≡ state ∷ rest
-    → held ≡ false → option_and_then (rest_of one) (while_in scope state) ≡ cond held (Some left) None → now ≡ count
+-- the states that are left, where the first is counted or passed over
+pub counts_next : (scope : Scope) (one : While) (states rest : List State) (state left : State) (held : Bool) (count now all : ℕ) → states ≡ state ∷ rest
+    → option_and_then (rest_of one) (while_in scope state) ≡ cond held (Some left) None → IsCounted held count now
     → count + length (entering_with scope one states) ≡ all → now + length (entering_with scope one rest) ≡ all
-counts_none scope one states rest state left held count now all is lacks e same before =
+counts_next scope one states rest state left true count now all is e more before =
+    let longer : length (entering_with scope one states) ≡ length (entering_with scope one rest) + 1 =
+    ap length (one_enters scope one states rest state left true is refl e) ∙ sym (add-one (length (entering_with scope one rest))) in
+    omega (arith, longer, more, before)
+counts_next scope one states rest state left false count now all is e same before =
     ap (λ (n : ℕ). n + length (entering_with scope one rest)) same
-    ∙ sym (ap (λ (l : List State). count + length l) (none_enters scope one states rest state left held is lacks e)) ∙ before
+    ∙ sym (ap (λ (l : List State). count + length l) (none_enters scope one states rest state left false is refl e)) ∙ before
+
+pub few_counted : (held : Bool) (count now most : ℕ) → IsCounted held count now → count ≤ most → now ≤ most + 1
+few_counted true count now most more few = omega (arith, more, few)
+few_counted false count now most same few = omega (arith, same, few)
 
 pub enters_one : (scope : Scope) (one : While) (states rest before now all : List State) (state left : State) (held : Bool) → states ≡ state ∷ rest → held ≡ true
     → option_and_then (rest_of one) (while_in scope state) ≡ cond held (Some left) None → now ≡ before ++ left ∷ []

@@ -9,5 +9,7 @@ pub mod Tables
 pub mod Units
 pub mod Places
 pub mod Room
+pub mod Subjects
 pub mod Safely
 pub mod Tours
+pub mod Laws

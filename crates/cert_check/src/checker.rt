@@ -1,13 +1,7 @@
 //! The units of a certificate, and the calls of commands (docs/CHECKER.md, "Units").
 
-ghost use Rattle.std.specs.Prelude.{◌≡◌, ◌≤◌, ◌+◌, [], length, Ok, IfOk, OnErr, OnOk, MatchResult, option_map, slice_get};
-ghost use Rattle.std.specs.List.{All};
-ghost use Rattle.name_table.specs.Sound.{Each, IsSound};
-ghost use Rattle.cert_format.specs.CertText.{IsHint};
-ghost use Rattle.sym_state.specs.Demands.{HasFewUses};
-ghost use Rattle.cert_check.specs.Certified.{AreSound, IsCertified, IsPieceOf, IsStanding};
-ghost use Rattle.cert_check.specs.Given.{Finds, Leads, Refused, Takes};
-ghost use Rattle.cert_check.specs.Room.{HasRoom, IsEnd};
+ghost use Rattle.std.specs.Prelude.{◌≡◌, ◌≤◌, ◌+◌, [], length, Ok, Some, IfOk, OnErr, OnOk, MatchResult, option_map, slice_get};
+ghost use Rattle.cert_check.specs.Subjects.{All, AreSound, Each, Finds, HasFewUses, HasRoom, IsCertified, IsEnd, IsHint, IsPieceOf, IsSound, IsStanding, Leads, Refused, Takes};
 ghost use Rattle.cert_check.specs.Tours as tours;
 ghost use Rattle.cert_check.specs.Units as rule;
 
@@ -85,10 +79,7 @@ impl<'a> Checker<'a> {
         ensures { Takes (rule.checked_at self.now.style self.now.cert index) [] result }
     {
         match self.summary(index) {
-            Some(summary) => {
-                let scope = self.scope(Some(summary.writes.as_slice()));
-                summary_checked(&scope, self.alloc, summary)
-            }
+            Some(summary) => summary_checked(&self.confined(&summary.writes), self.alloc, summary),
             None => Ok(()),
         }
     }
@@ -99,10 +90,7 @@ impl<'a> Checker<'a> {
         ensures { Takes (rule.loop_checked_at self.now.style self.now.cert index) [] result }
     {
         match self.repetition(index) {
-            Some(one) => {
-                let scope = self.scope(Some(one.writes.as_slice()));
-                loop_checked(&scope, self.alloc, one)
-            }
+            Some(one) => loop_checked(&self.confined(&one.writes), self.alloc, one),
             None => Ok(()),
         }
     }
@@ -211,6 +199,14 @@ impl<'a> Checker<'a> {
         ensures certified { IsCertified self.now.style self.now.cert }
     {
         &self.cert.cond
+    }
+
+    /// A walk of a unit that may write these variables.
+    fn confined<'s>(&'s self, writes: &'s Seq<NameId>) -> Scope<'s>
+        ensures scope { result ≡ record { style = self.now.style; cert = self.now.cert; writes = Some writes.now } }
+        ensures sound { AreSound self.now.style self.now.cert }
+    {
+        self.scope(Some(writes.as_slice()))
     }
 
     /// A walk that may write these variables, or all where none is listed.

@@ -9,6 +9,7 @@ ghost use Rattle.cert_check.specs.Walks as rule;
 
 use crate::course::{held, placed};
 use crate::refusal::Refusal;
+use bst_meaning::value::Target;
 use bv_base::place::Place;
 use name_table::builtin::Builtin;
 use refinements::Test;
@@ -21,8 +22,8 @@ use sym_state::symbol::{Kinds, Sym};
 #[derive(Drop)]
 pub(crate) struct Three {
     pub(crate) lowest: Sym,
-    pub(crate) middle: Sym,
-    pub(crate) top: Sym,
+    middle: Sym,
+    top: Sym,
     pub(crate) rest: State,
 }
 
@@ -58,6 +59,22 @@ impl Three {
     {
         if above { self.middle } else { self.top }
     }
+}
+
+/// The two functions of a `while$`, and the state without them.
+#[derive(Drop)]
+pub(crate) struct While {
+    pub(crate) test: Target,
+    pub(crate) body: Target,
+    pub(crate) rest: State,
+}
+
+impl Model for While {
+    ghost use Rattle.cert_check.specs.Walks.{While as WhileValue};
+
+    ghost Value = { WhileValue };
+
+    ghost view = { λ w. record { test = w.test; body = w.body; rest = w.rest } };
 }
 
 /// The test that a built-in function makes.

@@ -1,25 +1,21 @@
 //! How far a walk has come.
 
 ghost use Rattle.std.specs.Prelude.{◌≡◌, ◌≢◌, ◌<◌, ◌≤◌, ◌+◌, ◌*◌, ℕ, [], ◌∷◌, ◌++◌, length, reverse, true, false, None, Some, IfOk, OnOk, Ok, Err, MatchResult, MatchOption};
+ghost use Rattle.std.specs.Global.{Global as Allocator};
 ghost use Rattle.std.specs.List.{All};
 ghost use Rattle.bv_base.specs.Answers.{then_do};
-ghost use Rattle.name_table.specs.Sound.{Each};
 ghost use Rattle.sym_state.specs.Cases.{above_of};
 ghost use Rattle.sym_state.specs.Demands.{HasFewUses, one_of, without};
 ghost use Rattle.sym_state.specs.Effects as effects;
 ghost use Rattle.sym_state.specs.Entailing.{line_count};
 ghost use Rattle.sym_state.specs.Results as results;
-ghost use Rattle.sym_state.specs.WellMade.{HasBounds, IsBounded};
 ghost use Rattle.sym_state.specs.declared.demand.EffectFault.TheVariants.{NoMemory as WantOfMemoryThere};
 ghost use Rattle.sym_state.specs.declared.hint.Hint.TheVariants.{Case as CaseHint, Loop as LoopHint};
 ghost use Rattle.sym_state.specs.declared.symbol.Kinds.TheVariants.{Int as IntKind};
-ghost use Rattle.cert_format.specs.CertText.{IsHint};
 ghost use Rattle.cert_format.specs.declared.cert.Loop.{Loop};
 ghost use Rattle.cert_check.specs.Courses as courses;
-ghost use Rattle.cert_check.specs.Given.{AnswersAt, AreCases, CanEnd, GoesOn, Takes};
-ghost use Rattle.cert_check.specs.Here.{here};
 ghost use Rattle.straight_hints.specs.declared.finding.Finding.TheVariants.{Straight};
-ghost use Rattle.cert_check.specs.Room.{AreWithin, HasRoom};
+ghost use Rattle.cert_check.specs.Subjects.{AnswersAt, AreCases, AreWithin, CanEnd, Each, GoesOn, HasBounds, HasRoom, IsBounded, IsHint, Takes, here};
 ghost use Rattle.cert_check.specs.Tours as tours;
 ghost use Rattle.cert_check.specs.Units as units;
 ghost use Rattle.cert_check.specs.Uses as uses;
@@ -52,6 +48,9 @@ use sym_state::operands::one;
 use sym_state::piece::Piece;
 use sym_state::state::State;
 use sym_state::symbol::{Kinds, Sym};
+
+/// The cases of an integer in a state, each with whether it is above 0 there, or the rule that fails.
+type Cases = Result<Vec<(bool, State)>, Refusal>;
 
 /// The states that the token in hand has given so far, the hints of the certificate that are left, and how much the unit's
 /// walk has counted. Where hints are found and not read, how that is done, those that were found so far, and the loops that were made,
@@ -280,8 +279,10 @@ impl<'a> Course<'a> {
         self.finds(place, steps)
     }
 
-    /// Where its lists are.
-    pub(crate) fn alloc(&self) -> Global {
+    /// Where its lists are: there is one allocator.
+    pub(crate) fn alloc(&self) -> Global
+        ensures { (other : Allocator) → result ≡ other }
+    {
         self.alloc
     }
 
@@ -452,11 +453,7 @@ impl<'a> Course<'a> {
     }
 
     /// The cases of whether the integer of an `if$` is above 0.
-    fn above<M: Loops>(
-        &mut self,
-        at: &At<'_, M>,
-        three: &Three,
-    ) -> Result<Vec<(bool, State)>, Refusal>
+    fn above<M: Loops>(&mut self, at: &At<'_, M>, three: &Three) -> Cases
         requires bounds { HasBounds three.now.rest }
         requires room { three.now.rest.next + 65 ≤ 2147483648 + 65 * self.old.count }
         ensures takes { (enter : rule.Enter) (call : rule.Call) → GoesOn (rule.choice (here M.made at.now) enter call at.now.place three.now self.old)
@@ -468,12 +465,7 @@ impl<'a> Course<'a> {
     }
 
     /// The cases of whether an integer in a state is above 0.
-    pub(crate) fn sign<M: Loops>(
-        &mut self,
-        at: &At<'_, M>,
-        rest: &State,
-        sym: Sym,
-    ) -> Result<Vec<(bool, State)>, Refusal>
+    pub(crate) fn sign<M: Loops>(&mut self, at: &At<'_, M>, rest: &State, sym: Sym) -> Cases
         requires bounds { HasBounds rest.now }
         requires room { rest.now.next + 65 ≤ 2147483648 + 65 * self.old.count }
         ensures takes { GoesOn (tours.signed (here M.made at.now) at.now.place rest.now sym self.old)
@@ -494,7 +486,7 @@ impl<'a> Course<'a> {
         at: &At<'_, M>,
         rest: &State,
         sym: Sym,
-    ) -> Result<Vec<(bool, State)>, Refusal>
+    ) -> Cases
         requires finds { self.old.finding ≡ Some finding }
         requires bounds { HasBounds rest.now }
         requires room { rest.now.next < 4294967295 }
@@ -511,12 +503,7 @@ impl<'a> Course<'a> {
     }
 
     /// The cases of whether an integer in a state is above 0, by hints that are left.
-    fn above_in<M: Loops>(
-        &mut self,
-        at: &At<'_, M>,
-        state: &State,
-        sym: Sym,
-    ) -> Result<Vec<(bool, State)>, Refusal>
+    fn above_in<M: Loops>(&mut self, at: &At<'_, M>, state: &State, sym: Sym) -> Cases
         requires bounds { HasBounds state.now }
         requires room { state.now.next + 65 ≤ 2147483648 + 65 * self.old.count }
         ensures takes { GoesOn (courses.placed at.now.place (above_of at.now.scope.now.cert.cond state.now sym self.old.hints))
@@ -527,11 +514,7 @@ impl<'a> Course<'a> {
     }
 
     /// The integer on top is given up: the cases of whether it is above 0.
-    pub(crate) fn signs<M: Loops>(
-        &mut self,
-        at: &At<'_, M>,
-        state: &State,
-    ) -> Result<Vec<(bool, State)>, Refusal>
+    pub(crate) fn signs<M: Loops>(&mut self, at: &At<'_, M>, state: &State) -> Cases
         requires room { HasRoom at.now.scope.now.style 65 self.old.count state.now }
         ensures takes { (turns : Loop) → GoesOn (units.tested (here M.made at.now) at.now.place turns state.now self.old)
             (λ cases. units.all_turned (here M.made at.now) at.now.place turns cases.items self.new) result }
@@ -613,12 +596,7 @@ pub(crate) fn integer(place: Place, state: &State) -> Result<(Sym, State), Refus
 }
 
 /// The cases of whether an integer in a state is above 0.
-fn sign_cases<M: Loops>(
-    at: &At<'_, M>,
-    state: &State,
-    sym: Sym,
-    hints: &mut Hints<'_>,
-) -> Result<Vec<(bool, State)>, Refusal>
+fn sign_cases<M: Loops>(at: &At<'_, M>, state: &State, sym: Sym, hints: &mut Hints<'_>) -> Cases
     requires bounds { HasBounds state.now }
     requires room { state.now.next < 4294967295 }
     requires hints { All HasFewUses hints.old }

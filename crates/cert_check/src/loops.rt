@@ -1,19 +1,15 @@
 //! `while$`: a loop is used (docs/CHECKER.md, "The walk").
 
-ghost use Rattle.std.specs.Prelude.{◌≡◌, ◌≤◌, ◌+◌, ◌*◌, Ok, IfOk, IfSome, OnOk, length, option_map, slice_get};
-ghost use Rattle.std.specs.List.{All};
+ghost use Rattle.std.specs.Prelude.{◌≡◌, ◌≤◌, ◌+◌, ◌*◌, ◌&&◌, Ok, IfOk, IfSome, OnOk, length, option_map, slice_get};
 ghost use Rattle.sym_state.specs.Demands.{two_of, without};
-ghost use Rattle.sym_state.specs.WellMade.{HasBounds};
 ghost use Rattle.sym_state.specs.declared.symbol.Kinds.TheVariants.{Func as FuncKind};
-ghost use Rattle.cert_check.specs.Certified.{CanWalk, IsLoopOf};
 ghost use Rattle.cert_check.specs.Courses as courses;
-ghost use Rattle.cert_check.specs.Given.{AnswersAt, CanEnd, GoesOn, Takes};
-ghost use Rattle.cert_check.specs.Here.{here};
-ghost use Rattle.cert_check.specs.Room.{HasRoom};
+ghost use Rattle.cert_check.specs.Subjects.{All, AnswersAt, CanEnd, CanWalk, GoesOn, HasBounds, HasRoom, IsLoopOf, Takes, here};
 ghost use Rattle.cert_check.specs.Uses.{around};
 ghost use Rattle.cert_check.specs.Walks as rule;
 
 use crate::at::At;
+use crate::choice::While;
 use crate::course::{Course, held, placed, refuse};
 use crate::making::Loops;
 use crate::refusal::{Reason, Refusal, Walk};
@@ -39,7 +35,7 @@ pub(crate) fn repeated<M: Loops>(at: &At<'_, M>, state: &State, course: &mut Cou
     let (lower, upper, rest) = two_functions(at.place, state)?;
     let test = exact_target(at.scope, state, lower);
     let body = exact_target(at.scope, state, upper);
-    loop_around(at, test, body, &rest, course)
+    loop_around(at, test, body, rest, course)
 }
 
 /// The two functions, the lower one first, and the state without them.
@@ -57,64 +53,53 @@ fn loop_around<M: Loops>(
     at: &At<'_, M>,
     test: Option<Target>,
     body: Option<Target>,
-    state: &State,
+    rest: State,
     course: &mut Course<'_>,
 ) -> Walk
     requires sound { CanWalk at.now.scope.now (M.style at.now.maker.now) (M.made at.now.maker.now) }
-    requires bounds { HasBounds state.now }
-    requires room { state.now.next + 65 ≤ 2147483648 + 65 * course.old.count }
-    ensures takes { Takes (rule.loop_around (here M.made at.now) at.now.place test body state.now course.old) course.new result }
+    requires bounds { HasBounds rest }
+    requires room { rest.next + 65 ≤ 2147483648 + 65 * course.old.count }
+    ensures takes { Takes (rule.loop_around (here M.made at.now) at.now.place test body rest course.old) course.new result }
 {
     match (test, body) {
-        (Some(test), Some(body)) => loop_by(at, test, body, state, course),
+        (Some(test), Some(body)) => loop_by(at, &While { test, body, rest }, course),
         _ => refuse(at.place, Reason::UnknownFunction),
     }
 }
 
 /// The next hint names a loop.
-fn loop_by<M: Loops>(
-    at: &At<'_, M>,
-    test: Target,
-    body: Target,
-    state: &State,
-    course: &mut Course<'_>,
-) -> Walk
+fn loop_by<M: Loops>(at: &At<'_, M>, one: &While, course: &mut Course<'_>) -> Walk
     requires sound { CanWalk at.now.scope.now (M.style at.now.maker.now) (M.made at.now.maker.now) }
-    requires bounds { HasBounds state.now }
-    requires room { state.now.next + 65 ≤ 2147483648 + 65 * course.old.count }
-    ensures takes { Takes (rule.loop_by (here M.made at.now) at.now.place test body state.now course.old course.old.hints) course.new result }
+    requires bounds { HasBounds one.now.rest }
+    requires room { one.now.rest.next + 65 ≤ 2147483648 + 65 * course.old.count }
+    ensures takes { Takes (rule.loop_by (here M.made at.now) at.now.place one.now.test one.now.body one.now.rest course.old course.old.hints) course.new result }
 {
     match course.next_hint() {
-        Some(Hint::Loop(k)) => loop_of(at, test, body, *k, state, course),
+        Some(Hint::Loop(k)) => loop_of(at, one, *k, course),
         Some(_) => refuse(at.place, Reason::WrongHint),
         None => refuse(at.place, Reason::HintsShort),
     }
 }
 
 /// The loop of a number is used, where it is one of the two functions.
-fn loop_of<M: Loops>(
-    at: &At<'_, M>,
-    test: Target,
-    body: Target,
-    k: u32,
-    state: &State,
-    course: &mut Course<'_>,
-) -> Walk
+fn loop_of<M: Loops>(at: &At<'_, M>, one: &While, k: u32, course: &mut Course<'_>) -> Walk
     requires sound { CanWalk at.now.scope.now (M.style at.now.maker.now) (M.made at.now.maker.now) }
-    requires bounds { HasBounds state.now }
-    requires room { state.now.next ≤ 2212483648 }
-    ensures takes { Takes (rule.loop_of (here M.made at.now) at.now.place test body (slice_get at.now.scope.now.cert.loops k) state.now course.old) course.new result }
+    requires bounds { HasBounds one.now.rest }
+    requires room { one.now.rest.next ≤ 2212483648 }
+    ensures takes { Takes (rule.loop_of (here M.made at.now) at.now.place one.now.test one.now.body (slice_get at.now.scope.now.cert.loops k) one.now.rest course.old)
+        course.new result }
 {
     match at.scope.repetition(k) {
-        Some(one) => {
-            if is_target(one.test, test) && is_target(one.body, body) {
-                loop_used(at, one, state, course)
-            } else {
-                refuse(at.place, Reason::NoInvariant)
-            }
-        }
-        None => refuse(at.place, Reason::NoInvariant),
+        Some(found) if is_loop_of(one, found) => loop_used(at, found, &one.rest, course),
+        _ => refuse(at.place, Reason::NoInvariant),
     }
+}
+
+/// Whether a loop is that of two functions.
+pub(crate) fn is_loop_of(one: &While, found: &Loop) -> bool
+    ensures { result ≡ (rule.is_target found.now.test one.now.test && rule.is_target found.now.body one.now.body) }
+{
+    is_target(found.test, one.test) && is_target(found.body, one.body)
 }
 
 /// A loop is used in a state without its two functions: a case is entailed, and the exits act as posts that share no symbol

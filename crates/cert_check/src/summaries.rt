@@ -3,11 +3,7 @@
 ghost use Rattle.std.specs.Prelude.{◌≡◌, ◌<◌, ◌≤◌, ◌+◌, if◌then◌else◌, Ok, IfOk, IsTrue, length, slice_get};
 ghost use Rattle.std.specs.List.{All, list_all};
 ghost use Rattle.sym_state.specs.Starting.{symbols_of as count_of};
-ghost use Rattle.sym_state.specs.WellMade.{HasBounds};
-ghost use Rattle.cert_check.specs.Certified.{CanWalk, IsSummaryOf};
-ghost use Rattle.cert_check.specs.Given.{GoesOn, Takes};
-ghost use Rattle.cert_check.specs.Here.{here};
-ghost use Rattle.cert_check.specs.Room.{HasRoom};
+ghost use Rattle.cert_check.specs.Subjects.{CanWalk, GoesOn, HasBounds, HasRoom, IsSummaryOf, Takes, here};
 ghost use Rattle.cert_check.specs.Walks as rule;
 
 use crate::at::At;

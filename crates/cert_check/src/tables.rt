@@ -35,9 +35,11 @@ impl Tables {
     {
         let summaries = cert.summaries.as_slice();
         let bodies = style.bodies.as_slice();
+        let names = style.names.len() as usize;
+        let (named, blocks) = marked(alloc, names, bodies.len(), summaries)?;
         Ok(Tables {
-            named: names_marked(alloc, style.names.len() as usize, summaries)?,
-            blocks: blocks_marked(alloc, bodies.len(), summaries)?,
+            named,
+            blocks,
             bodies: bodies_by_number(alloc, bodies)?,
         })
     }
@@ -60,30 +62,25 @@ impl Tables {
     }
 }
 
-/// Marks for so many names, of those that have a summary.
-fn names_marked(alloc: Global, many: usize, summaries: &[Summary]) -> Result<Vec<bool>, NoMemory>
-    ensures { IfOk result (λ marks. tables.AreMarks tables.name_of_id marks.items summaries.now) }
+/// Marks for so many names and for so many blocks, of those that have a summary.
+fn marked(
+    alloc: Global,
+    names: usize,
+    bodies: usize,
+    summaries: &[Summary],
+) -> Result<(Vec<bool>, Vec<bool>), NoMemory>
+    ensures named { IfOk result (λ marks. tables.AreMarks tables.name_of_id marks.0.items summaries.now) }
+    ensures blocks { IfOk result (λ marks. tables.AreMarks tables.block_of_id marks.1.items summaries.now) }
 {
-    let mut marks = filled(alloc, many, false)?;
+    let mut named = filled(alloc, names, false)?;
+    let mut blocks = filled(alloc, bodies, false)?;
     for k in (0..summaries.len()).rev() {
-        if let Target::Named(name) = summaries[k].body {
-            put(&mut marks, name.0, true);
+        match summaries[k].body {
+            Target::Named(name) => put(&mut named, name.0, true),
+            Target::Block(body) => put(&mut blocks, body.0, true),
         }
     }
-    Ok(marks)
-}
-
-/// Marks for so many blocks, of those that have a summary.
-fn blocks_marked(alloc: Global, many: usize, summaries: &[Summary]) -> Result<Vec<bool>, NoMemory>
-    ensures { IfOk result (λ marks. tables.AreMarks tables.block_of_id marks.items summaries.now) }
-{
-    let mut marks = filled(alloc, many, false)?;
-    for k in (0..summaries.len()).rev() {
-        if let Target::Block(body) = summaries[k].body {
-            put(&mut marks, body.0, true);
-        }
-    }
-    Ok(marks)
+    Ok((named, blocks))
 }
 
 /// The bodies of blocks, by number. Of two with one number it is the first.

@@ -1,13 +1,7 @@
 //! Turns of a loop of which the cases alone are known (docs/ANALYSER.md, "Loops").
 
 ghost use Rattle.std.specs.Prelude.{◌≡◌, ◌≤◌, [], ◌∷◌, ◌++◌, true, false, None, Ok, IfOk, MatchResult, OnOk};
-ghost use Rattle.std.specs.List.{All};
-ghost use Rattle.name_table.specs.Sound.{Each};
-ghost use Rattle.cert_format.specs.CertText.{IsHint};
-ghost use Rattle.cert_check.specs.Certified.{AreSound, CanWalk, IsPieceOf};
-ghost use Rattle.cert_check.specs.Given.{Takes};
-ghost use Rattle.cert_check.specs.Here.{here};
-ghost use Rattle.cert_check.specs.Room.{HasRoom};
+ghost use Rattle.cert_check.specs.Subjects.{All, AreSound, CanWalk, Each, HasRoom, IsHint, IsPieceOf, Takes, here};
 ghost use Rattle.cert_check.specs.Tours as rule;
 ghost use Rattle.cert_check.specs.Walks as walks;
 ghost use Rattle.cert_check.specs.declared.refusal.Reason.TheVariants.{NoMemory as WantOfMemory};
@@ -195,8 +189,8 @@ fn all_turned_or_left<M: Loops>(
     ensures takes { Takes (rule.all_turned_or_left (here M.made at.now) at.now.place one cases.items tour.old) tour.new result }
     ensures keeps { OnOk result (rule.KeepsTour at.now.scope.now.style tour.old tour.new) }
 {
-    for (above, state) in cases {
-        turned_or_left(at, one, above, state, tour)?;
+    for case in cases {
+        turned_or_left(at, one, case, tour)?;
     }
     Ok(())
 }
@@ -205,16 +199,16 @@ fn all_turned_or_left<M: Loops>(
 fn turned_or_left<M: Loops>(
     at: &At<'_, M>,
     one: Turning,
-    above: bool,
-    state: State,
+    case: (bool, State),
     tour: &mut Tour<'_>,
 ) -> Walk
     requires sound { CanWalk at.now.scope.now (M.style at.now.maker.now) (M.made at.now.maker.now) }
-    requires room { HasRoom at.now.scope.now.style 64 tour.old.course.count state }
+    requires room { HasRoom at.now.scope.now.style 64 tour.old.course.count case.1 }
     requires none { rule.GivesNone tour.old }
-    ensures takes { Takes (rule.turned_or_left (here M.made at.now) at.now.place one above state tour.old) tour.new result }
+    ensures takes { Takes (rule.turned_or_left (here M.made at.now) at.now.place one case.0 case.1 tour.old) tour.new result }
     ensures keeps { OnOk result (rule.KeepsTour at.now.scope.now.style tour.old tour.new) }
 {
+    let (above, state) = case;
     if above {
         target_entered(
             at.scope,

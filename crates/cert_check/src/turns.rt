@@ -1,12 +1,8 @@
 //! A loop's own check (docs/CHECKER.md, "Units").
 
 ghost use Rattle.std.specs.Prelude.{◌≡◌, ◌≤◌, [], ◌∷◌, Ok, Some, IfOk, MatchResult, OnOk};
-ghost use Rattle.std.specs.List.{All};
 ghost use Rattle.sym_state.specs.Starting.{started};
-ghost use Rattle.cert_check.specs.Certified.{AreSound, CanWalk, IsLoopOf, IsPieceOf};
-ghost use Rattle.cert_check.specs.Given.{Takes};
-ghost use Rattle.cert_check.specs.Here.{here};
-ghost use Rattle.cert_check.specs.Room.{HasRoom};
+ghost use Rattle.cert_check.specs.Subjects.{All, AreSound, CanWalk, HasRoom, IsLoopOf, IsPieceOf, Takes, here};
 ghost use Rattle.cert_check.specs.Units as rule;
 ghost use Rattle.cert_check.specs.declared.refusal.Reason.TheVariants.{NoMemory as WantOfMemory};
 
@@ -32,8 +28,7 @@ pub(crate) fn loop_checked(scope: &Scope<'_>, alloc: Global, one: &Loop) -> Walk
     requires writes { scope.now.writes ≡ Some one.now.writes }
     ensures { Takes (rule.loop_checked scope.now.style scope.now.cert one.now) [] result }
 {
-    let body = body_of(scope.style(), one.body);
-    let place = place_of(scope.style(), body);
+    let place = place_of(scope.style(), body_of(scope.style(), one.body));
     let mut course = Course::new(alloc, one.hints.as_slice());
     let maker = Unmade::of(scope);
     let at = At {

@@ -1,14 +1,9 @@
 //! The units that are checked (docs/CHECKER.md, "Units").
 
 ghost use Rattle.std.specs.Prelude.{◌≡◌, [], Ok, Some, IfSome, OnOk, option_map};
-ghost use Rattle.std.specs.List.{All};
 ghost use Rattle.bv_base.specs.Answers.{Leaves};
-ghost use Rattle.sym_state.specs.Demands.{HasFewUses};
-ghost use Rattle.sym_state.specs.WellMade.{HasBounds};
 ghost use Rattle.sym_state.specs.declared.demand.EffectFault.TheVariants.{NoMemory as WantOfMemoryThere};
-ghost use Rattle.cert_check.specs.Certified.{AreSound, CanWalk, IsSummaryOf};
-ghost use Rattle.cert_check.specs.Given.{CanEnd, Takes};
-ghost use Rattle.cert_check.specs.Room.{GivesRoom, HasRoom};
+ghost use Rattle.cert_check.specs.Subjects.{All, AreSound, CanEnd, CanWalk, GivesRoom, HasBounds, HasFewUses, HasRoom, IsSummaryOf, Takes};
 ghost use Rattle.cert_check.specs.Units as rule;
 ghost use Rattle.cert_check.specs.Walks as walks;
 

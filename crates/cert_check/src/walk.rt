@@ -5,13 +5,10 @@
 //! body deeper, and each `if$` takes three of the operands that are known where the token is taken.
 
 ghost use Rattle.std.specs.Prelude.{◌≡◌, ◌+◌, ◌<◌, ◌≤◌, length, reverse};
-ghost use Rattle.std.specs.List.{All};
 ghost use Rattle.name_table.specs.Sound.{Each, IsTokenSound};
 ghost use Rattle.bst_meaning.specs.StyleParts as parts;
-ghost use Rattle.cert_check.specs.Certified.{CanWalk};
-ghost use Rattle.cert_check.specs.Given.{Takes};
 ghost use Rattle.cert_check.specs.Here.{choosing, entering, here, inside};
-ghost use Rattle.cert_check.specs.Room.{GivesRoom, HasRoom, IsCaseWithin};
+ghost use Rattle.cert_check.specs.Subjects.{All, CanWalk, GivesRoom, HasRoom, IsCaseWithin, Takes};
 ghost use Rattle.cert_check.specs.Walks as rule;
 
 use crate::at::At;

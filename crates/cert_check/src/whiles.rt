@@ -1,30 +1,26 @@
 //! `while$`, where loops are made: one for the states of the token in hand that hold the same functions (docs/ANALYSER.md, "Loops").
 
-ghost use Rattle.std.specs.Prelude.{◌≡◌, ◌≤◌, ◌<◌, ◌+◌, ◌*◌, ◌++◌, ◌&&◌, ◌∷◌, List, [], if◌then◌else◌, Some, None, Option, IfOk, IfSome, OnOk, is_some, option_map, MatchOption, MatchResult, ℕ, length, slice_get, take};
-ghost use Rattle.std.specs.List.{All};
+ghost use Rattle.std.specs.Prelude.{◌≡◌, ◌≤◌, ◌<◌, ◌+◌, ◌*◌, ◌++◌, ◌∷◌, List, [], if◌then◌else◌, Some, None, Option, IfOk, IfSome, OnOk, is_some, option_map, MatchOption, MatchResult, ℕ, length, slice_get, take};
 ghost use Rattle.std.specs.Option.{option_and_then};
 ghost use Rattle.bst_meaning.specs.declared.condition.Cond.{Cond as CondValue};
 ghost use Rattle.name_table.specs.declared.style.Style.{Style as StyleValue};
 ghost use Rattle.refinements.specs.Covered.{IsAmong};
 ghost use Rattle.sym_state.specs.Demands.{without};
 ghost use Rattle.sym_state.specs.State.{State as StateValue};
-ghost use Rattle.sym_state.specs.WellMade.{HasBounds, WellMade};
 ghost use Rattle.sym_state.specs.declared.hint.Hint.{Hint as HintValue};
 ghost use Rattle.sym_state.specs.declared.hint.Hint.TheVariants.{Case as CaseHint};
-ghost use Rattle.cert_check.specs.Certified.{AreMade, CanWalk, IsLoopOf};
 ghost use Rattle.cert_check.specs.Courses as courses;
-ghost use Rattle.cert_check.specs.Given.{GoesOn, Takes};
-ghost use Rattle.cert_check.specs.Here.{here};
-ghost use Rattle.cert_check.specs.Room.{HasRoom};
+ghost use Rattle.cert_check.specs.Subjects.{All, AreMade, CanWalk, GoesOn, HasBounds, HasRoom, IsLoopOf, Takes, WellMade, here};
 ghost use Rattle.cert_check.specs.Uses.{Passage as Passed};
 ghost use Rattle.cert_check.specs.Walks as rule;
 ghost use Rattle.cert_check.specs.Walks.{Make, made_by};
 ghost use Rattle.cert_check.specs.declared.refusal.Reason.TheVariants.{NoMemory as WantOfMemory};
 
 use crate::at::At;
+use crate::choice::While;
 use crate::course::{Course, held, placed, refuse};
 use crate::limits::MOST_LOOPS;
-use crate::loops::{leaves_loop, repeated, two_functions};
+use crate::loops::{is_loop_of, leaves_loop, repeated, two_functions};
 use crate::making::Loops;
 use crate::refusal::{Reason, Refusal, Walk};
 use crate::scope::{Scope, is_target};
@@ -39,7 +35,6 @@ use name_table::builtin::Builtin;
 use name_table::names::Kind;
 use name_table::style::{MOST_BODIES, Style, Token};
 use std::alloc::Global;
-use std::marker::Model;
 use std::slice::from_ref;
 use straight_hints::{Finding, piece_hints};
 use sym_state::hint::Hints;
@@ -47,22 +42,6 @@ use sym_state::operands::two;
 use sym_state::piece::Piece;
 use sym_state::state::State;
 use sym_state::symbol::Kinds;
-
-/// The two functions of a `while$`, and the state without them.
-#[derive(Drop)]
-pub(crate) struct While {
-    test: Target,
-    body: Target,
-    rest: State,
-}
-
-impl Model for While {
-    ghost use Rattle.cert_check.specs.Walks as walks;
-
-    ghost Value = { walks.While };
-
-    ghost view = { λ w. record { test = w.test; body = w.body; rest = w.rest } };
-}
 
 /// Whether loops are made for a token: it may be `while$`.
 pub(crate) fn makes_for<M: Loops>(at: &At<'_, M>, token: Token) -> bool
@@ -100,7 +79,7 @@ fn while_alone<M: Loops>(at: &At<'_, M>, state: &State, course: &mut Course<'_>)
     requires room { HasRoom at.now.scope.now.style 65 course.old.count state.now }
     ensures takes { Takes (rule.while_alone (made_by (M.made at.now.maker.now)) (here M.made at.now) at.now.place state.now course.old) course.new result }
 {
-    let mut made = none_made(course);
+    let mut made = none_made(at, course);
     while_taken(at, from_ref(state), 0, state, &mut made, course)?;
     course.makes(at.place, made)
 }
@@ -111,15 +90,15 @@ pub(crate) fn whiles<M: Loops>(at: &At<'_, M>, states: &[State], course: &mut Co
     requires room { All (HasRoom at.now.scope.now.style 0 course.old.count) states.now }
     ensures takes { Takes (rule.whiles_from (made_by (M.made at.now.maker.now)) (here M.made at.now) at.now.place states.now course.old) course.new result }
 {
-    let mut made = none_made(course);
+    let mut made = none_made(at, course);
     whiles_taken(at, states, &mut made, course)?;
     course.makes(at.place, made)
 }
 
 /// No loop was made yet for the token in hand.
-fn none_made(course: &Course<'_>) -> Vec<Loop>
+fn none_made<M: Loops>(at: &At<'_, M>, course: &Course<'_>) -> Vec<Loop>
     ensures none { result.items ≡ [] }
-    ensures made { (style : StyleValue) → AreMade style (record { made = result.items; course = course.now }) }
+    ensures made { AreMade at.now.scope.now.style (record { made = result.items; course = course.now }) }
 {
     let _ = course.loop_count();
     Vec::new(course.alloc())
@@ -251,13 +230,6 @@ fn place_among(one: &While, made: &[Loop]) -> Option<usize>
         }
     }
     None
-}
-
-/// Whether a loop is that of two functions.
-fn is_loop_of(one: &While, found: &Loop) -> bool
-    ensures { result ≡ (rule.is_target found.now.test one.now.test && rule.is_target found.now.body one.now.body) }
-{
-    is_target(found.test, one.test) && is_target(found.body, one.body)
 }
 
 /// The loop that is made of two functions for the states of a list that enter it, where there is one.

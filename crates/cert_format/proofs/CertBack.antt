@@ -12,7 +12,8 @@ use Rattle.name_table.specs.declared.names.NameId.{NameId}
 use Rattle.name_table.specs.declared.style.Style.{Style}
 use Rattle.sym_state.specs.declared.hint.Hint.{Hint}
 use Rattle.sym_state.specs.declared.piece.Piece.{Piece}
-use Rattle.cert_format.specs.declared.cert_lines.TheConstants.{MOST_LIST}
+use Rattle.cert_format.specs.declared.items.TheConstants.{MOST_NUMBER}
+use Rattle.cert_format.specs.declared.limits.TheConstants.{MOST_LIST}
 use Rattle.cert_format.specs.CertText.{IsCert, IsCommandPart, IsHint, IsLoop, IsPiece, IsSummary, next_behind, places_of}
 use Rattle.cert_format.specs.Certs as certs
 use Rattle.cert_format.specs.CondText.{ArePlain}
@@ -30,21 +31,20 @@ use Rattle.cert_format.specs.declared.cert.CommandPart.{CommandPart}
 use Rattle.cert_format.specs.declared.cert.Loop.{Loop}
 use Rattle.cert_format.specs.declared.cert.Summary.{Summary}
 use Rattle.cert_format.specs.declared.cert_lines.CertSoFar.{CertSoFar}
-use Rattle.cert_format.specs.declared.cert_lines.CertStage.TheVariants as stage
 use Rattle.cert_format.specs.declared.cond_lines.CondSoFar.{CondSoFar}
-use Rattle.cert_format.specs.declared.cond_lines.Stage.{Stage}
-use Rattle.cert_format.specs.declared.cond_lines.Stage.TheVariants as part
-use Rattle.cert_format.specs.declared.items.TheConstants.{MOST_NUMBER}
 use Rattle.cert_format.specs.declared.piece_lines.PieceSoFar.{PieceSoFar}
-use Rattle.cert_format.specs.declared.piece_lines.PieceStage.{PieceStage}
+use Rattle.cert_format.specs.declared.stages.CertStage.TheVariants as stage
+use Rattle.cert_format.specs.declared.stages.CondStage.{CondStage}
+use Rattle.cert_format.specs.declared.stages.CondStage.TheVariants as part
+use Rattle.cert_format.specs.declared.stages.Mark.{Mark}
+use Rattle.cert_format.specs.declared.stages.Mark.TheVariants.{Pre, Post, Case, Exit, After, Visit, Keeps}
+use Rattle.cert_format.specs.declared.stages.PieceStage.{PieceStage}
+use Rattle.cert_format.specs.declared.stages.UnitKind.{UnitKind}
+use Rattle.cert_format.specs.declared.stages.UnitKind.TheVariants as unit
+use Rattle.cert_format.specs.declared.stages.UnitStage.{UnitStage}
+use Rattle.cert_format.specs.declared.stages.UnitStage.TheVariants as ustage
 use Rattle.cert_format.specs.declared.stop.Stop.{Stop}
-use Rattle.cert_format.specs.declared.unit_lines.Mark.{Mark}
-use Rattle.cert_format.specs.declared.unit_lines.Mark.TheVariants.{Pre, Post, Case, Exit, After, Visit, Keeps}
-use Rattle.cert_format.specs.declared.unit_lines.UnitKind.{UnitKind}
-use Rattle.cert_format.specs.declared.unit_lines.UnitKind.TheVariants as unit
 use Rattle.cert_format.specs.declared.unit_lines.UnitSoFar.{UnitSoFar}
-use Rattle.cert_format.specs.declared.unit_lines.UnitStage.{UnitStage}
-use Rattle.cert_format.specs.declared.unit_lines.UnitStage.TheVariants as ustage
 use Rattle.cert_format.proofs.CertItems.{positive_taken}
 use Rattle.cert_format.proofs.CertKept.{ended_taken, last_taken}
 use Rattle.cert_format.proofs.CertRead.{fits_command}
@@ -349,18 +349,18 @@ commands_go style list cond ss ls (x ∷ ks) before more q fit up each after =
 abbrev conditioned : ℕ → CondSoFar → CertSoFar
 conditioned list a = record certs.no_cert { stage = certs.after_cond a.stage; list = list; cond = a }
 
-cond_one : (style : Style) (list : ℕ) (line : Line) (s : Stage) (c : Cond) (b : CondSoFar) → conditions.cond_line style.names line (record { stage = s; cond = c }) ≡ Ok b
+cond_one : (style : Style) (list : ℕ) (line : Line) (s : CondStage) (c : Cond) (b : CondSoFar) → conditions.cond_line style.names line (record { stage = s; cond = c }) ≡ Ok b
     → certs.cert_line style line (conditioned list (record { stage = s; cond = c })) ≡ Ok (conditioned list b)
 cond_one style list line s c b e =
     let a : CondSoFar = record { stage = s; cond = c } in
     let i = then_ok (next_item line) _ _ e in
     then_go (next_item line) i.0 _ _ i.1 (by_stage s i.0.0 i.0.1 i.2)
   where
-    taken : (t : Stage) (word : Item) (rest : Line) → conditions.worded_line style.names t word rest (record { stage = t; cond = c }) ≡ Ok b
+    taken : (t : CondStage) (word : Item) (rest : Line) → conditions.worded_line style.names t word rest (record { stage = t; cond = c }) ≡ Ok b
         → then_do (conditions.worded_line style.names t word rest (record { stage = t; cond = c })) (λ (d : CondSoFar). ok {E = Stop} (conditioned list d)) ≡ Ok (conditioned list b)
     taken t word rest f = then_go (conditions.worded_line style.names t word rest (record { stage = t; cond = c })) b _ _ f refl
 
-    by_stage : (t : Stage) (word : Item) (rest : Line) → conditions.worded_line style.names t word rest (record { stage = t; cond = c }) ≡ Ok b
+    by_stage : (t : CondStage) (word : Item) (rest : Line) → conditions.worded_line style.names t word rest (record { stage = t; cond = c }) ≡ Ok b
         → certs.cert_staged style (certs.after_cond t) word rest (conditioned list (record { stage = t; cond = c })) ≡ Ok (conditioned list b)
     by_stage part.Entries word rest f = taken part.Entries word rest f
     by_stage part.Key word rest f = taken part.Key word rest f

@@ -10,10 +10,10 @@ use Rattle.cert_format.specs.UnitSpelling.{all_marked, each_lines, marked_lines,
 use Rattle.cert_format.specs.Units as units
 use Rattle.cert_format.specs.declared.items.TheConstants.{MOST_NUMBER}
 use Rattle.cert_format.specs.declared.piece_lines.PieceSoFar.{PieceSoFar}
-use Rattle.cert_format.specs.declared.unit_lines.Mark.{Mark}
-use Rattle.cert_format.specs.declared.unit_lines.Mark.TheVariants.{Pre, Post, Case, Exit, After, Visit, Keeps}
-use Rattle.cert_format.specs.declared.unit_lines.UnitKind.{UnitKind}
-use Rattle.cert_format.specs.declared.unit_lines.UnitKind.TheVariants as unit
+use Rattle.cert_format.specs.declared.stages.Mark.{Mark}
+use Rattle.cert_format.specs.declared.stages.Mark.TheVariants.{Pre, Post, Case, Exit, After, Visit, Keeps}
+use Rattle.cert_format.specs.declared.stages.UnitKind.{UnitKind}
+use Rattle.cert_format.specs.declared.stages.UnitKind.TheVariants as unit
 use Rattle.cert_format.specs.declared.unit_lines.UnitSoFar.{UnitSoFar}
 use Rattle.cert_format.proofs.CertKept.{each_none}
 use Rattle.cert_format.proofs.CertSteps.{in_back}

@@ -15,9 +15,9 @@ use Rattle.cert_format.specs.Lines.{Item, Line, line_end, next_item}
 use Rattle.cert_format.specs.PieceItems as items
 use Rattle.cert_format.specs.Pieces as pieces
 use Rattle.cert_format.specs.declared.items.TheConstants.{MOST_NUMBER}
-use Rattle.cert_format.specs.declared.piece_lines.PieceStage.{PieceStage}
-use Rattle.cert_format.specs.declared.piece_lines.PieceWord.{PieceWord}
-use Rattle.cert_format.specs.declared.piece_lines.PieceWord.TheVariants.{Stack, Var, Field, Is, Int, Text, Call, Block, Blank, Nonblank, Wellformed, Row}
+use Rattle.cert_format.specs.declared.stages.PieceStage.{PieceStage}
+use Rattle.cert_format.specs.declared.stages.PieceWord.{PieceWord}
+use Rattle.cert_format.specs.declared.stages.PieceWord.TheVariants.{Stack, Var, Field, Is, Int, Text, Call, Block, Blank, Nonblank, Wellformed, Row}
 use Rattle.cert_format.specs.declared.stop.Stop.{Stop}
 use Rattle.cert_format.proofs.CondRead.{Has, at_end, item_before, next_is, none_left}
 use Rattle.cert_format.proofs.CondTaken.{first_text, other_texts, take_end, take_first, then_go}

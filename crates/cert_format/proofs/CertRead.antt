@@ -12,7 +12,7 @@ use Rattle.name_table.specs.Sound.{Each}
 use Rattle.name_table.specs.declared.style.Style.{Style}
 use Rattle.sym_state.specs.declared.piece.Piece.{Piece}
 use Rattle.sym_state.proofs.Consequences.{same_bytes}
-use Rattle.cert_format.specs.declared.cert_lines.TheConstants.{MOST_LIST}
+use Rattle.cert_format.specs.declared.limits.TheConstants.{MOST_LIST}
 use Rattle.cert_format.specs.CertText.{IsCert, IsCommandPart, IsLoop, IsNameable, IsPiece, IsSummary}
 use Rattle.cert_format.specs.Certs as certs
 use Rattle.cert_format.specs.CondText.{IsCond, is_chain}
@@ -27,16 +27,16 @@ use Rattle.cert_format.specs.Units as units
 use Rattle.cert_format.specs.declared.cert.Cert.{Cert}
 use Rattle.cert_format.specs.declared.cert.CommandPart.{CommandPart}
 use Rattle.cert_format.specs.declared.cert_lines.CertSoFar.{CertSoFar}
-use Rattle.cert_format.specs.declared.cert_lines.CertStage.{CertStage}
-use Rattle.cert_format.specs.declared.cert_lines.CertStage.TheVariants as stage
 use Rattle.cert_format.specs.declared.cond_lines.CondSoFar.{CondSoFar}
-use Rattle.cert_format.specs.declared.cond_lines.Stage.{Stage}
-use Rattle.cert_format.specs.declared.cond_lines.Stage.TheVariants as part
-use Rattle.cert_format.specs.declared.unit_lines.UnitKind.{UnitKind}
-use Rattle.cert_format.specs.declared.unit_lines.UnitKind.TheVariants as unit
+use Rattle.cert_format.specs.declared.stages.CertStage.{CertStage}
+use Rattle.cert_format.specs.declared.stages.CertStage.TheVariants as stage
+use Rattle.cert_format.specs.declared.stages.CondStage.{CondStage}
+use Rattle.cert_format.specs.declared.stages.CondStage.TheVariants as part
+use Rattle.cert_format.specs.declared.stages.UnitKind.{UnitKind}
+use Rattle.cert_format.specs.declared.stages.UnitKind.TheVariants as unit
+use Rattle.cert_format.specs.declared.stages.UnitStage.{UnitStage}
+use Rattle.cert_format.specs.declared.stages.UnitStage.TheVariants as ustage
 use Rattle.cert_format.specs.declared.unit_lines.UnitSoFar.{UnitSoFar}
-use Rattle.cert_format.specs.declared.unit_lines.UnitStage.{UnitStage}
-use Rattle.cert_format.specs.declared.unit_lines.UnitStage.TheVariants as ustage
 use Rattle.cert_format.proofs.CertItems.{positive_read}
 use Rattle.cert_format.proofs.CertBodies.{each_more}
 use Rattle.cert_format.proofs.CertKept.{ended_read, last_read}
@@ -131,7 +131,7 @@ header_step style p word rest line q is kept e =
     (subst (λ (c : CondSoFar). CondPart style l.value c) (sym kept.0) start, kept.1)
 
 -- what has been read with a condition at a stage
-abbrev with_cond : Stage → Cond → CertSoFar → CertSoFar
+abbrev with_cond : CondStage → Cond → CertSoFar → CertSoFar
 with_cond s c p = record p { stage = certs.after_cond s; cond = record { stage = s; cond = c } }
 
 units_none : (style : Style) (p : CertSoFar) → NoUnits p → units_lines style (certs.cert_so_far p) ≡ []
@@ -140,7 +140,7 @@ units_none style p none =
     ∙ ap (λ l. each_lines (loop_lines style) l ++ each_lines (command_lines style) p.commands) none.1
     ∙ ap (each_lines (command_lines style)) none.2
 
-cond_spelled_at : (style : Style) (s : Stage) (c : Cond) (p : CertSoFar) → NoUnits p
+cond_spelled_at : (style : Style) (s : CondStage) (c : Cond) (p : CertSoFar) → NoUnits p
     → spelled_at style (certs.after_cond s) (with_cond s c p) ≡ header p.list ∷ spelled style.names s c
 cond_spelled_at style part.Done c p none =
     ap (λ (l : Lines). header p.list ∷ (cond_items style.names c ++ l)) (units_none style p none)
@@ -174,7 +174,7 @@ before_units style c p none some small is =
       rise = ap (λ (l : List CommandPart). is_chain (λ a b. nat_lt a.index b.index) l) none.2;
     }
 
-cond_kept_at : (style : Style) (s : Stage) (c : Cond) (p : CertSoFar) → NoUnits p → CondPart style p.list (record { stage = s; cond = c })
+cond_kept_at : (style : Style) (s : CondStage) (c : Cond) (p : CertSoFar) → NoUnits p → CondPart style p.list (record { stage = s; cond = c })
     → KeptAt style (certs.after_cond s) (with_cond s c p)
 cond_kept_at style part.Done c p none is = before_units style c p none is.list_some is.list_small is.is
 cond_kept_at style part.Entries c p none is = (is, none)
@@ -293,11 +293,11 @@ record Whole (style : Style) (kind : UnitKind) (u : UnitSoFar) : Type 0 where
   pub count : CountAt None kind u.count u
   pub headless : Headless kind u.stage u.entry u.whole u.writes
 
-done_is : (s : UnitStage) → certs.is_done s ≡ true → s ≡ ustage.Done
+done_is : (s : UnitStage) → units.is_done s ≡ true → s ≡ ustage.Done
 done_is ustage.Done e = refl
 done_is _ e = absurd (cc)
 
-whole : (style : Style) (kind : UnitKind) (u : UnitSoFar) → u.kind ≡ kind → certs.is_done u.stage ≡ true → UnitKept style u → Whole style kind u
+whole : (style : Style) (kind : UnitKind) (u : UnitSoFar) → u.kind ≡ kind → units.is_done u.stage ≡ true → UnitKept style u → Whole style kind u
 whole style kind u is done kept =
     let names = style.names in
     let at = done_is u.stage done in
@@ -490,10 +490,10 @@ unit_step_at : (style : Style) (p : CertSoFar) (word : Item) (rest line : Line) 
 unit_step_at style p word rest line q is at kept e =
     let a = then_ok (units.unit_line style word rest p.unit) _ _ e in
     let s = unit_read style p.unit word rest line a.0 is kept.1 a.1 in
-    by_done a.0 s.goes s.ends s.kept s.kind (certs.is_done a.0.stage) refl (ok_is (certs.after_unit (record p { unit = a.0 })) q a.2)
+    by_done a.0 s.goes s.ends s.kept s.kind (units.is_done a.0.stage) refl (ok_is (certs.after_unit (record p { unit = a.0 })) q a.2)
   where
     by_done : (u : UnitSoFar) → unit_spelled style u ≡ unit_spelled style p.unit ++ texts line ∷ [] → Ended line → UnitKept style u → u.kind ≡ p.unit.kind
-        → (t : Bool) → certs.is_done u.stage ≡ t → q ≡ cond t (certs.unit_finished (record p { unit = u })) (record p { unit = u })
+        → (t : Bool) → units.is_done u.stage ≡ t → q ≡ cond t (certs.unit_finished (record p { unit = u })) (record p { unit = u })
         → CertStep style stage.InUnit p line q
     by_done u goes ends good kind true done same =
         let kinds : KindKept style u.kind (certs.cert_so_far p) = subst (λ (k : UnitKind). KindKept style k (certs.cert_so_far p)) (sym kind) kept.2 in

@@ -24,10 +24,10 @@ use Rattle.cert_format.specs.Pieces as pieces
 use Rattle.cert_format.specs.Spelling.{name_text}
 use Rattle.cert_format.specs.declared.items.TheConstants.{MOST_NUMBER}
 use Rattle.cert_format.specs.declared.piece_lines.PieceSoFar.{PieceSoFar}
-use Rattle.cert_format.specs.declared.piece_lines.PieceStage.{PieceStage}
-use Rattle.cert_format.specs.declared.piece_lines.PieceStage.TheVariants as stage
-use Rattle.cert_format.specs.declared.piece_lines.PieceWord.{PieceWord}
-use Rattle.cert_format.specs.declared.piece_lines.PieceWord.TheVariants.{Stack, Var, Field, Is, Int, Text, Call, Block, Blank, Nonblank, Wellformed, Row}
+use Rattle.cert_format.specs.declared.stages.PieceStage.{PieceStage}
+use Rattle.cert_format.specs.declared.stages.PieceStage.TheVariants as stage
+use Rattle.cert_format.specs.declared.stages.PieceWord.{PieceWord}
+use Rattle.cert_format.specs.declared.stages.PieceWord.TheVariants.{Stack, Var, Field, Is, Int, Text, Call, Block, Blank, Nonblank, Wellformed, Row}
 use Rattle.cert_format.proofs.CertItems.{block_taken, integer_taken, known_taken, placed_taken}
 use Rattle.cert_format.proofs.CertKept.{all_taken, ended_taken, last_taken, next_small, word_text}
 use Rattle.cert_format.proofs.CertNames.{entry_field_taken, name_taken, variable_taken}

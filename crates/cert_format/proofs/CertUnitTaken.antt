@@ -23,19 +23,19 @@ use Rattle.cert_format.specs.Spelling.{name_text}
 use Rattle.cert_format.specs.UnitSpelling.{all_marked, head_lines, marked_lines, word_lines, writes_items}
 use Rattle.cert_format.specs.Units as units
 use Rattle.cert_format.specs.declared.cert_lines.CertSoFar.{CertSoFar}
-use Rattle.cert_format.specs.declared.cert_lines.CertStage.TheVariants as at_stage
 use Rattle.cert_format.specs.declared.items.TheConstants.{MOST_NUMBER}
 use Rattle.cert_format.specs.declared.piece_lines.PieceSoFar.{PieceSoFar}
-use Rattle.cert_format.specs.declared.piece_lines.PieceStage.{PieceStage}
-use Rattle.cert_format.specs.declared.piece_lines.PieceWord.{PieceWord}
+use Rattle.cert_format.specs.declared.stages.CertStage.TheVariants as at_stage
+use Rattle.cert_format.specs.declared.stages.Mark.{Mark}
+use Rattle.cert_format.specs.declared.stages.Mark.TheVariants.{Pre, Post, Case, Exit, After, Visit, Keeps}
+use Rattle.cert_format.specs.declared.stages.PieceStage.{PieceStage}
+use Rattle.cert_format.specs.declared.stages.PieceWord.{PieceWord}
+use Rattle.cert_format.specs.declared.stages.UnitKind.{UnitKind}
+use Rattle.cert_format.specs.declared.stages.UnitStage.{UnitStage}
+use Rattle.cert_format.specs.declared.stages.UnitStage.TheVariants as stage
 use Rattle.cert_format.specs.declared.stop.Stop.{Stop}
 use Rattle.cert_format.specs.declared.stop.Stop.TheVariants.{Syntax, TooMany}
-use Rattle.cert_format.specs.declared.unit_lines.Mark.{Mark}
-use Rattle.cert_format.specs.declared.unit_lines.Mark.TheVariants.{Pre, Post, Case, Exit, After, Visit, Keeps}
-use Rattle.cert_format.specs.declared.unit_lines.UnitKind.{UnitKind}
 use Rattle.cert_format.specs.declared.unit_lines.UnitSoFar.{UnitSoFar}
-use Rattle.cert_format.specs.declared.unit_lines.UnitStage.{UnitStage}
-use Rattle.cert_format.specs.declared.unit_lines.UnitStage.TheVariants as stage
 use Rattle.cert_format.proofs.CertHints.{hint_more, hint_spelled, hint_taken, hint_word, not_end}
 use Rattle.cert_format.proofs.CertKept.{due_taken, ended_taken, last_taken, word_text}
 use Rattle.cert_format.proofs.CertNames.{variable_taken}
@@ -65,7 +65,7 @@ abbrev pub inside : CertSoFar → UnitSoFar → CertSoFar
 inside c u = record c { stage = at_stage.InUnit; unit = u }
 
 unit_goes : (style : Style) (c : CertSoFar) (u v : UnitSoFar) (q : CertSoFar) (text : List ℕ) (rest : List (List ℕ)) (more : Lines)
-    → certs.is_done v.stage ≡ false
+    → units.is_done v.stage ≡ false
     → ((word : Item) (line : Line) → word.text ≡ text → Has line rest → units.unit_line style word line u ≡ Ok v)
     → Goes style more (inside c v) q → Goes style ((text ∷ rest) ∷ more) (inside c u) q
 unit_goes style c u v q text rest more going one after =

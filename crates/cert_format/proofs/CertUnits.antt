@@ -12,13 +12,13 @@ use Rattle.cert_format.specs.HintSpelling.{hint_items}
 use Rattle.cert_format.specs.Pieces as pieces
 use Rattle.cert_format.specs.UnitSpelling.{all_marked, body_text, head_lines, maybe_marked}
 use Rattle.cert_format.specs.Units as units
-use Rattle.cert_format.specs.declared.unit_lines.Mark.{Mark}
-use Rattle.cert_format.specs.declared.unit_lines.Mark.TheVariants.{Pre, Post, Case, Exit, After, Visit, Keeps}
-use Rattle.cert_format.specs.declared.unit_lines.UnitKind.{UnitKind}
-use Rattle.cert_format.specs.declared.unit_lines.UnitKind.TheVariants as unit
+use Rattle.cert_format.specs.declared.stages.Mark.{Mark}
+use Rattle.cert_format.specs.declared.stages.Mark.TheVariants.{Pre, Post, Case, Exit, After, Visit, Keeps}
+use Rattle.cert_format.specs.declared.stages.UnitKind.{UnitKind}
+use Rattle.cert_format.specs.declared.stages.UnitKind.TheVariants as unit
+use Rattle.cert_format.specs.declared.stages.UnitStage.{UnitStage}
+use Rattle.cert_format.specs.declared.stages.UnitStage.TheVariants as stage
 use Rattle.cert_format.specs.declared.unit_lines.UnitSoFar.{UnitSoFar}
-use Rattle.cert_format.specs.declared.unit_lines.UnitStage.{UnitStage}
-use Rattle.cert_format.specs.declared.unit_lines.UnitStage.TheVariants as stage
 use Rattle.cert_format.proofs.CertSteps.{Fits, Kept}
 
 -- the lines of a text

@@ -20,7 +20,7 @@ use Rattle.cert_format.specs.Lines.{lines_of}
 use Rattle.cert_format.specs.Spelling.{choice_text, cond_end, cond_items, cond_lists, cond_numbers, name_text, names_items, nonblank_items, text_of, type_items}
 use Rattle.cert_format.specs.Texts.{cond_of, told}
 use Rattle.cert_format.specs.declared.cond_lines.CondSoFar.{CondSoFar}
-use Rattle.cert_format.specs.declared.cond_lines.Stage.TheVariants.{Key, Preamble, Length, Names, Done}
+use Rattle.cert_format.specs.declared.stages.CondStage.TheVariants.{Key, Preamble, Length, Names, Done}
 use Rattle.cert_format.proofs.CondTaken.{at_stage, numbered, then_go}
 use Rattle.cert_format.proofs.CondWhole.{Goes, end_all, fits_names, names_all, nonblank_all, types_all, up_of}
 use Rattle.cert_format.proofs.NamesTaken.{field_solid, type_solid}

@@ -17,9 +17,9 @@ use Rattle.cert_format.specs.Items.{choice, expected, field_above, field_in, is_
 use Rattle.cert_format.specs.Lines.{Item, Line, line_end, lines_of, next_item}
 use Rattle.cert_format.specs.Texts.{cond_of}
 use Rattle.cert_format.specs.declared.cond_lines.CondSoFar.{CondSoFar}
-use Rattle.cert_format.specs.declared.cond_lines.Stage.{Stage}
-use Rattle.cert_format.specs.declared.cond_lines.Stage.TheVariants.{Entries, Key, Preamble, Length, Names, Nonblank, Types, End, Done}
 use Rattle.cert_format.specs.declared.items.TheConstants.{MOST_NUMBER}
+use Rattle.cert_format.specs.declared.stages.CondStage.{CondStage}
+use Rattle.cert_format.specs.declared.stages.CondStage.TheVariants.{Entries, Key, Preamble, Length, Names, Nonblank, Types, End, Done}
 use Rattle.cert_format.specs.declared.stop.Stop.{Stop}
 use Rattle.cert_format.proofs.CondSteps.{told_ok}
 use Rattle.cert_format.proofs.CondWhole.{fits_names}
@@ -90,7 +90,7 @@ all_kept names c few keys preambles longs lines names_rise fields nonblank_rise 
       types_rise = types_rise;
     }
 
-names_kept : (names : List (List ℕ × Kind)) (s : Stage) (c : Cond) (rest : Line) (q : CondSoFar) → IsCond names c
+names_kept : (names : List (List ℕ × Kind)) (s : CondStage) (c : Cond) (rest : Line) (q : CondSoFar) → IsCond names c
     → conditions.names_line names rest (record { stage = s; cond = c }) ≡ Ok q → Kept names q
 names_kept names s c rest q is e =
     let a = then_ok (next_item rest) _ _ e in
@@ -103,7 +103,7 @@ names_kept names s c rest q is e =
     let kept : Kept names next = all_kept names next.cond is.entries is.key is.preamble is.length (each_snoc (IsNamesLine names) c.names x is.bounds (field.0, small)) (chain_snoc (λ a b. is_below a.field b.field) fits_names (λ a b f. f) c.names x is.names_rise field.1) is.fields is.nonblank_rise is.types is.types_rise in
     subst (Kept names) (sym (ok_is next q n.2)) kept
 
-nonblank_kept : (names : List (List ℕ × Kind)) (s : Stage) (c : Cond) (rest : Line) (q : CondSoFar) → IsCond names c
+nonblank_kept : (names : List (List ℕ × Kind)) (s : CondStage) (c : Cond) (rest : Line) (q : CondSoFar) → IsCond names c
     → conditions.nonblank_line names rest (record { stage = s; cond = c }) ≡ Ok q → Kept names q
 nonblank_kept names s c rest q is e =
     let a = then_ok (next_item rest) _ _ e in
@@ -123,7 +123,7 @@ type_is last item u e = by_type (is_type item.text) refl (is_behind last item.te
     by_type true is false behind x y e = absurd (cc)
     by_type false is b behind x y e = absurd (cc)
 
-type_kept : (names : List (List ℕ × Kind)) (s : Stage) (c : Cond) (rest : Line) (q : CondSoFar) → IsCond names c
+type_kept : (names : List (List ℕ × Kind)) (s : CondStage) (c : Cond) (rest : Line) (q : CondSoFar) → IsCond names c
     → conditions.type_line rest (record { stage = s; cond = c }) ≡ Ok q → Kept names q
 type_kept names s c rest q is e =
     let a = then_ok (next_item rest) _ _ e in
@@ -136,14 +136,14 @@ type_kept names s c rest q is e =
     subst (Kept names) (sym (ok_is next q end.2)) kept
 
 -- another choice or another stage changes no limit
-same_lists : (names : List (List ℕ × Kind)) (s : Stage) (c : Cond) (other : Bool) (q : CondSoFar) → IsCond names c
+same_lists : (names : List (List ℕ × Kind)) (s : CondStage) (c : Cond) (other : Bool) (q : CondSoFar) → IsCond names c
     → q ≡ record { stage = s; cond = record c { other = other } } → Kept names q
 same_lists names s c other q is same =
     let next : CondSoFar = record { stage = s; cond = record c { other = other } } in
     let kept : Kept names next = all_kept names next.cond is.entries is.key is.preamble is.length is.bounds is.names_rise is.fields is.nonblank_rise is.types is.types_rise in
     subst (Kept names) (sym same) kept
 
-othertype_kept : (names : List (List ℕ × Kind)) (s : Stage) (c : Cond) (word : Item) (rest : Line) (q : CondSoFar) → IsCond names c
+othertype_kept : (names : List (List ℕ × Kind)) (s : CondStage) (c : Cond) (word : Item) (rest : Line) (q : CondSoFar) → IsCond names c
     → conditions.othertype_line word rest (record { stage = s; cond = c }) ≡ Ok q → Kept names q
 othertype_kept names s c word rest q is e =
     let w = then_ok (expected (codes "othertype") word) _ _ e in
@@ -152,7 +152,7 @@ othertype_kept names s c word rest q is e =
     let end = then_ok (line_end a.0.1) _ _ b.2 in
     same_lists names End c b.0 q is (ok_is (record { stage = End; cond = record c { other = b.0 } }) q end.2)
 
-listed_kept : (names : List (List ℕ × Kind)) (s : Stage) (c : Cond) (word : Item) (rest : Line) (q : CondSoFar) → IsCond names c → (t u v : Bool)
+listed_kept : (names : List (List ℕ × Kind)) (s : CondStage) (c : Cond) (word : Item) (rest : Line) (q : CondSoFar) → IsCond names c → (t u v : Bool)
     → cond t (conditions.names_line names rest (record { stage = s; cond = c }))
     (cond u (conditions.nonblank_line names rest (record { stage = s; cond = c }))
     (cond v (conditions.type_line rest (record { stage = s; cond = c }))
@@ -163,7 +163,7 @@ listed_kept names s c word rest q is false true v e = nonblank_kept names s c re
 listed_kept names s c word rest q is false false true e = type_kept names s c rest q is e
 listed_kept names s c word rest q is false false false e = othertype_kept names s c word rest q is e
 
-with_numbers : (names : List (List ℕ × Kind)) (s : Stage) (c : Cond) (q : CondSoFar) (entries key preamble long : ℕ) → IsCond names c
+with_numbers : (names : List (List ℕ × Kind)) (s : CondStage) (c : Cond) (q : CondSoFar) (entries key preamble long : ℕ) → IsCond names c
     → entries ≤ 1000000 → key ≤ 1073741824 → preamble ≤ 1073741824 → long ≤ 1073741824
     → q ≡ record { stage = s; cond = record c { entries = entries; key = key; preamble = preamble; length = long } } → Kept names q
 with_numbers names s c q entries key preamble long is few keys preambles longs same =
@@ -171,7 +171,7 @@ with_numbers names s c q entries key preamble long is few keys preambles longs s
     let kept : Kept names next = all_kept names next.cond few keys preambles longs is.bounds is.names_rise is.fields is.nonblank_rise is.types is.types_rise in
     subst (Kept names) (sym same) kept
 
-pub kept_at : (names : List (List ℕ × Kind)) (s : Stage) (c : Cond) (word : Item) (rest : Line) (q : CondSoFar) → IsCond names c
+pub kept_at : (names : List (List ℕ × Kind)) (s : CondStage) (c : Cond) (word : Item) (rest : Line) (q : CondSoFar) → IsCond names c
     → conditions.worded_line names s word rest (record { stage = s; cond = c }) ≡ Ok q → Kept names q
 kept_at names Entries c word rest q is e =
     let a = then_ok (conditions.number_line (codes "entries") 1000000 word rest) _ _ e in
@@ -211,7 +211,7 @@ lines_kept names (line ∷ lines) p q is e =
     let b = then_ok (next_item line) _ _ a.1 in
     lines_kept names lines a.0 q (kept_at names p.stage p.cond b.0.0 b.0.1 a.0 is b.2) a.2
 
-finished_cond : (s : Stage) (c : Cond) (condition : Cond) → conditions.finished (record { stage = s; cond = c }) s ≡ Ok condition → condition ≡ c
+finished_cond : (s : CondStage) (c : Cond) (condition : Cond) → conditions.finished (record { stage = s; cond = c }) s ≡ Ok condition → condition ≡ c
 finished_cond Done c condition e = ok_is c condition e
 finished_cond Entries c condition e = absurd (cc)
 finished_cond Key c condition e = absurd (cc)

@@ -16,11 +16,11 @@ use Rattle.cert_format.specs.Items.{choice, expected, field_above, is_word, last
 use Rattle.cert_format.specs.Lines.{Item, Line, line_end, lines_of, next_item, with_item}
 use Rattle.cert_format.specs.Spelling.{choice_text, cond_items, cond_lists, cond_numbers, name_text, names_items, nonblank_items, text_of, type_items}
 use Rattle.cert_format.specs.Texts.{cond_of, told}
-use Rattle.cert_format.specs.declared.items.TheConstants.{MOST_NUMBER}
-use Rattle.cert_format.specs.declared.stop.Stop.{Stop}
 use Rattle.cert_format.specs.declared.cond_lines.CondSoFar.{CondSoFar}
-use Rattle.cert_format.specs.declared.cond_lines.Stage.{Stage}
-use Rattle.cert_format.specs.declared.cond_lines.Stage.TheVariants.{Entries, Key, Preamble, Length, Names, Nonblank, Types, End, Done}
+use Rattle.cert_format.specs.declared.items.TheConstants.{MOST_NUMBER}
+use Rattle.cert_format.specs.declared.stages.CondStage.{CondStage}
+use Rattle.cert_format.specs.declared.stages.CondStage.TheVariants.{Entries, Key, Preamble, Length, Names, Nonblank, Types, End, Done}
+use Rattle.cert_format.specs.declared.stop.Stop.{Stop}
 use Rattle.cert_format.proofs.CondRead.{Has, at_end, choice_read, item_before, next_is, none_left, number_read, numbered, word_is}
 use Rattle.cert_format.proofs.Named.{field_read}
 use Rattle.cert_format.proofs.Split.{AllEnded, Ended, split_text, texts}
@@ -30,7 +30,7 @@ abbrev number_items : List ℕ → ℕ → List (List ℕ)
 number_items word n = word ∷ (decimal n ∷ [])
 
 -- the lines that have been read before each stage
-abbrev pub spelled : List (List ℕ × Kind) → Stage → Cond → List (List (List ℕ))
+abbrev pub spelled : List (List ℕ × Kind) → CondStage → Cond → List (List (List ℕ))
 spelled names Entries c = []
 spelled names Key c = number_items (codes "entries") c.entries ∷ []
 spelled names Preamble c = number_items (codes "entries") c.entries ∷ (number_items (codes "key") c.key ∷ [])
@@ -43,7 +43,7 @@ spelled names End c = cond_numbers c ++ (cond_lists names c ++ (codes "othertype
 spelled names Done c = cond_items names c
 
 -- no line on names has come
-abbrev no_names : Stage → Bool
+abbrev no_names : CondStage → Bool
 no_names Entries = true
 no_names Key = true
 no_names Preamble = true
@@ -51,26 +51,26 @@ no_names Length = true
 no_names _ = false
 
 -- no `nonblank` line has come
-abbrev no_nonblank : Stage → Bool
+abbrev no_nonblank : CondStage → Bool
 no_nonblank s = no_names s || conditions.may_have_names s
 
 -- no `type` line has come
-abbrev no_types : Stage → Bool
+abbrev no_types : CondStage → Bool
 no_types s = no_names s || conditions.may_have_nonblank s
 
 -- lists whose lines haven't come are empty
-pub record Fits (s : Stage) (c : Cond) : Type 0 where
+pub record Fits (s : CondStage) (c : Cond) : Type 0 where
   pub names : no_names s ≡ true → c.names ≡ []
   pub nonblank : no_nonblank s ≡ true → c.nonblank ≡ []
   pub types : no_types s ≡ true → c.types ≡ []
 
 -- a line that is read is spelled behind those before it
-pub record Stepped (names : List (List ℕ × Kind)) (s : Stage) (c : Cond) (line : Line) (q : CondSoFar) : Type 0 where
+pub record Stepped (names : List (List ℕ × Kind)) (s : CondStage) (c : Cond) (line : Line) (q : CondSoFar) : Type 0 where
   pub goes : spelled names q.stage q.cond ≡ spelled names s c ++ texts line ∷ []
   pub ends : Ended line
   pub fits : Fits q.stage q.cond
 
-stepped : (names : List (List ℕ × Kind)) (s : Stage) (c : Cond) (line : Line) (q next : CondSoFar) (items : List (List ℕ)) → q ≡ next
+stepped : (names : List (List ℕ × Kind)) (s : CondStage) (c : Cond) (line : Line) (q next : CondSoFar) (items : List (List ℕ)) → q ≡ next
     → spelled names next.stage next.cond ≡ spelled names s c ++ items ∷ [] → Has line items → Fits next.stage next.cond
     → Stepped names s c line q
 stepped names s c line q next items is goes has fits =
@@ -119,27 +119,27 @@ more_types names c x =
     ∙ sym (append_assoc front (middle ++ map type_items c.types) (type_items x ∷ []))
 
 -- the stages of the lists
-abbrev Listed : List (List ℕ × Kind) → Stage → Type 0
+abbrev Listed : List (List ℕ × Kind) → CondStage → Type 0
 Listed names s = (c : Cond) → spelled names s c ≡ cond_numbers c ++ cond_lists names c
 
 -- one more line of a list
-one_more : (names : List (List ℕ × Kind)) (s next : Stage) (c d : Cond) (items : List (List ℕ)) → Listed names s → Listed names next
+one_more : (names : List (List ℕ × Kind)) (s next : CondStage) (c d : Cond) (items : List (List ℕ)) → Listed names s → Listed names next
     → cond_numbers d ≡ cond_numbers c → cond_lists names d ≡ cond_lists names c ++ items ∷ [] → spelled names next d ≡ spelled names s c ++ items ∷ []
 one_more names s next c d items before after same more =
     after d ∙ ap (λ l. l ++ cond_lists names d) same ∙ ap (λ l. cond_numbers c ++ l) more
     ∙ sym (append_assoc (cond_numbers c) (cond_lists names c) (items ∷ []))
     ∙ ap (λ l. l ++ items ∷ []) (sym (before c))
 
-may_names : (s : Stage) → conditions.may_have_names s ≡ true → (no_names s ≡ false) × (no_nonblank s ≡ true) × (no_types s ≡ true)
+may_names : (s : CondStage) → conditions.may_have_names s ≡ true → (no_names s ≡ false) × (no_nonblank s ≡ true) × (no_types s ≡ true)
 may_names Names e = (refl, refl, refl)
 may_names _ e = absurd (cc)
 
-pub may_nonblank : (s : Stage) → conditions.may_have_nonblank s ≡ true → no_types s ≡ true
+pub may_nonblank : (s : CondStage) → conditions.may_have_nonblank s ≡ true → no_types s ≡ true
 may_nonblank Names e = refl
 may_nonblank Nonblank e = refl
 may_nonblank _ e = absurd (cc)
 
-pub names_step : (names : List (List ℕ × Kind)) (s : Stage) (c : Cond) (word : Item) (rest line : Line) (q : CondSoFar) → line ≡ with_item word rest
+pub names_step : (names : List (List ℕ × Kind)) (s : CondStage) (c : Cond) (word : Item) (rest line : Line) (q : CondSoFar) → line ≡ with_item word rest
     → Listed names s → Fits s c → conditions.may_have_names s ≡ true → is_word (codes "names") word ≡ true
     → conditions.names_line names rest (record { stage = s; cond = c }) ≡ Ok q → Stepped names s c line q
 names_step names s c word rest line q is listed fits may said e =
@@ -160,7 +160,7 @@ names_step names s c word rest line q is listed fits may said e =
     true_false : true ≡ false → ⊥
     true_false e = absurd (cc)
 
-nonblank_step : (names : List (List ℕ × Kind)) (s : Stage) (c : Cond) (word : Item) (rest line : Line) (q : CondSoFar) → line ≡ with_item word rest
+nonblank_step : (names : List (List ℕ × Kind)) (s : CondStage) (c : Cond) (word : Item) (rest line : Line) (q : CondSoFar) → line ≡ with_item word rest
     → Listed names s → Fits s c → conditions.may_have_nonblank s ≡ true → is_word (codes "nonblank") word ≡ true
     → conditions.nonblank_line names rest (record { stage = s; cond = c }) ≡ Ok q → Stepped names s c line q
 nonblank_step names s c word rest line q is listed fits may said e =
@@ -177,7 +177,7 @@ nonblank_step names s c word rest line q is listed fits may said e =
     (item_before line word rest (codes "nonblank") _ is (same_bytes word.text (codes "nonblank") said) inner)
     (record { names = λ f. absurd (cc); nonblank = λ f. absurd (cc); types = λ f. t })
 
-type_step : (names : List (List ℕ × Kind)) (s : Stage) (c : Cond) (word : Item) (rest line : Line) (q : CondSoFar) → line ≡ with_item word rest
+type_step : (names : List (List ℕ × Kind)) (s : CondStage) (c : Cond) (word : Item) (rest line : Line) (q : CondSoFar) → line ≡ with_item word rest
     → Listed names s → is_word (codes "type") word ≡ true
     → conditions.type_line rest (record { stage = s; cond = c }) ≡ Ok q → Stepped names s c line q
 type_step names s c word rest line q is listed said e =
@@ -193,7 +193,7 @@ type_step names s c word rest line q is listed said e =
     (item_before line word rest (codes "type") _ is (same_bytes word.text (codes "type") said) inner)
     (record { names = λ f. absurd (cc); nonblank = λ f. absurd (cc); types = λ f. absurd (cc) })
 
-othertype_step : (names : List (List ℕ × Kind)) (s : Stage) (c : Cond) (word : Item) (rest line : Line) (q : CondSoFar) → line ≡ with_item word rest
+othertype_step : (names : List (List ℕ × Kind)) (s : CondStage) (c : Cond) (word : Item) (rest line : Line) (q : CondSoFar) → line ≡ with_item word rest
     → Listed names s → conditions.othertype_line word rest (record { stage = s; cond = c }) ≡ Ok q → Stepped names s c line q
 othertype_step names s c word rest line q is listed e =
     let w = then_ok (expected (codes "othertype") word) _ _ e in
@@ -209,7 +209,7 @@ othertype_step names s c word rest line q is listed e =
     (item_before line word rest (codes "othertype") _ is (word_is (codes "othertype") word w.0 w.1) inner)
     (record { names = λ f. absurd (cc); nonblank = λ f. absurd (cc); types = λ f. absurd (cc) })
 
-listed_step : (names : List (List ℕ × Kind)) (s : Stage) (c : Cond) (word : Item) (rest line : Line) (q : CondSoFar) → line ≡ with_item word rest
+listed_step : (names : List (List ℕ × Kind)) (s : CondStage) (c : Cond) (word : Item) (rest line : Line) (q : CondSoFar) → line ≡ with_item word rest
     → Listed names s → Fits s c
     → (t u v : Bool) → conditions.may_have_names s && is_word (codes "names") word ≡ t
     → conditions.may_have_nonblank s && is_word (codes "nonblank") word ≡ u → is_word (codes "type") word ≡ v
@@ -244,7 +244,7 @@ end_step names c word rest line q is e =
     (record { names = λ f. absurd (cc); nonblank = λ f. absurd (cc); types = λ f. absurd (cc) })
 
 -- what has been read at a stage
-abbrev next_of : Stage → Cond → CondSoFar
+abbrev next_of : CondStage → Cond → CondSoFar
 next_of s c = record { stage = s; cond = c }
 
 -- the numbers of a condition
@@ -260,7 +260,7 @@ with_preamble n c = record c { preamble = n }
 abbrev with_length : ℕ → Cond → Cond
 with_length n c = record c { length = n }
 
-number_step : (names : List (List ℕ × Kind)) (s next : Stage) (c : Cond) (with_number : ℕ → Cond → Cond) (text : List ℕ) (most : ℕ) (word : Item)
+number_step : (names : List (List ℕ × Kind)) (s next : CondStage) (c : Cond) (with_number : ℕ → Cond → Cond) (text : List ℕ) (most : ℕ) (word : Item)
     (rest line : Line) (q : CondSoFar) → line ≡ with_item word rest → most ≤ MOST_NUMBER
     → ((n : ℕ) → spelled names next (with_number n c) ≡ spelled names s c ++ number_items text n ∷ [])
     → ((n : ℕ) → Fits next (with_number n c))
@@ -273,7 +273,7 @@ number_step names s next c with_number text most word rest line q is bound goes 
     (item_before line word rest text (decimal a.0 ∷ []) is n.word_said n.has) (fits a.0)
 
 -- a line of a condition that is read
-pub step_at : (names : List (List ℕ × Kind)) (s : Stage) (c : Cond) (word : Item) (rest line : Line) (q : CondSoFar) → line ≡ with_item word rest
+pub step_at : (names : List (List ℕ × Kind)) (s : CondStage) (c : Cond) (word : Item) (rest line : Line) (q : CondSoFar) → line ≡ with_item word rest
     → Fits s c → conditions.worded_line names s word rest (record { stage = s; cond = c }) ≡ Ok q → Stepped names s c line q
 step_at names Entries c word rest line q is fits e =
     number_step names Entries Key c with_entries (codes "entries") 1000000 word rest line q is (lit≤ tt) (λ n. refl)
@@ -320,7 +320,7 @@ steps names (line ∷ lines) p q fits e =
       ends = (one.ends, more.ends);
     }
 
-finished_is : (s : Stage) (c : Cond) (condition : Cond) → conditions.finished (record { stage = s; cond = c }) s ≡ Ok condition
+finished_is : (s : CondStage) (c : Cond) (condition : Cond) → conditions.finished (record { stage = s; cond = c }) s ≡ Ok condition
     → (names : List (List ℕ × Kind)) → spelled names s c ≡ cond_items names condition
 finished_is Done c condition e names = ap (cond_items names) (sym (ok_is c condition e))
 finished_is Entries c condition e names = absurd (cc)

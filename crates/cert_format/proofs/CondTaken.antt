@@ -13,9 +13,9 @@ use Rattle.cert_format.specs.Items.{expected, field_above, is_above, is_word, na
 use Rattle.cert_format.specs.Lines.{Item, Line, ended_by, line_end, next_item}
 use Rattle.cert_format.specs.Spelling.{name_text, names_items}
 use Rattle.cert_format.specs.declared.cond_lines.CondSoFar.{CondSoFar}
-use Rattle.cert_format.specs.declared.cond_lines.Stage.{Stage}
-use Rattle.cert_format.specs.declared.cond_lines.Stage.TheVariants.{Names}
 use Rattle.cert_format.specs.declared.items.TheConstants.{MOST_NUMBER}
+use Rattle.cert_format.specs.declared.stages.CondStage.{CondStage}
+use Rattle.cert_format.specs.declared.stages.CondStage.TheVariants.{Names}
 use Rattle.cert_format.specs.declared.stop.Stop.{Stop}
 use Rattle.cert_format.proofs.CondRead.{Has}
 use Rattle.cert_format.proofs.NamesTaken.{field_taken}
@@ -97,7 +97,7 @@ line_taken names line text more p q has next =
     then_go (next_item line) (t.item, t.rest) _ _ t.gives (next t.item t.rest t.said t.has)
 
 -- what has been read at a stage
-abbrev pub at_stage : Stage → Cond → CondSoFar
+abbrev pub at_stage : CondStage → Cond → CondSoFar
 at_stage s c = record { stage = s; cond = c }
 
 -- a line of a word and a number, at the stage that takes it

@@ -15,8 +15,8 @@ use Rattle.cert_format.specs.Items.{choice, expected, field_above, is_above, is_
 use Rattle.cert_format.specs.Lines.{Item, Line, line_end, next_item}
 use Rattle.cert_format.specs.Spelling.{choice_text, cond_end, name_text, names_items, nonblank_items, type_items}
 use Rattle.cert_format.specs.declared.cond_lines.CondSoFar.{CondSoFar}
-use Rattle.cert_format.specs.declared.cond_lines.Stage.{Stage}
-use Rattle.cert_format.specs.declared.cond_lines.Stage.TheVariants.{Names, Nonblank, Types, End, Done}
+use Rattle.cert_format.specs.declared.stages.CondStage.{CondStage}
+use Rattle.cert_format.specs.declared.stages.CondStage.TheVariants.{Names, Nonblank, Types, End, Done}
 use Rattle.cert_format.proofs.CondRead.{Has}
 use Rattle.cert_format.proofs.CondTaken.{at_stage, expect_taken, line_taken, names_line_taken, other_word, take_end, take_first, then_go, word_taken}
 use Rattle.cert_format.proofs.NamesTaken.{field_taken}
@@ -27,28 +27,28 @@ and_false true = refl
 and_false false = refl
 
 -- the stages in which a line of a list may come
-abbrev pub IsListed : Stage → Type 0
+abbrev pub IsListed : CondStage → Type 0
 IsListed s = (names : List (List ℕ × Kind)) (word : Item) (rest : Line) (c : Cond)
     → conditions.worded_line names s word rest (at_stage s c) ≡ conditions.listed_line names word rest (at_stage s c)
 
-to_nonblank : (names : List (List ℕ × Kind)) (s : Stage) (word : Item) (rest : Line) (c : Cond) → is_word (codes "names") word ≡ false
+to_nonblank : (names : List (List ℕ × Kind)) (s : CondStage) (word : Item) (rest : Line) (c : Cond) → is_word (codes "names") word ≡ false
     → conditions.may_have_nonblank s ≡ true → is_word (codes "nonblank") word ≡ true
     → conditions.listed_line names word rest (at_stage s c) ≡ conditions.nonblank_line names rest (at_stage s c)
 to_nonblank names s word rest c differs may is = rw differs (rw (and_false (conditions.may_have_names s)) (rw may (rw is refl)))
 
-to_type : (names : List (List ℕ × Kind)) (s : Stage) (word : Item) (rest : Line) (c : Cond) → is_word (codes "names") word ≡ false
+to_type : (names : List (List ℕ × Kind)) (s : CondStage) (word : Item) (rest : Line) (c : Cond) → is_word (codes "names") word ≡ false
     → is_word (codes "nonblank") word ≡ false → is_word (codes "type") word ≡ true
     → conditions.listed_line names word rest (at_stage s c) ≡ conditions.type_line rest (at_stage s c)
 to_type names s word rest c first second is =
     rw first (rw (and_false (conditions.may_have_names s)) (rw second (rw (and_false (conditions.may_have_nonblank s)) (rw is refl))))
 
-to_othertype : (names : List (List ℕ × Kind)) (s : Stage) (word : Item) (rest : Line) (c : Cond) → is_word (codes "names") word ≡ false
+to_othertype : (names : List (List ℕ × Kind)) (s : CondStage) (word : Item) (rest : Line) (c : Cond) → is_word (codes "names") word ≡ false
     → is_word (codes "nonblank") word ≡ false → is_word (codes "type") word ≡ false
     → conditions.listed_line names word rest (at_stage s c) ≡ conditions.othertype_line word rest (at_stage s c)
 to_othertype names s word rest c first second third =
     rw first (rw (and_false (conditions.may_have_names s)) (rw second (rw (and_false (conditions.may_have_nonblank s)) (rw third refl))))
 
-nonblank_line_taken : (names : List (List ℕ × Kind)) (line : Line) (s : Stage) (c : Cond) (id : NameId) → ArePlain names → IsListed s
+nonblank_line_taken : (names : List (List ℕ × Kind)) (line : Line) (s : CondStage) (c : Cond) (id : NameId) → ArePlain names → IsListed s
     → conditions.may_have_nonblank s ≡ true → IsField names id → is_above (last_of c.nonblank) id ≡ true → Has line (nonblank_items names id)
     → conditions.cond_line names line (at_stage s c) ≡ Ok (at_stage Nonblank (record c { nonblank = c.nonblank ++ id ∷ [] }))
 nonblank_line_taken names line s c id plain listed may field above has =
@@ -63,7 +63,7 @@ nonblank_line_taken names line s c id plain listed may field above has =
 type_taken : (last : Option (List ℕ)) (item : Item) → is_type item.text ≡ true → is_behind last item.text ≡ true → type_above last item ≡ Ok tt
 type_taken last item is behind = rw is (rw behind refl)
 
-type_line_taken : (names : List (List ℕ × Kind)) (line : Line) (s : Stage) (c : Cond) (name : List ℕ) → IsListed s → is_type name ≡ true
+type_line_taken : (names : List (List ℕ × Kind)) (line : Line) (s : CondStage) (c : Cond) (name : List ℕ) → IsListed s → is_type name ≡ true
     → is_behind (last_of c.types) name ≡ true → Has line (type_items name)
     → conditions.cond_line names line (at_stage s c) ≡ Ok (at_stage Types (record c { types = c.types ++ name ∷ [] }))
 type_line_taken names line s c name listed is behind has =
@@ -81,7 +81,7 @@ choice_taken : (item : Item) (other : Bool) → item.text ≡ choice_text other 
 choice_taken item true said = rw (word_taken (codes "yes") item said) refl
 choice_taken item false said = rw (other_word (codes "no") (codes "yes") item said refl) (rw (word_taken (codes "no") item said) refl)
 
-othertype_taken : (names : List (List ℕ × Kind)) (line : Line) (s : Stage) (c : Cond) (other : Bool) → IsListed s
+othertype_taken : (names : List (List ℕ × Kind)) (line : Line) (s : CondStage) (c : Cond) (other : Bool) → IsListed s
     → Has line (codes "othertype" ∷ (choice_text other ∷ []))
     → conditions.cond_line names line (at_stage s c) ≡ Ok (at_stage End (record c { other = other }))
 othertype_taken names line s c other listed has =
@@ -151,9 +151,9 @@ names_all names (x ∷ ns) more c q plain each up next (line ∷ lines) have =
 
 -- what is wanted behind a list, at whichever stage of the lists
 abbrev pub GoesListed : List (List ℕ × Kind) → List (List (List ℕ)) → Cond → CondSoFar → Type 0
-GoesListed names more c q = (s : Stage) → IsListed s → Goes names more (at_stage s c) q
+GoesListed names more c q = (s : CondStage) → IsListed s → Goes names more (at_stage s c) q
 
-pub nonblank_all : (names : List (List ℕ × Kind)) (ids : List NameId) (more : List (List (List ℕ))) (s : Stage) (c : Cond) (q : CondSoFar) → ArePlain names
+pub nonblank_all : (names : List (List ℕ × Kind)) (ids : List NameId) (more : List (List (List ℕ))) (s : CondStage) (c : Cond) (q : CondSoFar) → ArePlain names
     → IsListed s → conditions.may_have_nonblank s ≡ true → Each (IsField names) ids → Up is_above (last_of c.nonblank) ids
     → GoesListed names more (record c { nonblank = c.nonblank ++ ids }) q
     → Goes names (map (nonblank_items names) ids ++ more) (at_stage s c) q
@@ -168,7 +168,7 @@ nonblank_all names (x ∷ ids) more s c q plain listed may each up next (line �
     then_go (conditions.cond_line names line (at_stage s c)) (at_stage Nonblank d) _ _ (nonblank_line_taken names line s c x plain listed may each.0 up.0 have.0)
     (nonblank_all names ids more Nonblank d q plain (λ n w r e. refl) refl each.1 later follow lines have.1)
 
-pub types_all : (names : List (List ℕ × Kind)) (types : List (List ℕ)) (more : List (List (List ℕ))) (s : Stage) (c : Cond) (q : CondSoFar) → IsListed s
+pub types_all : (names : List (List ℕ × Kind)) (types : List (List ℕ)) (more : List (List (List ℕ))) (s : CondStage) (c : Cond) (q : CondSoFar) → IsListed s
     → Each (λ name. is_type name ≡ true) types → Up is_behind (last_of c.types) types
     → GoesListed names more (record c { types = c.types ++ types }) q
     → Goes names (map type_items types ++ more) (at_stage s c) q
@@ -183,7 +183,7 @@ types_all names (x ∷ types) more s c q listed each up next (line ∷ lines) ha
     then_go (conditions.cond_line names line (at_stage s c)) (at_stage Types d) _ _ (type_line_taken names line s c x listed each.0 up.0 have.0)
     (types_all names types more Types d q (λ n w r e. refl) each.1 later follow lines have.1)
 
-pub end_all : (names : List (List ℕ × Kind)) (s : Stage) (c : Cond) (other : Bool) → IsListed s
+pub end_all : (names : List (List ℕ × Kind)) (s : CondStage) (c : Cond) (other : Bool) → IsListed s
     → Goes names (cond_end other) (at_stage s c) (at_stage Done (record c { other = other }))
 end_all names s c other listed [] have = absurd (have)
 end_all names s c other listed (first ∷ []) have = absurd (have.1)

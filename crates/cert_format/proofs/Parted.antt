@@ -7,7 +7,7 @@ use Rattle.bv_base.specs.Answers.{then_do}
 use Rattle.cert_format.specs.Items.{last_of}
 use Rattle.cert_format.specs.Lines.{Item, Line}
 use Rattle.cert_format.specs.PieceItems.{coefficient, term_behind}
-use Rattle.cert_format.specs.declared.piece_lines.TheConstants.{MOST_TERMS}
+use Rattle.cert_format.specs.declared.limits.TheConstants.{MOST_TERMS}
 use Rattle.cert_format.specs.declared.stop.Stop.TheVariants.{Syntax, TooMany}
 use Rattle.cert_format.specs.Pieces.{part, parts}
 use Rattle.cert_format.specs.declared.stop.Stop.{Stop}

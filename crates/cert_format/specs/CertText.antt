@@ -34,12 +34,9 @@ use Rattle.cert_format.specs.declared.cert.Cert.{Cert}
 use Rattle.cert_format.specs.declared.cert.CommandPart.{CommandPart}
 use Rattle.cert_format.specs.declared.cert.Loop.{Loop}
 use Rattle.cert_format.specs.declared.cert.Summary.{Summary}
-use Rattle.cert_format.specs.declared.cert_lines.TheConstants.{MOST_LIST, MOST_UNITS}
-use Rattle.cert_format.specs.declared.cond_lines.TheConstants.{MOST}
 use Rattle.cert_format.specs.declared.items.TheConstants.{MOST_NUMBER}
+use Rattle.cert_format.specs.declared.limits.TheConstants.{MOST, MOST_ITEMS, MOST_LIST, MOST_PIECES, MOST_TERMS, MOST_UNITS}
 use Rattle.cert_format.specs.declared.piece_items.TheConstants.{ROW_SIZE}
-use Rattle.cert_format.specs.declared.piece_lines.TheConstants.{MOST_ITEMS, MOST_TERMS}
-use Rattle.cert_format.specs.declared.unit_lines.TheConstants.{MOST_PIECES}
 
 -- an integer is within these sizes below 0 and above it
 abbrev pub is_within : ℕ → ℕ → ℤ → Bool

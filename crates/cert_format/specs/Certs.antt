@@ -14,25 +14,22 @@ use Rattle.cert_format.specs.Items.{expected, has_leading_zero, is_numeral, is_w
 use Rattle.cert_format.specs.Lines.{Item, Line, lines_of, next_item}
 use Rattle.cert_format.specs.PieceItems.{after_in, block_number, body_of}
 use Rattle.cert_format.specs.Pieces.{at_end}
-use Rattle.cert_format.specs.Units.{no_unit, unit_line}
+use Rattle.cert_format.specs.Units.{is_done, no_unit, unit_line}
 use Rattle.cert_format.specs.declared.cert.Cert.{Cert}
 use Rattle.cert_format.specs.declared.cert.CommandPart.{CommandPart}
 use Rattle.cert_format.specs.declared.cert.Loop.{Loop}
 use Rattle.cert_format.specs.declared.cert.Summary.{Summary}
 use Rattle.cert_format.specs.declared.cert_lines.CertSoFar.{CertSoFar}
-use Rattle.cert_format.specs.declared.cert_lines.CertStage.{CertStage}
-use Rattle.cert_format.specs.declared.cert_lines.CertStage.TheVariants as stage
-use Rattle.cert_format.specs.declared.cert_lines.TheConstants.{MOST_LIST, MOST_UNITS}
-use Rattle.cert_format.specs.declared.cond_lines.TheConstants.{MOST}
-use Rattle.cert_format.specs.declared.cond_lines.Stage.{Stage}
-use Rattle.cert_format.specs.declared.cond_lines.Stage.TheVariants.{Done as CondDone}
+use Rattle.cert_format.specs.declared.limits.TheConstants.{MOST, MOST_LIST, MOST_UNITS}
+use Rattle.cert_format.specs.declared.stages.CertStage.{CertStage}
+use Rattle.cert_format.specs.declared.stages.CertStage.TheVariants as stage
+use Rattle.cert_format.specs.declared.stages.CondStage.{CondStage}
+use Rattle.cert_format.specs.declared.stages.CondStage.TheVariants.{Done as CondDone}
+use Rattle.cert_format.specs.declared.stages.UnitKind.{UnitKind}
+use Rattle.cert_format.specs.declared.stages.UnitKind.TheVariants as unit
 use Rattle.cert_format.specs.declared.stop.Stop.{Stop}
 use Rattle.cert_format.specs.declared.stop.Stop.TheVariants.{Syntax, OutOfRange, NotCanonical, TooMany}
-use Rattle.cert_format.specs.declared.unit_lines.UnitKind.{UnitKind}
-use Rattle.cert_format.specs.declared.unit_lines.UnitKind.TheVariants as unit
 use Rattle.cert_format.specs.declared.unit_lines.UnitSoFar.{UnitSoFar}
-use Rattle.cert_format.specs.declared.unit_lines.UnitStage.{UnitStage}
-use Rattle.cert_format.specs.declared.unit_lines.UnitStage.TheVariants.{Done as UnitDone}
 
 -- before the first line
 abbrev pub no_cert : CertSoFar
@@ -55,7 +52,7 @@ header_line word line p =
     then_do (positive MOST_LIST item.0) (λ list. at_end item.1 (record p { stage = stage.Cond; list = list }))))
 
 -- what comes after a line of the condition
-abbrev pub after_cond : Stage → CertStage
+abbrev pub after_cond : CondStage → CertStage
 after_cond CondDone = stage.Units
 after_cond _ = stage.Cond
 
@@ -184,11 +181,6 @@ with_unit (unit.Command index) u p = record p { commands = p.commands ++ command
 abbrev pub unit_finished : CertSoFar → CertSoFar
 unit_finished p =
     with_unit p.unit.kind p.unit (record p { stage = stage.Units; unit = no_unit (unit.Command 0) })
-
--- a unit has all its lines
-abbrev pub is_done : UnitStage → Bool
-is_done UnitDone = true
-is_done _ = false
 
 -- what comes after a line of a unit: another one, or what stands behind the unit
 abbrev pub after_unit : CertSoFar → CertSoFar

@@ -10,7 +10,7 @@ use Rattle.name_table.specs.declared.names.Kind.{Kind}
 use Rattle.name_table.specs.declared.names.NameId.{NameId}
 use Rattle.cert_format.specs.Items.{is_field, is_type}
 use Rattle.cert_format.specs.Spelling.{cond_items, text_of}
-use Rattle.cert_format.specs.declared.cond_lines.TheConstants.{MOST, MOST_ENTRIES}
+use Rattle.cert_format.specs.declared.limits.TheConstants.{MOST, MOST_ENTRIES}
 
 -- each item of a list stands before the next one
 abbrev pub is_chain : {A : Type 0} → (A → A → Bool) → List A → Bool

@@ -9,9 +9,9 @@ use Rattle.name_table.specs.declared.names.NameId.{NameId}
 use Rattle.cert_format.specs.Items.{expected, is_word, natural, field_above, type_above, last_of, choice}
 use Rattle.cert_format.specs.Lines.{Item, Line, next_item, line_end, lines_of}
 use Rattle.cert_format.specs.declared.cond_lines.CondSoFar.{CondSoFar}
-use Rattle.cert_format.specs.declared.cond_lines.Stage.{Stage}
-use Rattle.cert_format.specs.declared.cond_lines.Stage.TheVariants.{Entries, Key, Preamble, Length, Names, Nonblank, Types, End, Done}
-use Rattle.cert_format.specs.declared.cond_lines.TheConstants.{MOST, MOST_ENTRIES}
+use Rattle.cert_format.specs.declared.limits.TheConstants.{MOST, MOST_ENTRIES}
+use Rattle.cert_format.specs.declared.stages.CondStage.{CondStage}
+use Rattle.cert_format.specs.declared.stages.CondStage.TheVariants.{Entries, Key, Preamble, Length, Names, Nonblank, Types, End, Done}
 use Rattle.cert_format.specs.declared.stop.Stop.{Stop}
 use Rattle.cert_format.specs.declared.stop.Stop.TheVariants.{Syntax}
 
@@ -45,6 +45,13 @@ preamble_line word line p = numbered (codes "preamble") MOST (λ number. record 
 -- `length` N
 abbrev pub length_line : Item → Line → CondSoFar → Result CondSoFar Stop
 length_line word line p = numbered (codes "length") MOST (λ number. record { stage = Names; cond = record p.cond { length = number } }) word line
+
+-- a line of a word and a number, by what comes next
+abbrev pub number_at : CondStage → Item → Line → CondSoFar → Result CondSoFar Stop
+number_at Entries word line p = entries_line word line p
+number_at Key word line p = key_line word line p
+number_at Preamble word line p = preamble_line word line p
+number_at _ word line p = length_line word line p
 
 -- the field of the last of some lines on names
 abbrev pub last_field : List NamesLine → Option NameId
@@ -89,12 +96,12 @@ end_line word line p =
     then_do (expected (codes "end") word) (λ _. then_do (line_end line) (λ _. Ok (record p { stage = Done })))
 
 -- a `names` line may come
-abbrev pub may_have_names : Stage → Bool
+abbrev pub may_have_names : CondStage → Bool
 may_have_names Names = true
 may_have_names _ = false
 
 -- a `nonblank` line may come
-abbrev pub may_have_nonblank : Stage → Bool
+abbrev pub may_have_nonblank : CondStage → Bool
 may_have_nonblank Nonblank = true
 may_have_nonblank s = may_have_names s
 
@@ -107,7 +114,7 @@ listed_line names word line p =
     else othertype_line word line p
 
 -- a line of a condition by its first word
-abbrev pub worded_line : List (List ℕ × Kind) → Stage → Item → Line → CondSoFar → Result CondSoFar Stop
+abbrev pub worded_line : List (List ℕ × Kind) → CondStage → Item → Line → CondSoFar → Result CondSoFar Stop
 worded_line names Entries word line p = entries_line word line p
 worded_line names Key word line p = key_line word line p
 worded_line names Preamble word line p = preamble_line word line p
@@ -136,7 +143,7 @@ cond_lines names [] p = Ok p
 cond_lines names (line ∷ lines) p = then_do (cond_line names line p) (cond_lines names lines)
 
 -- the condition, where its last line has come; the text ends too early where it hasn't
-abbrev pub finished : CondSoFar → Stage → Result Cond Stop
+abbrev pub finished : CondSoFar → CondStage → Result Cond Stop
 finished p Done = Ok p.cond
 finished p _ = Err (Syntax 0)
 

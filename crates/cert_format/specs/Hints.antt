@@ -12,9 +12,8 @@ use Rattle.cert_format.specs.Conditions.{last_natural}
 use Rattle.cert_format.specs.Items.{has_leading_zero, is_empty, is_numeral, is_word, positive}
 use Rattle.cert_format.specs.Lines.{Item, Line, next_item}
 use Rattle.cert_format.specs.Pieces.{at_end, with_all}
-use Rattle.cert_format.specs.declared.cond_lines.TheConstants.{MOST}
 use Rattle.cert_format.specs.declared.items.TheConstants.{MOST_NUMBER}
-use Rattle.cert_format.specs.declared.piece_lines.TheConstants.{MOST_ITEMS}
+use Rattle.cert_format.specs.declared.limits.TheConstants.{MOST, MOST_ITEMS}
 use Rattle.cert_format.specs.declared.stop.Stop.{Stop}
 use Rattle.cert_format.specs.declared.stop.Stop.TheVariants.{Syntax, OutOfRange, NotCanonical, TooMany}
 

@@ -9,7 +9,7 @@ use Rattle.name_table.specs.Names.{id_of, kind_at, same_name}
 use Rattle.name_table.specs.declared.names.Kind.{Kind}
 use Rattle.name_table.specs.declared.names.Kind.TheVariants.{Field}
 use Rattle.name_table.specs.declared.names.NameId.{NameId}
-use Rattle.cert_format.specs.Lines.{Item}
+use Rattle.cert_format.specs.Lines.{Item, Line, line_end}
 use Rattle.cert_format.specs.declared.stop.Stop.{Stop}
 use Rattle.cert_format.specs.declared.stop.Stop.TheVariants.{Syntax, UnknownName, OutOfRange, NotCanonical}
 
@@ -20,6 +20,10 @@ is_word word item = pointwise nat_eq item.text word
 -- the item must be this word
 abbrev pub expected : List ℕ → Item → Result (Unit {0}) Stop
 expected word item = if is_word word item then Ok tt else Err (Syntax item.left)
+
+-- a line must be this word alone
+abbrev pub only : List ℕ → Item → Line → Result (Unit {0}) Stop
+only text word line = then_do (expected text word) (λ _. line_end line)
 
 -- no byte
 abbrev pub is_empty : List ℕ → Bool

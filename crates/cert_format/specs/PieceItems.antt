@@ -18,8 +18,8 @@ use Rattle.sym_state.specs.declared.symbol.Kinds.TheVariants.{Int as IntKind, St
 use Rattle.sym_state.specs.declared.symbol.Sym.{Sym}
 use Rattle.cert_format.specs.Items.{field_in, has_leading_zero, is_above, is_numeral, is_word, name_in}
 use Rattle.cert_format.specs.Lines.{Item}
-use Rattle.cert_format.specs.declared.cond_lines.TheConstants.{MOST}
 use Rattle.cert_format.specs.declared.items.TheConstants.{MOST_NUMBER}
+use Rattle.cert_format.specs.declared.limits.TheConstants.{MOST}
 use Rattle.cert_format.specs.declared.piece_items.TheConstants.{ROW_SIZE}
 use Rattle.cert_format.specs.declared.stop.Stop.{Stop}
 use Rattle.cert_format.specs.declared.stop.Stop.TheVariants.{Syntax, UnknownName, OutOfRange, NotCanonical}

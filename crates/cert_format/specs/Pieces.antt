@@ -14,13 +14,13 @@ use Rattle.sym_state.specs.declared.symbol.Sym.{Sym}
 use Rattle.cert_format.specs.Items.{among, last_of, name_in}
 use Rattle.cert_format.specs.Lines.{Item, Line, line_end, next_item}
 use Rattle.cert_format.specs.PieceItems as items
+use Rattle.cert_format.specs.declared.limits.TheConstants.{MOST_ITEMS, MOST_TERMS}
 use Rattle.cert_format.specs.declared.piece_items.TheConstants.{ROW_SIZE}
 use Rattle.cert_format.specs.declared.piece_lines.PieceSoFar.{PieceSoFar}
-use Rattle.cert_format.specs.declared.piece_lines.PieceStage.{PieceStage}
-use Rattle.cert_format.specs.declared.piece_lines.PieceStage.TheVariants as stage
-use Rattle.cert_format.specs.declared.piece_lines.PieceWord.{PieceWord}
-use Rattle.cert_format.specs.declared.piece_lines.PieceWord.TheVariants.{Stack, Var, Field, Is, Int, Text, Call, Block, Blank, Nonblank, Wellformed, Row}
-use Rattle.cert_format.specs.declared.piece_lines.TheConstants.{MOST_ITEMS, MOST_TERMS}
+use Rattle.cert_format.specs.declared.stages.PieceStage.{PieceStage}
+use Rattle.cert_format.specs.declared.stages.PieceStage.TheVariants as stage
+use Rattle.cert_format.specs.declared.stages.PieceWord.{PieceWord}
+use Rattle.cert_format.specs.declared.stages.PieceWord.TheVariants.{Stack, Var, Field, Is, Int, Text, Call, Block, Blank, Nonblank, Wellformed, Row}
 use Rattle.cert_format.specs.declared.stop.Stop.{Stop}
 use Rattle.cert_format.specs.declared.stop.Stop.TheVariants.{TooMany}
 
@@ -92,6 +92,16 @@ field_line names line p =
     bind_line (items.entry_field p.at_entry (last_bound p.piece.fields) names) p.next line (λ bind.
     record p { stage = stage.Fields; next = items.next_after p.next bind.sym; piece = record p.piece { fields = p.piece.fields ++ bind ∷ [] } })
 
+-- the line of a variable or of a field, after its word
+abbrev pub bound_line : PieceWord → List (List ℕ × Kind) → Line → PieceSoFar → Result PieceSoFar Stop
+bound_line Var names line p = var_line names line p
+bound_line _ names line p = field_line names line p
+
+-- the name of a variable or of a field, above the last one
+abbrev pub bound_name : PieceWord → List (List ℕ × Kind) → PieceSoFar → Item → Result NameId Stop
+bound_name Var names p item = items.variable_above p.at_entry (last_bound p.piece.vars) names item
+bound_name _ names p item = items.entry_field p.at_entry (last_bound p.piece.fields) names item
+
 -- a fact by the word of its line, after its symbol
 abbrev pub fact_of : Style → PieceWord → Sym → Line → Result Fact Stop
 fact_of style Is sym line =
@@ -162,13 +172,17 @@ stage_rank stage.Fields = 2
 stage_rank stage.Facts = 3
 stage_rank stage.Rows = 4
 
+-- the line that a word begins
+abbrev pub stage_of : PieceWord → PieceStage
+stage_of Stack = stage.Stack
+stage_of Var = stage.Vars
+stage_of Field = stage.Fields
+stage_of Row = stage.Rows
+stage_of _ = stage.Facts
+
 -- the order of the lines of a piece, by their words
 abbrev pub word_rank : PieceWord → ℕ
-word_rank Stack = stage_rank stage.Stack
-word_rank Var = stage_rank stage.Vars
-word_rank Field = stage_rank stage.Fields
-word_rank Row = stage_rank stage.Rows
-word_rank _ = stage_rank stage.Facts
+word_rank word = stage_rank (stage_of word)
 
 -- a word, where its line may come
 abbrev pub where_due : PieceStage → PieceWord → Option PieceWord

@@ -8,23 +8,28 @@ use Rattle.cert_format.specs.Items.{among, is_word, last_of}
 use Rattle.cert_format.specs.Lines.{Item, Line, next_item}
 use Rattle.cert_format.specs.PieceItems.{variable_above}
 use Rattle.cert_format.specs.Pieces.{at_end, no_piece, piece_line, piece_word}
+use Rattle.cert_format.specs.declared.limits.TheConstants.{MOST_PIECES}
 use Rattle.cert_format.specs.declared.piece_lines.PieceSoFar.{PieceSoFar}
-use Rattle.cert_format.specs.declared.piece_lines.PieceWord.{PieceWord}
+use Rattle.cert_format.specs.declared.stages.Mark.{Mark}
+use Rattle.cert_format.specs.declared.stages.Mark.TheVariants.{Pre, Post, Case, Exit, After, Visit, Keeps}
+use Rattle.cert_format.specs.declared.stages.PieceWord.{PieceWord}
+use Rattle.cert_format.specs.declared.stages.UnitKind.{UnitKind}
+use Rattle.cert_format.specs.declared.stages.UnitKind.TheVariants as unit
+use Rattle.cert_format.specs.declared.stages.UnitStage.{UnitStage}
+use Rattle.cert_format.specs.declared.stages.UnitStage.TheVariants as stage
 use Rattle.cert_format.specs.declared.stop.Stop.{Stop}
 use Rattle.cert_format.specs.declared.stop.Stop.TheVariants.{Syntax, TooMany}
-use Rattle.cert_format.specs.declared.unit_lines.Mark.{Mark}
-use Rattle.cert_format.specs.declared.unit_lines.Mark.TheVariants.{Pre, Post, Case, Exit, After, Visit, Keeps}
-use Rattle.cert_format.specs.declared.unit_lines.TheConstants.{MOST_PIECES}
-use Rattle.cert_format.specs.declared.unit_lines.UnitKind.{UnitKind}
-use Rattle.cert_format.specs.declared.unit_lines.UnitKind.TheVariants as unit
 use Rattle.cert_format.specs.declared.unit_lines.UnitSoFar.{UnitSoFar}
-use Rattle.cert_format.specs.declared.unit_lines.UnitStage.{UnitStage}
-use Rattle.cert_format.specs.declared.unit_lines.UnitStage.TheVariants as stage
 
 -- what stands between the first line of a unit and its pieces: nothing in a command
 abbrev pub first_stage : UnitKind → UnitStage
 first_stage (unit.Command index) = stage.Pieces
 first_stage _ = stage.Entry
+
+-- a unit has all its lines
+abbrev pub is_done : UnitStage → Bool
+is_done stage.Done = true
+is_done _ = false
 
 -- after the first line of a unit
 abbrev pub no_unit : UnitKind → UnitSoFar

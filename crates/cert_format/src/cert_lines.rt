@@ -6,12 +6,15 @@ ghost use Rattle.cert_format.specs.Certs as certs;
 ghost use Rattle.cert_format.specs.declared.stop.Stop.TheVariants.{NoMemory as WantOfMemory};
 
 use crate::cert::{Cert, CommandPart, Loop, Summary};
-use crate::cond_lines::{CondSoFar, MOST, Stage};
+use crate::cond_lines::CondSoFar;
 use crate::items::{has_leading_zero, is_numeral};
-use crate::lines::{Item, Line, Worded};
+use crate::limits::{MOST, MOST_LIST, MOST_UNITS};
+use crate::lines::{Item, Line};
+use crate::stages::{CertStage, CondStage, UnitKind};
 use crate::stop::Stop;
 use crate::styled::Styled;
-use crate::unit_lines::{UnitKind, UnitSoFar, UnitStage};
+use crate::unit_lines::UnitSoFar;
+use crate::worded::Worded;
 use bst_meaning::value::Target;
 use bv_base::memory::NoMemory;
 use bv_base::runs::number;
@@ -19,36 +22,17 @@ use bv_base::seq::Seq;
 use std::alloc::Global;
 use sym_state::piece::Piece;
 
-/// The greatest number of a list of errors.
-pub const MOST_LIST: u32 = 1;
-
-/// The most summaries of a certificate, and the most loops.
-pub const MOST_UNITS: usize = 65536;
-
-/// The line of a certificate that comes next.
-#[derive(Clone, Copy, Debug, PartialEq, Eq)]
-pub(crate) enum CertStage {
-    Header,
-    /// A line of the condition.
-    Cond,
-    /// The first line of a unit, or `done`.
-    Units,
-    /// A line of a unit.
-    InUnit,
-    Done,
-}
-
 /// What has been read of a certificate.
 #[derive(Drop)]
 pub(crate) struct CertSoFar {
-    pub(crate) stage: CertStage,
-    pub(crate) list: u32,
-    pub(crate) cond: CondSoFar,
+    stage: CertStage,
+    list: u32,
+    cond: CondSoFar,
     /// The unit that is being read.
-    pub(crate) unit: UnitSoFar,
-    pub(crate) summaries: Seq<Summary>,
-    pub(crate) loops: Seq<Loop>,
-    pub(crate) commands: Seq<CommandPart>,
+    unit: UnitSoFar,
+    summaries: Seq<Summary>,
+    loops: Seq<Loop>,
+    commands: Seq<CommandPart>,
 }
 
 impl CertSoFar {
@@ -72,19 +56,11 @@ impl CertSoFar {
         &mut self,
         alloc: Global,
         style: &Styled<'_>,
-        mut line: Line<'_>,
+        line: Line<'_>,
     ) -> Result<(), Stop>
         ensures { Leaves WantOfMemory (certs.cert_line style.now line.entry self.old) self.new result }
     {
-        let word = line.item()?;
-        self.take_worded(
-            style,
-            &mut Worded {
-                alloc,
-                word,
-                rest: line,
-            },
-        )
+        self.take_worded(style, &mut Worded::new(alloc, line)?)
     }
 
     /// Takes a line, after its first word.
@@ -194,8 +170,7 @@ impl CertSoFar {
     fn take_done(&mut self, line: &mut Worded<'_>) -> Result<(), Stop>
         ensures { Leaves WantOfMemory (certs.done_line line.old.word line.old.rest self.old) self.new result }
     {
-        line.word.expect(b"done")?;
-        line.rest.end()?;
+        line.only(b"done")?;
         self.stage = CertStage::Done;
         Ok(())
     }
@@ -205,7 +180,7 @@ impl CertSoFar {
         ensures { Leaves WantOfMemory (certs.in_unit style.now line.old.word line.old.rest self.old) self.new result }
     {
         self.unit.take(style, line)?;
-        if is_done(self.unit.stage) {
+        if self.unit.is_done() {
             self.finish_unit(line.alloc)?;
         }
         Ok(())
@@ -351,20 +326,13 @@ fn or_nothing(alloc: Global, piece: Option<Piece>) -> Piece
 }
 
 /// What comes after a line of the condition.
-fn after_cond(stage: Stage) -> CertStage
+fn after_cond(stage: CondStage) -> CertStage
     ensures { result ≡ certs.after_cond stage }
 {
     match stage {
-        Stage::Done => CertStage::Units,
+        CondStage::Done => CertStage::Units,
         _ => CertStage::Cond,
     }
-}
-
-/// Whether a unit has all its lines.
-fn is_done(stage: UnitStage) -> bool
-    ensures { result ≡ certs.is_done stage }
-{
-    matches!(stage, UnitStage::Done)
 }
 
 /// The last command before the next one.

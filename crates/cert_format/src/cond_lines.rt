@@ -6,42 +6,21 @@ ghost use Rattle.cert_format.specs.Conditions as conditions;
 ghost use Rattle.cert_format.specs.Items.{last_of};
 ghost use Rattle.cert_format.specs.declared.stop.Stop.TheVariants.{NoMemory as WantOfMemory};
 
-use crate::lines::{Line, Worded};
+use crate::limits::{MOST, MOST_ENTRIES};
+use crate::lines::Line;
+use crate::stages::CondStage;
 use crate::stop::Stop;
+use crate::worded::Worded;
 use bst_meaning::condition::{Cond, NamesLine};
 use bv_base::seq::Seq;
 use bv_base::text::Text;
 use name_table::names::{NameId, Names};
 use std::alloc::Global;
 
-/// The most entries that a condition may ask for.
-pub const MOST_ENTRIES: u32 = 1_000_000;
-
-/// The greatest other number of a condition, of a unit and of a hint.
-pub const MOST: u32 = 1_073_741_824;
-
-/// The line of a condition that comes next.
-#[derive(Clone, Copy, Debug, PartialEq, Eq)]
-pub(crate) enum Stage {
-    Entries,
-    Key,
-    Preamble,
-    Length,
-    /// A line on names, or one that stands after those.
-    Names,
-    /// A `nonblank` line, or one that stands after those.
-    Nonblank,
-    /// A `type` line, or one that stands after those.
-    Types,
-    End,
-    /// None.
-    Done,
-}
-
 /// What has been read of a condition.
 #[derive(Drop)]
 pub(crate) struct CondSoFar {
-    pub(crate) stage: Stage,
+    pub(crate) stage: CondStage,
     pub(crate) cond: Cond,
 }
 
@@ -51,7 +30,7 @@ impl CondSoFar {
         ensures { result ≡ conditions.no_lines }
     {
         CondSoFar {
-            stage: Stage::Entries,
+            stage: CondStage::Entries,
             cond: Cond {
                 entries: 0,
                 key: 0,
@@ -66,23 +45,10 @@ impl CondSoFar {
     }
 
     /// Takes the next line.
-    pub(crate) fn take(
-        &mut self,
-        alloc: Global,
-        names: &Names,
-        mut line: Line<'_>,
-    ) -> Result<(), Stop>
+    pub(crate) fn take(&mut self, alloc: Global, names: &Names, line: Line<'_>) -> Result<(), Stop>
         ensures { Leaves WantOfMemory (conditions.cond_line names.now line.entry self.old) self.new result }
     {
-        let word = line.item()?;
-        self.take_worded(
-            names,
-            &mut Worded {
-                alloc,
-                word,
-                rest: line,
-            },
-        )
+        self.take_worded(names, &mut Worded::new(alloc, line)?)
     }
 
     /// Takes a line, after its first word.
@@ -90,49 +56,37 @@ impl CondSoFar {
         ensures { Leaves WantOfMemory (conditions.worded_line names.now self.old.stage line.old.word line.old.rest self.old) self.new result }
     {
         match self.stage {
-            Stage::Entries => self.take_entries(line),
-            Stage::Key => self.take_key(line),
-            Stage::Preamble => self.take_preamble(line),
-            Stage::Length => self.take_length(line),
-            Stage::Names | Stage::Nonblank | Stage::Types => self.take_listed(names, line),
-            Stage::End => self.take_end(line),
-            Stage::Done => Err(Stop::Syntax(line.word.left())),
+            CondStage::Names | CondStage::Nonblank | CondStage::Types => self.take_listed(
+                names, line,
+            ),
+            CondStage::End => self.take_end(line),
+            CondStage::Done => Err(Stop::Syntax(line.word.left())),
+            _ => self.take_number(line),
         }
     }
 
-    /// Takes the line of `entries`.
-    fn take_entries(&mut self, line: &mut Worded<'_>) -> Result<(), Stop>
-        ensures { Leaves WantOfMemory (conditions.entries_line line.old.word line.old.rest self.old) self.new result }
+    /// Takes a line of a word and a number.
+    fn take_number(&mut self, line: &mut Worded<'_>) -> Result<(), Stop>
+        ensures { Leaves WantOfMemory (conditions.number_at self.old.stage line.old.word line.old.rest self.old) self.new result }
     {
-        self.cond.entries = number_line(b"entries", MOST_ENTRIES, line)?;
-        self.stage = Stage::Key;
-        Ok(())
-    }
-
-    /// Takes the line of `key`.
-    fn take_key(&mut self, line: &mut Worded<'_>) -> Result<(), Stop>
-        ensures { Leaves WantOfMemory (conditions.key_line line.old.word line.old.rest self.old) self.new result }
-    {
-        self.cond.key = number_line(b"key", MOST, line)?;
-        self.stage = Stage::Preamble;
-        Ok(())
-    }
-
-    /// Takes the line of `preamble`.
-    fn take_preamble(&mut self, line: &mut Worded<'_>) -> Result<(), Stop>
-        ensures { Leaves WantOfMemory (conditions.preamble_line line.old.word line.old.rest self.old) self.new result }
-    {
-        self.cond.preamble = number_line(b"preamble", MOST, line)?;
-        self.stage = Stage::Length;
-        Ok(())
-    }
-
-    /// Takes the line of `length`.
-    fn take_length(&mut self, line: &mut Worded<'_>) -> Result<(), Stop>
-        ensures { Leaves WantOfMemory (conditions.length_line line.old.word line.old.rest self.old) self.new result }
-    {
-        self.cond.length = number_line(b"length", MOST, line)?;
-        self.stage = Stage::Names;
+        match self.stage {
+            CondStage::Entries => {
+                self.cond.entries = number_line(b"entries", MOST_ENTRIES, line)?;
+                self.stage = CondStage::Key;
+            }
+            CondStage::Key => {
+                self.cond.key = number_line(b"key", MOST, line)?;
+                self.stage = CondStage::Preamble;
+            }
+            CondStage::Preamble => {
+                self.cond.preamble = number_line(b"preamble", MOST, line)?;
+                self.stage = CondStage::Length;
+            }
+            _ => {
+                self.cond.length = number_line(b"length", MOST, line)?;
+                self.stage = CondStage::Names;
+            }
+        }
         Ok(())
     }
 
@@ -171,7 +125,7 @@ impl CondSoFar {
         let field = item.field_above(last_id(self.cond.nonblank.as_slice()), names)?;
         line.rest.end()?;
         self.cond.nonblank.push(field)?;
-        self.stage = Stage::Nonblank;
+        self.stage = CondStage::Nonblank;
         Ok(())
     }
 
@@ -185,7 +139,7 @@ impl CondSoFar {
         self.cond
             .types
             .push(Text::from_slice(line.alloc, item.text())?)?;
-        self.stage = Stage::Types;
+        self.stage = CondStage::Types;
         Ok(())
     }
 
@@ -198,7 +152,7 @@ impl CondSoFar {
         let other = item.choice()?;
         line.rest.end()?;
         self.cond.other = other;
-        self.stage = Stage::End;
+        self.stage = CondStage::End;
         Ok(())
     }
 
@@ -206,9 +160,8 @@ impl CondSoFar {
     fn take_end(&mut self, line: &mut Worded<'_>) -> Result<(), Stop>
         ensures { Leaves WantOfMemory (conditions.end_line line.old.word line.old.rest self.old) self.new result }
     {
-        line.word.expect(b"end")?;
-        line.rest.end()?;
-        self.stage = Stage::Done;
+        line.only(b"end")?;
+        self.stage = CondStage::Done;
         Ok(())
     }
 
@@ -217,17 +170,17 @@ impl CondSoFar {
         ensures { Gives WantOfMemory (conditions.finished self self.stage) result }
     {
         match self.stage {
-            Stage::Done => Ok(self.cond),
+            CondStage::Done => Ok(self.cond),
             _ => Err(Stop::Syntax(0)),
         }
     }
 }
 
 /// Whether a line on names may come.
-fn may_have_names(stage: Stage) -> bool
+fn may_have_names(stage: CondStage) -> bool
     ensures { result ≡ conditions.may_have_names stage }
 {
-    matches!(stage, Stage::Names)
+    matches!(stage, CondStage::Names)
 }
 
 /// The field of the last of some lines on names.
@@ -241,10 +194,10 @@ fn last_field(lines: &[NamesLine]) -> Option<NameId>
 }
 
 /// Whether a `nonblank` line may come.
-fn may_have_nonblank(stage: Stage) -> bool
+fn may_have_nonblank(stage: CondStage) -> bool
     ensures { result ≡ conditions.may_have_nonblank stage }
 {
-    matches!(stage, Stage::Names | Stage::Nonblank)
+    matches!(stage, CondStage::Names | CondStage::Nonblank)
 }
 
 /// The last of some ids.

@@ -6,11 +6,12 @@ ghost use Rattle.bv_base.specs.Runs.{length_before, number_from};
 ghost use Rattle.cert_format.specs.Hints as hints;
 ghost use Rattle.cert_format.specs.declared.stop.Stop.TheVariants.{NoMemory as WantOfMemory};
 
-use crate::cond_lines::{MOST, last_natural};
+use crate::cond_lines::last_natural;
 use crate::items::{MOST_NUMBER, has_leading_zero, is_numeral};
-use crate::lines::{Item, Line, Worded, after_first};
-use crate::piece_lines::MOST_ITEMS;
+use crate::limits::{MOST, MOST_ITEMS};
+use crate::lines::{Item, Line, after_first};
 use crate::stop::Stop;
+use crate::worded::Worded;
 use bv_base::runs::{length_before, number};
 use bv_base::seq::Seq;
 use std::alloc::Global;

@@ -9,6 +9,7 @@ mod hex;
 mod hint_lines;
 mod items;
 pub mod laws;
+mod limits;
 mod lines;
 mod piece_items;
 mod piece_lines;
@@ -18,6 +19,10 @@ mod put_hints;
 mod put_pieces;
 mod put_units;
 pub mod read;
+mod stages;
 mod stop;
 mod styled;
 mod unit_lines;
+mod worded;
+
+pub use crate::piece_items::is_before;

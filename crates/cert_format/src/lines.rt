@@ -11,7 +11,6 @@ ghost use Rattle.cert_format.specs.declared.stop.Stop.TheVariants.{NoMemory as W
 use crate::stop::Stop;
 use bv_base::limits::STYLE_BYTES;
 use bv_base::runs::length_before;
-use std::alloc::Global;
 use std::marker::Model;
 
 /// The lines of a text that are left. Contracts see them as a list.
@@ -157,14 +156,6 @@ impl<'a> Item<'a> {
     {
         self.left
     }
-}
-
-/// A line behind its first word.
-#[derive(Drop)]
-pub(crate) struct Worded<'a> {
-    pub(crate) alloc: Global,
-    pub(crate) word: Item<'a>,
-    pub(crate) rest: Line<'a>,
 }
 
 /// All but the first byte.

@@ -7,8 +7,8 @@ ghost use Rattle.name_table.specs.Names.{kind_at};
 ghost use Rattle.cert_format.specs.PieceItems as items;
 ghost use Rattle.cert_format.specs.declared.stop.Stop.TheVariants.{NoMemory as WantOfMemory};
 
-use crate::cond_lines::MOST;
 use crate::items::{Named, has_leading_zero, is_above, is_numeral};
+use crate::limits::MOST;
 use crate::lines::Item;
 use crate::stop::Stop;
 use crate::styled::Styled;
@@ -294,7 +294,7 @@ fn is_later(last: Option<&Part>, term: Term) -> bool
 }
 
 /// Whether a term stands before another in a row.
-fn is_before(a: Term, b: Term) -> bool
+pub fn is_before(a: Term, b: Term) -> bool
     ensures { result ≡ items.is_before a b }
 {
     term_rank(a) < term_rank(b) || (term_rank(a) == term_rank(b) && term_symbol(a) < term_symbol(b))

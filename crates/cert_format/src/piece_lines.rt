@@ -8,48 +8,18 @@ ghost use Rattle.cert_format.specs.Pieces as pieces;
 ghost use Rattle.cert_format.specs.declared.stop.Stop.TheVariants.{NoMemory as WantOfMemory};
 
 use crate::items::among;
-use crate::lines::{Item, Line, Worded};
+use crate::limits::{MOST_ITEMS, MOST_TERMS};
+use crate::lines::{Item, Line};
+use crate::stages::{PieceStage, PieceWord};
 use crate::stop::Stop;
 use crate::styled::Styled;
+use crate::worded::Worded;
 use bv_base::seq::Seq;
 use lin_facts::row::{Part, Row};
 use name_table::names::{NameId, Names};
 use std::alloc::Global;
 use sym_state::piece::Piece;
 use sym_state::symbol::{Bind, Fact, Sym};
-
-/// The most symbols of a stack, facts and rows of a piece, and uses of a proof.
-pub const MOST_ITEMS: usize = 64;
-
-/// The most terms of a row.
-pub const MOST_TERMS: usize = 32;
-
-/// The line of a piece that comes next: one of this kind or a later one.
-#[derive(Clone, Copy, Debug, PartialEq, Eq)]
-pub(crate) enum PieceStage {
-    Stack,
-    Vars,
-    Fields,
-    Facts,
-    Rows,
-}
-
-/// The word with which a line of a piece begins.
-#[derive(Clone, Copy, Debug, PartialEq, Eq)]
-pub(crate) enum PieceWord {
-    Stack,
-    Var,
-    Field,
-    Is,
-    Int,
-    Text,
-    Call,
-    Block,
-    Blank,
-    Nonblank,
-    Wellformed,
-    Row,
-}
 
 /// What has been read of a piece.
 #[derive(Drop)]
@@ -102,8 +72,7 @@ impl PieceSoFar {
     {
         match kind {
             PieceWord::Stack => self.take_stack(line),
-            PieceWord::Var => self.take_var(style.names(), line),
-            PieceWord::Field => self.take_field(style.names(), line),
+            PieceWord::Var | PieceWord::Field => self.take_bound(kind, style.names(), line),
             PieceWord::Row => self.take_row(line),
             _ => self.take_fact(kind, style, line),
         }
@@ -144,38 +113,46 @@ impl PieceSoFar {
         Ok(())
     }
 
-    /// Takes the line of a variable, after its word.
-    fn take_var(&mut self, names: &Names, line: &mut Worded<'_>) -> Result<(), Stop>
-        ensures { Leaves WantOfMemory (pieces.var_line names.now line.old.rest self.old) self.new result }
+    /// Takes the line of a variable or of a field, after its word.
+    fn take_bound(
+        &mut self,
+        kind: PieceWord,
+        names: &Names,
+        line: &mut Worded<'_>,
+    ) -> Result<(), Stop>
+        ensures { Leaves WantOfMemory (pieces.bound_line kind names.now line.old.rest self.old) self.new result }
     {
         let item = line.rest.item()?;
-        let name = item.variable_above(
-            self.at_entry,
-            last_bound(self.piece.vars.as_slice()),
-            names,
-        )?;
+        let name = self.bound_name(kind, names, &item)?;
         let bind = bound(self.next, name, &mut line.rest)?;
-        self.piece.vars.push(bind)?;
         self.next = next_after(self.next, bind.sym);
-        self.stage = PieceStage::Vars;
+        match kind {
+            PieceWord::Var => {
+                self.piece.vars.push(bind)?;
+                self.stage = PieceStage::Vars;
+            }
+            _ => {
+                self.piece.fields.push(bind)?;
+                self.stage = PieceStage::Fields;
+            }
+        }
         Ok(())
     }
 
-    /// Takes the line of a field, after its word.
-    fn take_field(&mut self, names: &Names, line: &mut Worded<'_>) -> Result<(), Stop>
-        ensures { Leaves WantOfMemory (pieces.field_line names.now line.old.rest self.old) self.new result }
+    /// The name of a variable or of a field, above the last one.
+    fn bound_name(&self, kind: PieceWord, names: &Names, item: &Item<'_>) -> Result<NameId, Stop>
+        ensures { Gives WantOfMemory (pieces.bound_name kind names.now self.now item.now) result }
     {
-        let item = line.rest.item()?;
-        let name = item.entry_field(
-            self.at_entry,
-            last_bound(self.piece.fields.as_slice()),
-            names,
-        )?;
-        let bind = bound(self.next, name, &mut line.rest)?;
-        self.piece.fields.push(bind)?;
-        self.next = next_after(self.next, bind.sym);
-        self.stage = PieceStage::Fields;
-        Ok(())
+        match kind {
+            PieceWord::Var => {
+                item.variable_above(self.at_entry, last_bound(self.piece.vars.as_slice()), names)
+            }
+            _ => item.entry_field(
+                self.at_entry,
+                last_bound(self.piece.fields.as_slice()),
+                names,
+            ),
+        }
     }
 
     /// Takes a fact, after the word of its line.
@@ -260,7 +237,7 @@ const WORDS: [(&[u8], PieceWord); 12] = [
 fn where_due(stage: PieceStage, word: PieceWord) -> Option<PieceWord>
     ensures { result ≡ pieces.where_due stage word }
 {
-    if stage_rank(stage) <= word_rank(word) {
+    if stage_rank(stage) <= stage_rank(stage_of(word)) {
         Some(word)
     } else {
         None
@@ -280,16 +257,16 @@ fn stage_rank(stage: PieceStage) -> u8
     }
 }
 
-/// The order of the lines of a piece, by their words.
-fn word_rank(word: PieceWord) -> u8
-    ensures { result ≡ pieces.word_rank word }
+/// The line that a word begins.
+fn stage_of(word: PieceWord) -> PieceStage
+    ensures { result ≡ pieces.stage_of word }
 {
     match word {
-        PieceWord::Stack => 0,
-        PieceWord::Var => 1,
-        PieceWord::Field => 2,
-        PieceWord::Row => 4,
-        _ => 3,
+        PieceWord::Stack => PieceStage::Stack,
+        PieceWord::Var => PieceStage::Vars,
+        PieceWord::Field => PieceStage::Fields,
+        PieceWord::Row => PieceStage::Rows,
+        _ => PieceStage::Facts,
     }
 }
 

@@ -9,11 +9,13 @@ ghost use Rattle.cert_format.specs.declared.stop.Stop.TheVariants.{NoMemory as W
 use crate::cond_lines::last_id;
 use crate::hint_lines::hint_line;
 use crate::items::among;
-use crate::lines::{Item, Worded};
-use crate::piece_lines::{PieceSoFar, PieceWord};
+use crate::limits::MOST_PIECES;
+use crate::lines::Item;
+use crate::piece_lines::PieceSoFar;
+use crate::stages::{Mark, PieceWord, UnitKind, UnitStage};
 use crate::stop::Stop;
 use crate::styled::Styled;
-use bst_meaning::value::Target;
+use crate::worded::Worded;
 use bv_base::memory::NoMemory;
 use bv_base::seq::Seq;
 use name_table::names::{NameId, Names};
@@ -21,56 +23,22 @@ use std::alloc::Global;
 use sym_state::hint::Hint;
 use sym_state::piece::Piece;
 
-/// The most pieces of a unit.
-pub const MOST_PIECES: u32 = 64;
-
-/// What the first line of a unit says.
-#[derive(Clone, Copy, Debug, PartialEq, Eq)]
-pub(crate) enum UnitKind {
-    Summary(Target),
-    Loop(Target, Target),
-    Command(u32),
-}
-
-/// The line of a unit that comes next: one of this kind or a later one.
-#[derive(Clone, Copy, Debug, PartialEq, Eq)]
-pub(crate) enum UnitStage {
-    Entry,
-    Whole,
-    Writes,
-    Pieces,
-    Hints,
-    Done,
-}
-
-/// The word before a piece.
-#[derive(Clone, Copy, Debug, PartialEq, Eq)]
-pub(crate) enum Mark {
-    Pre,
-    Post,
-    Case,
-    Exit,
-    After,
-    Visit,
-    Keeps,
-}
-
 /// What has been read of a unit.
 #[derive(Drop)]
 pub(crate) struct UnitSoFar {
     pub(crate) kind: UnitKind,
-    pub(crate) stage: UnitStage,
+    stage: UnitStage,
     pub(crate) entry: bool,
     pub(crate) whole: bool,
     pub(crate) writes: Seq<NameId>,
     /// The word before the open piece.
-    pub(crate) last: Option<Mark>,
+    last: Option<Mark>,
     /// How many pieces were opened.
-    pub(crate) count: u32,
+    count: u32,
     /// How many symbols the pre has.
-    pub(crate) symbols: u32,
+    symbols: u32,
     /// The open piece.
-    pub(crate) piece: PieceSoFar,
+    piece: PieceSoFar,
     pub(crate) pre: Option<Piece>,
     pub(crate) cases: Seq<Piece>,
     /// The posts of a summary or the exits of a loop.
@@ -115,6 +83,13 @@ impl UnitSoFar {
             UnitStage::Done => Err(Stop::Syntax(line.word.left())),
             _ => self.take_body(style, line),
         }
+    }
+
+    /// Whether all lines have come.
+    pub(crate) fn is_done(&self) -> bool
+        ensures { result ≡ units.is_done self.now.stage }
+    {
+        matches!(self.stage, UnitStage::Done)
     }
 
     /// Takes a hint, or `end`.

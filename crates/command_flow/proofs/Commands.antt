@@ -1,7 +1,7 @@
 -- A certificate that checks is one of a safe style.
 use Rattle.std.proofs.Common.{◌≡◌, ℕ, zero, suc, Bool, true, false, cond, nat_eq, List, [], ◌∷◌, slice_get, Option, None, Some, Ok, refl, ap, subst, ◌∙◌}
 use Rattle.std.specs.Prelude.{filter, find}
-use Rattle.std.specs.List.{All, AllByRecursion}
+use Rattle.std.specs.List.{AllByRecursion}
 use Rattle.std.specs.Ordering.{nat_cmp, is_le}
 use Rattle.std.specs.Cmp.Lexicographic.{slice_cmp}
 use Rattle.std.specs.Option.{ForSome, option_map_or}
@@ -21,7 +21,6 @@ use Rattle.bst_meaning.specs.Machine.{command_step, step, steps, visit_of, visit
 use Rattle.bst_meaning.specs.Safe.{IsFine, Safe}
 use Rattle.bst_meaning.specs.Sorting.{inserted, sort_key, sorted}
 use Rattle.bst_meaning.specs.declared.entry.EntryList.{EntryList}
-use Rattle.bst_meaning.specs.declared.value.Target.{Target}
 use Rattle.cert_format.specs.declared.cert.Cert.{Cert}
 use Rattle.cert_format.specs.declared.cert.CommandPart.{CommandPart}
 use Rattle.cert_format.specs.declared.cert.Loop.{Loop}
@@ -29,18 +28,17 @@ use Rattle.cert_format.specs.declared.cert.Summary.{Summary}
 use Rattle.sym_state.specs.Positions.{AtStart, AtNext, AtEnd}
 use Rattle.sym_state.specs.Starting.{started, symbols_of}
 use Rattle.sym_state.specs.Showing.{piece_by}
-use Rattle.sym_state.specs.State.{State}
-use Rattle.sym_state.specs.WellMade.{WellMade}
 use Rattle.sym_state.specs.declared.hint.Hint.{Hint}
 use Rattle.cert_check.proofs.Inverted.{placed_ok}
 use Rattle.cert_check.specs.Certified.{IsCertified, IsCommandOf}
 use Rattle.cert_check.specs.Courses.{Course, placed}
-use Rattle.cert_check.specs.Safely.{EntersSafely, IsAllChecked, SafeFor}
-use Rattle.cert_check.specs.Units.{all_end, beginning, body_of, call_walked, everywhere, loop_checked, none_left, own_walked, place_of, summary_checked, turned_from}
+use Rattle.cert_check.specs.Laws.{CallsAreSafe}
+use Rattle.cert_check.specs.Safely.{IsAllChecked, SafeFor}
+use Rattle.cert_check.specs.Units.{all_end, beginning, body_of, loop_checked, none_left, own_walked, place_of, summary_checked, turned_from}
 use Rattle.cert_check.specs.Walks.{Scope}
 use Rattle.command_flow.specs.Between.{opened, piece_moved}
 use Rattle.command_flow.specs.declared.between.Between.{Between}
-use Rattle.command_flow.specs.Checks.{checked, commands_checked, loops_checked, summaries_checked}
+use Rattle.command_flow.specs.Checks.{checked, commands_checked, each_checked, loops_checked, summaries_checked}
 use Rattle.command_flow.specs.Commands.{Left, Onward, called, command_checked, command_taken, executed, is_shaped, parts_of, started_between, started_visit, visited}
 use Rattle.command_flow.specs.declared.between.Parts.{Parts}
 use Rattle.command_flow.proofs.Calling.{Run}
@@ -201,27 +199,16 @@ turned_to_end style cert one left e =
     let walk = then_ok (turned_from scope place one one.cases (beginning one.hints)) (λ (course : Course). none_left place course.hints) left e in
     none_kept place walk.0.hints left walk.2
 
--- every summary is checked where they are in order
-all_checked : (style : Style) (cert : Cert) (summaries : List Summary) (k : ℕ) (left : List Hint) → summaries_checked style cert summaries ≡ Ok left
-    → option_map_or (summary_checked style cert) (slice_get summaries k) (let none : Left = Ok [] in none) ≡ Ok []
-all_checked style cert [] k left e = refl
-all_checked style cert (summary ∷ summaries) zero left e =
-    let first = then_ok (summary_checked style cert summary) (λ hints. summaries_checked style cert summaries) left e in
-    first.1 ∙ ap (λ (hints : List Hint). let o : Left = Ok hints in o) (checked_to_end style cert summary first.0 first.1)
-all_checked style cert (summary ∷ summaries) (suc k) left e =
-    let first = then_ok (summary_checked style cert summary) (λ hints. summaries_checked style cert summaries) left e in
-    all_checked style cert summaries k left first.2
-
--- so is every loop
-all_turned : (style : Style) (cert : Cert) (loops : List Loop) (k : ℕ) (left : List Hint) → loops_checked style cert loops ≡ Ok left
-    → option_map_or (loop_checked style cert) (slice_get loops k) (let none : Left = Ok [] in none) ≡ Ok []
-all_turned style cert [] k left e = refl
-all_turned style cert (one ∷ loops) zero left e =
-    let first = then_ok (loop_checked style cert one) (λ hints. loops_checked style cert loops) left e in
-    first.1 ∙ ap (λ (hints : List Hint). let o : Left = Ok hints in o) (turned_to_end style cert one first.0 first.1)
-all_turned style cert (one ∷ loops) (suc k) left e =
-    let first = then_ok (loop_checked style cert one) (λ hints. loops_checked style cert loops) left e in
-    all_turned style cert loops k left first.2
+-- every unit is checked where they are in order, and none leaves a hint
+all_checked : {X : Type 0} (check : X → Left) (units : List X) (k : ℕ) (left : List Hint)
+    → ((unit : X) (after : List Hint) → check unit ≡ Ok after → after ≡ []) → each_checked check units ≡ Ok left
+    → option_map_or check (slice_get units k) (let none : Left = Ok [] in none) ≡ Ok []
+all_checked check [] k left ends e = refl
+all_checked check (unit ∷ units) zero left ends e =
+    let first = then_ok (check unit) (λ hints. each_checked check units) left e in
+    first.1 ∙ ap (λ (hints : List Hint). let o : Left = Ok hints in o) (ends unit first.0 first.1)
+all_checked check (unit ∷ units) (suc k) left ends e =
+    all_checked check units k left ends (then_ok (check unit) (λ hints. each_checked check units) left e).2
 
 fine_after : (style : Style) (n : ℕ) (c : Config) → SafeFor style n c → IsFine style (steps style n c)
 fine_after style zero c safe = safe
@@ -242,9 +229,7 @@ opens r formed = record {
 pub record Laws : Type 0 where
   pub opening : (style : Style) (list : EntryList) → IsSound style → Fits style list → IsWellFormed style list (opening style list)
   pub formed : (style : Style) (list : EntryList) (c : Config) → IsSound style → Fits style list → IsWellFormed style list c → IsWellFormed style list (step style c)
-  pub calls : (style : Style) (cert : Cert) (list : EntryList) (states : List State) (target : Target) (place at : Place) (hints : List Hint) (after : Course)
-      (n : ℕ) → IsSound style → Fits style list → IsCertified style cert → IsAllChecked style cert → All (WellMade style) states
-      → call_walked style cert states target place hints ≡ Ok after → EntersSafely (everywhere style cert) list n target at states after.given
+  pub calls : CallsAreSafe
 
 -- a certificate that checks is one of a safe style
 pub checked_is_safe : Laws → (style : Style) (cert : Cert) → IsSound style → IsCertified style cert → checked style cert ≡ Ok [] → Safe style cert.cond
@@ -253,8 +238,8 @@ checked_is_safe laws style cert is_sound certified e list fits meets n =
     [] e in
     let second = then_ok (loops_checked style cert cert.loops) (λ hints. commands_checked style cert 0 (opened style) style.commands) [] first.2 in
     let all : IsAllChecked style cert = record {
-      summaries = λ k. all_checked style cert cert.summaries k first.0 first.1;
-      loops = λ k. all_turned style cert cert.loops k second.0 second.1;
+      summaries = λ k. all_checked (summary_checked style cert) cert.summaries k first.0 (checked_to_end style cert) first.1;
+      loops = λ k. all_checked (loop_checked style cert) cert.loops k second.0 (turned_to_end style cert) second.1;
     } in
     let formed = laws.opening style list is_sound fits in
     let r : Run = record {

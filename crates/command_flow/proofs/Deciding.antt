@@ -10,13 +10,10 @@ use Rattle.name_table.specs.declared.style.CommandAt.{CommandAt}
 use Rattle.name_table.specs.declared.style.Style.{Style}
 use Rattle.cert_format.specs.declared.cert.Cert.{Cert}
 use Rattle.cert_format.specs.declared.cert.CommandPart.{CommandPart}
-use Rattle.cert_format.specs.declared.cert.Loop.{Loop}
-use Rattle.cert_format.specs.declared.cert.Summary.{Summary}
 use Rattle.sym_state.specs.declared.hint.Hint.{Hint}
 use Rattle.cert_check.specs.Given.{Refused}
-use Rattle.cert_check.specs.Units.{checked_at, loop_checked, loop_checked_at, summary_checked}
 use Rattle.cert_check.specs.declared.refusal.Refusal.{Refusal}
-use Rattle.command_flow.specs.Checks.{commands_checked, loops_checked, summaries_checked}
+use Rattle.command_flow.specs.Checks.{commands_checked, each_checked}
 use Rattle.command_flow.specs.Commands.{Left, Onward, command_taken}
 use Rattle.command_flow.specs.Records.{record_at}
 use Rattle.command_flow.specs.declared.between.Between.{Between}
@@ -26,51 +23,25 @@ pub then_fails : {A B : Type 0} (first : Result A Refusal) (next : A → Result 
     → all ≡ then_do first next → Refused first refusal → Refused all refusal
 then_fails {A} {B} first next all refusal same refused = λ memory. same ∙ ap (λ (r : Result A Refusal). then_do r next) (refused memory)
 
--- the summaries from one number on
-summaries_from : (style : Style) (cert : Cert) (i : ℕ) (summaries : List Summary)
-    → summaries_checked style cert (drop i summaries)
-    ≡ then_do (option_map_or (summary_checked style cert) (slice_get summaries i) (Ok [])) (λ hints. summaries_checked style cert (drop (suc i) summaries))
-summaries_from style cert zero [] = refl
-summaries_from style cert (suc i) [] = refl
-summaries_from style cert zero (summary ∷ summaries) = refl
-summaries_from style cert (suc i) (summary ∷ summaries) = summaries_from style cert i summaries
+-- the units from one number on
+units_from : {X : Type 0} (check : X → Left) (i : ℕ) (units : List X)
+    → each_checked check (drop i units) ≡ then_do (option_map_or check (slice_get units i) (Ok [])) (λ hints. each_checked check (drop (suc i) units))
+units_from check zero [] = refl
+units_from check (suc i) [] = refl
+units_from check zero (unit ∷ units) = refl
+units_from check (suc i) (unit ∷ units) = units_from check i units
 
-pub next_summary : (style : Style) (cert : Cert) (i : ℕ) → checked_at style cert i ≡ Ok []
-    → summaries_checked style cert (drop (i + 1) cert.summaries) ≡ summaries_checked style cert (drop i cert.summaries)
-next_summary style cert i is =
-    ap (λ (n : ℕ). summaries_checked style cert (drop n cert.summaries)) (add-one i)
-    ∙ sym (summaries_from style cert i cert.summaries
-    ∙ ap (λ (r : Left). then_do r (λ hints. summaries_checked style cert (drop (suc i) cert.summaries))) is)
+pub next_unit : {X : Type 0} (check : X → Left) (i : ℕ) (units : List X) → option_map_or check (slice_get units i) (Ok []) ≡ Ok []
+    → each_checked check (drop (i + 1) units) ≡ each_checked check (drop i units)
+next_unit check i units is =
+    ap (λ (n : ℕ). each_checked check (drop n units)) (add-one i)
+    ∙ sym (units_from check i units ∙ ap (λ (r : Left). then_do r (λ hints. each_checked check (drop (suc i) units))) is)
 
-pub summary_refused : (style : Style) (cert : Cert) (i : ℕ) (refusal : Refusal)
-    → summaries_checked style cert (drop i cert.summaries) ≡ summaries_checked style cert cert.summaries
-    → Refused (checked_at style cert i) refusal → Refused (summaries_checked style cert cert.summaries) refusal
-summary_refused style cert i refusal so_far =
-    then_fails (checked_at style cert i) (λ hints. summaries_checked style cert (drop (suc i) cert.summaries)) (summaries_checked style cert cert.summaries) refusal
-    (sym so_far ∙ summaries_from style cert i cert.summaries)
-
--- the loops from one number on
-loops_from : (style : Style) (cert : Cert) (i : ℕ) (loops : List Loop)
-    → loops_checked style cert (drop i loops)
-    ≡ then_do (option_map_or (loop_checked style cert) (slice_get loops i) (Ok [])) (λ hints. loops_checked style cert (drop (suc i) loops))
-loops_from style cert zero [] = refl
-loops_from style cert (suc i) [] = refl
-loops_from style cert zero (one ∷ loops) = refl
-loops_from style cert (suc i) (one ∷ loops) = loops_from style cert i loops
-
-pub next_loop : (style : Style) (cert : Cert) (i : ℕ) → loop_checked_at style cert i ≡ Ok []
-    → loops_checked style cert (drop (i + 1) cert.loops) ≡ loops_checked style cert (drop i cert.loops)
-next_loop style cert i is =
-    ap (λ (n : ℕ). loops_checked style cert (drop n cert.loops)) (add-one i)
-    ∙ sym (loops_from style cert i cert.loops
-    ∙ ap (λ (r : Left). then_do r (λ hints. loops_checked style cert (drop (suc i) cert.loops))) is)
-
-pub loop_refused : (style : Style) (cert : Cert) (i : ℕ) (refusal : Refusal)
-    → loops_checked style cert (drop i cert.loops) ≡ loops_checked style cert cert.loops
-    → Refused (loop_checked_at style cert i) refusal → Refused (loops_checked style cert cert.loops) refusal
-loop_refused style cert i refusal so_far =
-    then_fails (loop_checked_at style cert i) (λ hints. loops_checked style cert (drop (suc i) cert.loops)) (loops_checked style cert cert.loops) refusal
-    (sym so_far ∙ loops_from style cert i cert.loops)
+pub unit_refused : {X : Type 0} (check : X → Left) (i : ℕ) (units : List X) (refusal : Refusal) → each_checked check (drop i units) ≡ each_checked check units
+    → Refused (option_map_or check (slice_get units i) (Ok [])) refusal → Refused (each_checked check units) refusal
+unit_refused check i units refusal so_far =
+    then_fails (option_map_or check (slice_get units i) (Ok [])) (λ hints. each_checked check (drop (suc i) units)) (each_checked check units) refusal
+    (sym so_far ∙ units_from check i units)
 
 -- the commands from one number on
 pub commands_from : (style : Style) (cert : Cert) (index i : ℕ) (between : Between) (commands : List CommandAt) (at : CommandAt)

@@ -1,5 +1,5 @@
 -- What a call that is checked says of the states at its end.
-use Rattle.std.proofs.Common.{◌≡◌, List, [], ◌∷◌, Ok, refl, sym, subst, inl, inr}
+use Rattle.std.proofs.Common.{◌≡◌, List, [], ◌∷◌, Ok, refl}
 use Rattle.bv_base.specs.Answers.{then_do}
 use Rattle.bv_base.specs.declared.place.Place.{Place}
 use Rattle.bv_base.proofs.ThenLemmas.{then_ok}
@@ -16,6 +16,7 @@ use Rattle.sym_state.specs.declared.piece.Piece.{Piece}
 use Rattle.sym_state.specs.declared.symbol.Sym.{Sym}
 use Rattle.cert_check.specs.Courses.{Course, placed}
 use Rattle.cert_check.specs.Units.{call_walked, none_left}
+use Rattle.cert_check.proofs.Ending.{each_passes}
 use Rattle.cert_check.proofs.Inverted.{placed_ok}
 use Rattle.command_flow.specs.Commands.{call_ends, called, emptied, pieces_shown, state_ends}
 
@@ -38,13 +39,9 @@ one_ends admits place pieces end hints left e =
 
 each_ends : (admits : Cond) (place : Place) (pieces : List Piece) (states : List State) (end : State) (hints left : List Hint)
     → call_ends admits place pieces states hints ≡ Ok left → IsAmong end states → EndsIn admits place pieces end
-each_ends admits place pieces [] end hints left e among = absurd among
-each_ends admits place pieces (state ∷ states) end hints left e among =
-    let first = then_ok (state_ends admits place pieces state hints) (call_ends admits place pieces states) left e in
-    elim among [
-      | inl is ↦ subst (λ (s : State). EndsIn admits place pieces s) (sym is) (one_ends admits place pieces state hints first.0 first.1)
-      | inr later ↦ each_ends admits place pieces states end first.0 left first.2 later
-    ]
+each_ends admits place pieces =
+    each_passes (EndsIn admits place pieces) (state_ends admits place pieces) (call_ends admits place pieces) (λ state states hints. refl)
+    (one_ends admits place pieces)
 
 -- a call that is checked was walked, and each of its states ends
 pub record Walked (style : Style) (cert : Cert) (name : NameId) (place : Place) (state : State) (pieces : List Piece) (hints : List Hint) : Type 0 where

@@ -15,7 +15,6 @@ use Rattle.name_table.specs.declared.style.Command.TheVariants.{Execute, Iterate
 use Rattle.name_table.specs.declared.style.CommandAt.{CommandAt}
 use Rattle.name_table.specs.declared.style.Style.{Style}
 use Rattle.bst_meaning.specs.declared.condition.Cond.{Cond}
-use Rattle.bst_meaning.specs.declared.value.Target.{Target}
 use Rattle.bst_meaning.specs.declared.value.Target.TheVariants.{Named}
 use Rattle.cert_format.specs.declared.cert.Cert.{Cert}
 use Rattle.cert_format.specs.declared.cert.CommandPart.{CommandPart}
@@ -28,6 +27,7 @@ use Rattle.sym_state.specs.declared.piece.Piece.{Piece}
 use Rattle.sym_state.specs.declared.symbol.Sym.{Sym}
 use Rattle.straight_hints.specs.declared.finding.Finding.{Finding}
 use Rattle.cert_check.specs.Courses.{Course, Walk, placed, refuses}
+use Rattle.cert_check.specs.Laws.{FoundIsRead}
 use Rattle.cert_check.specs.Units.{call_found, call_walked, none_left}
 use Rattle.cert_check.specs.declared.refusal.Reason.TheVariants.{CommandShape}
 use Rattle.command_flow.specs.Between.{nothing, opened}
@@ -38,13 +38,6 @@ use Rattle.command_flow.specs.Records.{record_at}
 use Rattle.command_flow.specs.declared.between.Between.{Between}
 use Rattle.command_flow.specs.declared.between.Parts.{Parts}
 use Rattle.command_flow.specs.declared.finding.Found.{Found}
-
--- the law of hints that are found: a call reads them
-abbrev pub FoundIsRead : Type 0
-FoundIsRead = (finding : Finding) (style : Style) (cert : Cert) (parts : List CommandPart) (states : List State) (target : Target) (place : Place)
-    (after : Course) (rest : List Hint) → call_found finding style cert states target place ≡ Ok after
-    → call_walked style (record cert { commands = parts }) states target place (after.found ++ rest)
-    ≡ Ok (record after { hints = rest; finding = None; found = [] })
 
 -- pieces that every state shows by no hint
 abbrev AreFree : Cond → Place → List Piece → Type 0

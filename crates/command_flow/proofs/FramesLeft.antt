@@ -12,34 +12,19 @@ use Rattle.sym_state.specs.State.{State}
 use Rattle.sym_state.specs.WellMade.{HasSmallFields}
 use Rattle.sym_state.specs.declared.piece.Piece.{Piece}
 use Rattle.loop_templates.specs.Bound.{all_bound, is_bound_variable}
-use Rattle.loop_templates.specs.Cases.{Frame}
 use Rattle.loop_templates.specs.Reaching.{Occurring, command_terms, occurring_anywhere, occurring_of}
 use Rattle.loop_templates.specs.Sums.{sums}
 use Rattle.loop_templates.specs.Visits.{common_case}
 use Rattle.cert_check.specs.Room.{HasRoom}
 use Rattle.command_flow.specs.Commands.{started_between}
 use Rattle.command_flow.specs.Ready.{IsReady}
-use Rattle.command_flow.specs.Templates.{IsVisit, before_visits, first_visit, frame_left, reached_from}
+use Rattle.command_flow.specs.Templates.{IsVisit, before_visits, first_visit, frame_left, frame_of_parts, reached_from}
 use Rattle.command_flow.specs.declared.between.Between.{Between}
 use Rattle.command_flow.specs.declared.leaving.Leaving.{Leaving}
 use Rattle.command_flow.proofs.LeftPieces.{case_left, frame_ready, left_visit}
 use Rattle.command_flow.proofs.Ready.{pieces_room}
 
--- a frame of these parts
-abbrev pub frame_of_parts : Style → Cond → Leaving → List NameId → List (List Part) → List State → Frame
-frame_of_parts style admits leaving writes all entering = record {
-  style = style;
-  admits = admits;
-  whole = true;
-  at_entry = leaving.at_entry;
-  has_pos = leaving.has_pos;
-  bound = leaving.bound;
-  writes = writes;
-  sums = all;
-  entering = entering;
-}
-
--- it is that of what a command leaves
+-- a frame of these parts is that of what a command leaves
 pub frame_is_left : (style : Style) (admits : Cond) (name : NameId) (leaving : Leaving) (start : State) (reached anywhere : Occurring) (writes : List NameId)
     (terms : List Term) (all : List (List Part)) → reached ≡ reached_from style admits name
     → writes ≡ occurring_of (is_bound_variable (all_bound true)) style reached.quoted → anywhere ≡ occurring_anywhere style

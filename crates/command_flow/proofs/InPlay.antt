@@ -1,5 +1,5 @@
 -- A configuration of a run has the entries of its list, and in it each variable and field has a value of its kind.
-use Rattle.std.proofs.Common.{◌≡◌, ℕ, suc, zero, ◌+◌, Bool, true, false, cond, nat_eq, List, [], ◌∷◌, length, map, Option, Some, refl, sym, ap, subst, ◌∙◌, arith}
+use Rattle.std.proofs.Common.{◌≡◌, ℕ, suc, zero, ◌+◌, Bool, true, false, cond, nat_eq, List, [], ◌∷◌, length, map, Option, Some, refl, sym, ap, subst, ◌∙◌, arith, inl, inr}
 use Rattle.std.specs.Prelude.{◌||◌, IsPermutation}
 use Rattle.std.specs.List.{AllByRecursion, list_any}
 use Rattle.std.specs.Option.{option_and_then, option_map}
@@ -29,7 +29,7 @@ use Rattle.sym_state.specs.Starting.{names_in_play}
 use Rattle.sym_state.specs.Symbols.{Valuation}
 use Rattle.sym_state.specs.WellMade.{is_variable, takes_part}
 use Rattle.cert_check.proofs.Having.{ValueFits, all_ids, field_fits, value_kind, variable_fits}
-use Rattle.command_flow.proofs.Openings.{is_entrys}
+use Rattle.command_flow.proofs.Openings.{Makes, is_entrys, makes_entrys, makes_globals}
 
 -- the entries of a list, and their variables and positions left out
 
@@ -106,52 +106,36 @@ later_among id n names among =
 first_among : (id : ℕ) (names : List NameId) → Among id (record { 0 = id } ∷ names)
 first_among id names = ap (λ (t : Bool). t || list_any (λ (m : NameId). nat_eq m.0 id) names) (self_is id)
 
--- a name of a kind makes a variable, and leaves those of later names
-record MakesAll (test : Kind → Bool) (variable : ℕ → Kind → List Variable → List Variable) : Type 0 where
-  first : (id : ℕ) (kind : Kind) (later : List Variable) → test kind ≡ true → Among id (names_of (variable id kind later))
-  rest : (id n : ℕ) (kind : Kind) (later : List Variable) → Among n (names_of later) → Among n (names_of (variable id kind later))
+-- a name of a kind that passes makes a variable, and each leaves those of later names
+first_made : (test : Kind → Bool) (variable : ℕ → Kind → List Variable → List Variable) → Makes test variable → (id : ℕ) (kind : Kind) (later : List Variable)
+    → test kind ≡ true → Among id (names_of (variable id kind later))
+first_made test variable makes id kind later is = elim (makes id kind later) [
+  | inl none ↦ let no : test kind ≡ false = none.0 in absurd (cc)
+  | inr one ↦ subst (λ (l : List Variable). Among id (names_of l)) (sym one.2) (first_among id (names_of later))
+]
 
-all_globals : MakesAll (is_variable false) opening_global
-all_globals = record { first = first; rest = rest }
-  where
-    first : (id : ℕ) (kind : Kind) (later : List Variable) → is_variable false kind ≡ true → Among id (names_of (opening_global id kind later))
-    first id IntGlobal later e = first_among id (names_of later)
-    first id StrGlobal later e = first_among id (names_of later)
-    first id _ later e = absurd (cc)
+rest_left : (test : Kind → Bool) (variable : ℕ → Kind → List Variable → List Variable) → Makes test variable → (id n : ℕ) (kind : Kind) (later : List Variable)
+    → Among n (names_of later) → Among n (names_of (variable id kind later))
+rest_left test variable makes id n kind later among = elim (makes id kind later) [
+  | inl none ↦ subst (λ (l : List Variable). Among n (names_of l)) (sym none.1) among
+  | inr one ↦ subst (λ (l : List Variable). Among n (names_of l)) (sym one.2) (later_among id n (names_of later) among)
+]
 
-    rest : (id n : ℕ) (kind : Kind) (later : List Variable) → Among n (names_of later) → Among n (names_of (opening_global id kind later))
-    rest id n IntGlobal later e = later_among id n (names_of later) e
-    rest id n StrGlobal later e = later_among id n (names_of later) e
-    rest id n _ later e = e
-
-all_entrys : MakesAll is_entrys opening_entry_variable
-all_entrys = record { first = first; rest = rest }
-  where
-    first : (id : ℕ) (kind : Kind) (later : List Variable) → is_entrys kind ≡ true → Among id (names_of (opening_entry_variable id kind later))
-    first id IntEntry later e = first_among id (names_of later)
-    first id StrEntry later e = first_among id (names_of later)
-    first id _ later e = absurd (cc)
-
-    rest : (id n : ℕ) (kind : Kind) (later : List Variable) → Among n (names_of later) → Among n (names_of (opening_entry_variable id kind later))
-    rest id n IntEntry later e = later_among id n (names_of later) e
-    rest id n StrEntry later e = later_among id n (names_of later) e
-    rest id n _ later e = e
-
-opening_among : (test : Kind → Bool) (variable : ℕ → Kind → List Variable → List Variable) → MakesAll test variable → (id i : ℕ) (names : List (List ℕ × Kind)) (k : Kind)
+opening_among : (test : Kind → Bool) (variable : ℕ → Kind → List Variable → List Variable) → Makes test variable → (id i : ℕ) (names : List (List ℕ × Kind)) (k : Kind)
     → kind_at (record { 0 = i }) names ≡ Some k → test k ≡ true → Among (id + i) (names_of (opening_variables variable id names))
 opening_among test variable makes id i [] k is takes = absurd (cc)
 opening_among test variable makes id zero (name ∷ names) k is takes =
     let same : name.1 ≡ k = cc in
     let here : id ≡ id + 0 = omega arith in
     subst (λ (n : ℕ). Among n (names_of (opening_variables variable id (name ∷ names)))) here
-    (makes.first id name.1 (opening_variables variable (id + 1) names) (ap test same ∙ takes))
+    (first_made test variable makes id name.1 (opening_variables variable (id + 1) names) (ap test same ∙ takes))
 opening_among test variable makes id (suc i) (name ∷ names) k is takes =
     let next : (id + 1) + i ≡ id + suc i = omega arith in
-    makes.rest id (id + suc i) name.1 (opening_variables variable (id + 1) names)
+    rest_left test variable makes id (id + suc i) name.1 (opening_variables variable (id + 1) names)
     (subst (λ (n : ℕ). Among n (names_of (opening_variables variable (id + 1) names))) next (opening_among test variable makes (id + 1) i names k is takes))
 
 -- a variable of a kind has a value among variables that are named as those of the opening
-variable_value : (style : Style) (admits : Cond) (test : Kind → Bool) (variable : ℕ → Kind → List Variable → List Variable) → MakesAll test variable
+variable_value : (style : Style) (admits : Cond) (test : Kind → Bool) (variable : ℕ → Kind → List Variable → List Variable) → Makes test variable
     → (variables : List Variable) (name : NameId) (k : Kind) → AreVariables style (names_of (opening_variables variable 0 style.names)) variables
     → kind_of style name ≡ Some k → test k ≡ true → (x : Value) × (value_at name.0 variables ≡ Some x) × ValueFits admits (Some k) name x
 variable_value style admits test variable makes variables name k are is takes =
@@ -194,7 +178,7 @@ global_there : (style : Style) (admits : Cond) (list : EntryList) (c : Config) (
     → ((x : Value) → value_at name.0 c.globals ≡ Some x → value_by (Some k) name c.globals (visited_entry c) ≡ Some x)
     → HasValue style admits c.globals (visited_entry c) name
 global_there style admits list c name k formed is takes by =
-    let found = variable_value style admits (is_variable false) opening_global all_globals c.globals name k formed.globals is takes in
+    let found = variable_value style admits (is_variable false) opening_global makes_globals c.globals name k formed.globals is takes in
     value_there style admits c name k found.0 is (by found.0 found.1) found.2
 
 entrys_there : (style : Style) (admits : Cond) (c : Config) (name : NameId) (k : Kind) → AtEntry style admits c → kind_of style name ≡ Some k → is_entrys k ≡ true
@@ -202,7 +186,7 @@ entrys_there : (style : Style) (admits : Cond) (c : Config) (name : NameId) (k :
     → value_by (Some k) name c.globals (visited_entry c) ≡ Some x)
     → HasValue style admits c.globals (visited_entry c) name
 entrys_there style admits c name k at is takes by =
-    let found = variable_value style admits is_entrys opening_entry_variable all_entrys at.entry.variables name k at.is_sound.variables is takes in
+    let found = variable_value style admits is_entrys opening_entry_variable makes_entrys at.entry.variables name k at.is_sound.variables is takes in
     value_there style admits c name k found.0 is
     (by found.0 (ap (λ (o : Option EntryState). option_and_then (λ (e : EntryState). value_at name.0 e.variables) o) at.visited ∙ found.1)) found.2
 

@@ -108,25 +108,21 @@ pub on_entry : (style : Style) (v : Valuation) (piece : Piece) (globals others :
 on_entry style v piece globals others entry about met =
     met_elsewhere style is_of_entry v piece globals others entry entry about (entry_value globals others entry) met
 
+-- what is known by some values is known elsewhere where these meet the piece there too
+known_beside : (style : Style) (list : EntryList) (at : ℕ) (piece : Piece) (globals others : List Variable) (entry other : Option EntryState)
+    → (known : Known style list at piece globals entry) → IsMet style known.v piece others other → Known style list at piece others other
+known_beside style list at piece globals others entry other known met =
+    record { v = known.v; values = known.values; position = known.position; count = known.count; met = met }
+
 pub known_globals : (style : Style) (list : EntryList) (at : ℕ) (piece : Piece) (globals : List Variable) (entry other : Option EntryState)
     → About style (is_variable false) piece → Known style list at piece globals entry → Known style list at piece globals other
-known_globals style list at piece globals entry other about known = record {
-  v = known.v;
-  values = known.values;
-  position = known.position;
-  count = known.count;
-  met = on_globals style known.v piece globals entry other about known.met;
-}
+known_globals style list at piece globals entry other about known =
+    known_beside style list at piece globals globals entry other known (on_globals style known.v piece globals entry other about known.met)
 
 pub known_entry : (style : Style) (list : EntryList) (at : ℕ) (piece : Piece) (globals others : List Variable) (entry : Option EntryState)
     → About style is_of_entry piece → Known style list at piece globals entry → Known style list at piece others entry
-known_entry style list at piece globals others entry about known = record {
-  v = known.v;
-  values = known.values;
-  position = known.position;
-  count = known.count;
-  met = on_entry style known.v piece globals others entry about known.met;
-}
+known_entry style list at piece globals others entry about known =
+    known_beside style list at piece globals others entry entry known (on_entry style known.v piece globals others entry about known.met)
 
 -- an assignment with another position
 abbrev pub placed_at : ℕ → Valuation → Valuation
@@ -157,21 +153,23 @@ still_rows at v (row ∷ rows) all h = (
   still_rows at v rows (All-tail (λ (r : Row). All (λ (p : Part). p.term ≢ term.Pos) r.parts) row rows all) h.1,
 )
 
+-- where a piece is known by some values, these meet other rows in place of its own at the number where those hold
+known_with : (style : Style) (list : EntryList) (at there n : ℕ) (piece : Piece) (rows : List Row) (globals : List Variable) (entry : Option EntryState)
+    → (known : Known style list at piece globals entry) → n ≡ there → AllByRecursion (Holds (numbers (placed_at n known.v))) rows
+    → Known style list there (record piece { rows = rows }) globals entry
+known_with style list at there n piece rows globals entry known is hold = record {
+  v = placed_at n known.v;
+  values = known.values;
+  position = is;
+  count = known.count;
+  met = record { vars = known.met.vars; fields = known.met.fields; facts = known.met.facts; rows = hold };
+}
+
 -- such a piece is known at any position
 pub known_still : (style : Style) (list : EntryList) (at other : ℕ) (piece : Piece) (globals : List Variable) (entry : Option EntryState)
     → HasNoPos piece → Known style list at piece globals entry → Known style list other piece globals entry
-known_still style list at other piece globals entry still known = record {
-  v = placed_at other known.v;
-  values = known.values;
-  position = refl;
-  count = known.count;
-  met = record {
-    vars = known.met.vars;
-    fields = known.met.fields;
-    facts = known.met.facts;
-    rows = still_rows other known.v piece.rows still known.met.rows;
-  };
-}
+known_still style list at other piece globals entry still known =
+    known_with style list at other other piece piece.rows globals entry known refl (still_rows other known.v piece.rows still known.met.rows)
 
 -- rows that are moved hold where the rows hold at the number that they are moved to
 rows_back : (p : Position) (v : Valuation) (rows : List Row) → AllByRecursion (Holds (numbers v)) (map (row_moved p) rows)
@@ -187,18 +185,9 @@ rows_forth p v (row ∷ rows) h = ((row_moves p v row).1 h.0, rows_forth p v row
 -- a piece is known where it is known moved
 pub known_back : (style : Style) (list : EntryList) (at there : ℕ) (p : Position) (piece : Piece) (globals : List Variable) (entry : Option EntryState)
     → (known : Known style list at (piece_moved p piece) globals entry) → visited_at p known.v ≡ there → Known style list there piece globals entry
-known_back style list at there p piece globals entry known is = record {
-  v = moved_to p known.v;
-  values = known.values;
-  position = is;
-  count = known.count;
-  met = record {
-    vars = known.met.vars;
-    fields = known.met.fields;
-    facts = known.met.facts;
-    rows = rows_back p known.v piece.rows known.met.rows;
-  };
-}
+known_back style list at there p piece globals entry known is =
+    known_with style list at there (visited_at p known.v) (piece_moved p piece) piece.rows globals entry known is
+    (rows_back p known.v piece.rows known.met.rows)
 
 -- at the end of a command it is known moved, whatever the position is
 pub known_ended : (style : Style) (list : EntryList) (at : ℕ) (piece : Piece) (globals : List Variable) (entry : Option EntryState)
@@ -206,16 +195,5 @@ pub known_ended : (style : Style) (list : EntryList) (at : ℕ) (piece : Piece) 
 known_ended style list at piece globals entry known =
     let v : Valuation = known.v in
     let same : v.position ≡ v.count = known.position ∙ sym known.count in
-    record {
-      v = placed_at at v;
-      values = known.values;
-      position = refl;
-      count = known.count;
-      met = record {
-        vars = known.met.vars;
-        fields = known.met.fields;
-        facts = known.met.facts;
-        rows = rows_forth AtEnd (placed_at at v) piece.rows
-            (subst (λ (n : ℕ). AllByRecursion (Holds (numbers (placed_at n v))) piece.rows) same known.met.rows);
-      };
-    }
+    known_with style list (length list.entries) at at piece (map (row_moved AtEnd) piece.rows) globals entry known refl
+    (rows_forth AtEnd (placed_at at v) piece.rows (subst (λ (n : ℕ). AllByRecursion (Holds (numbers (placed_at n v))) piece.rows) same known.met.rows))

@@ -1,14 +1,13 @@
 -- What commands leave stands in a certificate, and is ready for what comes after them.
 use Rattle.std.proofs.Common.{◌≡◌, ◌≢◌, ℕ, ◌+◌, ◌≤◌, Bool, true, false, ◌&&◌, List, [], ◌∷◌, ◌++◌, length, Option, None, Some, IfSome, ap, refl, sym, subst, arith}
-use Rattle.std.specs.List.{All, filter, list_all}
+use Rattle.std.specs.List.{All, list_all}
 use Rattle.std.proofs.lemmas.List.Elements.{All-cons, All-head, All-nil, All-tail, All-weaker}
 use Rattle.name_table.specs.Sound.{Each, IsSound}
 use Rattle.name_table.specs.declared.names.NameId.{NameId}
 use Rattle.name_table.specs.declared.names.Kind.{Kind}
 use Rattle.name_table.specs.declared.style.Style.{Style}
 use Rattle.bst_meaning.specs.declared.condition.Cond.{Cond}
-use Rattle.lin_facts.specs.declared.row.Row.{Row}
-use Rattle.cert_format.specs.CertText.{IsHint, IsPiece, IsRow, IsVariable, next_behind, places_of}
+use Rattle.cert_format.specs.CertText.{IsHint, IsPiece, IsVariable}
 use Rattle.cert_format.specs.CondText.{IsField}
 use Rattle.cert_format.proofs.Plain.{each_append}
 use Rattle.sym_state.specs.State.{State}
@@ -23,9 +22,8 @@ use Rattle.loop_templates.specs.Cases.{Frame, IsFrame}
 use Rattle.loop_templates.specs.Reaching.{command_terms, occurring_anywhere}
 use Rattle.loop_templates.specs.Visits.{common_case, is_left, left_by}
 use Rattle.loop_templates.proofs.FewTerms.{sums_small}
-use Rattle.loop_templates.proofs.OneByOne.{fewer}
 use Rattle.loop_templates.proofs.Over.{command_sums_over}
-use Rattle.loop_templates.proofs.Standing.{common_is_case, each_kept}
+use Rattle.loop_templates.proofs.Standing.{common_is_case, fewer_rows}
 use Rattle.cert_check.specs.Certified.{IsMovable, IsPieceOf}
 use Rattle.cert_check.specs.Room.{IsEnd}
 use Rattle.cert_check.proofs.ReadPieces.{each_each, piece_read, read_movable}
@@ -89,23 +87,8 @@ left_visit style piece sound is = record {
 
 pub fewer_left : (style : Style) (admits : Cond) (states : List State) (visit : Piece) → IsSound style → IsVisit style visit → IsVisit style (left_by admits states visit)
 fewer_left style admits states visit sound is =
-    let test = λ (row : Row). list_all (is_left admits visit row) states in
-    let piece = is.left.stands in
-    let few = fewer test visit.rows in
-    let most = piece.few_rows in
     left_visit style (left_by admits states visit) sound (record {
-      stands = record {
-        placed = piece.placed;
-        few_symbols = piece.few_symbols;
-        vars = piece.vars;
-        vars_rise = piece.vars_rise;
-        fields = piece.fields;
-        fields_rise = piece.fields_rise;
-        facts = piece.facts;
-        few_facts = piece.few_facts;
-        rows = each_kept (IsRow true (next_behind 0 (places_of visit))) test visit.rows piece.rows;
-        few_rows = omega (arith, few, most);
-      };
+      stands = fewer_rows style true true 0 visit (λ row. list_all (is_left admits visit row) states) is.left.stands;
       texts = is.left.texts;
       bare = is.bare;
     })

@@ -1,5 +1,5 @@
 -- What is made for a command, by what its calls come to.
-use Rattle.std.proofs.Common.{◌≡◌, ℕ, true, false, List, [], ◌∷◌, length, Result, Ok, Err, IfOk, ap, refl, sym, ◌∙◌}
+use Rattle.std.proofs.Common.{◌≡◌, ℕ, true, false, List, [], ◌∷◌, length, Result, Ok, Err, IfOk, ap, refl, subst, sym, ◌∙◌}
 use Rattle.std.specs.Result.{MatchResult}
 use Rattle.bv_base.specs.Answers.{then_do}
 use Rattle.bv_base.specs.declared.place.Place.{Place}
@@ -24,23 +24,23 @@ use Rattle.command_flow.proofs.Deciding.{then_fails}
 use Rattle.command_flow.proofs.Flowing.{ok_has}
 
 -- what is given where memory allows is what is wanted
-pub held_decides : {A E : Type 0} (wanted : Result A Refusal) (value : A) (answer : Result A E) (result : Result A Refusal)
+held_decides : {A E : Type 0} (wanted : Result A Refusal) (value : A) (answer : Result A E) (result : Result A Refusal)
     → MatchResult result (λ x. answer ≡ Ok x) (λ refusal. refusal.reason ≡ NoMemory) → IfOk answer (λ x. x ≡ value) → wanted ≡ Ok value → Decides wanted result
 held_decides {A} wanted value answer (Ok x) held is e =
     e ∙ ap (λ (y : A). let given : Result A Refusal = Ok y in given) (sym (ok_has (λ (y : A). y ≡ value) answer x held is))
 held_decides wanted value answer (Err refusal) held is e = λ other. absurd (other held)
 
-pub held_has : {A E : Type 0} (P : A → Type 0) (answer : Result A E) (result : Result A Refusal)
-    → MatchResult result (λ x. answer ≡ Ok x) (λ refusal. refusal.reason ≡ NoMemory) → IfOk answer P → IfOk result P
-held_has P answer (Ok x) held has = ok_has P answer x held has
-held_has P answer (Err refusal) held has = tt
+pub held_has : {A E : Type 0} (P : A → Type 0) (value : A) (answer : Result A E) (result : Result A Refusal)
+    → MatchResult result (λ x. answer ≡ Ok x) (λ refusal. refusal.reason ≡ NoMemory) → IfOk answer (λ x. x ≡ value) → P value → IfOk result P
+held_has {A} P value answer (Ok x) held is has = subst P (sym (ok_has (λ (y : A). y ≡ value) answer x held is)) has
+held_has P value answer (Err refusal) held is has = tt
 
 -- the state before a command, and before a visit
-pub between_is : (seeking : Seeking) (style : Style) (admits : Cond) (between : Between) (starts : List Piece) (start : State) → style ≡ seeking.style
-    → admits ≡ seeking.cert.cond → starts ≡ between.globals ∷ [] → start ≡ started style admits starts true false
-    → start ≡ started_between seeking.style seeking.cert.cond between
-between_is seeking style admits between starts start one two three is =
-    is
+pub between_is : {E : Type 0} (seeking : Seeking) (style : Style) (admits : Cond) (between : Between) (starts : List Piece) (given : Result State E) (start : State)
+    → style ≡ seeking.style → admits ≡ seeking.cert.cond → starts ≡ between.globals ∷ [] → given ≡ Ok start
+    → IfOk given (λ s. s ≡ started style admits starts true false) → start ≡ started_between seeking.style seeking.cert.cond between
+between_is {E} seeking style admits between starts given start one two three e is =
+    ok_has (λ (s : State). s ≡ started style admits starts true false) given start e is
     ∙ ap (λ (s : Style). started s admits starts true false) one
     ∙ ap (λ (a : Cond). started seeking.style a starts true false) two
     ∙ ap (λ (l : List Piece). started seeking.style seeking.cert.cond l true false) three
@@ -69,17 +69,19 @@ execute_refused seeking index name place lasting stay start refusal one two refu
     (executed_in seeking index name place lasting) refusal refl
     (λ memory. same_call seeking stay (length lasting.loops) name place start from one two ∙ refused memory)
 
-pub execute_makes : (seeking : Seeking) (style : Style) (admits : Cond) (index : ℕ) (name : NameId) (place : Place) (lasting : Lasting) (stay : ℕ) (start : State)
-    (calling : Called) → style ≡ seeking.style → admits ≡ seeking.cert.cond → stay ≡ length lasting.loops
-    → start ≡ started_between seeking.style seeking.cert.cond lasting.between → called_in seeking stay name place start ≡ Ok calling
-    → executed_in seeking index name place lasting ≡ Ok (executed_by style admits index name lasting calling)
-execute_makes seeking style admits index name place lasting stay start calling same_style same_cond one two is =
+pub execute_makes : {E : Type 0} (seeking : Seeking) (style : Style) (admits : Cond) (index : ℕ) (name : NameId) (place : Place) (lasting : Lasting) (stay : ℕ)
+    (start : State) (calling : Called) (answer : Result Made E) (result : Result Made Refusal) → style ≡ seeking.style → admits ≡ seeking.cert.cond
+    → stay ≡ length lasting.loops → start ≡ started_between seeking.style seeking.cert.cond lasting.between → called_in seeking stay name place start ≡ Ok calling
+    → MatchResult result (λ x. answer ≡ Ok x) (λ refusal. refusal.reason ≡ NoMemory)
+    → IfOk answer (λ x. x ≡ executed_by style admits index name lasting calling) → Decides (executed_in seeking index name place lasting) result
+execute_makes {E} seeking style admits index name place lasting stay start calling answer result same_style same_cond one two is held given =
     let from = started_between seeking.style seeking.cert.cond lasting.between in
     let next = λ (s : Style) (a : Cond) (c : Called). let made : Result Made Refusal = Ok (executed_by s a index name lasting c) in made in
-    ap (λ (r : Result Called Refusal). then_do r (next seeking.style seeking.cert.cond))
+    held_decides (executed_in seeking index name place lasting) (executed_by style admits index name lasting calling) answer result held given
+    (ap (λ (r : Result Called Refusal). then_do r (next seeking.style seeking.cert.cond))
     (same_call seeking stay (length lasting.loops) name place start from one two ∙ is)
     ∙ ap (λ (s : Style). next s seeking.cert.cond calling) (sym same_style)
-    ∙ ap (λ (a : Cond). next style a calling) (sym same_cond)
+    ∙ ap (λ (a : Cond). next style a calling) (sym same_cond))
 
 -- ITERATE and REVERSE, by what was found of their visits
 pub visited_refused : (seeking : Seeking) (index : ℕ) (name : NameId) (place : Place) (lasting : Lasting) (first : Piece) (n : ℕ) (refusal : Refusal)
@@ -92,21 +94,24 @@ visited_refused seeking index name place lasting first n refusal count is refuse
     (λ memory. ap (λ (v : Piece). visits_from 65 seeking name place lasting v) (sym is)
     ∙ ap (λ (k : ℕ). visits_from k seeking name place lasting first) (sym count) ∙ refused memory)
 
-pub visited_makes : (seeking : Seeking) (style : Style) (admits : Cond) (index : ℕ) (name : NameId) (place : Place) (lasting : Lasting) (first : Piece) (found : Visits)
-    → style ≡ seeking.style → admits ≡ seeking.cert.cond → first ≡ first_visit seeking.style seeking.cert.cond name lasting.between
-    → visits_from 65 seeking name place lasting first ≡ Ok found
-    → visited_in seeking index name place lasting ≡ Ok (visited_by style admits index name lasting found)
-visited_makes seeking style admits index name place lasting first found same_style same_cond is_first is =
+pub visited_makes : {E : Type 0} (seeking : Seeking) (style : Style) (admits : Cond) (index : ℕ) (name : NameId) (place : Place) (lasting : Lasting) (first : Piece)
+    (found : Visits) (answer : Result Made E) (result : Result Made Refusal) → style ≡ seeking.style → admits ≡ seeking.cert.cond
+    → first ≡ first_visit seeking.style seeking.cert.cond name lasting.between → visits_from 65 seeking name place lasting first ≡ Ok found
+    → MatchResult result (λ x. answer ≡ Ok x) (λ refusal. refusal.reason ≡ NoMemory)
+    → IfOk answer (λ x. x ≡ visited_by style admits index name lasting found) → Decides (visited_in seeking index name place lasting) result
+visited_makes {E} seeking style admits index name place lasting first found answer result same_style same_cond is_first is held given =
     let next = λ (s : Style) (a : Cond) (f : Visits). let made : Result Made Refusal = Ok (visited_by s a index name lasting f) in made in
-    ap (λ (r : Result Visits Refusal). then_do r (next seeking.style seeking.cert.cond))
+    held_decides (visited_in seeking index name place lasting) (visited_by style admits index name lasting found) answer result held given
+    (ap (λ (r : Result Visits Refusal). then_do r (next seeking.style seeking.cert.cond))
     (ap (λ (v : Piece). visits_from 65 seeking name place lasting v) (sym is_first) ∙ is)
     ∙ ap (λ (s : Style). next s seeking.cert.cond found) (sym same_style)
-    ∙ ap (λ (a : Cond). next style a found) (sym same_cond)
+    ∙ ap (λ (a : Cond). next style a found) (sym same_cond))
 
 -- the first visit by a style and a condition that are the same
-pub first_same : (seeking : Seeking) (style : Style) (admits : Cond) (name : NameId) (between : Between) (first : Piece) → style ≡ seeking.style
-    → admits ≡ seeking.cert.cond → first ≡ first_visit style admits name between → first ≡ first_visit seeking.style seeking.cert.cond name between
-first_same seeking style admits name between first one two is =
-    is
+pub first_is : {E : Type 0} (seeking : Seeking) (style : Style) (admits : Cond) (name : NameId) (between : Between) (given : Result Piece E) (first : Piece)
+    → style ≡ seeking.style → admits ≡ seeking.cert.cond → given ≡ Ok first → IfOk given (λ v. v ≡ first_visit style admits name between)
+    → first ≡ first_visit seeking.style seeking.cert.cond name between
+first_is {E} seeking style admits name between given first one two e is =
+    ok_has (λ (v : Piece). v ≡ first_visit style admits name between) given first e is
     ∙ ap (λ (s : Style). first_visit s admits name between) one
     ∙ ap (λ (a : Cond). first_visit seeking.style a name between) two

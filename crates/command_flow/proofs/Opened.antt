@@ -26,7 +26,7 @@ few_made test variable makes id (name ∷ names) =
     let later : List Variable = opening_variables variable (id + 1) names in
     let few : length later ≤ length names = few_made test variable makes (id + 1) names in
     elim (makes id name.1 later) [
-      | inl none ↦ subst (λ (l : List Variable). length l ≤ suc (length names)) (sym none) (omega (arith, few))
+      | inl none ↦ subst (λ (l : List Variable). length l ≤ suc (length names)) (sym none.1) (omega (arith, few))
       | inr one ↦ subst (λ (l : List Variable). length l ≤ suc (length names)) (sym one.2) (omega (arith, few))
     ]
 

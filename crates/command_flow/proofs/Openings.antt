@@ -42,18 +42,18 @@ is_entrys _ = false
 
 -- a name of a kind that passes a test makes one variable, and another none
 abbrev pub Makes : (Kind → Bool) → (ℕ → Kind → List Variable → List Variable) → Type 0
-Makes test variable = (id : ℕ) (kind : Kind) (later : List Variable) → (variable id kind later ≡ later)
+Makes test variable = (id : ℕ) (kind : Kind) (later : List Variable) → ((test kind ≡ false) × (variable id kind later ≡ later))
     ⊎ ((x : Value) × (test kind ≡ true) × (variable id kind later ≡ record { name = record { 0 = id }; value = x } ∷ later))
 
 pub makes_globals : Makes (is_variable false) opening_global
 makes_globals id IntGlobal later = inr (_, refl, refl)
 makes_globals id StrGlobal later = inr (_, refl, refl)
-makes_globals id _ later = inl refl
+makes_globals id _ later = inl (refl, refl)
 
 pub makes_entrys : Makes is_entrys opening_entry_variable
 makes_entrys id IntEntry later = inr (_, refl, refl)
 makes_entrys id StrEntry later = inr (_, refl, refl)
-makes_entrys id _ later = inl refl
+makes_entrys id _ later = inl (refl, refl)
 
 -- a variable is found by its name, which is not below this id, and whose kind passes a test
 record Opens (style : Style) (test : Kind → Bool) (id : ℕ) (all : List Variable) (x : Variable) : Type 0 where
@@ -101,7 +101,7 @@ opens_all style test variable makes id (name ∷ names) same =
     ap (λ (k : ℕ). option_map (λ (entry : List ℕ × Kind). entry.1) (slice_get style.names k)) (omega arith)
     ∙ ap (λ (o : Option (List ℕ × Kind)). option_map (λ (entry : List ℕ × Kind). entry.1) o) (same 0) in
     elim (makes id name.1 later) [
-      | inl none ↦ subst (λ (l : List Variable). AllByRecursion (Opens style test id l) l) (sym none) (without style test id later later rest)
+      | inl none ↦ subst (λ (l : List Variable). AllByRecursion (Opens style test id l) l) (sym none.1) (without style test id later later rest)
       | inr one ↦
           let first : Variable = record { name = record { 0 = id }; value = one.0 } in
           let above : id ≤ first.name.0 = omega arith in

@@ -22,7 +22,7 @@ use Rattle.cert_check.proofs.RoomLeft.{started_room}
 use Rattle.command_flow.specs.Between.{nothing, piece_moved}
 use Rattle.command_flow.specs.Commands.{given, parts_of}
 use Rattle.command_flow.specs.Ready.{ArePartsReady, IsReady}
-use Rattle.command_flow.proofs.Shaped.{given_rows, rows_below, rows_bounded}
+use Rattle.command_flow.proofs.Shaped.{fit_moved, given_rows, rows_below}
 
 pub ready_ends : (style : Style) (piece : Piece) → IsReady style piece → CanEnd piece
 ready_ends style piece ready = let lines = ready.short.lines in record { rows = ready.fit.rows; lines = omega (arith, lines) }
@@ -37,13 +37,7 @@ ready_moved style p piece ready movable =
     record {
       short = record { stack = ready.short.stack; symbols = ready.short.symbols; lines = omega (arith, lines, rows) };
       numbered = record { facts = ready.numbered.facts; rows = rows_below p (symbols_of piece) piece.rows ready.numbered.rows };
-      fit = record {
-        of_style = ready.fit.of_style;
-        integers = ready.fit.integers;
-        bytes = ready.fit.bytes;
-        texts = ready.fit.texts;
-        rows = rows_bounded p piece.rows ready.fit.rows movable;
-      };
+      fit = fit_moved style p piece ready.fit movable;
     }
 
 pub all_bounded : (style : Style) (states : List State) → All (IsEnd style) states → All HasBounds states

@@ -16,8 +16,6 @@ use Rattle.bst_meaning.specs.declared.value.Target.{Target}
 use Rattle.bst_meaning.specs.declared.value.Target.TheVariants.{Named}
 use Rattle.cert_format.specs.declared.cert.Cert.{Cert}
 use Rattle.cert_format.specs.declared.cert.CommandPart.{CommandPart}
-use Rattle.cert_format.specs.declared.cert.Loop.{Loop}
-use Rattle.cert_format.specs.declared.cert.Summary.{Summary}
 use Rattle.sym_state.specs.Positions.{AtStart, AtNext, AtEnd}
 use Rattle.sym_state.specs.Showing.{piece_by}
 use Rattle.sym_state.specs.State.{State}
@@ -26,28 +24,17 @@ use Rattle.sym_state.specs.declared.piece.Piece.{Piece}
 use Rattle.sym_state.specs.declared.symbol.Sym.{Sym}
 use Rattle.cert_check.proofs.RefusalPlaces.{element_at, left_fails, placed_fails, refused}
 use Rattle.cert_check.specs.Courses.{placed, refuses}
+use Rattle.cert_check.specs.Laws.{CallsFail, LoopsFail, SummariesFail}
 use Rattle.cert_check.specs.Places.{IsOfBody, IsOfUnit}
 use Rattle.cert_check.specs.Units.{call_walked, loop_checked, none_left, summary_checked}
 use Rattle.cert_check.specs.declared.refusal.Reason.TheVariants.{CommandShape}
 use Rattle.cert_check.specs.declared.refusal.Refusal.{Refusal}
 use Rattle.command_flow.specs.Between.{opened, piece_moved}
-use Rattle.command_flow.specs.Checks.{checked, commands_checked, loops_checked, summaries_checked}
-use Rattle.command_flow.specs.Commands.{call_ends, called, command_checked, command_taken, emptied, executed, is_shaped, parts_of, pieces_shown, started_between, started_visit, state_ends, visited}
+use Rattle.command_flow.specs.Checks.{checked, commands_checked, each_checked, loops_checked, summaries_checked}
+use Rattle.command_flow.specs.Commands.{Left, call_ends, called, command_checked, command_taken, emptied, executed, is_shaped, parts_of, pieces_shown, started_between, started_visit, state_ends, visited}
 use Rattle.command_flow.specs.Places.{IsOfCommand}
 use Rattle.command_flow.specs.declared.between.Between.{Between}
 use Rattle.command_flow.specs.declared.between.Parts.{Parts}
-
--- a summary, a loop and a call fail at their places
-abbrev pub SummariesFail : Type 0
-SummariesFail = (style : Style) (cert : Cert) (summary : Summary) (refusal : Refusal) → summary_checked style cert summary ≡ Err refusal
-    → IsOfUnit style refusal.place
-
-abbrev pub LoopsFail : Type 0
-LoopsFail = (style : Style) (cert : Cert) (one : Loop) (refusal : Refusal) → loop_checked style cert one ≡ Err refusal → IsOfUnit style refusal.place
-
-abbrev pub CallsFail : Type 0
-CallsFail = (style : Style) (cert : Cert) (states : List State) (target : Target) (place : Place) (hints : List Hint) (refusal : Refusal)
-    → call_walked style cert states target place hints ≡ Err refusal → (refusal.place ≡ place) ⊎ IsOfBody style refusal.place
 
 -- where each refusal stands at such a place, one that is there does
 fails_by : {X : Type 0} (P : Place → Type 0) (result : Result X Refusal) → ((refusal : Refusal) → result ≡ Err refusal → P refusal.place)
@@ -148,18 +135,12 @@ module _ (P : Place → Type 0) where
         (taken_fails at part between each.0) (λ after _. commands_fail (suc index) after commands each.1)
 
 -- summaries and loops
-summaries_fail : (style : Style) (cert : Cert) (summaries : List Summary) → SummariesFail
-    → IfErr (summaries_checked style cert summaries) (λ r. IsOfUnit style r.place)
-summaries_fail style cert [] units = tt
-summaries_fail style cert (summary ∷ summaries) units =
-    then_faulty (λ (r : Refusal). IsOfUnit style r.place) (summary_checked style cert summary) (λ hints. summaries_checked style cert summaries)
-    (fails_by (IsOfUnit style) (summary_checked style cert summary) (units style cert summary)) (λ hints _. summaries_fail style cert summaries units)
-
-loops_fail : (style : Style) (cert : Cert) (loops : List Loop) → LoopsFail → IfErr (loops_checked style cert loops) (λ r. IsOfUnit style r.place)
-loops_fail style cert [] units = tt
-loops_fail style cert (one ∷ loops) units =
-    then_faulty (λ (r : Refusal). IsOfUnit style r.place) (loop_checked style cert one) (λ hints. loops_checked style cert loops)
-    (fails_by (IsOfUnit style) (loop_checked style cert one) (units style cert one)) (λ hints _. loops_fail style cert loops units)
+units_fail : {X : Type 0} (style : Style) (check : X → Left) (units : List X) → ((unit : X) → IfErr (check unit) (λ r. IsOfUnit style r.place))
+    → IfErr (each_checked check units) (λ r. IsOfUnit style r.place)
+units_fail style check [] each = tt
+units_fail style check (unit ∷ units) each =
+    then_faulty (λ (r : Refusal). IsOfUnit style r.place) (check unit) (λ hints. each_checked check units) (each unit)
+    (λ hints _. units_fail style check units each)
 
 -- the place of a command, or in a unit
 abbrev InStyle : Style → Place → Type 0
@@ -182,7 +163,9 @@ rule_refused style cert refusal summaries loops calls is = refused (InStyle styl
     all_fail =
         then_faulty (λ (r : Refusal). InStyle style r.place) (summaries_checked style cert cert.summaries)
         (λ hints. then_do (loops_checked style cert cert.loops) (λ hints. commands_checked style cert 0 (opened style) style.commands))
-        (in_unit (summaries_checked style cert cert.summaries) (summaries_fail style cert cert.summaries summaries))
+        (in_unit (summaries_checked style cert cert.summaries) (units_fail style (summary_checked style cert) cert.summaries
+        (λ summary. fails_by (IsOfUnit style) (summary_checked style cert summary) (summaries style cert summary))))
         (λ hints _. then_faulty (λ (r : Refusal). InStyle style r.place) (loops_checked style cert cert.loops)
         (λ hints. commands_checked style cert 0 (opened style) style.commands)
-        (in_unit (loops_checked style cert cert.loops) (loops_fail style cert cert.loops loops)) (λ hints _. commands))
+        (in_unit (loops_checked style cert cert.loops) (units_fail style (loop_checked style cert) cert.loops
+        (λ one. fails_by (IsOfUnit style) (loop_checked style cert one) (loops style cert one)))) (λ hints _. commands))

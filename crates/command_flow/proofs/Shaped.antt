@@ -18,7 +18,7 @@ use Rattle.bst_meaning.specs.Values.{IsOfKind}
 use Rattle.cert_format.specs.declared.cert.CommandPart.{CommandPart}
 use Rattle.sym_state.specs.Positions.{Position, AtStart, AtNext, AtEnd, parts_moved, row_moved, with_position, with_term}
 use Rattle.sym_state.specs.Results.{and_part, kept_part, part}
-use Rattle.sym_state.specs.Starting.{symbols_of}
+use Rattle.sym_state.specs.Starting.{IsFit, symbols_of}
 use Rattle.sym_state.specs.WellMade.{IsBounded, IsTermBelow, is_variable}
 use Rattle.sym_state.specs.declared.piece.Piece.{Piece}
 use Rattle.sym_state.proofs.Moving.{moved_bounded}
@@ -114,25 +114,29 @@ rows_below p next (row ∷ rows) all =
     (moved_below p next [] row.parts (All-nil _) (All-head (λ (r : Row). AreBelow next r.parts) row rows all))
     (rows_below p next rows (All-tail (λ (r : Row). AreBelow next r.parts) row rows all))
 
-pub rows_bounded : (p : Position) (rows : List Row) → All IsBounded rows → All IsMovable rows → All IsBounded (map (row_moved p) rows)
+rows_bounded : (p : Position) (rows : List Row) → All IsBounded rows → All IsMovable rows → All IsBounded (map (row_moved p) rows)
 rows_bounded p [] bounded movable = All-nil IsBounded
 rows_bounded p (row ∷ rows) bounded movable =
     All-cons IsBounded (row_moved p row) (map (row_moved p) rows)
     (moved_bounded p row (All-head IsBounded row rows bounded) (All-head IsMovable row rows movable))
     (rows_bounded p rows (All-tail IsBounded row rows bounded) (All-tail IsMovable row rows movable))
 
+-- a piece that is moved fits
+pub fit_moved : (style : Style) (p : Position) (piece : Piece) → IsFit style piece → All IsMovable piece.rows → IsFit style (piece_moved p piece)
+fit_moved style p piece fit movable = record {
+  of_style = fit.of_style;
+  integers = fit.integers;
+  bytes = fit.bytes;
+  texts = fit.texts;
+  rows = rows_bounded p piece.rows fit.rows movable;
+}
+
 -- a piece that is moved may start states
 moved_usable : (style : Style) (p : Position) (test : Kind → Bool) (piece : Piece) → Usable style test piece → All IsMovable piece.rows
     → Usable style test (piece_moved p piece)
 moved_usable style p test piece usable movable = record {
   numbered = record { facts = usable.numbered.facts; rows = rows_below p (symbols_of piece) piece.rows usable.numbered.rows };
-  fit = record {
-    of_style = usable.fit.of_style;
-    integers = usable.fit.integers;
-    bytes = usable.fit.bytes;
-    texts = usable.fit.texts;
-    rows = rows_bounded p piece.rows usable.fit.rows movable;
-  };
+  fit = fit_moved style p piece usable.fit movable;
   about = record { stack = usable.about.stack; vars = usable.about.vars; fields = usable.about.fields };
 }
 

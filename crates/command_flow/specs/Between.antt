@@ -1,5 +1,6 @@
 -- What stands between commands (docs/CHECKER.md, "Commands"): a piece on global variables and a piece on one entry.
 use Rattle.std.specs.Prelude.{ℕ, suc, List, [], ◌∷◌, map}
+use Rattle.name_table.specs.declared.names.Kind.{Kind}
 use Rattle.name_table.specs.declared.style.Style.{Style}
 use Rattle.bst_meaning.specs.Config.{Variable, opening_entry_variable, opening_global, opening_variables}
 use Rattle.bst_meaning.specs.declared.value.Value.{Value}
@@ -10,6 +11,8 @@ use Rattle.sym_state.specs.declared.symbol.Bind.{Bind}
 use Rattle.sym_state.specs.declared.symbol.Fact.{Fact}
 use Rattle.sym_state.specs.declared.symbol.Fact.TheVariants.{Int as IntFact, Text as TextFact}
 use Rattle.command_flow.specs.declared.between.Between.{Between}
+use Rattle.command_flow.specs.declared.between.Owner.{Owner}
+use Rattle.command_flow.specs.declared.between.Owner.TheVariants.{Style as OfStyle, Entry as OfEntry}
 
 -- a piece that says nothing
 abbrev pub nothing : Piece
@@ -34,6 +37,11 @@ exact_facts next (variable ∷ variables) = exact_fact next variable.value (exac
 -- the piece that says of variables what they are
 abbrev pub exactly : List Variable → Piece
 exactly variables = record { stack = []; vars = own_symbols 0 variables; fields = []; facts = exact_facts 0 variables; rows = [] }
+
+-- the variable that a name declares, as it opens: of the whole style, or of each entry
+abbrev pub opening_of : Owner → ℕ → Kind → List Variable → List Variable
+opening_of OfStyle id kind later = opening_global id kind later
+opening_of OfEntry id kind later = opening_entry_variable id kind later
 
 -- before the first command each variable has the value with which it opens
 abbrev pub opened : Style → Between

@@ -12,16 +12,18 @@ use Rattle.command_flow.specs.Between.{opened}
 use Rattle.command_flow.specs.declared.between.Between.{Between}
 use Rattle.command_flow.specs.Commands.{Left, command_taken}
 
--- summaries in order
-abbrev pub summaries_checked : Style → Cert → List Summary → Left
-summaries_checked style cert [] = Ok []
-summaries_checked style cert (summary ∷ summaries) =
-    then_do (summary_checked style cert summary) (λ hints. summaries_checked style cert summaries)
+-- units in order, each by its rule
+abbrev pub each_checked : {X : Type 0} → (X → Left) → List X → Left
+each_checked check [] = Ok []
+each_checked check (unit ∷ units) = then_do (check unit) (λ hints. each_checked check units)
 
--- loops in order
+-- the summaries in order
+abbrev pub summaries_checked : Style → Cert → List Summary → Left
+summaries_checked style cert summaries = each_checked (summary_checked style cert) summaries
+
+-- the loops in order
 abbrev pub loops_checked : Style → Cert → List Loop → Left
-loops_checked style cert [] = Ok []
-loops_checked style cert (one ∷ loops) = then_do (loop_checked style cert one) (λ hints. loops_checked style cert loops)
+loops_checked style cert loops = each_checked (loop_checked style cert) loops
 
 -- commands in order, numbered from here
 abbrev pub commands_checked : Style → Cert → ℕ → Between → List CommandAt → Left

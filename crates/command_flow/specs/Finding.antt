@@ -21,6 +21,7 @@ use Rattle.cert_check.specs.Units.{call_found}
 use Rattle.cert_check.specs.declared.refusal.Refusal.{Refusal}
 use Rattle.command_flow.specs.Between.{nothing, opened}
 use Rattle.command_flow.specs.Commands.{Left, call_ends, started_between, started_visit}
+use Rattle.command_flow.specs.Ready.{AreReady}
 use Rattle.command_flow.specs.declared.between.Between.{Between}
 use Rattle.command_flow.specs.declared.finding.Found.{Found}
 
@@ -29,6 +30,11 @@ abbrev pub called_finding : Finding → Style → Cert → NameId → Place → 
 called_finding finding style cert name place state =
     then_do (call_found finding style cert (state ∷ []) (Named name) place) (λ course.
     call_ends cert.cond place [] course.given course.found)
+
+-- what is found for a command: what stands after it is ready, and its hints may be written
+pub record IsFound (style : Style) (found : Found) : Type 0 where
+  pub ready : AreReady style found.between
+  pub written : Each IsHint found.hints
 
 -- what stands after a command and the hints that were found for it, or the rule that fails
 abbrev pub Onward : Type 0

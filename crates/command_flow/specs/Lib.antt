@@ -5,5 +5,6 @@ pub mod Checks
 pub mod Places
 pub mod Ready
 pub mod Records
+pub mod Subjects
 pub mod Finding
 pub mod Templates

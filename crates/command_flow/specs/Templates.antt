@@ -81,20 +81,26 @@ abbrev pub reached_from : Style → Cond → NameId → Occurring
 reached_from style admits name =
     let types = type_functions style admits in occurring style types (roots_of style types (Named name))
 
--- the frame of a piece that a command leaves: it is made against one state, and a variable counts as written where it is quoted in the
--- bodies that the command's name reaches
-abbrev pub frame_left : Style → Cond → NameId → Leaving → State → Frame
-frame_left style admits name leaving start = record {
+-- the frame of a piece that a command leaves, over these sums: it is made against one state, and these variables count as written
+abbrev pub frame_of_parts : Style → Cond → Leaving → List NameId → List (List Part) → List State → Frame
+frame_of_parts style admits leaving writes all entering = record {
   style = style;
   admits = admits;
   whole = true;
   at_entry = leaving.at_entry;
   has_pos = leaving.has_pos;
   bound = leaving.bound;
-  writes = occurring_of (is_bound_variable (all_bound true)) style (reached_from style admits name).quoted;
-  sums = sums (command_terms style (occurring_anywhere style) leaving.bound leaving.has_pos);
-  entering = start ∷ [];
+  writes = writes;
+  sums = all;
+  entering = entering;
 }
+
+-- what a command leaves: a variable counts as written where it is quoted in the bodies that the command's name reaches
+abbrev pub frame_left : Style → Cond → NameId → Leaving → State → Frame
+frame_left style admits name leaving start =
+    frame_of_parts style admits leaving
+    (occurring_of (is_bound_variable (all_bound true)) style (reached_from style admits name).quoted)
+    (sums (command_terms style (occurring_anywhere style) leaving.bound leaving.has_pos)) (start ∷ [])
 
 -- what states have in common, where there is one
 abbrev pub left_in : Frame → List State → Option Piece

@@ -29,6 +29,13 @@ pub struct Between {
     pub entry: Piece,
 }
 
+/// Whose variables: the style's, which are global, or an entry's.
+#[derive(Clone, Copy)]
+pub(crate) enum Owner {
+    Style,
+    Entry,
+}
+
 /// What stands after a command, or the rule that fails.
 pub(crate) type Flow = Result<Between, Refusal>;
 
@@ -72,8 +79,8 @@ pub(crate) fn opened(alloc: Global, style: &Style) -> Result<Between, NoMemory>
     ensures { IfOk result (λ between. between ≡ rule.opened style.now) }
 {
     Ok(Between {
-        globals: globals(alloc, &style.names)?,
-        entry: entry_variables(alloc, &style.names)?,
+        globals: variables(alloc, &style.names, Owner::Style)?,
+        entry: variables(alloc, &style.names, Owner::Entry)?,
     })
 }
 
@@ -85,9 +92,9 @@ struct Exact {
     next: u32,
 }
 
-/// The piece on the global variables.
-fn globals(alloc: Global, names: &Names) -> Result<Piece, NoMemory>
-    ensures { IfOk result (λ piece. piece ≡ rule.exactly (config.opening_variables config.opening_global 0 names.now)) }
+/// The piece on the global variables, or on an entry's.
+fn variables(alloc: Global, names: &Names, owner: Owner) -> Result<Piece, NoMemory>
+    ensures { IfOk result (λ piece. piece ≡ rule.exactly (config.opening_variables (rule.opening_of owner) 0 names.now)) }
 {
     let mut exact = Exact {
         vars: Vec::new(alloc),
@@ -95,22 +102,8 @@ fn globals(alloc: Global, names: &Names) -> Result<Piece, NoMemory>
         next: 0,
     };
     for id in 0..names.len() {
-        push_global(&mut exact, NameId(id), names.kind(NameId(id)), alloc)?;
-    }
-    Ok(piece_of(alloc, exact))
-}
-
-/// The piece on an entry's variables.
-fn entry_variables(alloc: Global, names: &Names) -> Result<Piece, NoMemory>
-    ensures { IfOk result (λ piece. piece ≡ rule.exactly (config.opening_variables config.opening_entry_variable 0 names.now)) }
-{
-    let mut exact = Exact {
-        vars: Vec::new(alloc),
-        facts: Vec::new(alloc),
-        next: 0,
-    };
-    for id in 0..names.len() {
-        push_entry_variable(&mut exact, NameId(id), names.kind(NameId(id)), alloc)?;
+        let name = NameId(id);
+        push_variable(&mut exact, owner, name, names.kind(name), alloc)?;
     }
     Ok(piece_of(alloc, exact))
 }
@@ -128,42 +121,28 @@ fn piece_of(alloc: Global, exact: Exact) -> Piece
     }
 }
 
-/// Appends the global variable that a name of a kind is, if it is one.
-fn push_global(exact: &mut Exact, name: NameId, kind: Kind, alloc: Global) -> Result<(), NoMemory>
-    requires { exact.old.next < 4294967295 }
-    ensures vars { OnOk result ((later : List config.Variable) → exact.new.vars.items ++ rule.own_symbols exact.new.next later
-        ≡ exact.old.vars.items ++ rule.own_symbols exact.old.next (config.opening_global name.0 kind later)) }
-    ensures facts { OnOk result ((later : List config.Variable) → exact.new.facts.items ++ rule.exact_facts exact.new.next later
-        ≡ exact.old.facts.items ++ rule.exact_facts exact.old.next (config.opening_global name.0 kind later)) }
-    ensures next { OnOk result (exact.new.next ≤ exact.old.next + 1) }
-{
-    let sym = Sym(exact.next);
-    let fact = match kind {
-        Kind::IntGlobal => Fact::Int(sym, opening_integer(name)),
-        Kind::StrGlobal => Fact::Text(sym, Text::from_vec(Vec::new(alloc))),
-        _ => return Ok(()),
-    };
-    push(exact, name, fact)
-}
-
-/// Appends the entry's variable that a name of a kind is, if it is one.
-fn push_entry_variable(
+/// Appends the variable that a name of a kind is, if it is one of these.
+fn push_variable(
     exact: &mut Exact,
+    owner: Owner,
     name: NameId,
     kind: Kind,
     alloc: Global,
 ) -> Result<(), NoMemory>
     requires { exact.old.next < 4294967295 }
     ensures vars { OnOk result ((later : List config.Variable) → exact.new.vars.items ++ rule.own_symbols exact.new.next later
-        ≡ exact.old.vars.items ++ rule.own_symbols exact.old.next (config.opening_entry_variable name.0 kind later)) }
+        ≡ exact.old.vars.items ++ rule.own_symbols exact.old.next (rule.opening_of owner name.0 kind later)) }
     ensures facts { OnOk result ((later : List config.Variable) → exact.new.facts.items ++ rule.exact_facts exact.new.next later
-        ≡ exact.old.facts.items ++ rule.exact_facts exact.old.next (config.opening_entry_variable name.0 kind later)) }
+        ≡ exact.old.facts.items ++ rule.exact_facts exact.old.next (rule.opening_of owner name.0 kind later)) }
     ensures next { OnOk result (exact.new.next ≤ exact.old.next + 1) }
 {
     let sym = Sym(exact.next);
-    let fact = match kind {
-        Kind::IntEntry => Fact::Int(sym, 0),
-        Kind::StrEntry => Fact::Text(sym, Text::from_vec(Vec::new(alloc))),
+    let fact = match (owner, kind) {
+        (Owner::Style, Kind::IntGlobal) => Fact::Int(sym, opening_integer(name)),
+        (Owner::Entry, Kind::IntEntry) => Fact::Int(sym, 0),
+        (Owner::Style, Kind::StrGlobal) | (Owner::Entry, Kind::StrEntry) => {
+            Fact::Text(sym, Text::from_vec(Vec::new(alloc)))
+        }
         _ => return Ok(()),
     };
     push(exact, name, fact)

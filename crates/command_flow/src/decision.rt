@@ -1,14 +1,11 @@
 //! The checker's decision (docs/CHECKER.md, "Certificates").
 
 ghost use Rattle.std.specs.Prelude.{◌≡◌, ◌+◌, ◌≤◌, ℕ, [], Ok, ◌∷◌, MatchOption, OnOk, option_map};
-ghost use Rattle.name_table.specs.Sound.{IsSound};
-ghost use Rattle.bst_meaning.specs.Safe.{Safe};
-ghost use Rattle.cert_check.specs.Certified.{IsCertified};
-ghost use Rattle.cert_check.specs.Given.{Takes};
 ghost use Rattle.command_flow.specs.Between as between;
 ghost use Rattle.command_flow.specs.Checks as flow;
 ghost use Rattle.command_flow.specs.Ready.{AreReady};
 ghost use Rattle.command_flow.specs.Records.{AreFrom, record_at};
+ghost use Rattle.command_flow.specs.Subjects.{IsCertified, IsSound, Safe, Takes};
 
 use crate::at::At;
 use crate::between::opened;

@@ -1,14 +1,9 @@
 //! The states at the end of a call (docs/CHECKER.md, "Commands").
 
 ghost use Rattle.std.specs.Prelude.{◌≡◌, [], Ok, Err, MatchResult};
-ghost use Rattle.std.specs.List.{All};
-ghost use Rattle.name_table.specs.Sound.{Each};
-ghost use Rattle.cert_format.specs.CertText.{IsHint};
-ghost use Rattle.sym_state.specs.Demands.{HasFewUses};
-ghost use Rattle.sym_state.specs.WellMade.{HasBounds};
-ghost use Rattle.cert_check.specs.Given.{CanEnd, Takes};
 ghost use Rattle.cert_check.specs.Units.{none_left};
 ghost use Rattle.command_flow.specs.Commands as rule;
+ghost use Rattle.command_flow.specs.Subjects.{All, CanEnd, Each, HasBounds, HasFewUses, IsHint, Takes};
 
 use crate::at::At;
 use bv_base::place::Place;
@@ -48,7 +43,7 @@ pub(crate) fn all_emptied(at: &At<'_>, states: &[State], hints: &[Hint]) -> Walk
     call_ends(at, &[], states, &mut Hints::new(hints))
 }
 
-/// A state has an empty stack and entails the pieces.
+/// A state has an empty stack and entails the pieces, one after the other.
 fn state_ends(at: &At<'_>, pieces: &[Piece], state: &State, hints: &mut Hints<'_>) -> Walk
     requires pieces { All CanEnd pieces.now }
     requires state { HasBounds state.now }
@@ -65,17 +60,6 @@ fn state_ends(at: &At<'_>, pieces: &[Piece], state: &State, hints: &mut Hints<'_
             }),
         );
     }
-    pieces_shown(at, state, pieces, hints)
-}
-
-/// A state entails pieces, one after the other.
-fn pieces_shown(at: &At<'_>, state: &State, pieces: &[Piece], hints: &mut Hints<'_>) -> Walk
-    requires pieces { All CanEnd pieces.now }
-    requires state { HasBounds state.now }
-    requires proofs { All HasFewUses hints.old }
-    ensures shown { Takes (rule.pieces_shown at.now.cond.now at.now.command.place state.now pieces.now hints.old) hints.new result }
-    ensures proofs { All HasFewUses hints.new }
-{
     for piece in pieces {
         piece_shown(at, state, piece, hints)?;
     }

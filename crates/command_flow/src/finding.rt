@@ -1,19 +1,13 @@
 //! The commands of a style whose hints are found (docs/ANALYSER.md, "Commands").
 
 ghost use Rattle.std.specs.Prelude.{◌≡◌, ◌≤◌, Bool, true, [], ◌∷◌, ◌++◌, Ok, IfOk, OnOk, MatchResult, length};
-ghost use Rattle.std.specs.List.{All};
-ghost use Rattle.name_table.specs.Sound.{Each, IsSound};
 ghost use Rattle.bst_meaning.specs.declared.value.Target.TheVariants.{Named};
-ghost use Rattle.cert_format.specs.CertText.{IsHint};
-ghost use Rattle.sym_state.specs.Starting.{started};
-ghost use Rattle.sym_state.specs.WellMade.{HasBounds, HasSmallFields};
-ghost use Rattle.cert_check.specs.Certified.{IsCertified};
-ghost use Rattle.cert_check.specs.Given.{Finds, GoesOn, Refused};
-ghost use Rattle.cert_check.specs.Room.{HasRoom};
+ghost use Rattle.cert_check.specs.Given.{Finds, Refused};
 ghost use Rattle.cert_check.specs.Units.{call_found};
 ghost use Rattle.command_flow.specs.Between as between;
 ghost use Rattle.command_flow.specs.Finding as rule;
 ghost use Rattle.command_flow.specs.Ready.{Agrees, AreReady, Decides, IsReady};
+ghost use Rattle.command_flow.specs.Subjects.{All, Each, GoesOn, HasBounds, HasRoom, HasSmallFields, IsCertified, IsHint, IsSound, started};
 
 use crate::at::At;
 use crate::between::{Between, nothing, opened};
@@ -84,13 +78,12 @@ fn commands_found<'a>(
     let mut parts = Vec::new(alloc);
     let mut between = held(Place::START, opened(alloc, style))?;
     for (index, command) in style.commands.as_slice().iter().enumerate() {
-        let command = *command;
         let at = At {
             checker,
             alloc,
             style,
             cond,
-            command,
+            command: *command,
         };
         let found = command_found(&at, finding, between)?;
         held(
@@ -123,8 +116,7 @@ fn command_found(at: &At<'_>, finding: Finding, between: Between) -> FoundHere
     requires at { Agrees at.now }
     requires between { AreReady at.now.style.now between }
     ensures decides { Decides (rule.command_found finding at.now.checker.now.style at.now.checker.now.cert at.now.command.command at.now.command.place between) result }
-    ensures ready { IfOk result (λ found. AreReady at.now.style.now found.between) }
-    ensures written { IfOk result (λ found. Each IsHint found.hints) }
+    ensures found { IfOk result (rule.IsFound at.now.style.now) }
 {
     match at.command.command {
         Command::Execute(name) => executed_finding(at, finding, name, between),
@@ -143,8 +135,7 @@ fn executed_finding(at: &At<'_>, finding: Finding, name: NameId, between: Betwee
     requires at { Agrees at.now }
     requires between { AreReady at.now.style.now between }
     ensures decides { Decides (rule.executed_finding finding at.now.checker.now.style at.now.checker.now.cert name at.now.command.place between) result }
-    ensures ready { IfOk result (λ found. AreReady at.now.style.now found.between) }
-    ensures written { IfOk result (λ found. Each IsHint found.hints) }
+    ensures found { IfOk result (rule.IsFound at.now.style.now) }
 {
     let starts = from_ref(&between.globals);
     let hints = called_from(at, finding, name, starts, false)?;
@@ -162,8 +153,7 @@ fn visited_finding(at: &At<'_>, finding: Finding, name: NameId, between: Between
     requires at { Agrees at.now }
     requires between { AreReady at.now.style.now between }
     ensures decides { Decides (rule.visited_finding finding at.now.checker.now.style at.now.checker.now.cert name at.now.command.place between) result }
-    ensures ready { IfOk result (λ found. AreReady at.now.style.now found.between) }
-    ensures written { IfOk result (λ found. Each IsHint found.hints) }
+    ensures found { IfOk result (rule.IsFound at.now.style.now) }
 {
     let starts = [nothing(at.alloc), between.entry];
     let hints = called_from(at, finding, name, &starts, true)?;

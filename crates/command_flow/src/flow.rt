@@ -1,17 +1,19 @@
 //! The rules of commands (docs/CHECKER.md, "Commands").
 
-ghost use Rattle.std.specs.Prelude.{◌≡◌, ◌≤◌, Bool, true, [], ◌∷◌, Ok, IfOk, MatchResult, length, option_map};
+ghost use Rattle.std.specs.Prelude.{◌≡◌, ◌≤◌, Bool, false, true, [], ◌∷◌, Ok, IfOk, MatchResult, length, option_map};
 ghost use Rattle.std.specs.List.{All};
 ghost use Rattle.std.specs.Option.{ForSome, option_map_or};
 ghost use Rattle.bv_base.specs.Answers.{then_do};
 ghost use Rattle.bst_meaning.specs.declared.value.Target.TheVariants.{Named};
 ghost use Rattle.sym_state.specs.Demands.{HasFewUses};
 ghost use Rattle.sym_state.specs.Starting.{started};
-ghost use Rattle.sym_state.specs.WellMade.{HasBounds};
+ghost use Rattle.sym_state.specs.Positions.{AtEnd, AtNext};
+ghost use Rattle.sym_state.specs.WellMade.{HasBounds, IsBounded};
 ghost use Rattle.cert_check.specs.Certified.{IsCommandOf, IsMovable};
 ghost use Rattle.cert_check.specs.Given.{CanEnd, Leads, Refused, Takes};
 ghost use Rattle.cert_check.specs.Room.{HasRoom, IsEnd};
 ghost use Rattle.cert_check.specs.Units.{call_walked, none_left};
+ghost use Rattle.command_flow.specs.Between.{piece_moved as moved};
 ghost use Rattle.command_flow.specs.Commands as rule;
 ghost use Rattle.command_flow.specs.Ready.{Agrees, AreReady, ArePartsReady, Decides, IsReady};
 
@@ -106,15 +108,35 @@ fn executed(at: &At<'_>, name: NameId, parts: Parts<'_>, between: Between) -> Fl
     ensures decides { Decides (rule.executed at.now.checker.now.style at.now.checker.now.cert name at.now.command.place parts.entry between) result }
     ensures ready { IfOk result (AreReady at.now.style.now) }
 {
-    let place = at.command.place;
-    let state = held(place, state_of(at, from_ref(&between.globals), false))?;
-    let mut hints = parts.hints;
-    let after = parts.after;
-    called(at, name, state, from_ref(&after), &mut hints)?;
+    let Parts {
+        after,
+        mut hints,
+        ..
+    } = parts;
+    execute_walked(at, name, &between.globals, &after, &mut hints)?;
     Ok(Between {
         globals: after,
         entry: between.entry,
     })
+}
+
+/// A call from what is known of the global variables entails the piece.
+fn execute_walked(
+    at: &At<'_>,
+    name: NameId,
+    globals: &Piece,
+    after: &Piece,
+    hints: &mut Hints<'_>,
+) -> Walk
+    requires at { Agrees at.now }
+    requires globals { IsReady at.now.style.now globals.now }
+    requires after { IsReady at.now.style.now after.now }
+    requires proofs { All HasFewUses hints.old }
+    ensures { Takes (rule.called at.now.checker.now.style at.now.checker.now.cert name at.now.command.place
+        (started at.now.style.now at.now.cond.now (globals.now ∷ []) true false) (after.now ∷ []) hints.old) [] result }
+{
+    let state = held(at.command.place, state_of(at, from_ref(globals), false))?;
+    called(at, name, state, from_ref(after), hints)
 }
 
 /// `visit` holds of the global variables where no entry was visited.
@@ -169,17 +191,49 @@ fn visited(at: &At<'_>, name: NameId, parts: Parts<'_>, between: Between) -> Flo
         ..
     } = parts;
     let Between { globals, entry } = between;
-    let (alloc, place) = (at.alloc, at.command.place);
+    let place = at.command.place;
     visit_begins(at, &globals, &visit, &mut hints)?;
-    let after = held(place, piece_moved(alloc, Moment::End, &visit))?;
-    let next = held(place, piece_moved(alloc, Moment::Next, &visit))?;
-    let kept = held(place, copied(alloc, &keeps))?;
+    let after = held(place, after_visits(at.alloc, &visit, &keeps))?;
+    visits_kept(at, name, visit, entry, keeps, &mut hints)?;
+    Ok(after)
+}
+
+/// A visit from `visit` and what is known of its entry leaves `visit` for the next entry, and `keeps` of its own.
+fn visits_kept(
+    at: &At<'_>,
+    name: NameId,
+    visit: Piece,
+    entry: Piece,
+    keeps: Piece,
+    hints: &mut Hints<'_>,
+) -> Walk
+    requires at { Agrees at.now }
+    requires visit { IsReady at.now.style.now visit }
+    requires movable { All IsMovable visit.rows }
+    requires entry { IsReady at.now.style.now entry }
+    requires keeps { IsReady at.now.style.now keeps }
+    requires proofs { All HasFewUses hints.old }
+    ensures { Takes (rule.called at.now.checker.now.style at.now.checker.now.cert name at.now.command.place
+        (started at.now.style.now at.now.cond.now (visit ∷ (entry ∷ [])) true true) (moved AtNext visit ∷ (keeps ∷ [])) hints.old) [] result }
+{
+    let next = held(
+        at.command.place,
+        piece_moved(at.alloc, Moment::Next, &visit),
+    )?;
     let starts = [visit, entry];
     let ends = [next, keeps];
-    visit_walked(at, name, &starts, &ends, &mut hints)?;
+    visit_walked(at, name, &starts, &ends, hints)
+}
+
+/// What stands after all visits: `visit` where none is left, and of each entry what is kept.
+fn after_visits(alloc: Global, visit: &Piece, keeps: &Piece) -> Result<Between, NoMemory>
+    requires bounded { All IsBounded visit.now.rows }
+    requires movable { All IsMovable visit.now.rows }
+    ensures { IfOk result (λ after. after ≡ record { globals = moved AtEnd visit.now; entry = keeps.now }) }
+{
     Ok(Between {
-        globals: after,
-        entry: kept,
+        globals: piece_moved(alloc, Moment::End, visit)?,
+        entry: copied(alloc, keeps)?,
     })
 }
 

@@ -1,11 +1,9 @@
 //! The pieces that commands leave (docs/ANALYSER.md, "Commands").
 
 ghost use Rattle.std.specs.Prelude.{◌≡◌, true, IfOk, IfSome};
-ghost use Rattle.std.specs.List.{All};
-ghost use Rattle.sym_state.specs.WellMade.{WellMade};
-ghost use Rattle.cert_check.specs.Room.{IsEnd};
 ghost use Rattle.loop_templates.specs.Visits as visits;
 ghost use Rattle.command_flow.specs.Ready.{Agrees, IsReady};
+ghost use Rattle.command_flow.specs.Subjects.{All, IsEnd, WellMade};
 ghost use Rattle.command_flow.specs.Templates as rule;
 
 use crate::at::At;

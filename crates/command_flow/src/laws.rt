@@ -1,18 +1,10 @@
 //! What it means that a certificate is accepted, and where it isn't.
 
 ghost use Rattle.std.specs.Prelude.{◌≡◌, ◌⊎◌, [], List, Ok, Err};
-ghost use Rattle.name_table.specs.Sound.{IsSound};
-ghost use Rattle.name_table.specs.declared.style.Style.{Style};
-ghost use Rattle.bst_meaning.specs.Safe.{Safe};
-ghost use Rattle.cert_format.specs.declared.cert.Cert.{Cert};
-ghost use Rattle.cert_format.specs.declared.cert.CommandPart.{CommandPart};
-ghost use Rattle.straight_hints.specs.declared.finding.Finding.{Finding};
-ghost use Rattle.cert_check.specs.Certified.{IsCertified};
-ghost use Rattle.cert_check.specs.Places.{IsOfUnit};
-ghost use Rattle.cert_check.specs.declared.refusal.Refusal.{Refusal};
 ghost use Rattle.command_flow.specs.Checks.{checked, Checks};
 ghost use Rattle.command_flow.specs.Finding.{records_found};
 ghost use Rattle.command_flow.specs.Places.{IsOfCommand};
+ghost use Rattle.command_flow.specs.Subjects.{Cert, CommandPart, Finding, IsCertified, IsOfUnit, IsSound, Refusal, Safe, Style};
 
 use bst_meaning::laws::runs_are_well_formed;
 use cert_check::laws::{

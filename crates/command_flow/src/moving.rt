@@ -1,11 +1,10 @@
 //! Pieces where a command begins, comes to its next entry and ends: what stands for `pos` in their rows (docs/STATES.md,
 //! "Positions").
 
-ghost use Rattle.std.specs.Prelude.{◌≡◌, ◌^◌, ◌+ℤ◌, [], ◌++◌, map, IfOk, OnOk};
+ghost use Rattle.std.specs.Prelude.{◌≡◌, ◌^◌, ◌+ℤ◌, map, IfOk, OnOk};
 ghost use Rattle.std.specs.List.{All};
 ghost use Rattle.lin_facts.specs.Rows.{IsWithin};
 ghost use Rattle.sym_state.specs.Positions as rule;
-ghost use Rattle.sym_state.specs.Results.{and_part, kept_part};
 ghost use Rattle.sym_state.specs.WellMade.{IsBounded};
 ghost use Rattle.cert_check.specs.Certified.{IsMovable};
 ghost use Rattle.command_flow.specs.Between.{piece_moved};
@@ -14,10 +13,10 @@ ghost use Rattle.command_flow.specs.Moments.{position_of};
 use bv_base::copied::Copied;
 use bv_base::memory::NoMemory;
 use bv_base::seq::Seq;
-use lin_facts::follows::same_term;
 use lin_facts::row::{Part, Row, Term};
 use std::alloc::Global;
 use sym_state::piece::Piece;
+use sym_state::results::and_part;
 
 /// Where in a command that visits entries.
 #[derive(Clone, Copy, Debug, PartialEq, Eq)]
@@ -95,53 +94,7 @@ fn put(alloc: Global, moved: &mut Row, moment: Moment, part: Part) -> Result<(),
         coefficient: part.coefficient,
         term,
     };
-    let parts = added(alloc, moved.parts.as_slice(), more)?;
+    let parts = and_part(alloc, moved.parts.as_slice(), more)?;
     moved.parts = Seq::from_vec(parts);
-    Ok(())
-}
-
-/// Parts and one more: it is added to the first part with its term, or else comes last, and what comes to zero is left
-/// out.
-fn added(alloc: Global, parts: &[Part], more: Part) -> Result<Vec<Part>, NoMemory>
-    requires parts { All (λ part. IsWithin (2 ^ 45) part.coefficient) parts.now }
-    requires more { IsWithin (2 ^ 45) more.coefficient }
-    ensures { IfOk result (λ all. all.items ≡ and_part more.coefficient more.term parts.now) }
-{
-    let mut all = Vec::new(alloc);
-    for (k, part) in parts.iter().enumerate() {
-        if same_term(part.term, more.term) {
-            return Ok(with_rest(all, more, *part, &parts[k + 1..])?);
-        }
-        all.push(*part)?;
-    }
-    push_kept(&mut all, more.coefficient, more.term)?;
-    Ok(all)
-}
-
-/// Parts, then a part that is added to another, unless they come to zero, and then the rest.
-fn with_rest(
-    passed: Vec<Part>,
-    more: Part,
-    first: Part,
-    rest: &[Part],
-) -> Result<Vec<Part>, NoMemory>
-    requires first { IsWithin (2 ^ 45) first.coefficient }
-    requires more { IsWithin (2 ^ 45) more.coefficient }
-    ensures { IfOk result (λ all. all.items
-        ≡ (passed.items ++ kept_part (more.coefficient +ℤ first.coefficient) more.term []) ++ rest.now) }
-{
-    let mut all = passed;
-    push_kept(&mut all, more.coefficient + first.coefficient, more.term)?;
-    all.extend_from_slice(rest)?;
-    Ok(all)
-}
-
-/// Adds a part last, unless it comes to zero.
-fn push_kept(all: &mut Vec<Part>, coefficient: i64, term: Term) -> Result<(), NoMemory>
-    ensures { OnOk result (all.new.items ≡ all.old.items ++ kept_part coefficient term []) }
-{
-    if coefficient != 0 {
-        all.push(Part { coefficient, term })?;
-    }
     Ok(())
 }

@@ -1,20 +1,16 @@
 //! The commands of a style whose hints, loops and pieces are found (docs/ANALYSER.md, "Commands").
 
 ghost use Rattle.std.specs.Prelude.{◌≡◌, ◌≤◌, ◌<◌, ◌++◌, ◌∷◌, [], true, false, IfOk, IfSome, OnOk, length, option_map};
-ghost use Rattle.std.specs.List.{All};
-ghost use Rattle.name_table.specs.Sound.{IsSound};
 ghost use Rattle.bst_meaning.specs.declared.value.Target.TheVariants.{Named};
 ghost use Rattle.straight_hints.specs.Found.{piece_hints as piece_hints_found};
 ghost use Rattle.straight_hints.specs.declared.finding.Finding.TheVariants.{Straight};
 ghost use Rattle.sym_state.specs.Positions.{AtStart, AtNext, AtEnd};
-ghost use Rattle.sym_state.specs.Starting.{started};
-ghost use Rattle.cert_check.specs.Given.{CanEnd};
-ghost use Rattle.cert_check.specs.Room.{HasRoom, IsEnd};
 ghost use Rattle.cert_check.specs.Units.{call_made};
 ghost use Rattle.command_flow.specs.Between as between;
 ghost use Rattle.command_flow.specs.Between.{piece_moved as piece_moved_to};
 ghost use Rattle.command_flow.specs.Commands as commands;
 ghost use Rattle.command_flow.specs.Ready.{Agrees, AreReady, Decides, IsReady};
+ghost use Rattle.command_flow.specs.Subjects.{All, CanEnd, HasRoom, IsEnd, IsSound, started};
 ghost use Rattle.command_flow.specs.Templates as rule;
 
 use crate::at::At;
@@ -106,13 +102,12 @@ fn commands_made<M: Loops>(
         loops: Seq::new(alloc),
     };
     for (index, command) in style.commands.as_slice().iter().enumerate() {
-        let command = *command;
         let at = At {
             checker,
             alloc,
             style,
             cond: checker.cond(),
-            command,
+            command: *command,
         };
         let made = command_made(&at, maker, index as u32, lasting)?;
         held(command.place, append(&mut parts, made.parts))?;

@@ -1,5 +1,5 @@
 -- What joining gives is the joined list, and fits the style.
-use Rattle.std.proofs.Common.{◌≡◌, ℕ, List, [], ◌∷◌, Option, Some, None, Bool, map, refl, sym, ap, ◌∙◌, subst}
+use Rattle.std.proofs.Common.{◌≡◌, ℕ, List, [], ◌∷◌, ◌++◌, Option, Some, None, Bool, map, refl, sym, ap, ◌∙◌, subst}
 use Rattle.std.specs.List.{AllByRecursion}
 use Rattle.bv_base.specs.KeySets.{has_lowered}
 use Rattle.name_table.specs.declared.style.Style.{Style}
@@ -10,17 +10,32 @@ use Rattle.bib_read.specs.declared.database.RawEntry.{RawEntry}
 use Rattle.bst_meaning.specs.Entries.{EntryFits, Fits, IsByteList}
 use Rattle.bst_meaning.specs.declared.entry.Entry.{Entry}
 use Rattle.entry_list.specs.declared.joined.Joined.{Joined}
-use Rattle.entry_list.specs.Bytes.{HasBytes}
-use Rattle.entry_list.specs.Fields.{Declared, declared_fields, is_parent_listed, joined_entry, values_of}
+use Rattle.entry_list.specs.Bytes.{HaveBytes}
+use Rattle.entry_list.specs.Citing.{cited_list, no_entries}
+use Rattle.entry_list.specs.Fields.{Declared, declared_fields, entry_with, is_parent_listed, joined_entry, values_of, without_parents}
 use Rattle.entry_list.specs.Joining.{all_joined, all_warnings, joined}
 use Rattle.entry_list.specs.Keys.{AreCitations, Listed, is_listed}
-use Rattle.entry_list.specs.Parents.{parent_of, whole_list}
+use Rattle.entry_list.specs.Parents.{appended, parent_of, whole_list}
 use Rattle.entry_list.specs.Tables.{entry_by, has_parent}
 use Rattle.entry_list.proofs.Declaring.{declared_ids}
 use Rattle.entry_list.proofs.Keyed.{IsKeyed, whole_keyed}
 
 abbrev one : List Entry → List ℕ → List (List ℕ) → Joined
 one entries preamble warnings = record { list = record { entries = entries; preamble = preamble }; warnings = warnings }
+
+-- the cited entries and the parents that are appended to them
+pub whole_is : (items : List AuxItem) (table : List RawEntry) (cited list : List Listed) → cited ≡ cited_list items table
+    → list ≡ cited ++ appended table cited → list ≡ whole_list items table
+whole_is items table cited list same is = is ∙ ap (λ l. l ++ appended table l) same
+
+-- the warnings of the citations, and those of the parents of a list
+pub warnings_are : (items : List AuxItem) (table : List RawEntry) (list : List Listed) (cited warnings : List (List ℕ))
+    → list ≡ whole_list items table → cited ≡ no_entries items table
+    → warnings ≡ cited ++ without_parents table list → warnings ≡ all_warnings items table
+warnings_are items table list cited warnings whole same are =
+    are
+    ∙ ap (λ w. w ++ without_parents table list) same
+    ∙ ap (λ l. no_entries items table ++ without_parents table l) whole
 
 -- the entries that are joined over the table of the databases' entries are those over the databases
 pub entries_are : (style : Style) (items : List AuxItem) (table raw : List RawEntry) (list : List Listed) (entries : List Entry)
@@ -51,10 +66,7 @@ pub entry_same : (keys : List (List ℕ)) (list : List Listed) → ((key : List 
     → (fields : List Declared) (raw : List RawEntry) (listed : Listed)
     → entry_by keys fields raw listed ≡ joined_entry fields raw list listed
 entry_same keys list same fields raw listed =
-    ap (made fields listed (parent_of raw listed.entry)) (keeps_same keys list same (parent_of raw listed.entry))
-  where
-    made : List Declared → Listed → Option RawEntry → Bool → Entry
-    made fields listed parent keeps = record { key = listed.key; entry_type = listed.entry.entry_type; fields = values_of fields listed.entry parent keeps }
+    ap (entry_with fields listed (parent_of raw listed.entry)) (keeps_same keys list same (parent_of raw listed.entry))
 
 names_are : (fields : List Declared) (entry : RawEntry) (parent : Option RawEntry) (keeps : Bool)
     → map (λ f. f.name) (values_of fields entry parent keeps) ≡ map (λ d. d.id) fields
@@ -62,7 +74,7 @@ names_are [] entry parent keeps = refl
 names_are (field ∷ fields) entry parent keeps = ap (λ l. field.id ∷ l) (names_are fields entry parent keeps)
 
 entries_fit : (style : Style) (raw : List RawEntry) (whole list : List Listed) → AllByRecursion IsKeyed list
-    → AllByRecursion HasBytes (map (joined_entry (declared_fields style) raw whole) list)
+    → HaveBytes (map (joined_entry (declared_fields style) raw whole) list)
     → AllByRecursion (EntryFits style) (map (joined_entry (declared_fields style) raw whole) list)
 entries_fit style raw whole [] keyed bytes = tt
 entries_fit style raw whole (listed ∷ list) keyed bytes =
@@ -80,12 +92,12 @@ entries_fit style raw whole (listed ∷ list) keyed bytes =
 pub list_fits : (style : Style) (items : List AuxItem) (raw : List RawEntry) (entries : List Entry) (preamble : List ℕ)
     → AreCitations items → AreKeyed raw
     → entries ≡ all_joined style raw (whole_list items raw)
-    → AllByRecursion HasBytes entries → IsByteList preamble
+    → HaveBytes entries → IsByteList preamble
     → Fits style (record { entries = entries; preamble = preamble })
 list_fits style items raw entries preamble cited keyed are bytes pre =
     record {
       entries = subst (AllByRecursion (EntryFits style)) (sym are)
           (entries_fit style raw (whole_list items raw) (whole_list items raw) (whole_keyed items raw cited keyed)
-          (subst (AllByRecursion HasBytes) are bytes));
+          (subst (HaveBytes) are bytes));
       preamble_bytes = pre;
     }

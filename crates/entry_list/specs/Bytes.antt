@@ -1,4 +1,5 @@
 -- The bytes of a joined entry are numbers below 256 (docs/DATA.md, "The list of entries").
+use Rattle.std.specs.Prelude.{List}
 use Rattle.std.specs.List.{AllByRecursion}
 use Rattle.std.specs.Option.{ForSome}
 use Rattle.bst_meaning.specs.Entries.{IsByteList}
@@ -9,3 +10,7 @@ pub record HasBytes (entry : Entry) : Type 0 where
   pub key : IsByteList entry.key
   pub entry_type : IsByteList entry.entry_type
   pub fields : AllByRecursion (λ f. ForSome f.value IsByteList) entry.fields
+
+-- the keys, the types and the fields of entries are bytes
+abbrev pub HaveBytes : List Entry → Type 0
+HaveBytes = AllByRecursion HasBytes

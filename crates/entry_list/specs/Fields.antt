@@ -1,5 +1,5 @@
 -- The fields of a listed entry (docs/DATA.md, "The list of entries").
-use Rattle.std.specs.Prelude.{ℕ, ◌+◌, Bool, false, if◌then◌else◌, List, [], ◌∷◌, Option, None, Some, codes, map, is_some}
+use Rattle.std.specs.Prelude.{ℕ, ◌+◌, Bool, false, if◌then◌else◌, List, [], ◌∷◌, Option, None, Some, codes, flat_map, map, is_some}
 use Rattle.std.specs.Option.{option_and_then, option_map_or}
 use Rattle.name_table.specs.declared.names.NameId.{NameId}
 use Rattle.name_table.specs.declared.names.Kind.{Kind}
@@ -52,15 +52,19 @@ abbrev pub values_of : List Declared → RawEntry → Option RawEntry → Bool �
 values_of fields entry parent keeps =
     map (λ field. record { name = field.id; value = value_of entry parent keeps field.name }) fields
 
--- an entry of the list with each of these fields and no other
-abbrev pub joined_entry : List Declared → List RawEntry → List Listed → Listed → Entry
-joined_entry fields entries list listed =
-    let parent = parent_of entries listed.entry in
+-- an entry of the list with each of these fields and no other, by its parent; `crossref` is kept or missing
+abbrev pub entry_with : List Declared → Listed → Option RawEntry → Bool → Entry
+entry_with fields listed parent keeps =
     record {
       key = listed.key;
       entry_type = listed.entry.entry_type;
-      fields = values_of fields listed.entry parent (is_parent_listed list parent);
+      fields = values_of fields listed.entry parent keeps;
     }
+
+-- an entry of the list, among whose entries its parent is looked for
+abbrev pub joined_entry : List Declared → List RawEntry → List Listed → Listed → Entry
+joined_entry fields entries list listed =
+    let parent = parent_of entries listed.entry in entry_with fields listed parent (is_parent_listed list parent)
 
 -- the warning of a `crossref` that names no entry
 abbrev pub without_parent : List RawEntry → Listed → List (List ℕ)
@@ -68,3 +72,7 @@ without_parent entries listed =
     option_map_or
     (λ parent. if is_some (entry_of parent entries) then [] else no_parent parent listed.key ∷ [])
     (crossref_of listed.entry) []
+
+-- the warnings of the entries of a list without their parent
+abbrev pub without_parents : List RawEntry → List Listed → List (List ℕ)
+without_parents entries list = flat_map (without_parent entries) list

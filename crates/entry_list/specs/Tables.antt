@@ -7,7 +7,7 @@ use Rattle.aux_read.specs.declared.aux.AuxItem.TheVariants.{Cite, All, Input}
 use Rattle.bib_read.specs.declared.database.RawEntry.{RawEntry}
 use Rattle.bst_meaning.specs.declared.entry.Entry.{Entry}
 use Rattle.entry_list.specs.declared.citing.Seen.{Seen}
-use Rattle.entry_list.specs.Fields.{Declared, values_of}
+use Rattle.entry_list.specs.Fields.{Declared, entry_with}
 use Rattle.entry_list.specs.Keys.{Listed}
 use Rattle.entry_list.specs.Parents.{parent_of}
 
@@ -24,9 +24,4 @@ has_parent listed parent = option_map_or (λ found. has_lowered found.key listed
 -- an entry of the list, where the keys of the list are in a set
 abbrev pub entry_by : List (List ℕ) → List Declared → List RawEntry → Listed → Entry
 entry_by keys fields entries listed =
-    let parent = parent_of entries listed.entry in
-    record {
-      key = listed.key;
-      entry_type = listed.entry.entry_type;
-      fields = values_of fields listed.entry parent (has_parent keys parent);
-    }
+    let parent = parent_of entries listed.entry in entry_with fields listed parent (has_parent keys parent)

@@ -1,12 +1,12 @@
 //! The fields of the entries of the list.
 
-ghost use Rattle.std.specs.Prelude.{◌≡◌, ◌++◌, List, [], ◌∷◌, flat_map, map, IfOk, OnOk};
+ghost use Rattle.std.specs.Prelude.{◌≡◌, ◌++◌, List, [], ◌∷◌, map, IfOk, OnOk};
 ghost use Rattle.std.specs.Option.{ForSome, option_map};
 ghost use Rattle.std.specs.List.{AllByRecursion};
 ghost use Rattle.bst_meaning.specs.Entries.{IsByteList};
 ghost use Rattle.entry_list.specs.Fields as fields;
 ghost use Rattle.entry_list.specs.Tables.{entry_by, has_parent};
-ghost use Rattle.entry_list.specs.Bytes.{HasBytes};
+ghost use Rattle.entry_list.specs.Bytes.{HasBytes, HaveBytes};
 
 use crate::chosen::{Chosen, listed_keys};
 use crate::entry_table::EntryTable;
@@ -127,10 +127,10 @@ pub(crate) fn join_entries(
     list: &[Chosen<'_>],
 ) -> Result<Seq<Entry>, NoMemory>
     ensures joined { IfOk result (λ found. found ≡ map (fields.joined_entry declared.now table.now list.now) list.now) }
-    ensures bytes { IfOk result (AllByRecursion HasBytes) }
+    ensures bytes { IfOk result HaveBytes }
 {
     let listed = listed_keys(alloc, list)?;
-    let mut found = Seq::new(alloc);
+    let mut found = Seq::from_vec(Vec::with_capacity(alloc, list.len())?);
     for chosen in list {
         found.push(join_entry(alloc, declared, table, &listed, chosen)?)?;
     }
@@ -275,7 +275,7 @@ pub(crate) fn warn_of_parents(
     table: &EntryTable<'_>,
     list: &[Chosen<'_>],
 ) -> Result<(), NoMemory>
-    ensures { OnOk result (warnings.new ≡ warnings.old ++ flat_map (fields.without_parent table.now) list.now) }
+    ensures { OnOk result (warnings.new ≡ warnings.old ++ fields.without_parents table.now list.now) }
 {
     for chosen in list {
         warn_of_parent(alloc, warnings, table, chosen)?;

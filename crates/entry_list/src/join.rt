@@ -1,13 +1,10 @@
 //! Joining citations and databases.
 
-ghost use Rattle.std.specs.Prelude.{◌≡◌, IfOk};
-ghost use Rattle.std.specs.List.{AllByRecursion};
+ghost use Rattle.std.specs.Prelude.{◌≡◌, ◌++◌, IfOk};
 ghost use Rattle.bib_read.specs.Additions.{AreKeyed};
 ghost use Rattle.bst_meaning.specs.Entries.{Fits};
-ghost use Rattle.entry_list.specs.Bytes.{HasBytes};
+ghost use Rattle.entry_list.specs.Bytes.{HaveBytes};
 ghost use Rattle.entry_list.specs.Joining as joining;
-ghost use Rattle.entry_list.specs.Keys.{AreCitations};
-ghost use Rattle.entry_list.specs.Parents as naming;
 
 use crate::chosen::Chosen;
 use crate::citing::{Cited, cited_list};
@@ -39,13 +36,14 @@ pub fn join(
     items: &[AuxItem],
     database: &Database,
 ) -> Result<Joined, NoMemory>
-    requires items { AreCitations items.now }
+    requires items { joining.AreCitations items.now }
     requires keys { AreKeyed database.now.entries }
     ensures joined { IfOk result (λ found. found ≡ joining.joined style.now items.now database.now) }
     ensures fits { IfOk result (λ found. Fits style.now found.list) }
 {
     let table = EntryTable::new(alloc, database.entries.as_slice())?;
-    let whole = whole_list(alloc, items, &table)?;
+    let cited = cited_list(alloc, items, &table)?;
+    let whole = with_parents(alloc, cited, &table)?;
     let entries = entries_of(alloc, style, &table, whole.list.as_slice())?;
     let preamble = copied(alloc, database.preamble.as_slice())?;
     Ok(Joined {
@@ -54,16 +52,16 @@ pub fn join(
     })
 }
 
-/// The cited entries and the parents that are appended, and the warnings of both.
-fn whole_list<'a>(
+/// Appends the parents of cited entries to them, and their warnings.
+fn with_parents<'a>(
     alloc: Global,
-    items: &'a [AuxItem],
+    cited: Cited<'a>,
     table: &EntryTable<'a>,
 ) -> Result<Cited<'a>, NoMemory>
-    ensures list { IfOk result (λ cited. cited.list.items ≡ naming.whole_list items.now table.now) }
-    ensures warnings { IfOk result (λ cited. cited.warnings ≡ joining.all_warnings items.now table.now) }
+    ensures list { IfOk result (λ whole. whole.list.items ≡ cited.entry.list.items ++ joining.appended table.now cited.entry.list.items) }
+    ensures warnings { IfOk result (λ whole. whole.warnings
+        ≡ cited.entry.warnings ++ joining.without_parents table.now whole.list.items) }
 {
-    let cited = cited_list(alloc, items, table)?;
     let mut list = cited.list;
     let mut warnings = cited.warnings;
     append_parents(alloc, &mut list, table)?;
@@ -79,7 +77,7 @@ fn entries_of(
     list: &[Chosen<'_>],
 ) -> Result<Seq<Entry>, NoMemory>
     ensures joined { IfOk result (λ entries. entries ≡ joining.all_joined style.now table.now list.now) }
-    ensures bytes { IfOk result (AllByRecursion HasBytes) }
+    ensures bytes { IfOk result HaveBytes }
 {
     let declared = SharedFields::new(alloc, declared_fields(alloc, style)?)?;
     join_entries(alloc, &declared, table, list)

@@ -9,26 +9,11 @@ use Rattle.cert_format.specs.declared.cert.Cert.{Cert}
 use Rattle.cert_format.specs.declared.cert.Loop.{Loop}
 use Rattle.sym_state.specs.State.{State}
 use Rattle.cert_check.specs.declared.tours.Turning.{Turning}
-use Rattle.loop_templates.specs.Bound.{all_bound}
 use Rattle.loop_templates.specs.Cases.{Frame}
 use Rattle.loop_templates.specs.Reaching.{Occurring}
-use Rattle.infer_loops.specs.Invariants.{found_in, frame_of, frame_over, invariant_of, occurring_in, sums_in, turning, written_in}
+use Rattle.infer_loops.specs.Invariants.{found_in, frame_of, frame_over, frame_with, invariant_of, occurring_in, sums_in, turning, written_in}
 
--- a frame of these parts
-abbrev pub frame_with : Style → Cond → Turning → List NameId → List (List Part) → List State → Frame
-frame_with style admits one writes sums entering = record {
-  style = style;
-  admits = admits;
-  whole = one.whole;
-  at_entry = one.entry;
-  has_pos = one.entry;
-  bound = all_bound one.entry;
-  writes = writes;
-  sums = sums;
-  entering = entering;
-}
-
--- it is that of the loop
+-- a frame of these parts is that of the loop
 pub frame_found : (style s : Style) (admits a : Cond) (one : Turning) (found : Occurring) (writes : List NameId) (sums : List (List Part)) (entering : List State)
     → s ≡ style → a ≡ admits → found ≡ occurring_in s a one → writes ≡ written_in s one found → sums ≡ sums_in s one found
     → frame_with s a one writes sums entering ≡ frame_of style admits one entering

@@ -9,8 +9,8 @@ use Rattle.name_table.specs.declared.style.Style.{Style}
 use Rattle.bst_meaning.specs.declared.condition.Cond.{Cond}
 use Rattle.lin_facts.specs.declared.row.Row.{Row}
 use Rattle.cert_format.specs.CertText.{IsHint, IsProof, IsUse, reference_number}
-use Rattle.cert_format.specs.declared.cond_lines.TheConstants.{MOST}
 use Rattle.cert_format.specs.declared.items.TheConstants.{MOST_NUMBER}
+use Rattle.cert_format.specs.declared.limits.TheConstants.{MOST}
 use Rattle.cert_format.proofs.Plain.{each_append}
 use Rattle.sym_state.specs.Entailing.{match_of}
 use Rattle.sym_state.specs.Renaming.{row_renamed}
@@ -33,70 +33,58 @@ within n m e = grind (arith, nat_tests)
 passes : (n m : ℕ) → n ≤ m → nat_le n m ≡ true
 passes n m less = grind (arith, nat_tests)
 
--- a use
-use_passes : (one : Use) → IsUse one → is_use one ≡ true
-use_passes one is =
-    both_true (both_true (passes 1 one.times is.0.0) (passes one.times MOST_NUMBER is.0.1)) (passes (reference_number one.reference) MOST_NUMBER is.1)
+-- a test tells whether something holds
+record Tells (P : Type 0) (test : Bool) : Type 0 where
+  passes : P → test ≡ true
+  holds : test ≡ true → P
 
-use_is : (one : Use) → is_use one ≡ true → IsUse one
-use_is one e =
-    let parts = and_parts (is_positive one.times) (nat_le (reference_number one.reference) MOST_NUMBER) e in
-    let times = and_parts (nat_le 1 one.times) (nat_le one.times MOST_NUMBER) parts.0 in
-    ((within 1 one.times times.0, within one.times MOST_NUMBER times.1), within (reference_number one.reference) MOST_NUMBER parts.1)
+number_told : (n m : ℕ) → Tells (n ≤ m) (nat_le n m)
+number_told n m = record { passes = passes n m; holds = within n m }
 
--- those of a list
-all_pass : {X : Type 0} (P : X → Type 0) (test : X → Bool) → ((x : X) → P x → test x ≡ true) → (xs : List X) → Each P xs → list_all test xs ≡ true
-all_pass P test pass [] each = refl
-all_pass P test pass (x ∷ xs) each = both_true (pass x each.0) (all_pass P test pass xs each.1)
+both_told : {P Q : Type 0} (a b : Bool) → Tells P a → Tells Q b → Tells (P × Q) (a && b)
+both_told a b first second = record {
+  passes = λ both. both_true (first.passes both.0) (second.passes both.1);
+  holds = λ e. let parts = and_parts a b e in (first.holds parts.0, second.holds parts.1);
+}
 
-each_is : {X : Type 0} (P : X → Type 0) (test : X → Bool) → ((x : X) → test x ≡ true → P x) → (xs : List X) → list_all test xs ≡ true → Each P xs
-each_is P test is [] e = tt
-each_is P test is (x ∷ xs) e =
-    let parts = and_parts (test x) (list_all test xs) e in (is x parts.0, each_is P test is xs parts.1)
+each_told : {X : Type 0} (P : X → Type 0) (test : X → Bool) → ((x : X) → Tells (P x) (test x)) → (xs : List X) → Tells (Each P xs) (list_all test xs)
+each_told P test told [] = record { passes = λ each. refl; holds = λ e. tt }
+each_told P test told (x ∷ xs) = both_told (test x) (list_all test xs) (told x) (each_told P test told xs)
+
+-- a number from 1 on, and a use
+positive_told : (n : ℕ) → Tells ((1 ≤ n) × (n ≤ MOST_NUMBER)) (is_positive n)
+positive_told n = both_told (nat_le 1 n) (nat_le n MOST_NUMBER) (number_told 1 n) (number_told n MOST_NUMBER)
+
+use_told : (one : Use) → Tells (IsUse one) (is_use one)
+use_told one =
+    both_told (is_positive one.times) (nat_le (reference_number one.reference) MOST_NUMBER) (positive_told one.times)
+    (number_told (reference_number one.reference) MOST_NUMBER)
 
 -- a proof
-proof_passes : (proof : Proof) → IsProof proof → is_proof proof ≡ true
-proof_passes proof is =
-    both_true (both_true (passes 1 proof.divisor is.divisor.0) (passes proof.divisor MOST_NUMBER is.divisor.1))
-    (both_true (all_pass IsUse is_use use_passes proof.uses is.uses) (passes (length proof.uses) 64 is.few))
-
-proof_is : (proof : Proof) → is_proof proof ≡ true → IsProof proof
-proof_is proof e =
-    let parts = and_parts (is_positive proof.divisor) (list_all is_use proof.uses && nat_le (length proof.uses) 64) e in
-    let divisor = and_parts (nat_le 1 proof.divisor) (nat_le proof.divisor MOST_NUMBER) parts.0 in
-    let uses = and_parts (list_all is_use proof.uses) (nat_le (length proof.uses) 64) parts.1 in
+proof_told : (proof : Proof) → Tells (IsProof proof) (is_proof proof)
+proof_told proof =
+    let few = number_told (length proof.uses) 64 in
+    let all = both_told (is_positive proof.divisor) (list_all is_use proof.uses && nat_le (length proof.uses) 64) (positive_told proof.divisor)
+    (both_told (list_all is_use proof.uses) (nat_le (length proof.uses) 64) (each_told IsUse is_use use_told proof.uses) few) in
     record {
-      divisor = (within 1 proof.divisor divisor.0, within proof.divisor MOST_NUMBER divisor.1);
-      uses = each_is IsUse is_use use_is proof.uses uses.0;
-      few = within (length proof.uses) 64 uses.1;
+      passes = λ is. all.passes (is.divisor, (is.uses, is.few));
+      holds = λ e. let parts = all.holds e in record { divisor = parts.0; uses = parts.1.0; few = parts.1.1 };
     }
 
 -- a hint
-hint_passes : (it : Hint) → IsHint it → is_hint it ≡ true
-hint_passes (hint.Apply n) is = passes n MOST is
-hint_passes (hint.Loop n) is = passes n MOST is
-hint_passes (hint.Case n) is = passes n MOST is
-hint_passes (hint.Drop proof) is = proof_passes proof is
-hint_passes (hint.Step proof) is = proof_passes proof is
-hint_passes hint.Walk is = refl
-hint_passes hint.Plain is = refl
-hint_passes hint.Keep is = refl
-
-hint_is : (it : Hint) → is_hint it ≡ true → IsHint it
-hint_is (hint.Apply n) e = within n MOST e
-hint_is (hint.Loop n) e = within n MOST e
-hint_is (hint.Case n) e = within n MOST e
-hint_is (hint.Drop proof) e = proof_is proof e
-hint_is (hint.Step proof) e = proof_is proof e
-hint_is hint.Walk e = tt
-hint_is hint.Plain e = tt
-hint_is hint.Keep e = tt
+hint_told : (it : Hint) → Tells (IsHint it) (is_hint it)
+hint_told (hint.Apply n) = number_told n MOST
+hint_told (hint.Loop n) = number_told n MOST
+hint_told (hint.Case n) = number_told n MOST
+hint_told (hint.Drop proof) = proof_told proof
+hint_told (hint.Step proof) = proof_told proof
+hint_told _ = record { passes = λ is. refl; holds = λ e. tt }
 
 pub hints_pass : (hints : List Hint) → Each IsHint hints → list_all is_hint hints ≡ true
-hints_pass hints each = all_pass IsHint is_hint hint_passes hints each
+hints_pass hints = (each_told IsHint is_hint hint_told hints).passes
 
 pub hints_are : (hints : List Hint) → list_all is_hint hints ≡ true → Each IsHint hints
-hints_are hints e = each_is IsHint is_hint hint_is hints e
+hints_are hints = (each_told IsHint is_hint hint_told hints).holds
 
 -- those by which a state entails a case may be written
 pub entailing_written : (admits : Cond) (state : State) (number : ℕ) (added : List Added) → state.next ≤ 4294967296 → number + length added ≤ MOST

@@ -9,6 +9,7 @@ use Rattle.std.proofs.lemmas.Bool.Decides.{nat_tests}
 use Rattle.std.proofs.lemmas.List.{length-append, length-map}
 use Rattle.std.proofs.lemmas.List.Elements.{All-append, All-cons, All-filter, All-head, All-map, All-nil, All-tail, All-weaker}
 use Rattle.std.proofs.lemmas.List.Sums.{count_by-le-length, length-filter}
+use Rattle.name_table.proofs.Within.{each_kept}
 use Rattle.name_table.specs.Sound.{Each, IsSound}
 use Rattle.name_table.specs.declared.names.Kind.{Kind}
 use Rattle.name_table.specs.declared.names.Kind.TheVariants as kind
@@ -35,7 +36,7 @@ use Rattle.loop_templates.specs.declared.limits.TheConstants.{MOST_PIECES}
 use Rattle.loop_templates.proofs.FewTerms.{sums_small}
 use Rattle.loop_templates.proofs.Over.{sums_over_names}
 use Rattle.loop_templates.proofs.Seated.{ids_below}
-use Rattle.loop_templates.proofs.Standing.{MayExit, exits_are_cases, exits_made, first_has_cases, next_has_cases, each_kept}
+use Rattle.loop_templates.proofs.Standing.{MayExit, exits_are_cases, exits_made, first_has_cases, next_has_cases}
 use Rattle.loop_templates.proofs.Written.{each_of_all, ids_hold, variables_are}
 use Rattle.cert_check.specs.Certified.{AreWritten, IsCertified, IsLoopOf, IsPieceOf, MakesLoops, MakesStanding}
 use Rattle.cert_check.specs.Tours.{Toured, setting_out, turns_of}
@@ -218,7 +219,7 @@ module _ (cert : Cert) (frame : Frame) (one : Turning) (ready : IsFrame frame) (
 
   made_there : (candidate : Candidate) (tour : Tour) (left : List State) (exits : List Added) → exits ≡ exits_of frame left → HasCases frame candidate
       → All (WellMade frame.style) left → may_be_written candidate exits ≡ true → Each IsHint (hints_of frame candidate exits tour)
-      → IsMadeLoop frame.style one (loop_with frame one candidate tour exits)
+      → IsMadeLoop frame.style one (loop_with frame one candidate exits (hints_of frame candidate exits tour))
   made_there candidate tour left exits is has made may hints =
       let short = (and_parts (nat_le ((length candidate.first + length candidate.added) + length exits) MOST_PIECES)
       (list_all (λ (added : Added). is_short added.case.stack) exits) may).1 in
@@ -252,7 +253,7 @@ module _ (cert : Cert) (frame : Frame) (one : Turning) (ready : IsFrame frame) (
       let left : List State = ended_states false tour.ends in
       let exits : List Added = exits_of frame left in
       let test = may_be_written candidate exits && list_all is_hint (hints_of frame candidate exits tour) in
-      elim test as (λ (b : Bool). test ≡ b → IfSome (cond b (Some (loop_with frame one candidate tour exits)) None) (IsMadeLoop frame.style one)) [
+      elim test as (λ (b : Bool). test ≡ b → IfSome (cond b (Some (loop_with frame one candidate exits (hints_of frame candidate exits tour))) None) (IsMadeLoop frame.style one)) [
         | true ↦ λ may.
             let parts = and_parts (may_be_written candidate exits) (list_all is_hint (hints_of frame candidate exits tour)) may in
             made_there candidate tour left exits refl has (made_states frame.style false tour.ends ends) parts.0

@@ -21,22 +21,26 @@ use Rattle.infer_loops.proofs.HintsWritten.{entailing_written, hints_pass}
 -- the loop with these exits, where it is within the limits
 abbrev within_limits : Frame → Turning → Candidate → Tour → List Added → Option Loop
 within_limits frame one candidate tour exits =
-    cond (may_be_written candidate exits && list_all is_hint (hints_of frame candidate exits tour)) (Some (loop_with frame one candidate tour exits)) None
+    let hints = hints_of frame candidate exits tour in
+    cond (may_be_written candidate exits && list_all is_hint hints) (Some (loop_with frame one candidate exits hints)) None
 
-pub loop_there : (frame : Frame) (one : Turning) (candidate : Candidate) (tour : Tour) (exits : List Added) (found : Loop)
+pub loop_there : (frame : Frame) (one : Turning) (candidate : Candidate) (tour : Tour) (exits : List Added) (hints : List Hint) (found : Loop)
     → exits ≡ exits_of frame (ended_states false tour.ends) → may_be_written candidate exits ≡ true
-    → found ≡ loop_with frame one candidate tour exits → Each IsHint found.hints → Some found ≡ loop_of frame one candidate tour
-loop_there frame one candidate tour exits found same may is written =
-    let test : (may_be_written candidate exits && list_all is_hint (hints_of frame candidate exits tour)) ≡ true =
-    both_true may (hints_pass (hints_of frame candidate exits tour) (subst (λ (l : Loop). Each IsHint l.hints) is written)) in
-    ap (λ (l : Loop). let some : Option Loop = Some l in some) is
-    ∙ sym (ap (λ (b : Bool). cond b (Some (loop_with frame one candidate tour exits)) None) test)
+    → hints ≡ hints_of frame candidate exits tour → Each IsHint hints → found ≡ loop_with frame one candidate exits hints
+    → Some found ≡ loop_of frame one candidate tour
+loop_there frame one candidate tour exits hints found same may are written is =
+    let wanted = hints_of frame candidate exits tour in
+    let test : (may_be_written candidate exits && list_all is_hint wanted) ≡ true =
+    both_true may (hints_pass wanted (subst (λ (l : List Hint). Each IsHint l) are written)) in
+    ap (λ (l : Loop). let some : Option Loop = Some l in some) (is ∙ ap (loop_with frame one candidate exits) are)
+    ∙ sym (ap (λ (b : Bool). cond b (Some (loop_with frame one candidate exits wanted)) None) test)
     ∙ ap (within_limits frame one candidate tour) same
 
 pub none_there : (frame : Frame) (one : Turning) (candidate : Candidate) (tour : Tour) (exits : List Added)
     → exits ≡ exits_of frame (ended_states false tour.ends) → may_be_written candidate exits ≡ false → None ≡ loop_of frame one candidate tour
 none_there frame one candidate tour exits same may =
-    sym (ap (λ (b : Bool). cond (b && list_all is_hint (hints_of frame candidate exits tour)) (Some (loop_with frame one candidate tour exits)) None) may)
+    let hints = hints_of frame candidate exits tour in
+    sym (ap (λ (b : Bool). cond (b && list_all is_hint hints) (Some (loop_with frame one candidate exits hints)) None) may)
     ∙ ap (within_limits frame one candidate tour) same
 
 -- hints that are what is wanted may be written where that may be

@@ -1,6 +1,6 @@
 -- Turns from cases, one after the other.
 use Rattle.std.proofs.Common.{◌≡◌, ◌≢◌, refl, ℕ, ◌+◌, ◌<◌, ◌≤◌, List, [], ◌∷◌, ◌++◌, length, map, get_or, drop, Option, None, Some, Result, Ok, Err, IfOk, sym, ap, ◌∙◌, subst}
-use Rattle.std.specs.Prelude.{IfSome}
+use Rattle.std.specs.Prelude.{IfSome, IsErrAnd}
 use Rattle.std.specs.List.{All}
 use Rattle.std.specs.Result.{result_ok}
 use Rattle.std.proofs.lemmas.List.{drop_all}
@@ -74,6 +74,12 @@ pub added_done : (scope : Scope) (one : Turning) (added : List Added) (k : ℕ) 
     → turns_of scope one (added_cases (drop k added)) tour ≡ whole → whole ≡ Ok tour
 added_done scope one added k tour whole done before =
     sym before ∙ ap (λ (l : List Added). turns_of scope one (added_cases l) tour) (drop_all k added done)
+
+-- a refusal that is handed on
+pub handed_on : {T : Type 0} (whole : Toured) (after : Tour) (r : Result T Refusal) (refusal : Refusal) → IsErrAnd r (λ it. it ≡ refusal) → Refused whole refusal
+    → Takes whole after r
+handed_on whole after (Ok done) refusal is refused = absurd is
+handed_on whole after (Err it) refusal is refused = subst (Refused whole) (sym is) refused
 
 -- turns from some cases and then from others
 behind_one : (scope : Scope) (one : Turning) (first added : List Piece) (w : Toured)

@@ -11,8 +11,8 @@ use Rattle.bst_meaning.specs.declared.value.Target.{Target}
 use Rattle.cert_format.specs.CertText.{reference_number}
 use Rattle.cert_format.specs.declared.cert.Cert.{Cert}
 use Rattle.cert_format.specs.declared.cert.Loop.{Loop}
-use Rattle.cert_format.specs.declared.cond_lines.TheConstants.{MOST}
 use Rattle.cert_format.specs.declared.items.TheConstants.{MOST_NUMBER}
+use Rattle.cert_format.specs.declared.limits.TheConstants.{MOST}
 use Rattle.sym_state.specs.State.{State}
 use Rattle.sym_state.specs.declared.hint.Hint.{Hint}
 use Rattle.sym_state.specs.declared.hint.Hint.TheVariants.{Apply, Case, Drop, Loop as LoopHint, Step as StepHint}
@@ -71,19 +71,23 @@ written_in style one found = occurring_of (is_bound_variable (all_bound one.entr
 abbrev pub sums_in : Style → Turning → Occurring → List (List Part)
 sums_in style one found = sums (terms_over style found one.entry)
 
--- the frame of a loop
-abbrev pub frame_over : Style → Cond → Turning → Occurring → List State → Frame
-frame_over style admits one found entering = record {
+-- the frame of a loop over these sums, where these variables count as written
+abbrev pub frame_with : Style → Cond → Turning → List NameId → List (List Part) → List State → Frame
+frame_with style admits one writes all entering = record {
   style = style;
   admits = admits;
   whole = one.whole;
   at_entry = one.entry;
   has_pos = one.entry;
   bound = all_bound one.entry;
-  writes = written_in style one found;
-  sums = sums_in style one found;
+  writes = writes;
+  sums = all;
   entering = entering;
 }
+
+-- the frame of a loop in which these names occur
+abbrev pub frame_over : Style → Cond → Turning → Occurring → List State → Frame
+frame_over style admits one found entering = frame_with style admits one (written_in style one found) (sums_in style one found) entering
 
 -- that of the loop that some states enter
 abbrev pub frame_of : Style → Cond → Turning → List State → Frame
@@ -118,9 +122,9 @@ hints_at_end frame candidate exits end = end.hints ++ shown_at_end frame candida
 abbrev pub hints_of : Frame → Candidate → List Added → Tour → List Hint
 hints_of frame candidate exits tour = flat_map (hints_at_end frame candidate exits) tour.ends ++ found_since tour
 
--- the loop of a candidate with its exits
-abbrev pub loop_with : Frame → Turning → Candidate → Tour → List Added → Loop
-loop_with frame one candidate tour exits = record {
+-- the loop of a candidate with these exits and hints
+abbrev pub loop_with : Frame → Turning → Candidate → List Added → List Hint → Loop
+loop_with frame one candidate exits hints = record {
   test = one.test;
   body = one.body;
   entry = one.entry;
@@ -128,7 +132,7 @@ loop_with frame one candidate tour exits = record {
   writes = frame.writes;
   cases = cases_of candidate;
   exits = added_cases exits;
-  hints = hints_of frame candidate exits tour;
+  hints = hints;
 }
 
 -- cases and exits may be written together
@@ -161,9 +165,8 @@ is_hint _ = true
 abbrev pub loop_of : Frame → Turning → Candidate → Tour → Option Loop
 loop_of frame one candidate tour =
     let exits = exits_of frame (ended_states false tour.ends) in
-    if may_be_written candidate exits && list_all is_hint (hints_of frame candidate exits tour)
-    then Some (loop_with frame one candidate tour exits)
-    else None
+    let hints = hints_of frame candidate exits tour in
+    if may_be_written candidate exits && list_all is_hint hints then Some (loop_with frame one candidate exits hints) else None
 
 -- what comes of a candidate that was walked: its loop where it passes, and else what the next one gives
 abbrev pub settled_by : Frame → Turning → Candidate → Tour → (Candidate → Option Loop) → Next → Option Loop

@@ -38,8 +38,10 @@ pub(crate) fn loop_of(
 {
     let left = ended_states(alloc, false, tour.ends.as_slice())?;
     let exits = exits_of(alloc, frame, left.as_slice())?;
-    if may_be_written(&candidate, exits.as_slice()) {
-        Ok(Some(loop_with(alloc, frame, one, candidate, tour, exits)?))
+    let shown = exits.as_slice();
+    if may_be_written(&candidate, shown) {
+        let hints = hints_of(alloc, frame, &candidate, shown, tour)?;
+        Ok(Some(loop_with(alloc, frame, one, candidate, exits, hints)?))
     } else {
         Ok(None)
     }
@@ -66,23 +68,17 @@ fn are_short(added: &[Added]) -> bool
         .all(|one| one.case.stack.as_slice().len() <= MOST_ITEMS)
 }
 
-/// The loop of a candidate with its exits.
+/// The loop of a candidate with these exits and hints.
 fn loop_with(
     alloc: Global,
     frame: &Frame<'_>,
     one: Turning,
     candidate: Candidate,
-    tour: Tour<'_>,
     exits: Vec<Added>,
+    hints: Vec<Hint>,
 ) -> Result<Loop, NoMemory>
-    requires made { All IsMade candidate.added }
-    requires exits { All IsMade exits.items }
-    requires few { (length candidate.first + length candidate.added) + length exits.items ≤ MOST_PIECES }
-    requires ends { HasEnds frame.now.style tour }
-    ensures found { IfOk result (λ found. found ≡ rule.loop_with frame.now one candidate tour.entry exits.items) }
-    ensures written { IfOk result (λ found. Each IsHint found.hints) }
+    ensures { IfOk result (λ found. found ≡ rule.loop_with frame.now one candidate exits.items hints.items) }
 {
-    let hints = hints_of(alloc, frame, &candidate, exits.as_slice(), tour)?;
     Ok(Loop {
         test: one.test,
         body: one.body,

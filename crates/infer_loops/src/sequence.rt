@@ -70,7 +70,7 @@ pub fn invariant(
     found_in(alloc, checker, &frame, one)
 }
 
-/// The loop that is found in a frame.
+/// The loop that is found in a frame: that of the first candidate that passes.
 fn found_in(
     alloc: Global,
     checker: &Checker<'_>,
@@ -82,29 +82,11 @@ fn found_in(
     requires frame { IsFrame frame.now }
     ensures { IfOk result (λ found. found ≡ rule.found_in checker.now.cert frame.now one) }
 {
-    match first_candidate(alloc, frame)? {
-        Some(candidate) => sequence(alloc, checker, frame, one, candidate, MOST_CANDIDATES),
-        None => Ok(None),
-    }
-}
-
-/// The loop of the first candidate that passes, from this one on, among so many.
-fn sequence(
-    alloc: Global,
-    checker: &Checker<'_>,
-    frame: &Frame<'_>,
-    one: Turning,
-    first: Candidate,
-    most: u32,
-) -> Result<Option<Loop>, NoMemory>
-    requires style { frame.now.style ≡ checker.now.style }
-    requires entry { frame.now.at_entry ≡ one.entry }
-    requires frame { IsFrame frame.now }
-    requires first { HasCases frame.now first }
-    ensures { IfOk result (λ found. found ≡ rule.sequence most checker.now.cert frame.now one first) }
-{
+    let Some(first) = first_candidate(alloc, frame)? else {
+        return Ok(None);
+    };
     let mut candidate = first;
-    for _ in 0..most {
+    for _ in 0..MOST_CANDIDATES {
         match stepped(alloc, checker, frame, one, candidate)? {
             Step::Settled(found) => return Ok(found),
             Step::Onward(next) => candidate = next,

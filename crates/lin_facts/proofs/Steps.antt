@@ -39,8 +39,8 @@ list_all-pass f xs i d h passes so_far = so_far ∙ list_all-next f xs i d h ∙
 abbrev pub added : Part → Term → ℤ
 added part t = cond (same_term part.term t) part.coefficient (pos 0)
 
-added_within : (part : Part) (t : Term) → IsWithin (2 ^ 45) part.coefficient → IsWithin (2 ^ 45) (added part t)
-added_within part t small = elim (same_term part.term t) as (λ b. IsWithin (2 ^ 45) (cond b part.coefficient (pos 0))) [
+added_within : (bound : ℕ) (part : Part) (t : Term) → IsWithin bound part.coefficient → IsWithin bound (added part t)
+added_within bound part t small = elim (same_term part.term t) as (λ b. IsWithin bound (cond b part.coefficient (pos 0))) [
   | true ↦ small
   | false ↦ record { low = omega (arith, ints); high = omega (arith, ints) }
 ]
@@ -50,14 +50,16 @@ pub coefficient_kept :
     coefficient_of parts t ≡ (sum +ℤ coefficient_of (drop i parts) t) → coefficient_of parts t ≡ (next +ℤ coefficient_of (drop (i + 1) parts) t)
 coefficient_kept parts t i sum next h is so_far = omega (arith, ints, is, so_far, coefficient-next parts t i no_part h)
 
+-- one part more makes a sum of coefficients greater by the bound of each at most
 pub coefficient_size :
-    (parts : List Part) (t : Term) (i : ℕ) (sum next : ℤ) → i < length parts → next ≡ (sum +ℤ added (get_or parts i no_part) t) →
-    All (λ part. IsWithin (2 ^ 45) part.coefficient) parts → IsWithin (i * 35184372088832) sum → IsWithin ((i + 1) * 35184372088832) next
-coefficient_size parts t i sum next h is small so_far =
-    let here = added_within (get_or parts i no_part) t (small i no_part h) in
+    (bound so_far with_next : ℕ) (parts : List Part) (t : Term) (i : ℕ) (sum next : ℤ) → i < length parts →
+    with_next ≡ so_far + bound → next ≡ (sum +ℤ added (get_or parts i no_part) t) →
+    All (λ part. IsWithin bound part.coefficient) parts → IsWithin so_far sum → IsWithin with_next next
+coefficient_size bound so_far with_next parts t i sum next h more is small size =
+    let here = added_within bound (get_or parts i no_part) t (small i no_part h) in
     record {
-      low = omega (arith, ints, is, here.low, so_far.low);
-      high = omega (arith, ints, is, here.high, so_far.high);
+      low = omega (arith, ints, more, is, here.low, size.low);
+      high = omega (arith, ints, more, is, here.high, size.high);
     }
 
 pub summed_kept :

@@ -1,6 +1,6 @@
 //! Whether a step shows a row.
 
-ghost use Rattle.std.specs.Prelude.{◌≡◌, ◌<◌, ◌≤◌, ◌^◌, ◌↔◌, IsTrue, length, nat_lt, pos, ◌*ℤ◌};
+ghost use Rattle.std.specs.Prelude.{◌≡◌, ◌<◌, ◌≤◌, ◌*◌, ◌^◌, ◌↔◌, IsTrue, length, nat_lt, pos, ◌*ℤ◌};
 ghost use Rattle.std.specs.List.{All, list_all};
 ghost use Rattle.lin_facts.specs.Rows.{same_term, coefficient_of, IsWithin, IsSmall, Assignment, Holds};
 ghost use Rattle.lin_facts.specs.Follows.{row_at, entry, summed, left_over, cancel, follows, Follows, UsedHold, IsInBounds};
@@ -127,11 +127,11 @@ fn entry(row: &Row, column: Column) -> i64
 }
 
 /// How often parts take a term.
-fn coefficient_of(parts: &[Part], term: Term) -> i64
-    requires few { length parts.now ≤ 32 }
-    requires small { All (λ part. IsWithin (2 ^ 45) part.coefficient) parts.now }
+pub fn coefficient_of(parts: &[Part], term: Term) -> i64
+    requires few { length parts.now ≤ 288 }
+    requires small { All (λ part. IsWithin (2 ^ 50 * 9) part.coefficient) parts.now }
     ensures value { result ≡ coefficient_of parts.now term }
-    ensures size { IsWithin (2 ^ 50) result }
+    ensures size { All (λ part. IsWithin (2 ^ 45) part.coefficient) parts.now → IsWithin (length parts.now * 2 ^ 45) result }
 {
     let mut sum = 0i64;
     for part in parts {

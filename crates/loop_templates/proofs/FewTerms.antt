@@ -19,21 +19,17 @@ pub record IsSumOf (n : ℕ) (sum : List Part) : Type 0 where
 abbrev HasFew : ℕ → List Term → Type 0
 HasFew n terms = length terms ≤ n
 
-added_one : (n : ℕ) (term : Term) (sum : List Part) → IsSumOf n sum → IsSumOf (suc n) (plus term ∷ sum)
-added_one n term sum h =
+-- one term more, added or taken away
+one_more : (n : ℕ) (part : Part) (sum : List Part) → IsWithin 1 part.coefficient → IsSumOf n sum → IsSumOf (suc n) (part ∷ sum)
+one_more n part sum unit h =
     let few = h.few in
-    record {
-      few = omega (arith, few);
-      units = All-cons (λ (p : Part). IsWithin 1 p.coefficient) (plus term) sum (record { low = omega (arith, ints); high = omega (arith, ints) }) h.units;
-    }
+    record { few = omega (arith, few); units = All-cons (λ (p : Part). IsWithin 1 p.coefficient) part sum unit h.units }
+
+added_one : (n : ℕ) (term : Term) (sum : List Part) → IsSumOf n sum → IsSumOf (suc n) (plus term ∷ sum)
+added_one n term sum = one_more n (plus term) sum (record { low = omega (arith, ints); high = omega (arith, ints) })
 
 taken_one : (n : ℕ) (term : Term) (sum : List Part) → IsSumOf n sum → IsSumOf (suc n) (less term ∷ sum)
-taken_one n term sum h =
-    let few = h.few in
-    record {
-      few = omega (arith, few);
-      units = All-cons (λ (p : Part). IsWithin 1 p.coefficient) (less term) sum (record { low = omega (arith, ints); high = omega (arith, ints) }) h.units;
-    }
+taken_one n term sum = one_more n (less term) sum (record { low = omega (arith, ints); high = omega (arith, ints) })
 
 -- what holds of each holds of what is made of each
 each : {X Y : Type 0} (P : X → Type 0) (Q : Y → Type 0) (f : X → Y) (xs : List X) → ((x : X) → P x → Q (f x)) → All P xs → All Q (map f xs)

@@ -1,5 +1,5 @@
 -- Rows of cases as certificates have them: their terms stand in their order, each has a place, and none is taken 0 times.
-use Rattle.std.proofs.Common.{◌≡◌, ℕ, zero, suc, ◌+◌, ◌<◌, ◌≤◌, Bool, true, false, ◌&&◌, ◌||◌, not, cond, nat_eq, nat_lt, ap, sym, ◌∙◌, refl, arith, List, [], ◌∷◌, ◌++◌, map, Option, Some, None, ℤ, ◌+ℤ◌, pos, negsuc, neg_ℤ}
+use Rattle.std.proofs.Common.{◌≡◌, ℕ, zero, suc, ◌+◌, ◌<◌, ◌≤◌, Bool, true, false, ◌&&◌, ◌||◌, not, cond, nat_eq, nat_lt, ap, ◌∙◌, refl, arith, List, [], ◌∷◌, ◌++◌, map, Option, Some, None, ℤ, ◌+ℤ◌, pos, negsuc, neg_ℤ}
 use Rattle.std.specs.Prelude.{IfSome, is_some}
 use Rattle.std.specs.List.{All, filter, flat_map, fold, list_any}
 use Rattle.std.specs.Option.{option_map_or, option_or}
@@ -21,8 +21,8 @@ use Rattle.bst_meaning.specs.declared.condition.Cond.{Cond}
 use Rattle.cert_format.specs.CertText.{IsPart, IsRow, IsTerm, is_within}
 use Rattle.cert_format.specs.CondText.{is_chain}
 use Rattle.cert_format.specs.PieceItems.{is_before, is_zero, term_rank, term_symbol}
+use Rattle.cert_format.specs.declared.limits.TheConstants.{MOST_ITEMS}
 use Rattle.cert_format.specs.declared.piece_items.TheConstants.{ROW_SIZE}
-use Rattle.cert_format.specs.declared.piece_lines.TheConstants.{MOST_ITEMS}
 use Rattle.sym_state.proofs.Sums.{size_within}
 use Rattle.sym_state.specs.Changes.{symbol_at}
 use Rattle.sym_state.specs.Renaming.{term_renamed}

@@ -12,6 +12,7 @@ use Rattle.cert_format.specs.CondText.{IsField, is_below, is_chain}
 use Rattle.cert_format.specs.declared.items.TheConstants.{MOST_NUMBER}
 use Rattle.lin_facts.specs.declared.row.Part.{Part}
 use Rattle.lin_facts.specs.declared.row.Row.{Row}
+use Rattle.name_table.proofs.Within.{each_kept}
 use Rattle.name_table.specs.Sound.{Each}
 use Rattle.name_table.specs.declared.names.NameId.{NameId}
 use Rattle.name_table.specs.declared.style.Style.{Style}
@@ -230,36 +231,31 @@ added_made frame states (bones ∷ new) ready =
     All-cons IsMade (added_for frame states bones) (map (added_for frame states) new)
     (made_of frame bones frame.entering None (states_of bones states) (case_of frame states bones) refl ready) (added_made frame states new ready)
 
--- a case without some of its rows
-pub each_kept : {X : Type 0} (P : X → Type 0) (test : X → Bool) (xs : List X) → Each P xs → Each P (filter test xs)
-each_kept P test [] each = tt
-each_kept {X} P test (x ∷ xs) each =
-    elim (test x) as (λ (b : Bool). Each P (cond b (x ∷ filter test xs) (filter test xs))) [
-      | true ↦ (each.0, each_kept P test xs each.1)
-      | false ↦ each_kept P test xs each.1
-    ]
+-- a piece of a certificate is one without some of its rows too
+pub fewer_rows : (style : Style) (at_entry has_pos : Bool) (n : ℕ) (piece : Piece) (test : Row → Bool) → IsPiece style at_entry has_pos n piece
+    → IsPiece style at_entry has_pos n (record piece { rows = filter test piece.rows })
+fewer_rows style at_entry has_pos n piece test is =
+    let few = fewer test piece.rows in
+    let most = is.few_rows in
+    record {
+      placed = is.placed;
+      few_symbols = is.few_symbols;
+      vars = is.vars;
+      vars_rise = is.vars_rise;
+      fields = is.fields;
+      fields_rise = is.fields_rise;
+      facts = is.facts;
+      few_facts = is.few_facts;
+      rows = each_kept (IsRow has_pos (next_behind n (places_of piece))) test piece.rows is.rows;
+      few_rows = omega (arith, few, most);
+    }
 
 lowered_is_case : (frame : Frame) (turned : List State) (one : Added) → IsCase frame one.case → IsCase frame (lowered frame.admits turned one).case
-lowered_is_case frame turned one is =
-    let test = λ (row : Row). list_all (is_proved frame.admits one.case row) (states_of one.bones turned) in
-    let piece = is.piece in
-    let few = fewer test one.case.rows in
-    let most = piece.few_rows in
-    record {
-      piece = record {
-        placed = piece.placed;
-        few_symbols = piece.few_symbols;
-        vars = piece.vars;
-        vars_rise = piece.vars_rise;
-        fields = piece.fields;
-        fields_rise = piece.fields_rise;
-        facts = piece.facts;
-        few_facts = piece.few_facts;
-        rows = each_kept (IsRow frame.has_pos (next_behind 0 (places_of one.case))) test one.case.rows piece.rows;
-        few_rows = omega (arith, few, most);
-      };
-      texts = is.texts;
-    }
+lowered_is_case frame turned one is = record {
+  piece = fewer_rows frame.style frame.at_entry frame.has_pos 0 one.case
+      (λ row. list_all (is_proved frame.admits one.case row) (states_of one.bones turned)) is.piece;
+  texts = is.texts;
+}
 
 all_lowered : (frame : Frame) (turned : List State) (added : List Added) → All (λ one. IsCase frame one.case) added
     → All (λ one. IsCase frame one.case) (map (lowered frame.admits turned) added)

@@ -1,5 +1,5 @@
 -- Cases as certificates have them: their names, their symbols and their facts.
-use Rattle.std.proofs.Common.{◌≡◌, ℕ, zero, suc, ◌+◌, ◌<◌, ◌≤◌, Bool, true, false, ◌&&◌, ◌||◌, cond, nat_lt, nat_le, ap, sym, ◌∙◌, refl, subst, arith, List, [], ◌∷◌, ◌++◌, length, map, drop, slice_get, Option, Some, None, option_map, ℤ, pos, negsuc}
+use Rattle.std.proofs.Common.{◌≡◌, ℕ, zero, suc, ◌+◌, ◌<◌, ◌≤◌, Bool, true, false, ◌&&◌, ◌||◌, cond, nat_lt, nat_le, ap, ◌∙◌, refl, subst, arith, List, [], ◌∷◌, ◌++◌, length, map, drop, slice_get, Option, Some, None, option_map, ℤ, pos, negsuc}
 use Rattle.std.specs.Prelude.{is_some}
 use Rattle.std.specs.List.{All, fold, range_with_len}
 use Rattle.std.specs.Cmp.Derive.{both_true}
@@ -19,8 +19,8 @@ use Rattle.name_table.specs.declared.style.Style.{Style}
 use Rattle.cert_format.specs.CertText.{IsFact, IsVariable, are_placed, is_within, next_behind}
 use Rattle.cert_format.specs.CondText.{IsField, is_below, is_chain}
 use Rattle.cert_format.specs.PieceItems.{next_after}
-use Rattle.cert_format.specs.declared.cond_lines.TheConstants.{MOST}
 use Rattle.cert_format.specs.declared.items.TheConstants.{MOST_NUMBER}
+use Rattle.cert_format.specs.declared.limits.TheConstants.{MOST}
 use Rattle.cert_format.proofs.CertTargets.{block_number_found}
 use Rattle.sym_state.specs.Decided.{says_nothing}
 use Rattle.sym_state.specs.Fitting.{FactFits}

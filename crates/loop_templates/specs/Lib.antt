@@ -6,3 +6,4 @@ pub mod Cases
 pub mod Bound
 pub mod Candidates
 pub mod Visits
+pub mod Subjects

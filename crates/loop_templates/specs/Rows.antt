@@ -14,8 +14,8 @@ use Rattle.name_table.specs.declared.style.Style.{Style}
 use Rattle.bst_meaning.specs.declared.condition.Cond.{Cond}
 use Rattle.cert_format.specs.CertText.{is_within}
 use Rattle.cert_format.specs.PieceItems.{is_before, is_zero}
+use Rattle.cert_format.specs.declared.limits.TheConstants.{MOST_ITEMS}
 use Rattle.cert_format.specs.declared.piece_items.TheConstants.{ROW_SIZE}
-use Rattle.cert_format.specs.declared.piece_lines.TheConstants.{MOST_ITEMS}
 use Rattle.sym_state.specs.Changes.{bound, symbol_at}
 use Rattle.sym_state.specs.References.{row_said}
 use Rattle.sym_state.specs.Renaming.{row_renamed, term_renamed}

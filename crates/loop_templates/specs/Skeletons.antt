@@ -7,10 +7,9 @@ use Rattle.name_table.specs.Sound.{block_of}
 use Rattle.name_table.specs.declared.names.NameId.{NameId}
 use Rattle.name_table.specs.declared.style.BodyId.{BodyId}
 use Rattle.name_table.specs.declared.style.Style.{Style}
-use Rattle.sym_state.specs.Decided.{exact_function, known_kind, name_of, number_of}
+use Rattle.sym_state.specs.Decided.{exact_function, includes, known_kind, name_of, number_of}
 use Rattle.sym_state.specs.State.{State}
 use Rattle.sym_state.specs.declared.symbol.Kinds.{Kinds}
-use Rattle.sym_state.specs.declared.symbol.Kinds.TheVariants.{Int, Str, Missing, Optional, Func, Any}
 use Rattle.sym_state.specs.declared.symbol.Sym.{Sym}
 use Rattle.loop_templates.specs.declared.skeletons.Bone.{Bone}
 
@@ -35,15 +34,9 @@ pub record IsBoneOf (style : Style) (bone : Bone) : Type 0 where
 abbrev pub skeleton : State → Skeleton
 skeleton state = map (bone_of state) state.stack
 
--- two kinds are one
+-- two kinds are one where each includes the other
 abbrev pub same_kind : Kinds → Kinds → Bool
-same_kind Int Int = true
-same_kind Str Str = true
-same_kind Missing Missing = true
-same_kind Optional Optional = true
-same_kind Func Func = true
-same_kind Any Any = true
-same_kind _ other = false
+same_kind a b = includes a b && includes b a
 
 -- two names that may be there are one, or neither is there
 abbrev pub same_name : Option NameId → Option NameId → Bool

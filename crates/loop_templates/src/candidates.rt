@@ -2,18 +2,18 @@
 
 ghost use Rattle.std.specs.Prelude.{◌≡◌, ◌<◌, ◌++◌, [], map, true, IfOk, IfSome, OnOk};
 ghost use Rattle.std.specs.List.{All, list_all};
-ghost use Rattle.sym_state.specs.WellMade.{HasBounds, WellMade};
 ghost use Rattle.loop_templates.specs.Candidates as rule;
 ghost use Rattle.loop_templates.specs.Cases as cases;
 ghost use Rattle.loop_templates.specs.Skeletons as skeletons;
-ghost use Rattle.loop_templates.specs.Skeletons.{IsBoneOf};
+ghost use Rattle.loop_templates.specs.Subjects.{HasBounds, WellMade};
 
 use crate::cases::{Frame, case_of, entering_case};
-use crate::copies::{all_copied, cases_copied};
+use crate::copies::cases_copied;
 use crate::limits::{MOST_ADDED, MOST_ITEMS, MOST_PIECES};
 use crate::lowering::{Lowered, is_met, lower_all};
 use crate::skeletons::{Bone, same_skeleton, skeleton};
 use bst_meaning::condition::Cond;
+use bv_base::copied::Copied;
 use bv_base::memory::NoMemory;
 use bv_base::seq::Seq;
 use std::alloc::Global;
@@ -132,7 +132,7 @@ fn next_by(
     requires frame { cases.IsFrame frame.now }
     requires turned { All (WellMade frame.now.style) turned.now }
     requires made { All rule.IsMade candidate.now.added }
-    requires bones { All (All (IsBoneOf frame.now.style)) new.items }
+    requires bones { All (All (skeletons.IsBoneOf frame.now.style)) new.items }
     ensures { IfOk result (λ next. next ≡ rule.next_by frame.now candidate.now turned.now new.items) }
 {
     if new.len() == 0 {
@@ -152,11 +152,11 @@ fn grown(
 ) -> Result<Next, NoMemory>
     requires frame { cases.IsFrame frame.now }
     requires turned { All (WellMade frame.now.style) turned.now }
-    requires bones { All (All (IsBoneOf frame.now.style)) new.items }
+    requires bones { All (All (skeletons.IsBoneOf frame.now.style)) new.items }
     ensures { IfOk result (λ next. next ≡ rule.grown frame.now candidate.now turned.now new.items) }
 {
     if may_grow(candidate, new.as_slice()) {
-        let mut added = all_copied(alloc, candidate.added.as_slice())?;
+        let mut added = candidate.added.copied(alloc)?.into_vec();
         push_added(alloc, &mut added, frame, turned, new)?;
         goes(alloc, candidate, Seq::from_vec(added))
     } else {
@@ -209,7 +209,7 @@ fn push_added(
 ) -> Result<(), NoMemory>
     requires frame { cases.IsFrame frame.now }
     requires states { All (WellMade frame.now.style) states.now }
-    requires bones { All (All (IsBoneOf frame.now.style)) new.items }
+    requires bones { All (All (skeletons.IsBoneOf frame.now.style)) new.items }
     ensures { OnOk result (added.new.items ≡ added.old.items ++ map (rule.added_for frame.now states.now) new.items) }
 {
     for bones in new {
@@ -227,7 +227,7 @@ fn added_for(
 ) -> Result<Added, NoMemory>
     requires frame { cases.IsFrame frame.now }
     requires states { All (WellMade frame.now.style) states.now }
-    requires bones { All (IsBoneOf frame.now.style) bones }
+    requires bones { All (skeletons.IsBoneOf frame.now.style) bones }
     ensures { IfOk result (λ one. one ≡ rule.added_for frame.now states.now bones) }
 {
     let case = case_of(alloc, frame, states, bones.as_slice())?;
@@ -300,18 +300,18 @@ fn settled(
     if lower {
         goes(alloc, candidate, added)
     } else {
-        passes(alloc, cond, added.as_slice(), turned)
+        passes(cond, added.as_slice(), turned)
     }
 }
 
 /// The candidate passes where each state behind a turn entails an added case of its skeleton.
-fn passes(alloc: Global, cond: &Cond, added: &[Added], turned: &[State]) -> Result<Next, NoMemory>
+fn passes(cond: &Cond, added: &[Added], turned: &[State]) -> Result<Next, NoMemory>
     requires turned { All HasBounds turned.now }
     requires made { All rule.IsMade added.now }
     ensures { IfOk result (λ next. next ≡ rule.passes cond.now added.now turned.now) }
 {
     for state in turned {
-        if !is_met(alloc, cond, added, state)? {
+        if !is_met(cond, added, state)? {
             return Ok(Next::Ends);
         }
     }

@@ -4,7 +4,7 @@ ghost use Rattle.std.specs.Prelude.{◌≡◌, ◌+◌, ◌<◌, [], ◌++◌, l
 ghost use Rattle.std.specs.List.{All, range_with_len};
 ghost use Rattle.name_table.specs.Sound.{IsSound};
 ghost use Rattle.sym_state.specs.Starting.{IsFit, IsNumbered, symbols_of};
-ghost use Rattle.sym_state.specs.WellMade.{HasBounds, WellMade, ids_from};
+ghost use Rattle.loop_templates.specs.Subjects.{HasBounds, WellMade, ids_from};
 ghost use Rattle.loop_templates.specs.Bound.{is_bound_field};
 ghost use Rattle.loop_templates.specs.Cases as rule;
 ghost use Rattle.loop_templates.specs.Skeletons.{IsBoneOf};

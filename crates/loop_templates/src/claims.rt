@@ -4,11 +4,9 @@ ghost use Rattle.std.specs.Prelude.{◌≡◌, ◌<◌, ◌++◌, ◌^◌, Some,
 ghost use Rattle.std.specs.List.{All, list_all};
 ghost use Rattle.std.specs.Option.{option_map_or};
 ghost use Rattle.std.specs.Ordering.{int_eq};
-ghost use Rattle.lin_facts.specs.Rows.{IsWithin};
-ghost use Rattle.sym_state.specs.Renaming.{row_renamed, term_renamed};
-ghost use Rattle.sym_state.specs.WellMade.{IsBounded};
 ghost use Rattle.loop_templates.specs.Rows as rule;
 ghost use Rattle.loop_templates.specs.Sums.{IsSmallSum};
+ghost use Rattle.loop_templates.specs.Subjects.{IsBounded, IsWithin, row_renamed, term_renamed};
 
 use crate::facts::symbol_in;
 use bst_meaning::condition::Cond;

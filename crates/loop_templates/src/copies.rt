@@ -42,23 +42,11 @@ pub(crate) fn case_with(alloc: Global, case: &Piece, rows: Vec<Row>) -> Result<P
     })
 }
 
-/// Some added cases.
-pub(crate) fn all_copied(alloc: Global, added: &[Added]) -> Result<Vec<Added>, NoMemory>
-    ensures { IfOk result (λ copies. copies.items ≡ added.now) }
-{
-    let mut copies = Vec::new(alloc);
-    for one in added {
-        copies.push(added_copied(alloc, one)?)?;
+impl Copied for Added {
+    fn copied(&self, alloc: Global) -> Result<Added, NoMemory> {
+        let rows = self.case.rows.copied(alloc)?;
+        added_with(alloc, self, rows.into_vec())
     }
-    Ok(copies)
-}
-
-/// An added case.
-fn added_copied(alloc: Global, one: &Added) -> Result<Added, NoMemory>
-    ensures { IfOk result (λ copy. copy ≡ one.now) }
-{
-    let rows = one.case.rows.copied(alloc)?;
-    added_with(alloc, one, rows.into_vec())
 }
 
 /// An added case with these rows in place of its own.

@@ -4,8 +4,8 @@ ghost use Rattle.std.specs.Prelude.{◌≡◌, ◌+◌, ◌<◌, ◌≤◌, leng
 ghost use Rattle.std.specs.List.{All};
 ghost use Rattle.straight_hints.specs.Found.{no_proof as empty_proof, step_found};
 ghost use Rattle.straight_hints.specs.declared.finding.Finding.TheVariants.{Straight};
-ghost use Rattle.sym_state.specs.WellMade.{HasBounds, IsBounded};
 ghost use Rattle.loop_templates.specs.Candidates as rule;
+ghost use Rattle.loop_templates.specs.Subjects.{HasBounds, IsBounded};
 
 use crate::candidates::Added;
 use crate::skeletons::has_skeleton;

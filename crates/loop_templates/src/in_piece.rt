@@ -2,15 +2,13 @@
 
 ghost use Rattle.std.specs.Prelude.{◌≡◌, ◌++◌, IfOk, OnOk};
 ghost use Rattle.std.specs.List.{All};
-ghost use Rattle.cert_format.specs.PieceItems as items;
-ghost use Rattle.lin_facts.specs.Rows.{IsWithin};
-ghost use Rattle.sym_state.specs.Changes.{symbol_at};
-ghost use Rattle.sym_state.specs.Renaming.{term_renamed};
 ghost use Rattle.loop_templates.specs.Rows as rule;
 ghost use Rattle.loop_templates.specs.Sums.{IsSmallSum};
+ghost use Rattle.loop_templates.specs.Subjects.{IsWithin, symbol_at, term_renamed};
 
 use bv_base::memory::NoMemory;
 use bv_base::seq::Seq;
+use cert_format::is_before;
 use lin_facts::follows::same_term;
 use lin_facts::row::{Part, Row, Term};
 use name_table::names::NameId;
@@ -94,36 +92,6 @@ fn push_sum(all: &mut Vec<Part>, part: Part, first: Part) -> Result<(), NoMemory
         })?;
     }
     Ok(())
-}
-
-/// Whether a term stands before another in a row.
-fn is_before(a: Term, b: Term) -> bool
-    ensures { result ≡ items.is_before a b }
-{
-    rank(a) < rank(b) || (rank(a) == rank(b) && symbol(a) < symbol(b))
-}
-
-/// The place of a kind of terms in a row.
-fn rank(term: Term) -> u8
-    ensures { result ≡ items.term_rank term }
-{
-    match term {
-        Term::Value(_) => 0,
-        Term::Length(_) => 1,
-        Term::Names(_) => 2,
-        Term::Pos => 3,
-        Term::Count => 4,
-    }
-}
-
-/// The symbol that a term is on, and 0 where it is on none.
-fn symbol(term: Term) -> u32
-    ensures { result ≡ items.term_symbol term }
-{
-    match term {
-        Term::Value(sym) | Term::Length(sym) | Term::Names(sym) => sym,
-        Term::Pos | Term::Count => 0,
-    }
 }
 
 /// A term over a name, by the symbol that a piece binds to it.

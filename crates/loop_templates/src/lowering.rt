@@ -4,11 +4,10 @@ ghost use Rattle.std.specs.Prelude.{◌≡◌, Bool, true, ◌&&◌, ◌||◌, �
 ghost use Rattle.std.specs.List.{All, filter, list_all, list_any};
 ghost use Rattle.sym_state.specs.Entailing.{line_count};
 ghost use Rattle.sym_state.specs.Matches.{matched_by};
-ghost use Rattle.sym_state.specs.Renaming.{row_renamed};
-ghost use Rattle.sym_state.specs.WellMade.{HasBounds, IsBounded};
 ghost use Rattle.straight_proofs.specs.Straight as straight;
 ghost use Rattle.loop_templates.specs.Candidates as rule;
 ghost use Rattle.loop_templates.specs.Skeletons.{skeleton as skeleton_of, same_skeleton};
+ghost use Rattle.loop_templates.specs.Subjects.{HasBounds, IsBounded, row_renamed};
 
 use crate::candidates::Added;
 use crate::copies::{added_with, case_with};
@@ -197,18 +196,13 @@ pub(crate) fn marked_rows(alloc: Global, rows: &[Row], marks: &[bool]) -> Result
 }
 
 /// Whether a state entails, but for the rows, an added case of its skeleton.
-pub(crate) fn is_met(
-    alloc: Global,
-    cond: &Cond,
-    added: &[Added],
-    state: &State,
-) -> Result<bool, NoMemory>
+pub(crate) fn is_met(cond: &Cond, added: &[Added], state: &State) -> Result<bool, NoMemory>
     requires state { HasBounds state.now }
     requires made { All rule.IsMade added.now }
     ensures { IfOk result (λ met. met ≡ rule.is_met cond.now added.now state.now) }
 {
     for one in added {
-        if is_met_by(alloc, cond, one, state)? {
+        if is_met_by(cond, one, state)? {
             return Ok(true);
         }
     }
@@ -216,11 +210,12 @@ pub(crate) fn is_met(
 }
 
 /// Whether it does so by one of them.
-fn is_met_by(alloc: Global, cond: &Cond, one: &Added, state: &State) -> Result<bool, NoMemory>
+fn is_met_by(cond: &Cond, one: &Added, state: &State) -> Result<bool, NoMemory>
     requires state { HasBounds state.now }
     requires made { rule.IsMade one.now }
     ensures { IfOk result (λ met. met ≡ (same_skeleton one.now.bones (skeleton_of state.now) && rule.agrees_with cond.now state.now one.now.case)) }
 {
+    let alloc = state.alloc();
     if has_skeleton(alloc, state, one.bones.as_slice())? {
         agrees_with(alloc, cond, state, &one.case)
     } else {

@@ -1,13 +1,13 @@
 //! Where a walk over bodies begins, and which variables are quoted there (docs/ANALYSER.md, "Loops").
 
-ghost use Rattle.std.specs.Prelude.{◌≡◌, ◌++◌, ◌&&◌, [], ◌∷◌, flat_map, if◌then◌else◌, IfOk, OnOk};
+ghost use Rattle.std.specs.Prelude.{◌≡◌, ◌++◌, flat_map, IfOk, OnOk};
 ghost use Rattle.bst_meaning.specs.StyleParts as parts;
 ghost use Rattle.loop_templates.specs.Bound.{is_bound_variable};
 ghost use Rattle.loop_templates.specs.Reaching as rule;
 
 use crate::cases::Bound;
-use crate::names::is_variable;
-use crate::reaching::{Occurrences, is_marked};
+use crate::names::{is_variable, occurring_of};
+use crate::reaching::Occurrences;
 use bst_meaning::style_parts::kind_of;
 use bst_meaning::value::Target;
 use bv_base::memory::NoMemory;
@@ -75,26 +75,6 @@ pub fn quoted_variables(
 ) -> Result<Vec<NameId>, NoMemory>
     ensures { IfOk result (λ names. names.items ≡ rule.occurring_of (is_bound_variable bound) style.now found.now.quoted) }
 {
-    let mut names = Vec::new(alloc);
-    for id in 0..style.names.len() {
-        push_quoted(&mut names, found, bound, id, style.names.kind(NameId(id)))?;
-    }
-    Ok(names)
-}
-
-/// Adds a name of a kind, where it is a variable that is bound and quoted.
-fn push_quoted(
-    names: &mut Vec<NameId>,
-    found: &Occurrences,
-    bound: Bound,
-    id: u32,
-    kind: Kind,
-) -> Result<(), NoMemory>
-    ensures { OnOk result (names.new.items ≡ names.old.items
-        ++ (if is_bound_variable bound kind && rule.is_marked found.now.quoted id then (record { 0 = id }) ∷ [] else [])) }
-{
-    if is_variable(bound, kind) && is_marked(found.quoted.as_slice(), id as usize) {
-        names.push(NameId(id))?;
-    }
-    Ok(())
+    let quoted = found.quoted.as_slice();
+    occurring_of(alloc, style, quoted, |kind| is_variable(bound, kind))
 }

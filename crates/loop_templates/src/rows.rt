@@ -6,9 +6,9 @@ ghost use Rattle.std.specs.Option.{option_map_or};
 ghost use Rattle.std.specs.Cmp.Lexicographic.{pointwise};
 ghost use Rattle.cert_format.specs.CertText.{is_within};
 ghost use Rattle.sym_state.specs.Starting as begin;
-ghost use Rattle.sym_state.specs.WellMade.{HasBounds};
 ghost use Rattle.loop_templates.specs.Rows as rule;
 ghost use Rattle.loop_templates.specs.Sums.{IsSmallSum};
+ghost use Rattle.loop_templates.specs.Subjects.{HasBounds};
 
 use crate::claims::rows_of_sum;
 use crate::in_piece::row_in_piece;
@@ -91,8 +91,8 @@ fn gathered(
         if rows.len() >= MOST_ITEMS {
             return Ok(rows);
         }
-        let parts = sum.as_slice();
-        keep_of_sum(alloc, &mut rows, cond, start, piece, searches, parts)?;
+        let found = rows_of_sum(alloc, cond, searches, sum.as_slice())?;
+        keep_wanted(alloc, &mut rows, cond, start, piece, found.as_slice())?;
     }
     Ok(rows)
 }
@@ -114,30 +114,6 @@ fn started(
 {
     let pieces = from_ref(piece);
     start(alloc, style, cond, pieces, whole, at_entry)
-}
-
-/// Adds those of the rows of a sum that may stand in a piece, as long as there is room.
-fn keep_of_sum(
-    alloc: Global,
-    rows: &mut Vec<Row>,
-    cond: &Cond,
-    start: &State,
-    piece: &Piece,
-    searches: &mut [Search<'_>],
-    sum: &[Part],
-) -> Result<(), NoMemory>
-    requires searches { All (λ search. search.cond ≡ cond.now) searches.old }
-    requires sum { IsSmallSum sum.now }
-    requires bounds { HasBounds start.now }
-    requires few { length rows.old.items ≤ MOST_ITEMS }
-    ensures kept { OnOk result (rows.new.items ≡ take MOST_ITEMS (rows.old.items ++ filter (rule.is_wanted cond.now start.now)
-        (map (rule.row_in_piece piece.now) (rule.rows_of_sum cond.now (map (λ search. search.state) searches.old) sum.now)))) }
-    ensures few { OnOk result (length rows.new.items ≤ MOST_ITEMS) }
-    ensures stays { searches.new ≡ searches.old }
-{
-    let found = rows_of_sum(alloc, cond, searches, sum)?;
-    let list = found.as_slice();
-    keep_wanted(alloc, rows, cond, start, piece, list)
 }
 
 /// Adds those of some rows over names that may stand in a piece, as long as there is room.

@@ -123,15 +123,7 @@ fn same_bone(a: Bone, b: Bone) -> bool
 pub(crate) fn same_kind(a: Kinds, b: Kinds) -> bool
     ensures { result ≡ rule.same_kind a b }
 {
-    match (a, b) {
-        (Kinds::Int, Kinds::Int) => true,
-        (Kinds::Str, Kinds::Str) => true,
-        (Kinds::Missing, Kinds::Missing) => true,
-        (Kinds::Optional, Kinds::Optional) => true,
-        (Kinds::Func, Kinds::Func) => true,
-        (Kinds::Any, Kinds::Any) => true,
-        _ => false,
-    }
+    a == b
 }
 
 /// Whether two names that may be there are one.

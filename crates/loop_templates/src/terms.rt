@@ -1,11 +1,12 @@
 //! The terms over the names that occur (docs/ANALYSER.md, "Loops").
 
-ghost use Rattle.std.specs.Prelude.{◌≡◌, ◌&&◌, ◌++◌, [], ◌∷◌, if◌then◌else◌, map, Some, IfOk, OnOk};
-ghost use Rattle.bst_meaning.specs.StyleParts.{kind_of};
+ghost use Rattle.std.specs.Prelude.{◌≡◌, ◌++◌, map, IfOk, OnOk};
 ghost use Rattle.loop_templates.specs.Reaching as rule;
 
 use crate::cases::Bound;
+use crate::names::occurring_of;
 use crate::reaching::{Occurrences, is_marked};
+use bst_meaning::style_parts::kind_of;
 use bv_base::memory::NoMemory;
 use lin_facts::row::Term;
 use name_table::names::{Kind, NameId};
@@ -23,13 +24,14 @@ pub fn terms_over(
 ) -> Result<Vec<Term>, NoMemory>
     ensures { IfOk result (λ terms. terms.items ≡ rule.terms_over style.now found.now at_entry) }
 {
-    let strings = strings_of(alloc, style, found, at_entry)?;
-    let mut terms = Vec::new(alloc);
     let bound = Bound {
         globals: true,
         entry: at_entry,
     };
-    push_values(&mut terms, style, found, bound)?;
+    let integers = integers_of(alloc, style, found, bound)?;
+    let strings = strings_of(alloc, style, found, at_entry)?;
+    let mut terms = Vec::new(alloc);
+    push_values(&mut terms, integers.as_slice())?;
     push_lengths(&mut terms, strings.as_slice())?;
     push_names(&mut terms, strings.as_slice())?;
     Ok(terms)
@@ -46,44 +48,26 @@ pub fn command_terms(
 ) -> Result<Vec<Term>, NoMemory>
     ensures { IfOk result (λ terms. terms.items ≡ rule.command_terms style.now found.now bound has_pos) }
 {
+    let integers = integers_of(alloc, style, found, bound)?;
     let mut terms = Vec::new(alloc);
-    push_values(&mut terms, style, found, bound)?;
+    push_values(&mut terms, integers.as_slice())?;
     if has_pos {
         terms.push(Term::Pos)?;
     }
     Ok(terms)
 }
 
-/// Adds the value of each integer variable that occurs.
-fn push_values(
-    terms: &mut Vec<Term>,
+/// The integer variables that occur.
+fn integers_of(
+    alloc: Global,
     style: &Style,
     found: &Occurrences,
     bound: Bound,
-) -> Result<(), NoMemory>
-    ensures { OnOk result (terms.new.items ≡ terms.old.items ++ rule.values_over style.now found.now bound) }
+) -> Result<Vec<NameId>, NoMemory>
+    ensures { IfOk result (λ names. names.items ≡ rule.occurring_of (rule.is_integer bound) style.now found.now.named) }
 {
-    for id in 0..style.names.len() {
-        push_value(terms, found, bound, id, style.names.kind(NameId(id)))?;
-    }
-    Ok(())
-}
-
-/// Adds the value of a name of a kind, where it is an integer variable that occurs.
-fn push_value(
-    terms: &mut Vec<Term>,
-    found: &Occurrences,
-    bound: Bound,
-    id: u32,
-    kind: Kind,
-) -> Result<(), NoMemory>
-    ensures { OnOk result (terms.new.items ≡ terms.old.items
-        ++ (if rule.is_integer bound kind && rule.is_marked found.now.named id then Term.Value id ∷ [] else [])) }
-{
-    if is_integer(bound, kind) && is_marked(found.named.as_slice(), id as usize) {
-        terms.push(Term::Value(id))?;
-    }
-    Ok(())
+    let named = found.named.as_slice();
+    occurring_of(alloc, style, named, |kind| is_integer(bound, kind))
 }
 
 /// The strings that occur and stay what they are.
@@ -95,40 +79,29 @@ fn strings_of(
 ) -> Result<Vec<NameId>, NoMemory>
     ensures { IfOk result (λ names. names.items ≡ rule.strings_of style.now found.now at_entry) }
 {
-    let mut names = Vec::new(alloc);
-    for id in 0..style.names.len() {
-        push_string(
-            &mut names,
-            style,
-            found,
-            at_entry,
-            NameId(id),
-            style.names.kind(NameId(id)),
-        )?;
-    }
+    let named = found.named.as_slice();
+    let quoted = found.quoted.as_slice();
+    let mut names = occurring_of(alloc, style, named, |kind| has_length(at_entry, kind))?;
+    names.retain(|name| stays(style, quoted, at_entry, *name));
     Ok(names)
 }
 
-/// Adds a name of a kind, where it is a string that occurs and stays what it is.
-fn push_string(
-    names: &mut Vec<NameId>,
-    style: &Style,
-    found: &Occurrences,
-    at_entry: bool,
-    name: NameId,
-    kind: Kind,
-) -> Result<(), NoMemory>
-    requires { kind_of style.now name ≡ Some kind }
-    ensures { OnOk result (names.new.items ≡ names.old.items
-        ++ (if rule.has_length at_entry kind
-        && (rule.is_marked found.now.named name.0 && rule.stays style.now found.now.quoted at_entry name) then name ∷ [] else [])) }
+/// Whether a name isn't a string variable that is quoted, which counts as written.
+fn stays(style: &Style, quoted: &[bool], at_entry: bool, name: NameId) -> bool
+    ensures { result ≡ rule.stays style.now quoted.now at_entry name }
 {
-    let at = name.0 as usize;
-    if has_length(at_entry, kind)
-        && is_marked(found.named.as_slice(), at)
-        && !(is_marked(found.quoted.as_slice(), at) && is_string(at_entry, kind))
-    {
-        names.push(name)?;
+    match kind_of(style, name) {
+        Some(kind) => !(is_marked(quoted, name.0 as usize) && is_string(at_entry, kind)),
+        None => true,
+    }
+}
+
+/// Adds the value of each of some integer variables.
+fn push_values(terms: &mut Vec<Term>, names: &[NameId]) -> Result<(), NoMemory>
+    ensures { OnOk result (terms.new.items ≡ terms.old.items ++ map (λ name. Term.Value name.0) names.now) }
+{
+    for name in names {
+        terms.push(Term::Value(name.0))?;
     }
     Ok(())
 }

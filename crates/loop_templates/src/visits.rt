@@ -3,10 +3,10 @@
 ghost use Rattle.std.specs.Prelude.{◌≡◌, map, length, IfOk};
 ghost use Rattle.std.specs.List.{All};
 ghost use Rattle.sym_state.specs.Positions.{AtNext, row_moved};
-ghost use Rattle.sym_state.specs.WellMade.{IsBounded, WellMade};
 ghost use Rattle.loop_templates.specs.Candidates.{CanMatch, IsCase};
 ghost use Rattle.loop_templates.specs.Cases.{IsFrame};
 ghost use Rattle.loop_templates.specs.Visits as rule;
+ghost use Rattle.loop_templates.specs.Subjects.{IsBounded, WellMade};
 
 use crate::cases::{Frame, bare_case, each, with_rows};
 use crate::lowering::{marked_rows, proved_in_all};
@@ -46,22 +46,6 @@ pub fn rows_left(
     ensures { IfOk result (λ rows. rows.items ≡ rule.rows_left cond.now case.now states.now case.now.rows) }
 {
     let those = each(alloc, states)?;
-    rows_shown(alloc, cond, case, moved, those.as_slice())
-}
-
-/// The same, by the states behind references.
-fn rows_shown(
-    alloc: Global,
-    cond: &Cond,
-    case: &Piece,
-    moved: &[Row],
-    states: &[&State],
-) -> Result<Vec<Row>, NoMemory>
-    requires states { All (CanMatch (length case.now.stack)) (map (λ state. state.now) states.now) }
-    requires rows { All IsBounded moved.now }
-    requires moved { moved.now ≡ map (row_moved AtNext) case.now.rows }
-    ensures { IfOk result (λ rows. rows.items ≡ rule.rows_left cond.now case.now (map (λ state. state.now) states.now) case.now.rows) }
-{
-    let shown = proved_in_all(alloc, cond, case, moved, states)?;
+    let shown = proved_in_all(alloc, cond, case, moved, those.as_slice())?;
     marked_rows(alloc, case.rows.as_slice(), shown.as_slice())
 }

@@ -2,6 +2,7 @@ pub mod GoodNames
 pub mod Counting
 pub mod Cutting
 pub mod Grouping
+pub mod Here
 pub mod Leaving
 pub mod Ordering
 pub mod Parting

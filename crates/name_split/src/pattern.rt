@@ -100,14 +100,7 @@ fn before_run(bytes: &[u8]) -> usize
     ensures before { result ≡ patterns.before_run 1 bytes.now }
     ensures within { result ≤ length bytes.now }
 {
-    leveled_before(1, bytes, |level, b| is_group_letter(level, b))
-}
-
-/// Whether a byte of this level is an ASCII letter directly within a group.
-fn is_group_letter(level: usize, b: u8) -> bool
-    ensures { result ≡ patterns.is_group_letter level b }
-{
-    level == 1 && b.is_ascii_alphabetic()
+    leveled_before(1, bytes, |level, b| level == 1 && b.is_ascii_alphabetic())
 }
 
 /// Whether a run of letters names a part: one letter, or two equal ones.

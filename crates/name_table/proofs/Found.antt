@@ -1,5 +1,5 @@
 -- A look-up in the table of names finds the id of the name.
-use Rattle.std.proofs.Common.{◌≡◌, ℕ, suc, ◌+◌, Bool, true, false, cond, not, nat_lt, nat_eq, List, [], ◌∷◌, ◌++◌, Option, Some, None, length, map, position, refl, ap, ◌∙◌, arith}
+use Rattle.std.proofs.Common.{◌≡◌, ℕ, suc, ◌+◌, Bool, true, false, cond, not, nat_lt, nat_eq, List, [], ◌∷◌, ◌++◌, Option, Some, None, length, map, position, refl, sym, ap, ◌∙◌, arith}
 use Rattle.std.proofs.lemmas.Bool.Decides.{nat_tests}
 use Rattle.std.specs.List.{position_or_len}
 use Rattle.std.specs.Option.{option_map}
@@ -47,6 +47,13 @@ position-id_of name (e ∷ es) =
     ap (option_map id) (position-cons (λ (k : Vec ℕ). pointwise nat_eq name k.items) e.0 (map (λ e. e.0) es))
     ∙ id_step (same_name name e.0.items) (position (λ (k : Vec ℕ). pointwise nat_eq name k.items) (map (λ e. e.0) es))
     ∙ ap (λ o. cond (same_name name e.0.items) (Some (id 0)) (option_map later o)) (position-id_of name es)
+
+-- a look-up gives the id of the place that it finds
+pub found_id : (name : List ℕ) (es : List (Vec ℕ × Kind)) (names : List (List ℕ × Kind)) (place found : Option ℕ)
+    → place ≡ position (λ k. pointwise nat_eq name k.items) (map (λ e. e.0) es) → map seen es ≡ names → place ≡ found
+    → option_map id found ≡ id_of name names
+found_id name es names place found at view is =
+    sym (ap (option_map id) is) ∙ ap (option_map id) at ∙ position-id_of name es ∙ ap (id_of name) view
 
 -- a name that isn't there goes last
 pub inserted_last : (name : Vec ℕ) (kind : Kind) (es : List (Vec ℕ × Kind)) → id_of name.items (map seen es) ≡ None

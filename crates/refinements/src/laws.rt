@@ -2,25 +2,14 @@
 
 ghost use Rattle.std.specs.Prelude.{◌≡◌, ◌<◌, ◌≤◌, ℤ, List, Some, Ok, drop, length};
 ghost use Rattle.std.specs.List.{All};
-ghost use Rattle.bv_base.specs.declared.place.Place.{Place};
-ghost use Rattle.name_table.specs.declared.builtin.Builtin.{Builtin};
-ghost use Rattle.name_table.specs.declared.style.Style.{Style};
-ghost use Rattle.bst_meaning.specs.declared.condition.Cond.{Cond};
-ghost use Rattle.bst_meaning.specs.declared.entry.EntryList.{EntryList};
-ghost use Rattle.bst_meaning.specs.declared.value.Value.{Value};
+ghost use Rattle.sym_state.specs.Subjects.{Builtin, Cond, Config, EntryList, Hint, Place, Stands, State, Style, Valuation, Value, WellMade};
 ghost use Rattle.bst_meaning.specs.declared.value.Value.TheVariants.{Int};
-ghost use Rattle.bst_meaning.specs.Config.{Config};
 ghost use Rattle.bst_meaning.specs.Operands.{is_positive};
-ghost use Rattle.sym_state.specs.declared.hint.Hint.{Hint};
-ghost use Rattle.sym_state.specs.State.{State};
 ghost use Rattle.sym_state.specs.declared.symbol.Sym.{Sym};
 ghost use Rattle.sym_state.specs.declared.test.Test.{Test};
 ghost use Rattle.sym_state.specs.declared.test.Test.TheVariants.{Above};
 ghost use Rattle.sym_state.specs.Cases.{Cases, IsTestOf, Labelled, above_of, needs_of, split_of};
 ghost use Rattle.sym_state.specs.Frames.{LeavesVariables};
-ghost use Rattle.sym_state.specs.Stands.{Stands};
-ghost use Rattle.sym_state.specs.Symbols.{Valuation};
-ghost use Rattle.sym_state.specs.WellMade.{WellMade};
 ghost use Rattle.refinements.specs.Covered.{OneCovers, OneLabelledStands, OneStands, function_of};
 
 /// Where a well-made state stands for a configuration and the test of a built-in function has cases, the function gives

@@ -5,7 +5,7 @@ ghost use Rattle.std.specs.Prelude.{◌≡◌, ◌≢◌, ◌<◌, Ok, Err, IfOk
 ghost use Rattle.std.specs.List.{All};
 ghost use Rattle.name_table.specs.declared.style.Style.{Style};
 ghost use Rattle.sym_state.specs.Cases as rule;
-ghost use Rattle.sym_state.specs.WellMade.{HasBounds, WellMade};
+ghost use Rattle.sym_state.specs.WellMade.{WellMade};
 ghost use Rattle.sym_state.specs.declared.demand.EffectFault.TheVariants.{NoMemory as WantOfMemory};
 ghost use Rattle.sym_state.specs.Demands.{IsReady};
 ghost use Rattle.refinements.specs.Given.{Gives};
@@ -35,15 +35,14 @@ mod weighing;
 /// The states of the cases of a test, that of 1 or of an integer above 0 first. A test that is decided has one case. The
 /// integer of `Above` is one: the caller has made that demand. The hints are taken one after the other, and each is
 /// decided before the next is taken. Where there is a fault, none is taken.
+#[tactic(auto, using(crate::proofs::Kept::split_made))]
 pub fn split(
     state: &State,
     cond: &Cond,
     test: Test,
     hints: &mut Hints<'_>,
 ) -> Result<Vec<State>, EffectFault>
-    requires bounds { HasBounds state.now }
-    requires room { state.now.next < 4294967295 }
-    requires proofs { All rule.HasFewUses hints.old }
+    requires ready { IsReady state.now hints.old }
     ensures ok { IfOk result (λ states. rule.split_of cond.now state.now test hints.old ≡ Ok (record { states = states.items; hints = hints.new })) }
     ensures fault { IfErr result (λ fault. fault ≢ WantOfMemory → rule.split_of cond.now state.now test hints.old ≡ Err fault) }
     ensures cursor { OnErr result (hints.new ≡ hints.old) }
@@ -58,15 +57,14 @@ pub fn split(
 
 /// The cases of whether an integer is above 0, each with its label, which is whether it is: that of an integer above 0
 /// first. Without their labels they are those of `split`. With one case left its label tells which function `if$` enters.
+#[tactic(auto, using(crate::proofs::Kept::above_made))]
 pub fn above(
     state: &State,
     cond: &Cond,
     sym: Sym,
     hints: &mut Hints<'_>,
 ) -> Result<Vec<(bool, State)>, EffectFault>
-    requires bounds { HasBounds state.now }
-    requires room { state.now.next < 4294967295 }
-    requires proofs { All rule.HasFewUses hints.old }
+    requires ready { IsReady state.now hints.old }
     ensures ok { IfOk result (λ cases. rule.above_of cond.now state.now sym hints.old ≡ Ok (record { cases = cases.items; hints = hints.new })) }
     ensures fault { IfErr result (λ fault. fault ≢ WantOfMemory → rule.above_of cond.now state.now sym hints.old ≡ Err fault) }
     ensures cursor { OnErr result (hints.new ≡ hints.old) }

@@ -10,6 +10,33 @@
 //! A proof is a divisor and the references that it uses, as `2 Row:0 3*ExactLow:1` with the second taken three times.
 //! Hints are parted by `; `: `keep`, `drop` or `step` with a proof, `apply 0`, `walk`, `loop 0`, `case 0` and `plain`.
 
+/// A name of this id with a symbol.
+macro_rules! bind {
+    ($name:literal, $sym:literal) => {
+        sym_state::symbol::Bind {
+            name: name_table::names::NameId($name),
+            sym: sym_state::symbol::Sym($sym),
+        }
+    };
+}
+
+/// The piece that binds the name of this id to symbol 0, of which it says this.
+macro_rules! piece_of_one {
+    ($alloc:expr, $name:literal, $fact:expr) => {{
+        let mut vars = Seq::new($alloc);
+        vars.push(bind!($name, 0))?;
+        let mut facts = Seq::new($alloc);
+        facts.push($fact)?;
+        Ok(Piece {
+            stack: Seq::new($alloc),
+            vars,
+            fields: Seq::new($alloc),
+            facts,
+            rows: Seq::new($alloc),
+        })
+    }};
+}
+
 mod cases;
 mod effects;
 mod hints;

@@ -2,16 +2,11 @@
 
 ghost use Rattle.std.specs.Prelude.{◌≡◌, Bool, List};
 ghost use Rattle.std.specs.List.{All};
+ghost use Rattle.sym_state.specs.Subjects.{Cond, Config, EntryList, Style, Valuation, Value};
 ghost use Rattle.name_table.specs.Sound.{IsSound};
-ghost use Rattle.name_table.specs.declared.style.Style.{Style};
-ghost use Rattle.bst_meaning.specs.Config.{Config};
 ghost use Rattle.bst_meaning.specs.Machine.{steps};
-ghost use Rattle.bst_meaning.specs.declared.condition.Cond.{Cond};
-ghost use Rattle.bst_meaning.specs.declared.entry.EntryList.{EntryList};
-ghost use Rattle.bst_meaning.specs.declared.value.Value.{Value};
 ghost use Rattle.sym_state.specs.Opening.{CanStart};
 ghost use Rattle.sym_state.specs.Starting.{IsFit, IsNumbered, all_symbols, started};
-ghost use Rattle.sym_state.specs.Symbols.{Valuation};
 ghost use Rattle.sym_state.specs.WellMade.{HasSmallFields, HasSmallLimits};
 ghost use Rattle.sym_state.specs.declared.piece.Piece.{Piece};
 ghost use Rattle.state_tests.specs.Walks.{IsReached, IsToExecute, IsWalked, Walk, tokens_of};

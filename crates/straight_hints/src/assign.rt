@@ -3,9 +3,9 @@
 ghost use Rattle.std.specs.Prelude.{◌≡◌, option_map};
 ghost use Rattle.name_table.specs.declared.names.NameId.{NameId as Name};
 ghost use Rattle.straight_hints.specs.Given.{Finds, hints_at};
+ghost use Rattle.straight_hints.specs.Subjects.{HasBounds};
 ghost use Rattle.sym_state.specs.Effects as rule;
 ghost use Rattle.sym_state.specs.State.{State as StateValue};
-ghost use Rattle.sym_state.specs.WellMade.{HasBounds};
 ghost use Rattle.sym_state.specs.declared.symbol.Kinds.TheVariants.{Str};
 
 use crate::at::{At, Found};

@@ -2,11 +2,8 @@
 
 ghost use Rattle.std.specs.Prelude.{◌≡◌, ◌<◌, [], map, IfOk};
 ghost use Rattle.std.specs.List.{All};
-ghost use Rattle.cert_format.specs.CertText.{IsHint};
-ghost use Rattle.name_table.specs.Sound.{Each};
 ghost use Rattle.straight_hints.specs.Found as rule;
-ghost use Rattle.sym_state.specs.Demands.{HasFewUses};
-ghost use Rattle.sym_state.specs.WellMade.{HasBounds};
+ghost use Rattle.straight_hints.specs.Subjects.{Each, HasBounds, HasFewUses, IsHint};
 
 use crate::finding::Finding;
 use bst_meaning::condition::Cond;
@@ -114,6 +111,6 @@ fn drop_found(finding: Finding, state: &State, cond: &Cond) -> Result<Option<Pro
 {
     match finding {
         Finding::Bare => Ok(None),
-        Finding::Straight => drop_proof(state.alloc(), state, cond),
+        Finding::Straight => drop_proof(state, cond),
     }
 }

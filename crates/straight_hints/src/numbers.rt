@@ -1,13 +1,11 @@
 //! The built-in functions that give integers or take one alone.
 
 ghost use Rattle.std.specs.Prelude.{◌≡◌, suc, ◌^◌, ℤ, pos, negsuc, neg_ℤ, None, option_map, IfOk};
-ghost use Rattle.lin_facts.specs.Rows.{IsWithin};
 ghost use Rattle.lin_facts.specs.declared.row.Term.TheVariants.{Value};
 ghost use Rattle.straight_hints.specs.Given.{Finds, hints_at};
-ghost use Rattle.sym_state.specs.Demands.{without};
+ghost use Rattle.straight_hints.specs.Subjects.{HasBounds, IsBounded, IsWithin, without};
 ghost use Rattle.sym_state.specs.Effects as rule;
 ghost use Rattle.sym_state.specs.Results as results;
-ghost use Rattle.sym_state.specs.WellMade.{HasBounds, IsBounded};
 
 use crate::at::{At, Found};
 use crate::steps::{both_steps, none, one_step};

@@ -2,11 +2,8 @@
 
 ghost use Rattle.std.specs.Prelude.{◌≡◌, ◌≤◌, IfOk, length};
 ghost use Rattle.std.specs.List.{All};
-ghost use Rattle.name_table.specs.Sound.{Each};
-ghost use Rattle.cert_format.specs.CertText.{IsHint};
-ghost use Rattle.sym_state.specs.Demands.{HasFewUses};
-ghost use Rattle.sym_state.specs.WellMade.{HasBounds, IsBounded};
 ghost use Rattle.straight_hints.specs.Found as rule;
+ghost use Rattle.straight_hints.specs.Subjects.{Each, HasBounds, HasFewUses, IsBounded, IsHint};
 
 use crate::at::At;
 use crate::finding::Finding;

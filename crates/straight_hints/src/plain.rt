@@ -2,13 +2,10 @@
 
 ghost use Rattle.std.specs.Prelude.{◌≡◌, ◌<◌, IfOk};
 ghost use Rattle.std.specs.List.{All};
-ghost use Rattle.cert_format.specs.CertText.{IsHint};
-ghost use Rattle.name_table.specs.Sound.{Each};
 ghost use Rattle.straight_hints.specs.Found as rule;
 ghost use Rattle.straight_hints.specs.Given.{Finds, hints_at};
-ghost use Rattle.sym_state.specs.Demands.{HasFewUses};
+ghost use Rattle.straight_hints.specs.Subjects.{Each, HasBounds, HasFewUses, IsHint};
 ghost use Rattle.sym_state.specs.Effects.{rule_of};
-ghost use Rattle.sym_state.specs.WellMade.{HasBounds};
 
 use crate::assign::assign;
 use crate::at::{At, Found};

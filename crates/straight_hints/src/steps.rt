@@ -2,7 +2,7 @@
 
 ghost use Rattle.std.specs.Prelude.{◌≡◌, [], ◌∷◌, IfOk};
 ghost use Rattle.straight_hints.specs.Found as rule;
-ghost use Rattle.sym_state.specs.WellMade.{HasBounds, IsBounded};
+ghost use Rattle.straight_hints.specs.Subjects.{HasBounds, IsBounded};
 
 use crate::at::At;
 use crate::finding::Finding;
@@ -67,7 +67,7 @@ fn proof_found(at: &At<'_>, row: &Row) -> Result<Option<Proof>, NoMemory>
 {
     match at.finding {
         Finding::Bare => Ok(None),
-        Finding::Straight => straight_proof(at.state.alloc(), at.state, at.cond, row),
+        Finding::Straight => straight_proof(at.state, at.cond, row),
     }
 }
 

@@ -3,10 +3,9 @@
 ghost use Rattle.std.specs.Prelude.{◌≡◌, ◌≤◌, ◌&&◌, ◌+◌, ◌-◌, pos, IfOk};
 ghost use Rattle.lin_facts.specs.declared.row.Term.TheVariants.{Length};
 ghost use Rattle.straight_hints.specs.Given.{Finds, hints_at};
-ghost use Rattle.sym_state.specs.Demands.{without};
+ghost use Rattle.straight_hints.specs.Subjects.{HasBounds, IsBounded, without};
 ghost use Rattle.sym_state.specs.Effects as rule;
 ghost use Rattle.sym_state.specs.References as references;
-ghost use Rattle.sym_state.specs.WellMade.{HasBounds, IsBounded};
 
 use crate::at::{At, Found};
 use crate::steps::choice;

@@ -1,8 +1,8 @@
 //! `format.name$`.
 
 ghost use Rattle.straight_hints.specs.Given.{Finds, hints_at};
+ghost use Rattle.straight_hints.specs.Subjects.{HasBounds};
 ghost use Rattle.sym_state.specs.Effects as rule;
-ghost use Rattle.sym_state.specs.WellMade.{HasBounds};
 
 use crate::at::{At, Found};
 use crate::steps::both_steps;

@@ -222,27 +222,32 @@ first_same behind other h (r ∷ all) =
 ended_same : (row other : Row) → Alike row other → ended row ≡ ended other
 ended_same row other h = ap (λ (n : ℤ). cond (int_lt n (pos 0)) None (Some [])) h.constant
 
+-- what rows have by their lead is the same of alike rows
+by_lead : {A : Type 0} (f : Row → A) (row other : Row) → Alike row other → (lead row ≡ None → lead other ≡ None → f row ≡ f other)
+    → ((t : Term) → lead row ≡ Some t → lead other ≡ Some t → f row ≡ f other) → f row ≡ f other
+by_lead f row other h ended behind = by (lead row) refl
+  where
+    by : (o : Option Term) → lead row ≡ o → f row ≡ f other
+    by None e = ended e (sym (same_lead row other h) ∙ e)
+    by (Some t) e = behind t e (sym (same_lead row other h) ∙ e)
+
 -- alike rows have the same list
 pub same_list : (n : ℕ) (c : Cond) (state : State) (row other : Row) → Alike row other → list_within n c state row ≡ list_within n c state other
-same_list zero c state row other h = by (lead row) refl
-  where
-    by : (o : Option Term) → lead row ≡ o → list_within zero c state row ≡ list_within zero c state other
-    by None e =
-        at_end zero c state row e ∙ ended_same row other h ∙ sym (at_end zero c state other (sym (same_lead row other h) ∙ e))
-    by (Some t) e = none_left c state row t e ∙ sym (none_left c state other t (sym (same_lead row other h) ∙ e))
-same_list (suc n) c state row other h = by (lead row) refl (same_list n c state)
-  where
-    by : (o : Option Term) → lead row ≡ o → ((row other : Row) → Alike row other → list_within n c state row ≡ list_within n c state other)
-        → list_within (suc n) c state row ≡ list_within (suc n) c state other
-    by None e rest =
-        at_end (suc n) c state row e ∙ ended_same row other h ∙ sym (at_end (suc n) c state other (sym (same_lead row other h) ∙ e))
-    by (Some t) e rest =
-        one_more n c state row t e
-        ∙ first_same (λ r. option_and_then (list_within n c state) (left_behind c state (Some t) row r))
-        (λ r. option_and_then (list_within n c state) (left_behind c state (Some t) other r))
-        (λ r. same_behind (list_within n c state) rest (left_behind c state (Some t) row r) (left_behind c state (Some t) other r) (behind_alike c state (Some t) row other r h))
-        (references state)
-        ∙ sym (one_more n c state other t (sym (same_lead row other h) ∙ e))
+same_list zero c state row other h =
+    by_lead (list_within zero c state) row other h
+    (λ e f. at_end zero c state row e ∙ ended_same row other h ∙ sym (at_end zero c state other f))
+    (λ t e f. none_left c state row t e ∙ sym (none_left c state other t f))
+same_list (suc n) c state row other h =
+    by_lead (list_within (suc n) c state) row other h
+    (λ e f. at_end (suc n) c state row e ∙ ended_same row other h ∙ sym (at_end (suc n) c state other f))
+    (λ t e f.
+    one_more n c state row t e
+    ∙ first_same (λ r. option_and_then (list_within n c state) (left_behind c state (Some t) row r))
+    (λ r. option_and_then (list_within n c state) (left_behind c state (Some t) other r))
+    (λ r. same_behind (list_within n c state) (same_list n c state) (left_behind c state (Some t) row r) (left_behind c state (Some t) other r)
+    (behind_alike c state (Some t) row other r h))
+    (references state)
+    ∙ sym (one_more n c state other t f))
 
 greatest_same : (behind other : Reference → Option ℤ) → ((r : Reference) → behind r ≡ other r) → (all : List Reference)
     → greatest_behind behind all ≡ greatest_behind other all
@@ -252,22 +257,17 @@ greatest_same behind other h (r ∷ all) =
 
 -- alike rows have the same floor
 pub same_floor : (n : ℕ) (c : Cond) (state : State) (row other : Row) → Alike row other → floor_within n c state row ≡ floor_within n c state other
-same_floor zero c state row other h = by (lead row) refl
-  where
-    by : (o : Option Term) → lead row ≡ o → floor_within zero c state row ≡ floor_within zero c state other
-    by None e =
-        floor_at_end zero c state row e ∙ ap (λ (n : ℤ). Some n) h.constant ∙ sym (floor_at_end zero c state other (sym (same_lead row other h) ∙ e))
-    by (Some t) e = no_floor c state row t e ∙ sym (no_floor c state other t (sym (same_lead row other h) ∙ e))
-same_floor (suc n) c state row other h = by (lead row) refl (same_floor n c state)
-  where
-    by : (o : Option Term) → lead row ≡ o → ((row other : Row) → Alike row other → floor_within n c state row ≡ floor_within n c state other)
-        → floor_within (suc n) c state row ≡ floor_within (suc n) c state other
-    by None e rest =
-        floor_at_end (suc n) c state row e ∙ ap (λ (n : ℤ). Some n) h.constant
-        ∙ sym (floor_at_end (suc n) c state other (sym (same_lead row other h) ∙ e))
-    by (Some t) e rest =
-        floor_further n c state row t e
-        ∙ greatest_same (floor_behind n c state row t) (floor_behind n c state other t)
-        (λ r. same_behind (floor_within n c state) rest (left_behind c state (Some t) row r) (left_behind c state (Some t) other r) (behind_alike c state (Some t) row other r h))
-        (references state)
-        ∙ sym (floor_further n c state other t (sym (same_lead row other h) ∙ e))
+same_floor zero c state row other h =
+    by_lead (floor_within zero c state) row other h
+    (λ e f. floor_at_end zero c state row e ∙ ap (λ (n : ℤ). Some n) h.constant ∙ sym (floor_at_end zero c state other f))
+    (λ t e f. no_floor c state row t e ∙ sym (no_floor c state other t f))
+same_floor (suc n) c state row other h =
+    by_lead (floor_within (suc n) c state) row other h
+    (λ e f. floor_at_end (suc n) c state row e ∙ ap (λ (n : ℤ). Some n) h.constant ∙ sym (floor_at_end (suc n) c state other f))
+    (λ t e f.
+    floor_further n c state row t e
+    ∙ greatest_same (floor_behind n c state row t) (floor_behind n c state other t)
+    (λ r. same_behind (floor_within n c state) (same_floor n c state) (left_behind c state (Some t) row r) (left_behind c state (Some t) other r)
+    (behind_alike c state (Some t) row other r h))
+    (references state)
+    ∙ sym (floor_further n c state other t f))

@@ -17,7 +17,7 @@ use Rattle.straight_proofs.specs.Lookup.{references_to}
 use Rattle.straight_proofs.specs.Remainders.{fits, lead, minus}
 use Rattle.straight_proofs.specs.Straight.{ended, first_list, left_behind, list_within, proof_of, references, straight_proof}
 use Rattle.straight_proofs.proofs.Lists.{at_end, none_behind, none_left, one_more}
-use Rattle.straight_proofs.proofs.Looked.{finds, leaves}
+use Rattle.straight_proofs.proofs.Looked.{leaves, looks_up}
 use Rattle.straight_proofs.proofs.Searched.{next_item}
 
 -- a remainder without a lead
@@ -66,10 +66,7 @@ floor_looked_up n c state remainder t e =
     let b = floor_behind n c state remainder t in
     let none : (r : Reference) → leaves c state t remainder r ≡ false → b r ≡ None =
     λ r f. none_behind (floor_within n c state) (left_behind c state (Some t) remainder r) f in
-    floor_further n c state remainder t e
-    ∙ greatest_kept (leaves c state t remainder) b none (references state)
-    ∙ ap (greatest_behind b) (finds c state t remainder)
-    ∙ sym (greatest_kept (leaves c state t remainder) b none (references_to state remainder t))
+    floor_further n c state remainder t e ∙ looks_up (greatest_behind b) c state t remainder (greatest_kept (leaves c state t remainder) b none)
 
 pub found_behind : (most : ℕ) (c : Cond) (state : State) (remainder : Row) (t : Term) (there : List Reference) (floor : Option ℤ) → 0 < most → lead remainder ≡ Some t
     → there ≡ references_to state remainder t → floor ≡ greatest_behind (floor_behind (most - 1) c state remainder t) there

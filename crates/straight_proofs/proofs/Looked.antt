@@ -1,7 +1,7 @@
 -- The references found by look-up are, of all, those behind which something is left.
 use Rattle.std.proofs.Common.{◌≡◌, ◌≢◌, ℕ, zero, suc, ◌+◌, ◌<◌, ◌≤◌, ◌⊎◌, Bool, true, false, cond, ◌&&◌, ◌||◌, List, [], ◌∷◌, ◌++◌, length, map, take, slice_get, Option, None, Some, ap, sym, ◌∙◌, refl, subst, arith, append_assoc, nat_eq, nat_lt, inl, inr, ltb-true, ltb-false}
 use Rattle.std.specs.Prelude.{ℤ, pos, negsuc, ◌+ℤ◌, int_lt, is_some}
-use Rattle.std.specs.List.{AllByRecursion, filter, flat_map, range_with_len}
+use Rattle.std.specs.List.{filter, flat_map, range_with_len}
 use Rattle.std.specs.Option.{IfSome, option_and_then, option_map}
 use Rattle.std.proofs.lemmas.Bool.{ne_eqb}
 use Rattle.std.proofs.lemmas.Bool.Decides.{eqb_tells}
@@ -176,12 +176,21 @@ find_one b kind s a zero rest h low high = absurd (omega arith)
 find_one b kind s a (suc m) rest h low high =
     find_step b kind s a m rest h low high (λ l m'. find_one b kind s (a + 1) m rest h l m') (eqb_tells a s)
 
+-- a kind of references, and those of it that are wanted: of all of the kind these are kept
+record Pick (c : Cond) (state : State) (t : Term) (remainder : Row) : Type 0 where
+  kind : Sym → Reference
+  wanted : List Reference
+  kept : (rest : List Reference) → filter (leaves c state t remainder) (on_symbols state kind ++ rest) ≡ filter (leaves c state t remainder) (wanted ++ rest)
+
 -- of a kind that doesn't speak of the lead none is wanted
-none_of : (c : Cond) (state : State) (t : Term) (remainder : Row) (kind : Sym → Reference)
-    → ((k : ℕ) → speaks (kind (symbol k)) t ≡ false)
-    → (rest : List Reference) → filter (leaves c state t remainder) (on_symbols state kind ++ rest) ≡ filter (leaves c state t remainder) rest
-none_of c state t remainder kind h rest =
-    pass_all (leaves c state t remainder) kind 0 state.next rest (λ k low high. passes c state t remainder (kind (symbol k)) (h k))
+abbrev none_of : (c : Cond) (state : State) (t : Term) (remainder : Row) (kind : Sym → Reference)
+    → ((k : ℕ) → speaks (kind (symbol k)) t ≡ false) → Pick c state t remainder
+none_of c state t remainder kind h = record {
+  kind = kind;
+  wanted = [];
+  kept = λ rest.
+      pass_all (leaves c state t remainder) kind 0 state.next rest (λ k low high. passes c state t remainder (kind (symbol k)) (h k));
+}
 
 -- of a kind that speaks of the lead the one to its symbol is
 one_in_reach : (c : Cond) (state : State) (t : Term) (remainder : Row) (kind : Sym → Reference) (s : ℕ)
@@ -200,35 +209,28 @@ one_in_reach c state t remainder kind s h beyond rest false e =
     (h k (ne_eqb k s (λ (f : k ≡ s). absurd (omega (arith, ltb-false s state.next e))))))
     ∙ sym (passed (leaves c state t remainder) (kind (symbol s)) rest absent)
 
-one_of : (c : Cond) (state : State) (t : Term) (remainder : Row) (kind : Sym → Reference) (s : ℕ)
+abbrev one_of : (c : Cond) (state : State) (t : Term) (remainder : Row) (s : ℕ) (kind : Sym → Reference)
     → ((k : ℕ) → nat_eq k s ≡ false → speaks (kind (symbol k)) t ≡ false)
-    → (nat_lt s state.next ≡ false → row_said c state (kind (symbol s)) ≡ None)
-    → (rest : List Reference)
-    → filter (leaves c state t remainder) (on_symbols state kind ++ rest) ≡ filter (leaves c state t remainder) (kind (symbol s) ∷ rest)
-one_of c state t remainder kind s h beyond rest = one_in_reach c state t remainder kind s h beyond rest (nat_lt s state.next) refl
+    → (nat_lt s state.next ≡ false → row_said c state (kind (symbol s)) ≡ None) → Pick c state t remainder
+one_of c state t remainder s kind h beyond = record {
+  kind = kind;
+  wanted = kind (symbol s) ∷ [];
+  kept = λ rest. one_in_reach c state t remainder kind s h beyond rest (nat_lt s state.next) refl;
+}
 
--- kinds of references with those of each that are wanted
-abbrev pub Pick : Type 0
-Pick = (Sym → Reference) × List Reference
-
--- of these kinds those are wanted
-abbrev pub Picks : Cond → State → Term → Row → Pick → Type 0
-Picks c state t remainder pick =
-    (rest : List Reference) → filter (leaves c state t remainder) (on_symbols state pick.0 ++ rest) ≡ filter (leaves c state t remainder) (pick.1 ++ rest)
-
-picked : (c : Cond) (state : State) (t : Term) (remainder : Row) (picks : List Pick)
-    → AllByRecursion (Picks c state t remainder) picks → (rest : List Reference)
-    → filter (leaves c state t remainder) (flat_map (on_symbols state) (map (λ (pick : Pick). pick.0) picks) ++ rest)
-    ≡ filter (leaves c state t remainder) (flat_map (λ (pick : Pick). pick.1) picks ++ rest)
-picked c state t remainder [] h rest = refl
-picked c state t remainder (pick ∷ picks) h rest =
+-- of all kinds those are kept that are wanted of each
+picked : (c : Cond) (state : State) (t : Term) (remainder : Row) (picks : List (Pick c state t remainder)) (rest : List Reference)
+    → filter (leaves c state t remainder) (flat_map (on_symbols state) (map (λ (pick : Pick c state t remainder). pick.kind) picks) ++ rest)
+    ≡ filter (leaves c state t remainder) (flat_map (λ (pick : Pick c state t remainder). pick.wanted) picks ++ rest)
+picked c state t remainder [] rest = refl
+picked c state t remainder (pick ∷ picks) rest =
     let b = leaves c state t remainder in
-    let more = flat_map (on_symbols state) (map (λ (p : Pick). p.0) picks) in
-    let wanted = flat_map (λ (p : Pick). p.1) picks in
-    ap (filter b) (append_assoc (on_symbols state pick.0) more rest)
-    ∙ h.0 (more ++ rest)
-    ∙ under_all b pick.1 (more ++ rest) (wanted ++ rest) (picked c state t remainder picks h.1 rest)
-    ∙ ap (filter b) (sym (append_assoc pick.1 wanted rest))
+    let more = flat_map (on_symbols state) (map (λ (p : Pick c state t remainder). p.kind) picks) in
+    let wanted = flat_map (λ (p : Pick c state t remainder). p.wanted) picks in
+    ap (filter b) (append_assoc (on_symbols state pick.kind) more rest)
+    ∙ pick.kept (more ++ rest)
+    ∙ under_all b pick.wanted (more ++ rest) (wanted ++ rest) (picked c state t remainder picks rest)
+    ∙ ap (filter b) (sym (append_assoc pick.wanted wanted rest))
 
 -- the references to a term's symbol, and to no symbol, among those of all kinds
 abbrev pub FindsOn : Cond → State → Term → Row → Type 0
@@ -248,113 +250,42 @@ no_entries c state t remainder p n list =
     ∙ passed b ref.CountHigh [] (passes c state t remainder ref.CountHigh n))
     ∙ ap (filter b) (append-nil list)
 
+-- to a term on a symbol the references are those that are wanted of each kind
+finds_of : (c : Cond) (state : State) (t : Term) (remainder : Row) → same_term Pos t ≡ false → same_term Count t ≡ false
+    → (picks : List (Pick c state t remainder))
+    → filter (leaves c state t remainder) (flat_map (on_symbols state) (map (λ (pick : Pick c state t remainder). pick.kind) picks) ++ on_entries)
+    ≡ filter (leaves c state t remainder) (flat_map (λ (pick : Pick c state t remainder). pick.wanted) picks)
+finds_of c state t remainder p n picks =
+    picked c state t remainder picks on_entries
+    ∙ no_entries c state t remainder p n (flat_map (λ (pick : Pick c state t remainder). pick.wanted) picks)
+
 finds_value : (c : Cond) (state : State) (s : ℕ) (remainder : Row) → FindsOn c state (Value s) remainder
 finds_value c state s remainder =
-    let t = Value s in
-    let none = none_of c state t remainder in
-    let one = one_of c state t remainder in
-    picked c state t remainder
-    ((ref.ValueLow, ref.ValueLow (symbol s) ∷ []) ∷ (ref.ValueHigh, ref.ValueHigh (symbol s) ∷ []) ∷ (ref.LengthLow, []) ∷ (ref.NamesLow, [])
-    ∷ (ref.NamesHigh, []) ∷ (ref.ExactLow, ref.ExactLow (symbol s) ∷ []) ∷ (ref.ExactHigh, ref.ExactHigh (symbol s) ∷ []) ∷ (ref.NonblankLength, [])
-    ∷ (ref.NonblankNames, []) ∷ (ref.TextLow, []) ∷ (ref.TextHigh, []) ∷ []) (
-      one ref.ValueLow s (λ k e. e) (λ e. rw e),
-      (
-        one ref.ValueHigh s (λ k e. e) (λ e. rw e),
-        (
-          none ref.LengthLow (λ k. refl),
-          (
-            none ref.NamesLow (λ k. refl),
-            (
-              none ref.NamesHigh (λ k. refl),
-              (
-                one ref.ExactLow s (λ k e. e) (λ e. rw e),
-                (
-                  one ref.ExactHigh s (λ k e. e) (λ e. rw e),
-                  (none ref.NonblankLength (λ k. refl), (none ref.NonblankNames (λ k. refl), (none ref.TextLow (λ k. refl), (none ref.TextHigh (λ k. refl), tt)))),
-                ),
-              ),
-            ),
-          ),
-        ),
-      ),
-    )
-    on_entries
-    ∙ no_entries c state t remainder refl refl (on_term t)
+    let none = none_of c state (Value s) remainder in
+    let one = one_of c state (Value s) remainder s in
+    finds_of c state (Value s) remainder refl refl
+    (one ref.ValueLow (λ k e. e) (λ e. rw e) ∷ one ref.ValueHigh (λ k e. e) (λ e. rw e) ∷ none ref.LengthLow (λ k. refl) ∷ none ref.NamesLow (λ k. refl)
+    ∷ none ref.NamesHigh (λ k. refl) ∷ one ref.ExactLow (λ k e. e) (λ e. rw e) ∷ one ref.ExactHigh (λ k e. e) (λ e. rw e)
+    ∷ none ref.NonblankLength (λ k. refl) ∷ none ref.NonblankNames (λ k. refl) ∷ none ref.TextLow (λ k. refl) ∷ none ref.TextHigh (λ k. refl) ∷ [])
 
 finds_length : (c : Cond) (state : State) (s : ℕ) (remainder : Row) → FindsOn c state (Length s) remainder
 finds_length c state s remainder =
-    let t = Length s in
-    let none = none_of c state t remainder in
-    let one = one_of c state t remainder in
-    picked c state t remainder
-    ((ref.ValueLow, []) ∷ (ref.ValueHigh, []) ∷ (ref.LengthLow, ref.LengthLow (symbol s) ∷ []) ∷ (ref.NamesLow, [])
-    ∷ (ref.NamesHigh, ref.NamesHigh (symbol s) ∷ []) ∷ (ref.ExactLow, []) ∷ (ref.ExactHigh, []) ∷ (ref.NonblankLength, ref.NonblankLength (symbol s) ∷ [])
-    ∷ (ref.NonblankNames, []) ∷ (ref.TextLow, ref.TextLow (symbol s) ∷ []) ∷ (ref.TextHigh, ref.TextHigh (symbol s) ∷ []) ∷ []) (
-      none ref.ValueLow (λ k. refl),
-      (
-        none ref.ValueHigh (λ k. refl),
-        (
-          one ref.LengthLow s (λ k e. e) (λ e. rw e),
-          (
-            none ref.NamesLow (λ k. refl),
-            (
-              one ref.NamesHigh s (λ k e. ap (λ (z : Bool). z || false) e) (λ e. rw e),
-              (
-                none ref.ExactLow (λ k. refl),
-                (
-                  none ref.ExactHigh (λ k. refl),
-                  (
-                    one ref.NonblankLength s (λ k e. e) (λ e. rw e),
-                    (
-                      none ref.NonblankNames (λ k. refl),
-                      (
-                        one ref.TextLow s (λ k e. e) (λ e. rw e),
-                        (one ref.TextHigh s (λ k e. e) (λ e. rw e), tt),
-                      ),
-                    ),
-                  ),
-                ),
-              ),
-            ),
-          ),
-        ),
-      ),
-    )
-    on_entries
-    ∙ no_entries c state t remainder refl refl (on_term t)
+    let none = none_of c state (Length s) remainder in
+    let one = one_of c state (Length s) remainder s in
+    finds_of c state (Length s) remainder refl refl
+    (none ref.ValueLow (λ k. refl) ∷ none ref.ValueHigh (λ k. refl) ∷ one ref.LengthLow (λ k e. e) (λ e. rw e) ∷ none ref.NamesLow (λ k. refl)
+    ∷ one ref.NamesHigh (λ k e. ap (λ (z : Bool). z || false) e) (λ e. rw e) ∷ none ref.ExactLow (λ k. refl) ∷ none ref.ExactHigh (λ k. refl)
+    ∷ one ref.NonblankLength (λ k e. e) (λ e. rw e) ∷ none ref.NonblankNames (λ k. refl)
+    ∷ one ref.TextLow (λ k e. e) (λ e. rw e) ∷ one ref.TextHigh (λ k e. e) (λ e. rw e) ∷ [])
 
 finds_names : (c : Cond) (state : State) (s : ℕ) (remainder : Row) → FindsOn c state (Names s) remainder
 finds_names c state s remainder =
-    let t = Names s in
-    let none = none_of c state t remainder in
-    let one = one_of c state t remainder in
-    picked c state t remainder
-    ((ref.ValueLow, []) ∷ (ref.ValueHigh, []) ∷ (ref.LengthLow, []) ∷ (ref.NamesLow, ref.NamesLow (symbol s) ∷ [])
-    ∷ (ref.NamesHigh, ref.NamesHigh (symbol s) ∷ []) ∷ (ref.ExactLow, []) ∷ (ref.ExactHigh, []) ∷ (ref.NonblankLength, [])
-    ∷ (ref.NonblankNames, ref.NonblankNames (symbol s) ∷ []) ∷ (ref.TextLow, []) ∷ (ref.TextHigh, []) ∷ []) (
-      none ref.ValueLow (λ k. refl),
-      (
-        none ref.ValueHigh (λ k. refl),
-        (
-          none ref.LengthLow (λ k. refl),
-          (
-            one ref.NamesLow s (λ k e. e) (λ e. rw e),
-            (
-              one ref.NamesHigh s (λ k e. e) (λ e. rw e),
-              (
-                none ref.ExactLow (λ k. refl),
-                (
-                  none ref.ExactHigh (λ k. refl),
-                  (none ref.NonblankLength (λ k. refl), (one ref.NonblankNames s (λ k e. e) (λ e. rw e), (none ref.TextLow (λ k. refl), (none ref.TextHigh (λ k. refl), tt)))),
-                ),
-              ),
-            ),
-          ),
-        ),
-      ),
-    )
-    on_entries
-    ∙ no_entries c state t remainder refl refl (on_term t)
+    let none = none_of c state (Names s) remainder in
+    let one = one_of c state (Names s) remainder s in
+    finds_of c state (Names s) remainder refl refl
+    (none ref.ValueLow (λ k. refl) ∷ none ref.ValueHigh (λ k. refl) ∷ none ref.LengthLow (λ k. refl) ∷ one ref.NamesLow (λ k e. e) (λ e. rw e)
+    ∷ one ref.NamesHigh (λ k e. e) (λ e. rw e) ∷ none ref.ExactLow (λ k. refl) ∷ none ref.ExactHigh (λ k. refl) ∷ none ref.NonblankLength (λ k. refl)
+    ∷ one ref.NonblankNames (λ k e. e) (λ e. rw e) ∷ none ref.TextLow (λ k. refl) ∷ none ref.TextHigh (λ k. refl) ∷ [])
 
 -- no kind of references to symbols speaks of a term on none
 no_symbols : (c : Cond) (state : State) (t : Term) (remainder : Row)
@@ -366,29 +297,9 @@ no_symbols c state t remainder h =
     let length = λ (k : ℕ). (h k).1 in
     let names = λ (k : ℕ). (h k).2 in
     picked c state t remainder
-    ((ref.ValueLow, []) ∷ (ref.ValueHigh, []) ∷ (ref.LengthLow, []) ∷ (ref.NamesLow, []) ∷ (ref.NamesHigh, []) ∷ (ref.ExactLow, []) ∷ (ref.ExactHigh, [])
-    ∷ (ref.NonblankLength, []) ∷ (ref.NonblankNames, []) ∷ (ref.TextLow, []) ∷ (ref.TextHigh, []) ∷ []) (
-      none ref.ValueLow value,
-      (
-        none ref.ValueHigh value,
-        (
-          none ref.LengthLow length,
-          (
-            none ref.NamesLow names,
-            (
-              none ref.NamesHigh (λ k. ap (λ (z : Bool). z || same_term (Names k) t) (length k) ∙ names k),
-              (
-                none ref.ExactLow value,
-                (
-                  none ref.ExactHigh value,
-                  (none ref.NonblankLength length, (none ref.NonblankNames names, (none ref.TextLow length, (none ref.TextHigh length, tt)))),
-                ),
-              ),
-            ),
-          ),
-        ),
-      ),
-    )
+    (none ref.ValueLow value ∷ none ref.ValueHigh value ∷ none ref.LengthLow length ∷ none ref.NamesLow names
+    ∷ none ref.NamesHigh (λ k. ap (λ (z : Bool). z || same_term (Names k) t) (length k) ∙ names k) ∷ none ref.ExactLow value ∷ none ref.ExactHigh value
+    ∷ none ref.NonblankLength length ∷ none ref.NonblankNames names ∷ none ref.TextLow length ∷ none ref.TextHigh length ∷ [])
     on_entries
 
 finds_on : (c : Cond) (state : State) (t : Term) (remainder : Row) → FindsOn c state t remainder
@@ -445,3 +356,9 @@ finds c state t remainder =
     let b = leaves c state t remainder in
     under_all b (map ref.Row (range_with_len 0 (rows_named state))) (flat_map (on_symbols state) kinds ++ on_entries) (on_term t) (finds_on c state t remainder)
     ∙ finds_rows c state t remainder (on_term t) state.rows 0 (rows_named state) (λ k. ap (slice_get state.rows) (omega arith)) (omega arith)
+
+-- so what comes of all references, and of those alone behind which something is left, comes of those found by look-up
+pub looks_up : {A : Type 0} (over : List Reference → A) (c : Cond) (state : State) (t : Term) (remainder : Row)
+    → ((all : List Reference) → over all ≡ over (filter (leaves c state t remainder) all)) → over (references state) ≡ over (references_to state remainder t)
+looks_up over c state t remainder kept =
+    kept (references state) ∙ ap over (finds c state t remainder) ∙ sym (kept (references_to state remainder t))

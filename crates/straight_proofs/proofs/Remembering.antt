@@ -8,6 +8,7 @@ use Rattle.std.specs.Map.{lookup}
 use Rattle.std.specs.Option.{IfSome}
 use Rattle.std.specs.Ordering.{int_eq}
 use Rattle.indexmap.specs.IndexMap.{insert_entry}
+use Rattle.bv_base.proofs.Inserted.{lookup_inserted}
 use Rattle.lin_facts.specs.declared.row.Part.{Part}
 use Rattle.lin_facts.specs.declared.row.Row.{Row}
 use Rattle.lin_facts.specs.declared.row.Term.{Term}
@@ -21,29 +22,6 @@ use Rattle.straight_proofs.proofs.Alike.{rank_tells}
 abbrev pub pairs : {V : Type 0} → List (Vec ℤ × V) → List (List ℤ × V)
 pairs entries = map (λ e. (e.0.items, e.1)) entries
 
-over_again : {V : Type 0} (a b : Bool) (value old : V) (rest : Option V) → a ≡ b
-    → cond a (Some value) rest ≡ cond b (Some value) (cond a (Some old) rest)
-over_again true true value old rest e = refl
-over_again true false value old rest e = absurd cc
-over_again false true value old rest e = absurd cc
-over_again false false value old rest e = refl
-
-past : {V : Type 0} (a b : Bool) (value old : V) (rest : Option V) → (a ≡ true → b ≡ false)
-    → cond a (Some old) (cond b (Some value) rest) ≡ cond b (Some value) (cond a (Some old) rest)
-past true true value old rest apart = let e : true ≡ false = apart refl in absurd cc
-past true false value old rest apart = refl
-past false b value old rest apart = refl
-
--- a key is another, and that one isn't a third
-apart : (key other third : List ℤ) → pointwise int_eq other third ≡ false → pointwise int_eq key third ≡ true → pointwise int_eq key other ≡ false
-apart key other third other_than is = by (pointwise int_eq key other) refl
-  where
-    by : (b : Bool) → pointwise int_eq key other ≡ b → b ≡ false
-    by true e =
-        let both : pointwise int_eq key third ≡ pointwise int_eq other third = ap (λ k. pointwise int_eq k third) ((signed_items key other).0 e) in
-        sym is ∙ both ∙ other_than
-    by false e = refl
-
 -- what is found is what the pairs have
 pub found : {V : Type 0} (key : List ℤ) (entries : List (Vec ℤ × V)) → lookup (λ k. pointwise int_eq key k.items) entries ≡ remembered key (pairs entries)
 found key [] = refl
@@ -53,22 +31,10 @@ found key (e ∷ entries) = ap (λ o. cond (pointwise int_eq key e.0.items) (Som
 pub found_with : {V : Type 0} (other : List ℤ) (key : Vec ℤ) (value : V) (entries : List (Vec ℤ × V))
     → remembered other (pairs (insert_entry (λ a b. pointwise int_eq a.items b.items) entries key value))
     ≡ cond (pointwise int_eq other key.items) (Some value) (remembered other (pairs entries))
-found_with other key value [] = refl
-found_with {V} other key value (e ∷ entries) =
-    by (pointwise int_eq key.items e.0.items) refl (found_with other key value entries)
-  where
-    by : (b : Bool) → pointwise int_eq key.items e.0.items ≡ b
-        → remembered other (pairs (insert_entry (λ a b. pointwise int_eq a.items b.items) entries key value))
-        ≡ cond (pointwise int_eq other key.items) (Some value) (remembered other (pairs entries))
-        → remembered other (pairs (cond b ((e.0, value) ∷ entries) (e ∷ insert_entry (λ a b. pointwise int_eq a.items b.items) entries key value)))
-        ≡ cond (pointwise int_eq other key.items) (Some value) (cond (pointwise int_eq other e.0.items) (Some e.1) (remembered other (pairs entries)))
-    by true is rest =
-        over_again (pointwise int_eq other e.0.items) (pointwise int_eq other key.items) value e.1 (remembered other (pairs entries))
-        (sym (ap (pointwise int_eq other) ((signed_items key.items e.0.items).0 is)))
-    by false is rest =
-        ap (λ o. cond (pointwise int_eq other e.0.items) (Some e.1) o) rest
-        ∙ past (pointwise int_eq other e.0.items) (pointwise int_eq other key.items) value e.1 (remembered other (pairs entries))
-        (λ h. apart other key.items e.0.items is h)
+found_with other key value entries =
+    sym (found other (insert_entry (λ a b. pointwise int_eq a.items b.items) entries key value))
+    ∙ lookup_inserted (pointwise int_eq) (λ a b. (signed_items a b).0) other key value entries
+    ∙ ap (λ o. cond (pointwise int_eq other key.items) (Some value) o) (found other entries)
 
 -- a key tells its parts and its number
 parts_told : (parts others : List Part) → numbers_of parts ≡ numbers_of others → parts ≡ others

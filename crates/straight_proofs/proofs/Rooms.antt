@@ -1,14 +1,11 @@
 -- What is left of a remainder has room for one row less.
-use Rattle.std.proofs.Common.{◌≡◌, ℕ, suc, ◌+◌, ◌-◌, ◌*◌, ◌<◌, ◌≤◌, ◌^◌, Bool, true, false, cond, List, [], ◌∷◌, length, get_or, sym, subst, arith}
-use Rattle.std.specs.Prelude.{ℤ, pos, ◌+ℤ◌}
+use Rattle.std.proofs.Common.{◌≡◌, ℕ, suc, ◌+◌, ◌-◌, ◌*◌, ◌≤◌, ◌^◌, List, [], ◌∷◌, length, sym, subst, arith}
 use Rattle.std.specs.List.{fold}
 use Rattle.std.proofs.lemmas.Int.{ints}
 use Rattle.std.proofs.lemmas.List.Elements.{All-nil, All-head, All-tail}
-use Rattle.lin_facts.specs.Rows.{IsWithin, IsSmall, same_term}
+use Rattle.lin_facts.specs.Rows.{IsWithin, IsSmall}
 use Rattle.lin_facts.specs.declared.row.Part.{Part}
 use Rattle.lin_facts.specs.declared.row.Row.{Row}
-use Rattle.lin_facts.specs.declared.row.Term.{Term}
-use Rattle.lin_facts.proofs.Steps.{added as share, no_part}
 use Rattle.straight_proofs.specs.Remainders.{HasRoom, added, canonical, less, turned}
 use Rattle.straight_proofs.proofs.Canonical.{AreWithin, added_few, added_within, wider}
 
@@ -89,19 +86,3 @@ room_at_first row same e k =
           wider (0 + length row.parts * 2 ^ 45) (2 ^ 50 * (9 - 8)) (canonical row).parts (omega arith)
           (all_within 0 [] row.parts (All-nil (λ (p : Part). IsWithin 0 p.coefficient)) k.coefficients);
     })
-
-share_within : (part : Part) (t : Term) → IsWithin (2 ^ 50 * 9) part.coefficient → IsWithin (2 ^ 50 * 9) (share part t)
-share_within part t small = elim (same_term part.term t) as (λ (b : Bool). IsWithin (2 ^ 50 * 9) (cond b part.coefficient (pos 0))) [
-  | true ↦ small
-  | false ↦ record { low = omega (arith, ints); high = omega (arith, ints) }
-]
-
--- a sum of so many coefficients is within so many times their bound
-pub sum_size : (parts : List Part) (t : Term) (i : ℕ) (sum next : ℤ) → i < length parts → next ≡ (sum +ℤ share (get_or parts i no_part) t)
-    → AreWithin (2 ^ 50 * 9) parts → IsWithin (i * 10133099161583616) sum → IsWithin ((i + 1) * 10133099161583616) next
-sum_size parts t i sum next h is small so_far =
-    let here = share_within (get_or parts i no_part) t (small i no_part h) in
-    record {
-      low = omega (arith, ints, is, here.low, so_far.low);
-      high = omega (arith, ints, is, here.high, so_far.high);
-    }

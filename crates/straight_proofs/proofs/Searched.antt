@@ -10,9 +10,9 @@ use Rattle.sym_state.specs.declared.proof.Reference.{Reference}
 use Rattle.sym_state.specs.State.{State}
 use Rattle.straight_proofs.specs.Lookup.{references_to}
 use Rattle.straight_proofs.specs.Remainders.{lead}
-use Rattle.straight_proofs.specs.Straight.{first_list, left_behind, list_within, references}
+use Rattle.straight_proofs.specs.Straight.{first_list, left_behind, list_within}
 use Rattle.straight_proofs.proofs.Lists.{first_found, first_kept, first_passed, none_behind, one_more}
-use Rattle.straight_proofs.proofs.Looked.{finds, leaves}
+use Rattle.straight_proofs.proofs.Looked.{leaves, looks_up}
 
 -- the list behind a lead is the first behind the references to it
 pub looked_up : (n : ℕ) (c : Cond) (state : State) (remainder : Row) (t : Term) → lead remainder ≡ Some t
@@ -22,10 +22,7 @@ looked_up n c state remainder t e =
     let b = λ (r : Reference). option_and_then (list_within n c state) (left_behind c state (Some t) remainder r) in
     let none : (r : Reference) → leaves c state t remainder r ≡ false → b r ≡ None =
     λ r f. none_behind (list_within n c state) (left_behind c state (Some t) remainder r) f in
-    one_more n c state remainder t e
-    ∙ first_kept (leaves c state t remainder) b none (references state)
-    ∙ ap (first_list b) (finds c state t remainder)
-    ∙ sym (first_kept (leaves c state t remainder) b none (references_to state remainder t))
+    one_more n c state remainder t e ∙ looks_up (first_list b) c state t remainder (first_kept (leaves c state t remainder) b none)
 
 -- one item of those that are left
 pub next_item : {X : Type 0} (all : List X) (i : ℕ) (d : X) → i < length all → drop i all ≡ get_or all i d ∷ drop (i + 1) all

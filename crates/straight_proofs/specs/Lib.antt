@@ -4,3 +4,4 @@ pub mod Lookup
 pub mod Remainders
 pub mod Remembered
 pub mod Straight
+pub mod Subjects

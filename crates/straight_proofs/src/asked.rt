@@ -1,17 +1,15 @@
 //! What is asked of one state under one condition (docs/STATES.md, "Straight proofs").
 
 ghost use Rattle.std.specs.Prelude.{◌≡◌, ◌≤◌, ◌^◌, true, length, IfOk, IfSome};
-ghost use Rattle.lin_facts.specs.Rows.{IsWithin};
-ghost use Rattle.sym_state.specs.Cases.{absurdity};
-ghost use Rattle.sym_state.specs.References.{shows};
-ghost use Rattle.sym_state.specs.WellMade.{HasBounds, IsBounded};
+ghost use Rattle.straight_proofs.specs.Subjects.{HasBounds, IsBounded, IsWithin, absurdity, shows};
 ghost use Rattle.straight_proofs.specs.Floors as greatest;
 ghost use Rattle.straight_proofs.specs.Straight as rule;
 
-use crate::floors::floor_of;
+use crate::floors::floor_within;
 use crate::known::Known;
 use crate::learnt::{Learnt, nothing};
 use crate::lookup::rows_in_reach;
+use crate::remainders::canonical;
 use crate::straight::{MOST_REFERENCES, first_drop, first_proof};
 use bst_meaning::condition::Cond;
 use bv_base::memory::NoMemory;
@@ -94,6 +92,7 @@ impl<'a> Search<'a> {
         ensures small { IfOk result (λ found. IfSome found (IsWithin (2 ^ 49))) }
         ensures stays { self.new ≡ self.old }
     {
-        floor_of(&self.known, &mut self.learnt, sum)
+        let remainder = canonical(self.known.alloc, sum)?;
+        floor_within(&self.known, &mut self.learnt, &remainder, MOST_REFERENCES)
     }
 }

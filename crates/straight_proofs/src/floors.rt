@@ -3,9 +3,8 @@
 ghost use Rattle.std.specs.Prelude.{◌≡◌, ℕ, ◌+◌, ◌<◌, ◌^◌, ◌+ℤ◌, ◌-ℤ◌, Some, option_map, IfOk, IfSome};
 ghost use Rattle.std.specs.List.{All};
 ghost use Rattle.std.specs.Option.{option_and_then};
-ghost use Rattle.lin_facts.specs.Rows.{IsSmall, IsWithin};
 ghost use Rattle.lin_facts.specs.declared.row.Row.{Row};
-ghost use Rattle.sym_state.specs.WellMade.{HasBounds, IsBounded};
+ghost use Rattle.straight_proofs.specs.Subjects.{HasBounds, IsBounded, IsSmall, IsWithin};
 ghost use Rattle.straight_proofs.specs.Asked.{IsReady};
 ghost use Rattle.straight_proofs.specs.Floors as rule;
 ghost use Rattle.straight_proofs.specs.Remainders as subtracting;
@@ -15,43 +14,25 @@ ghost use Rattle.straight_proofs.specs.Remembered.{IsNear};
 use crate::asked::Search;
 use crate::known::Known;
 use crate::learnt::Learnt;
-use crate::remainders::{canonical, is_above, lead};
+use crate::remainders::{is_above, lead};
 use crate::remembered::numbers;
 use crate::search::left_of;
-use crate::straight::MOST_REFERENCES;
 use crate::with_term::rows_with;
 use bst_meaning::condition::Cond;
 use bv_base::memory::NoMemory;
 use lin_facts::row::{Row, Term};
-use std::alloc::Global;
 use sym_state::state::State;
 
 /// The floor of a sum in a state: the greatest number for which a straight proof shows that the sum is at least it. `None`
 /// comes exactly where no number has one. It goes once over what each list of at most eight references leaves.
-pub fn floor(alloc: Global, state: &State, cond: &Cond, sum: &Row) -> Result<Option<i64>, NoMemory>
+pub fn floor(state: &State, cond: &Cond, sum: &Row) -> Result<Option<i64>, NoMemory>
     requires state { HasBounds state.now }
     requires sum { IsBounded sum.now }
     ensures greatest { IfOk result (λ found. found ≡ rule.floor cond.now state.now sum.now) }
     ensures small { IfOk result (λ found. IfSome found (IsWithin (2 ^ 49))) }
 {
-    let mut search = Search::new(alloc, state, cond)?;
+    let mut search = Search::new(state.alloc(), state, cond)?;
     search.floor(sum)
-}
-
-/// The floor of a sum.
-pub(crate) fn floor_of(
-    known: &Known,
-    learnt: &mut Learnt,
-    sum: &Row,
-) -> Result<Option<i64>, NoMemory>
-    requires ready { IsReady known.now.cond.now known.now.state.now known.now.rows.items learnt.old }
-    requires sum { IsBounded sum.now }
-    ensures greatest { IfOk result (λ found. found ≡ rule.floor known.now.cond.now known.now.state.now sum.now) }
-    ensures small { IfOk result (λ found. IfSome found (IsWithin (2 ^ 49))) }
-    ensures ready { IsReady known.now.cond.now known.now.state.now known.now.rows.items learnt.new }
-{
-    let remainder = canonical(known.alloc, sum)?;
-    floor_within(known, learnt, &remainder, MOST_REFERENCES)
 }
 
 /// The floor of a remainder by at most so many references. Parts whose floor was found before aren't tried again.

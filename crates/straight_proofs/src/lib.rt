@@ -10,7 +10,6 @@ mod lookup;
 mod on_term;
 mod remainders;
 mod remembered;
-mod said;
 mod search;
 mod straight;
 mod with_term;

@@ -3,8 +3,7 @@
 ghost use Rattle.std.specs.Prelude.{◌≡◌, ◌≤◌, ◌++◌, ◌^◌, length, map, option_map, IfOk, OnOk};
 ghost use Rattle.std.specs.List.{All, flat_map, range_with_len};
 ghost use Rattle.std.specs.Option.{option_to_list};
-ghost use Rattle.lin_facts.specs.Rows.{IsSmall};
-ghost use Rattle.sym_state.specs.WellMade.{HasBounds};
+ghost use Rattle.straight_proofs.specs.Subjects.{HasBounds, IsSmall};
 ghost use Rattle.straight_proofs.specs.Lookup as rule;
 ghost use Rattle.straight_proofs.specs.Remainders.{HasRoom};
 ghost use Rattle.straight_proofs.specs.Straight as order;
@@ -107,63 +106,31 @@ pub(crate) fn push_on_term(all: &mut Vec<Reference>, term: Term) -> Result<(), N
     ensures { OnOk result (all.new.items ≡ all.old.items ++ rule.on_term term) }
 {
     match term {
-        Term::Value(s) => push_on_value(all, Sym(s)),
-        Term::Length(s) => push_on_length(all, Sym(s)),
-        Term::Names(s) => push_on_names(all, Sym(s)),
+        Term::Value(s) => Ok(all.extend_from_slice(&[
+            Reference::ValueLow(Sym(s)),
+            Reference::ValueHigh(Sym(s)),
+            Reference::ExactLow(Sym(s)),
+            Reference::ExactHigh(Sym(s)),
+        ])?),
+        Term::Length(s) => Ok(all.extend_from_slice(&[
+            Reference::LengthLow(Sym(s)),
+            Reference::NamesHigh(Sym(s)),
+            Reference::NonblankLength(Sym(s)),
+            Reference::TextLow(Sym(s)),
+            Reference::TextHigh(Sym(s)),
+        ])?),
+        Term::Names(s) => Ok(all.extend_from_slice(&[
+            Reference::NamesLow(Sym(s)),
+            Reference::NamesHigh(Sym(s)),
+            Reference::NonblankNames(Sym(s)),
+        ])?),
         Term::Pos => Ok(all.extend_from_slice(&[Reference::PosLow, Reference::PosHigh])?),
-        Term::Count => push_on_count(all),
+        Term::Count => Ok(all.extend_from_slice(&[
+            Reference::PosHigh,
+            Reference::CountLow,
+            Reference::CountHigh,
+        ])?),
     }
-}
-
-/// Adds those on an integer.
-fn push_on_value(all: &mut Vec<Reference>, s: Sym) -> Result<(), NoMemory>
-    ensures { OnOk result (all.new.items ≡ all.old.items ++ rule.on_term (Term.Value s.0)) }
-{
-    all.extend_from_slice(&[
-        Reference::ValueLow(s),
-        Reference::ValueHigh(s),
-        Reference::ExactLow(s),
-        Reference::ExactHigh(s),
-    ])?;
-    Ok(())
-}
-
-/// Adds those on the length of a string.
-fn push_on_length(all: &mut Vec<Reference>, s: Sym) -> Result<(), NoMemory>
-    ensures { OnOk result (all.new.items ≡ all.old.items ++ rule.on_term (Term.Length s.0)) }
-{
-    all.extend_from_slice(&[
-        Reference::LengthLow(s),
-        Reference::NamesHigh(s),
-        Reference::NonblankLength(s),
-        Reference::TextLow(s),
-        Reference::TextHigh(s),
-    ])?;
-    Ok(())
-}
-
-/// Adds those on the number of a string's names.
-fn push_on_names(all: &mut Vec<Reference>, s: Sym) -> Result<(), NoMemory>
-    ensures { OnOk result (all.new.items ≡ all.old.items ++ rule.on_term (Term.Names s.0)) }
-{
-    all.extend_from_slice(&[
-        Reference::NamesLow(s),
-        Reference::NamesHigh(s),
-        Reference::NonblankNames(s),
-    ])?;
-    Ok(())
-}
-
-/// Adds those on the number of entries.
-fn push_on_count(all: &mut Vec<Reference>) -> Result<(), NoMemory>
-    ensures { OnOk result (all.new.items ≡ all.old.items ++ rule.on_term Term.Count) }
-{
-    all.extend_from_slice(&[
-        Reference::PosHigh,
-        Reference::CountLow,
-        Reference::CountHigh,
-    ])?;
-    Ok(())
 }
 
 /// All references to a state, in order.

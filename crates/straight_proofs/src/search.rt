@@ -2,8 +2,7 @@
 
 ghost use Rattle.std.specs.Prelude.{◌≡◌, ℕ, ◌+◌, ◌<◌, ◌^◌, ◌-ℤ◌, Some, reverse, option_map, IfOk, IfSome, OnOk};
 ghost use Rattle.std.specs.Option.{option_and_then};
-ghost use Rattle.lin_facts.specs.Rows.{IsSmall, IsWithin};
-ghost use Rattle.sym_state.specs.WellMade.{HasBounds};
+ghost use Rattle.straight_proofs.specs.Subjects.{HasBounds, IsSmall, IsWithin};
 ghost use Rattle.straight_proofs.specs.Asked.{IsReady};
 ghost use Rattle.straight_proofs.specs.Lookup.{rows_in_reach};
 ghost use Rattle.straight_proofs.specs.Remainders as subtracting;
@@ -15,13 +14,14 @@ use crate::known::Known;
 use crate::learnt::Learnt;
 use crate::lookup::references_to;
 use crate::remainders::{fits, lead, minus};
-use crate::said::row_said;
 use bv_base::memory::NoMemory;
 use lin_facts::row::{Row, Term};
 use std::alloc::Global;
 use sym_state::proof::Reference;
+use sym_state::references::row_said;
 
-/// The first list of at most so many references that shows a remainder, its last reference first.
+/// The first list of at most so many references that shows a remainder, its last reference first. Where a term leads there is one if
+/// the floor is at least 0.
 #[cycle(search)]
 pub(crate) fn list_within(
     known: &Known,
@@ -35,35 +35,12 @@ pub(crate) fn list_within(
         ≡ rule.list_within most known.now.cond.now known.now.state.now remainder.now) }
     ensures ready { IsReady known.now.cond.now known.now.state.now known.now.rows.items learnt.new }
 {
-    match lead(remainder) {
-        None => Ok(ended(known.alloc, remainder)),
-        Some(term) => {
-            if most == 0 {
-                Ok(None)
-            } else {
-                list_if_there(known, learnt, remainder, term, most)
-            }
-        }
+    let Some(term) = lead(remainder) else {
+        return Ok(ended(known.alloc, remainder));
+    };
+    if most == 0 {
+        return Ok(None);
     }
-}
-
-/// The same where a term leads and a reference may follow. There is a list where the floor is at least 0.
-#[cycle(search)]
-fn list_if_there(
-    known: &Known,
-    learnt: &mut Learnt,
-    remainder: &Row,
-    term: Term,
-    most: u32,
-) -> Result<Option<Vec<Reference>>, NoMemory>
-    requires ready { IsReady known.now.cond.now known.now.state.now known.now.rows.items learnt.old }
-    requires room { HasRoom most remainder.now }
-    requires leads { subtracting.lead remainder.now ≡ Some term }
-    requires more { 0 < most }
-    ensures found { IfOk result (λ found. option_map (λ list. reverse list.items) found
-        ≡ rule.list_within most known.now.cond.now known.now.state.now remainder.now) }
-    ensures ready { IsReady known.now.cond.now known.now.state.now known.now.rows.items learnt.new }
-{
     let Some(floor) = floor_within(known, learnt, remainder, most)? else {
         return Ok(None);
     };

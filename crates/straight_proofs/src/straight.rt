@@ -1,9 +1,7 @@
 //! The straight proofs of a goal and of an absurdity (docs/STATES.md, "Straight proofs").
 
 ghost use Rattle.std.specs.Prelude.{◌≡◌, ◌≤◌, true, length, map, option_map, reverse, IfOk, IfSome};
-ghost use Rattle.sym_state.specs.Cases.{absurdity};
-ghost use Rattle.sym_state.specs.References.{shows};
-ghost use Rattle.sym_state.specs.WellMade.{HasBounds, IsBounded};
+ghost use Rattle.straight_proofs.specs.Subjects.{HasBounds, IsBounded, absurdity, shows};
 ghost use Rattle.straight_proofs.specs.Asked.{IsReady};
 ghost use Rattle.straight_proofs.specs.Straight as rule;
 
@@ -26,31 +24,26 @@ pub const MOST_REFERENCES: u32 = 8;
 
 /// The straight proof of a goal from what a state knows: the first list of at most eight references that shows it, each
 /// taken once. `None` comes exactly where there is none.
-pub fn straight_proof(
-    alloc: Global,
-    state: &State,
-    cond: &Cond,
-    goal: &Row,
-) -> Result<Option<Proof>, NoMemory>
+pub fn straight_proof(state: &State, cond: &Cond, goal: &Row) -> Result<Option<Proof>, NoMemory>
     requires state { HasBounds state.now }
     requires goal { IsBounded goal.now }
     ensures first { IfOk result (λ found. found ≡ rule.straight_proof cond.now state.now goal.now) }
     ensures shown { IfOk result (λ found. IfSome found (λ proof. shows cond.now state.now proof goal.now ≡ true)) }
     ensures few { IfOk result (λ found. IfSome found (λ proof. length proof.uses ≤ MOST_REFERENCES)) }
 {
-    let mut search = Search::new(alloc, state, cond)?;
+    let mut search = Search::new(state.alloc(), state, cond)?;
     search.straight_proof(goal)
 }
 
 /// The straight proof that a case can't come about, which shows that -1 is at least 0: its first reference may be any that
 /// is there. `None` comes exactly where there is none.
-pub fn drop_proof(alloc: Global, state: &State, cond: &Cond) -> Result<Option<Proof>, NoMemory>
+pub fn drop_proof(state: &State, cond: &Cond) -> Result<Option<Proof>, NoMemory>
     requires { HasBounds state.now }
     ensures first { IfOk result (λ found. found ≡ rule.drop_proof cond.now state.now) }
     ensures shown { IfOk result (λ found. IfSome found (λ proof. shows cond.now state.now proof absurdity ≡ true)) }
     ensures few { IfOk result (λ found. IfSome found (λ proof. length proof.uses ≤ MOST_REFERENCES)) }
 {
-    let mut search = Search::new(alloc, state, cond)?;
+    let mut search = Search::new(state.alloc(), state, cond)?;
     search.drop_proof()
 }
 

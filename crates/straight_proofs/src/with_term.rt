@@ -2,17 +2,16 @@
 
 ghost use Rattle.std.specs.Prelude.{◌≡◌, ◌++◌, IfOk, OnOk};
 ghost use Rattle.std.specs.List.{All, filter};
-ghost use Rattle.lin_facts.specs.Rows.{IsSmall};
-ghost use Rattle.sym_state.specs.WellMade.{HasBounds};
+ghost use Rattle.straight_proofs.specs.Subjects.{HasBounds, IsSmall};
 ghost use Rattle.straight_proofs.specs.Lookup as rule;
 ghost use Rattle.straight_proofs.specs.Remembered.{AreWith, HaveRows};
 
 use crate::known::Known;
 use crate::on_term::rows_on;
-use crate::remainders::coefficient_of;
 use crate::remembered::{Remembered, signed};
 use bv_base::copied::Copied;
 use bv_base::memory::NoMemory;
+use lin_facts::follows::coefficient_of;
 use lin_facts::row::{Row, Term};
 use std::alloc::Global;
 use std::rc::Rc;

@@ -2,7 +2,7 @@
 
 ghost use Rattle.std.specs.Prelude.{IfOk};
 ghost use Rattle.std.specs.List.{All};
-ghost use Rattle.sym_state.specs.WellMade.{HasBounds, HasShortText, IsBounded};
+ghost use Rattle.sym_state.specs.WellMade.{HasBounds, IsBounded};
 
 use crate::tests::Known::{Integer, Nonblank, TwoLetters};
 use bst_meaning::condition::Cond;
@@ -63,6 +63,24 @@ struct Given {
     rows: &'static [Line],
 }
 
+/// What a state knows: facts and rows, or nothing where an entry is visited.
+macro_rules! given {
+    (at_entry) => {
+        Given {
+            at_entry: true,
+            facts: &[],
+            rows: &[],
+        }
+    };
+    ($facts:expr, $rows:expr) => {
+        Given {
+            at_entry: false,
+            facts: &$facts,
+            rows: &$rows,
+        }
+    };
+}
+
 /// A goal, and the references of its straight proof.
 #[derive(Clone, Copy)]
 struct Example {
@@ -71,15 +89,11 @@ struct Example {
     proof: Option<&'static [Reference]>,
 }
 
-/// A goal that is shown by these references, from facts and rows, at an entry or not.
+/// A goal that is shown by these references, from what a state knows.
 macro_rules! shown {
-    ($at_entry:literal, $facts:expr, $rows:expr, $goal:expr, $proof:expr) => {
+    ($($given:tt),* => $goal:expr, $proof:expr) => {
         Example {
-            given: Given {
-                at_entry: $at_entry,
-                facts: &$facts,
-                rows: &$rows,
-            },
+            given: given!($($given),*),
             goal: $goal,
             proof: Some(&$proof),
         }
@@ -88,13 +102,9 @@ macro_rules! shown {
 
 /// A goal that no list shows.
 macro_rules! open {
-    ($at_entry:literal, $facts:expr, $rows:expr, $goal:expr) => {
+    ($($given:tt),* => $goal:expr) => {
         Example {
-            given: Given {
-                at_entry: $at_entry,
-                facts: &$facts,
-                rows: &$rows,
-            },
+            given: given!($($given),*),
             goal: $goal,
             proof: None,
         }
@@ -103,233 +113,63 @@ macro_rules! open {
 
 /// Goals on one term, on none, and at an entry.
 static GOALS: [Example; 19] = [
-    shown!(
-        false,
-        [],
-        [],
-        line!(2147483647, -1 Value(0)),
-        [ValueHigh(Sym(0))]
-    ),
-    open!(false, [], [], line!(2147483647, 1 Value(0))),
-    open!(false, [], [], line!(2147483647, -1 Value(3))),
-    shown!(false, [], [], line!(0), []),
-    open!(false, [], [], line!(-1)),
-    shown!(false, [], [], line!(0, 1 Value(0), -1 Value(0)), []),
-    shown!(
-        false,
-        [Nonblank(0)],
-        [],
-        line!(0, 1 Length(0)),
-        [LengthLow(Sym(0))]
-    ),
-    shown!(
-        false,
-        [Nonblank(0)],
-        [],
-        line!(-1, 1 Length(0)),
-        [NamesHigh(Sym(0)), NonblankNames(Sym(0))]
-    ),
-    shown!(
-        false,
-        [Nonblank(0)],
-        [],
-        line!(-1, 1 Names(0)),
-        [NonblankNames(Sym(0))]
-    ),
-    shown!(
-        false,
-        [TwoLetters(0)],
-        [],
-        line!(-2, 1 Length(0)),
-        [TextLow(Sym(0))]
-    ),
-    shown!(
-        false,
-        [TwoLetters(0)],
-        [],
-        line!(2, -1 Length(0)),
-        [TextHigh(Sym(0))]
-    ),
-    shown!(
-        false,
-        [],
-        [],
-        line!(0, 1 Length(0), -1 Names(0)),
-        [NamesHigh(Sym(0))]
-    ),
-    shown!(
-        false,
-        [],
-        [],
-        line!(0, 1 Length(0), 1 Names(0)),
-        [NamesLow(Sym(0)), LengthLow(Sym(0))]
-    ),
-    shown!(true, [], [], line!(-1, 1 Count, -1 Pos), [PosHigh]),
-    shown!(true, [], [], line!(9999, -1 Pos), [PosHigh, CountHigh]),
-    open!(false, [], [], line!(9999, -1 Pos)),
-    shown!(true, [], [], line!(0, 1 Pos), [PosLow]),
-    shown!(false, [], [], line!(0, 1 Count), [CountLow]),
-    open!(false, [], [], line!(9999, -1 Count)),
+    shown!([], [] => line!(2147483647, -1 Value(0)), [ValueHigh(Sym(0))]),
+    open!([], [] => line!(2147483647, 1 Value(0))),
+    open!([], [] => line!(2147483647, -1 Value(3))),
+    shown!([], [] => line!(0), []),
+    open!([], [] => line!(-1)),
+    shown!([], [] => line!(0, 1 Value(0), -1 Value(0)), []),
+    shown!([Nonblank(0)], [] => line!(0, 1 Length(0)), [LengthLow(Sym(0))]),
+    shown!([Nonblank(0)], [] => line!(-1, 1 Length(0)), [NamesHigh(Sym(0)), NonblankNames(Sym(0))]),
+    shown!([Nonblank(0)], [] => line!(-1, 1 Names(0)), [NonblankNames(Sym(0))]),
+    shown!([TwoLetters(0)], [] => line!(-2, 1 Length(0)), [TextLow(Sym(0))]),
+    shown!([TwoLetters(0)], [] => line!(2, -1 Length(0)), [TextHigh(Sym(0))]),
+    shown!([], [] => line!(0, 1 Length(0), -1 Names(0)), [NamesHigh(Sym(0))]),
+    shown!([], [] => line!(0, 1 Length(0), 1 Names(0)), [NamesLow(Sym(0)), LengthLow(Sym(0))]),
+    shown!(at_entry => line!(-1, 1 Count, -1 Pos), [PosHigh]),
+    shown!(at_entry => line!(9999, -1 Pos), [PosHigh, CountHigh]),
+    open!([], [] => line!(9999, -1 Pos)),
+    shown!(at_entry => line!(0, 1 Pos), [PosLow]),
+    shown!([], [] => line!(0, 1 Count), [CountLow]),
+    open!([], [] => line!(9999, -1 Count)),
 ];
 
 /// Goals that rows and exact integers show.
 static CHAINS: [Example; 12] = [
-    shown!(
-        false,
-        [Integer(0, 97)],
-        [line!(20000, -1 Length(1))],
-        line!(19903, 1 Value(0), -1 Length(1)),
-        [Reference::Row(0), ExactLow(Sym(0))]
-    ),
-    open!(
-        false,
-        [Integer(0, 97)],
-        [line!(20000, -1 Length(1))],
-        line!(19902, 1 Value(0), -1 Length(1))
-    ),
-    shown!(
-        false,
-        [Integer(2, 1)],
-        [],
-        line!(2147483647, 1 Value(0), 1 Value(2)),
-        [ExactLow(Sym(2)), ValueLow(Sym(0))]
-    ),
-    shown!(
-        false,
-        [Integer(0, 97)],
-        [],
-        line!(97, -1 Value(0)),
-        [ExactHigh(Sym(0))]
-    ),
-    shown!(
-        false,
-        [],
-        [
-            line!(0, 1 Value(1), -1 Value(0)),
-            line!(0, 1 Value(1)),
-            line!(0, 1 Value(0))
-        ],
-        line!(0, 1 Value(1)),
-        [Reference::Row(0), Reference::Row(2)]
-    ),
-    shown!(
-        false,
-        [],
-        [line!(0, 1 Value(0)), line!(0, 1 Value(0))],
-        line!(0, 1 Value(0)),
-        [Reference::Row(0)]
-    ),
-    shown!(
-        false,
-        [],
-        [line!(0, 1 Value(0))],
-        line!(0, 2 Value(0)),
-        [Reference::Row(0), Reference::Row(0)]
-    ),
-    shown!(
-        false,
-        [],
-        [line!(0, 1 Value(0))],
-        line!(0, 8 Value(0)),
-        [
-            Reference::Row(0),
-            Reference::Row(0),
-            Reference::Row(0),
-            Reference::Row(0),
-            Reference::Row(0),
-            Reference::Row(0),
-            Reference::Row(0),
-            Reference::Row(0)
-        ]
-    ),
-    open!(false, [], [line!(0, 1 Value(0))], line!(0, 9 Value(0))),
-    shown!(
-        false,
-        [],
-        [line!(0, 1 Value(0)), line!(5, -1 Value(0))],
-        line!(5, -1 Value(0)),
-        [Reference::Row(1)]
-    ),
-    shown!(
-        false,
-        [],
-        [line!(0, 1 Value(1))],
-        line!(0, 1 Length(0), 1 Value(1)),
-        [Reference::Row(0), LengthLow(Sym(0))]
-    ),
-    shown!(
-        false,
-        [],
-        [line!(3, 1 Value(0), -1 Value(0))],
-        line!(2147483647, -1 Value(0)),
-        [ValueHigh(Sym(0))]
-    ),
+    shown!([Integer(0, 97)], [line!(20000, -1 Length(1))] => line!(19903, 1 Value(0), -1 Length(1)), [Reference::Row(0), ExactLow(Sym(0))]),
+    open!([Integer(0, 97)], [line!(20000, -1 Length(1))] => line!(19902, 1 Value(0), -1 Length(1))),
+    shown!([Integer(2, 1)], [] => line!(2147483647, 1 Value(0), 1 Value(2)), [ExactLow(Sym(2)), ValueLow(Sym(0))]),
+    shown!([Integer(0, 97)], [] => line!(97, -1 Value(0)), [ExactHigh(Sym(0))]),
+    shown!([], [line!(0, 1 Value(1), -1 Value(0)), line!(0, 1 Value(1)), line!(0, 1 Value(0))] => line!(0, 1 Value(1)), [Reference::Row(0), Reference::Row(2)]),
+    shown!([], [line!(0, 1 Value(0)), line!(0, 1 Value(0))] => line!(0, 1 Value(0)), [Reference::Row(0)]),
+    shown!([], [line!(0, 1 Value(0))] => line!(0, 2 Value(0)), [Reference::Row(0), Reference::Row(0)]),
+    shown!([], [line!(0, 1 Value(0))] => line!(0, 8 Value(0)), [Reference::Row(0), Reference::Row(0), Reference::Row(0), Reference::Row(0), Reference::Row(0), Reference::Row(0), Reference::Row(0), Reference::Row(0)]),
+    open!([], [line!(0, 1 Value(0))] => line!(0, 9 Value(0))),
+    shown!([], [line!(0, 1 Value(0)), line!(5, -1 Value(0))] => line!(5, -1 Value(0)), [Reference::Row(1)]),
+    shown!([], [line!(0, 1 Value(1))] => line!(0, 1 Length(0), 1 Value(1)), [Reference::Row(0), LengthLow(Sym(0))]),
+    shown!([], [line!(3, 1 Value(0), -1 Value(0))] => line!(2147483647, -1 Value(0)), [ValueHigh(Sym(0))]),
 ];
 
-/// Rows by which one integer is at least another with up to 11 more, and that is at least up to 11.
-const STEPS: [Line; 24] = [
-    line!(0, 1 Value(1), -1 Value(0)),
-    line!(-1, 1 Value(1), -1 Value(0)),
-    line!(-2, 1 Value(1), -1 Value(0)),
-    line!(-3, 1 Value(1), -1 Value(0)),
-    line!(-4, 1 Value(1), -1 Value(0)),
-    line!(-5, 1 Value(1), -1 Value(0)),
-    line!(-6, 1 Value(1), -1 Value(0)),
-    line!(-7, 1 Value(1), -1 Value(0)),
-    line!(-8, 1 Value(1), -1 Value(0)),
-    line!(-9, 1 Value(1), -1 Value(0)),
-    line!(-10, 1 Value(1), -1 Value(0)),
-    line!(-11, 1 Value(1), -1 Value(0)),
-    line!(0, 1 Value(0)),
-    line!(-1, 1 Value(0)),
-    line!(-2, 1 Value(0)),
-    line!(-3, 1 Value(0)),
-    line!(-4, 1 Value(0)),
-    line!(-5, 1 Value(0)),
-    line!(-6, 1 Value(0)),
-    line!(-7, 1 Value(0)),
-    line!(-8, 1 Value(0)),
-    line!(-9, 1 Value(0)),
-    line!(-10, 1 Value(0)),
-    line!(-11, 1 Value(0)),
-];
+/// Rows by which one integer is at least another with each of these numbers taken off, and rows by which that is at least so.
+macro_rules! steps {
+    ($($less:literal)*) => {
+        [$(line!($less, 1 Value(1), -1 Value(0)),)* $(line!($less, 1 Value(0)),)*]
+    };
+}
+
+/// Steps of up to 11 from one integer to another, and to that.
+const STEPS: [Line; 24] = steps!(0 - 1 - 2 - 3 - 4 - 5 - 6 - 7 - 8 - 9 - 10 - 11);
 
 /// A goal that takes ten of these rows, five of each kind.
-static FAR: [Example; 1] = [open!(false, [], STEPS, line!(0, 5 Value(1)))];
+static FAR: [Example; 1] = [open!([], STEPS => line!(0, 5 Value(1)))];
 
 /// Cases that can't come about, and one that may.
 static DROPS: [Example; 5] = [
-    shown!(
-        false,
-        [],
-        [line!(-5, 1 Value(0)), line!(3, -1 Value(0))],
-        line!(-1),
-        [Reference::Row(0), Reference::Row(1)]
-    ),
-    shown!(false, [], [line!(-1)], line!(-1), [Reference::Row(0)]),
-    shown!(
-        false,
-        [],
-        [line!(-8, 7 Value(0)), line!(1, -1 Value(0))],
-        line!(-1),
-        [
-            Reference::Row(0),
-            Reference::Row(1),
-            Reference::Row(1),
-            Reference::Row(1),
-            Reference::Row(1),
-            Reference::Row(1),
-            Reference::Row(1),
-            Reference::Row(1)
-        ]
-    ),
-    open!(
-        false,
-        [],
-        [line!(-9, 8 Value(0)), line!(1, -1 Value(0))],
-        line!(-1)
-    ),
-    open!(true, [], [], line!(-1)),
+    shown!([], [line!(-5, 1 Value(0)), line!(3, -1 Value(0))] => line!(-1), [Reference::Row(0), Reference::Row(1)]),
+    shown!([], [line!(-1)] => line!(-1), [Reference::Row(0)]),
+    shown!([], [line!(-8, 7 Value(0)), line!(1, -1 Value(0))] => line!(-1), [Reference::Row(0), Reference::Row(1), Reference::Row(1), Reference::Row(1), Reference::Row(1), Reference::Row(1), Reference::Row(1), Reference::Row(1)]),
+    open!([], [line!(-9, 8 Value(0)), line!(1, -1 Value(0))] => line!(-1)),
+    open!(at_entry => line!(-1)),
 ];
 
 /// A sum, and the greatest number that it is shown to be at least.
@@ -342,13 +182,9 @@ struct Floored {
 
 /// A sum with its floor, where no entry is visited.
 macro_rules! floored {
-    ($facts:expr, $rows:expr, $sum:expr, $floor:expr) => {
+    ($facts:expr, $rows:expr => $sum:expr, $floor:expr) => {
         Floored {
-            given: Given {
-                at_entry: false,
-                facts: &$facts,
-                rows: &$rows,
-            },
+            given: given!($facts, $rows),
             sum: $sum,
             floor: $floor,
         }
@@ -357,44 +193,19 @@ macro_rules! floored {
 
 /// Sums with floors, and some without.
 static FLOORS: [Floored; 13] = [
-    floored!([], [], line!(7), Some(7)),
-    floored!([], [], line!(0, 1 Value(0)), Some(-2147483648)),
-    floored!([Integer(0, 5)], [], line!(0, 1 Value(0)), Some(5)),
-    floored!([Integer(0, 5)], [], line!(0, -1 Value(0)), Some(-5)),
-    floored!(
-        [Integer(0, 10)],
-        [line!(-2, 1 Value(1), -1 Value(0))],
-        line!(0, 1 Value(1), -1 Value(0)),
-        Some(2)
-    ),
-    floored!(
-        [Integer(0, 10)],
-        [line!(-2, 1 Value(1), -1 Value(0))],
-        line!(0, 1 Value(1)),
-        Some(12)
-    ),
-    floored!(
-        [Integer(0, 5), Integer(1, 7)],
-        [line!(-3, 1 Value(2), -1 Value(0))],
-        line!(0, 2 Value(2), 1 Value(1)),
-        Some(23)
-    ),
-    floored!(
-        [],
-        [
-            line!(-1, 1 Value(0)),
-            line!(-4, 1 Value(0)),
-            line!(-3, 1 Value(0)),
-            line!(-4, 1 Value(0))
-        ],
-        line!(0, 1 Value(0)),
-        Some(4)
-    ),
-    floored!([], [line!(-1, 1 Value(0))], line!(0, 8 Value(0)), Some(8)),
-    floored!([], [line!(-1, 1 Value(0))], line!(0, 9 Value(0)), None),
-    floored!([], STEPS, line!(0, 5 Value(1)), Some(-4294967230)),
-    floored!([], [], line!(0, 1 Value(3)), None),
-    floored!([], [], line!(0, 1 Pos), None),
+    floored!([], [] => line!(7), Some(7)),
+    floored!([], [] => line!(0, 1 Value(0)), Some(-2147483648)),
+    floored!([Integer(0, 5)], [] => line!(0, 1 Value(0)), Some(5)),
+    floored!([Integer(0, 5)], [] => line!(0, -1 Value(0)), Some(-5)),
+    floored!([Integer(0, 10)], [line!(-2, 1 Value(1), -1 Value(0))] => line!(0, 1 Value(1), -1 Value(0)), Some(2)),
+    floored!([Integer(0, 10)], [line!(-2, 1 Value(1), -1 Value(0))] => line!(0, 1 Value(1)), Some(12)),
+    floored!([Integer(0, 5), Integer(1, 7)], [line!(-3, 1 Value(2), -1 Value(0))] => line!(0, 2 Value(2), 1 Value(1)), Some(23)),
+    floored!([], [line!(-1, 1 Value(0)), line!(-4, 1 Value(0)), line!(-3, 1 Value(0)), line!(-4, 1 Value(0))] => line!(0, 1 Value(0)), Some(4)),
+    floored!([], [line!(-1, 1 Value(0))] => line!(0, 8 Value(0)), Some(8)),
+    floored!([], [line!(-1, 1 Value(0))] => line!(0, 9 Value(0)), None),
+    floored!([], STEPS => line!(0, 5 Value(1)), Some(-4294967230)),
+    floored!([], [] => line!(0, 1 Value(3)), None),
+    floored!([], [] => line!(0, 1 Pos), None),
 ];
 
 #[test]
@@ -448,7 +259,7 @@ fn compare(rt: &impl Abort, alloc: Global, examples: &[Example]) {
 /// Whether the straight proof that a case can't come about is the one that is wanted.
 fn is_dropped(alloc: Global, example: &Example) -> Result<bool, NoMemory> {
     let state = state(alloc, example.given)?;
-    let proof = drop_proof(alloc, &state, &condition(alloc))?;
+    let proof = drop_proof(&state, &condition(alloc))?;
     Ok(is_wanted(&proof, example.proof))
 }
 
@@ -456,7 +267,7 @@ fn is_dropped(alloc: Global, example: &Example) -> Result<bool, NoMemory> {
 fn is_found(alloc: Global, example: &Example) -> Result<bool, NoMemory> {
     let state = state(alloc, example.given)?;
     let goal = row(alloc, example.goal)?;
-    let proof = straight_proof(alloc, &state, &condition(alloc), &goal)?;
+    let proof = straight_proof(&state, &condition(alloc), &goal)?;
     Ok(is_wanted(&proof, example.proof))
 }
 
@@ -464,17 +275,12 @@ fn is_found(alloc: Global, example: &Example) -> Result<bool, NoMemory> {
 fn has_floor(alloc: Global, example: &Floored) -> Result<bool, NoMemory> {
     let state = state(alloc, example.given)?;
     let sum = row(alloc, example.sum)?;
-    Ok(floor(alloc, &state, &condition(alloc), &sum)? == example.floor)
+    Ok(floor(&state, &condition(alloc), &sum)? == example.floor)
 }
 
 /// Whether one search of a state gives the floors of sums that are wanted.
 fn all_told(alloc: Global) -> Result<bool, NoMemory> {
-    let given = Given {
-        at_entry: false,
-        facts: &[],
-        rows: &STEPS,
-    };
-    let state = state(alloc, given)?;
+    let state = state(alloc, given!([], STEPS))?;
     let cond = condition(alloc);
     let mut search = Search::new(alloc, &state, &cond)?;
     are_told(alloc, &mut search, ASKED.as_slice())
@@ -529,41 +335,62 @@ fn state(alloc: Global, given: Given) -> Result<State, NoMemory>
         at_entry: given.at_entry,
         vars: Seq::new(alloc),
         fields: Seq::new(alloc),
-        facts: Seq::from_vec(facts(alloc, given.facts)?),
-        rows: Seq::from_vec(rows(alloc, given.rows)?),
+        facts: Seq::from_vec(list(alloc, given.facts)?),
+        rows: Seq::from_vec(list(alloc, given.rows)?),
         next: 3,
     };
     State::from_parts(alloc, parts)
 }
 
-fn facts(alloc: Global, known: &[Known]) -> Result<Vec<Fact>, NoMemory>
-    ensures { IfOk result (λ facts. All HasShortText facts.items) }
-{
-    let mut facts = Vec::new(alloc);
-    for known in known {
-        facts.push(fact(alloc, *known)?)?;
-    }
-    Ok(facts)
+/// What a state knows of a kind.
+trait Item: Drop {
+    /// How the tests write it.
+    type Written: Copy + Drop;
+
+    /// What holds of each.
+    ghost holds: { Self → Type 0 };
+
+    fn read(alloc: Global, written: Self::Written) -> Result<Self, NoMemory>
+        ensures { IfOk result holds };
 }
 
-fn fact(alloc: Global, known: Known) -> Result<Fact, NoMemory>
-    ensures { IfOk result HasShortText }
+/// All that is written so.
+fn list<T: Item>(alloc: Global, written: &[T::Written]) -> Result<Vec<T>, NoMemory>
+    ensures { IfOk result (λ items. All T.holds items.items) }
 {
-    Ok(match known {
-        Known::Integer(s, n) => Fact::Int(Sym(s), n),
-        Known::Nonblank(s) => Fact::Nonblank(Sym(s)),
-        Known::TwoLetters(s) => Fact::Text(Sym(s), Text::from_slice(alloc, b"ab")?),
-    })
+    let mut items = Vec::new(alloc);
+    for one in written {
+        items.push(T::read(alloc, *one)?)?;
+    }
+    Ok(items)
 }
 
-fn rows(alloc: Global, lines: &[Line]) -> Result<Vec<Row>, NoMemory>
-    ensures { IfOk result (λ rows. All IsBounded rows.items) }
-{
-    let mut rows = Vec::new(alloc);
-    for line in lines {
-        rows.push(row(alloc, *line)?)?;
+impl Item for Fact {
+    ghost use Rattle.sym_state.specs.WellMade.{HasShortText};
+
+    type Written = Known;
+
+    ghost holds = { HasShortText };
+
+    fn read(alloc: Global, known: Known) -> Result<Fact, NoMemory> {
+        Ok(match known {
+            Known::Integer(s, n) => Fact::Int(Sym(s), n),
+            Known::Nonblank(s) => Fact::Nonblank(Sym(s)),
+            Known::TwoLetters(s) => Fact::Text(Sym(s), Text::from_slice(alloc, b"ab")?),
+        })
     }
-    Ok(rows)
+}
+
+impl Item for Row {
+    ghost use Rattle.sym_state.specs.WellMade.{IsBounded};
+
+    type Written = Line;
+
+    ghost holds = { IsBounded };
+
+    fn read(alloc: Global, line: Line) -> Result<Row, NoMemory> {
+        row(alloc, line)
+    }
 }
 
 fn row(alloc: Global, line: Line) -> Result<Row, NoMemory>

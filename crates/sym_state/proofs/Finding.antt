@@ -1,7 +1,7 @@
 -- What facts decide, by the first that decides it.
-use Rattle.std.proofs.Common.{◌≡◌, ℕ, Bool, true, false, cond, ◌&&◌, ◌||◌, nat_eq, refl, ap, sym, ◌∙◌, List, [], ◌∷◌, Option, None, Some, is_some, option_map}
+use Rattle.std.proofs.Common.{◌≡◌, ℕ, Bool, true, false, cond, ◌&&◌, ◌||◌, nat_eq, refl, ap, ◌∙◌, List, [], ◌∷◌, Option, None, Some, is_some, option_map}
 use Rattle.std.specs.List.{find, list_any}
-use Rattle.std.specs.Option.{option_and_then, option_or}
+use Rattle.std.specs.Option.{MatchOption, option_and_then, option_or}
 use Rattle.sym_state.specs.declared.symbol.Fact.{Fact}
 use Rattle.sym_state.specs.Decided.{first_said}
 use Rattle.sym_state.specs.Facts.{subject}
@@ -30,16 +30,28 @@ found_said {B} {X} now said s facts found e = through found ∙ ap (option_and_t
     through (Some b) = refl
     through None = refl
 
--- the same of what a call has found
-pub said_of : {B X : Type 0} (now : B → Fact) (said : Fact → Option X) (s : ℕ) (facts : List Fact) (found : Option B) (known : Option B) → found ≡ known
-    → option_map now found ≡ find (decides said s) facts → option_and_then (λ b. said (now b)) known ≡ first_said said s facts
-said_of now said s facts found known is e = ap (option_and_then (λ b. said (now b))) (sym is) ∙ found_said now said s facts found e
+-- what is asked of what is found, where something is
+asked_of : {B X : Type 0} (ask : B → Option X) (found : Option B) (result : Option X) (Asked : B → Type 0) → ((b : B) → Asked b → result ≡ ask b)
+    → MatchOption found (result ≡ None) Asked → result ≡ option_and_then ask found
+asked_of ask (Some b) result Asked is asked = is b asked
+asked_of ask None result Asked is asked = asked
+
+-- what the found fact is asked for is what the first fact that decides it says
+pub said_of : {B X : Type 0} (now : B → Fact) (said : Fact → Option X) (s : ℕ) (facts : List Fact) (found : Option B) (result : Option X) (Asked : B → Type 0)
+    → ((b : B) → Asked b → result ≡ said (now b)) → MatchOption found (result ≡ None) Asked → option_map now found ≡ find (decides said s) facts
+    → result ≡ first_said said s facts
+said_of now said s facts found result Asked is asked e = asked_of (λ b. said (now b)) found result Asked is asked ∙ found_said now said s facts found e
 
 -- the same of what is taken from what it says
-pub found_then : {B X Y : Type 0} (now : B → Fact) (said : Fact → Option X) (next : X → Option Y) (s : ℕ) (facts : List Fact) (found : Option B) (known : Option B)
-    → found ≡ known → option_map now found ≡ find (decides said s) facts
-    → option_and_then next (option_and_then (λ b. said (now b)) known) ≡ option_and_then next (first_said said s facts)
-found_then now said next s facts found known is e = ap (option_and_then next) (said_of now said s facts found known is e)
+pub found_then : {B X Y : Type 0} (now : B → Fact) (said : Fact → Option X) (next : X → Option Y) (s : ℕ) (facts : List Fact) (found : Option B) (result : Option Y)
+    (Asked : B → Type 0) → ((b : B) → Asked b → result ≡ option_and_then next (said (now b))) → MatchOption found (result ≡ None) Asked
+    → option_map now found ≡ find (decides said s) facts → result ≡ option_and_then next (first_said said s facts)
+found_then {B} now said next s facts found result Asked is asked e =
+    asked_of (λ b. option_and_then next (said (now b))) found result Asked is asked ∙ through found ∙ ap (option_and_then next) (found_said now said s facts found e)
+  where
+    through : (o : Option B) → option_and_then (λ b. option_and_then next (said (now b))) o ≡ option_and_then next (option_and_then (λ b. said (now b)) o)
+    through (Some b) = refl
+    through None = refl
 
 -- an item passes a test where one is found
 any_found : {X : Type 0} (test : X → Bool) (xs : List X) → is_some (find test xs) ≡ list_any test xs

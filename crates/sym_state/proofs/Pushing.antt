@@ -1,5 +1,5 @@
 -- States that stand after values are taken from the literal stack and put on it.
-use Rattle.std.proofs.Common.{◌≡◌, ℕ, ◌<◌, true, nat_eq, List, [], ◌∷◌, ◌++◌, reverse, refl, sym, ap, ◌∙◌}
+use Rattle.std.proofs.Common.{◌≡◌, ℕ, ◌<◌, true, nat_eq, List, [], ◌∷◌, ◌++◌, reverse, refl, sym, ap, subst, ◌∙◌}
 use Rattle.std.specs.List.{All, AllByRecursion}
 use Rattle.std.proofs.lemmas.List.{reverse-append, reverse-reverse}
 use Rattle.std.proofs.lemmas.List.Elements.{All-same}
@@ -52,19 +52,24 @@ visiting_same v w stack events log c e h =
 abbrev pub without : List Sym → State → State
 without rest state = record state { stack = reverse rest }
 
+-- what a state says is satisfied where another state says it
+pub satisfies_same : (style : Style) (admits : Cond) (v : Valuation) (s t : State) → t.at_entry ≡ s.at_entry → t.facts ≡ s.facts → t.rows ≡ s.rows
+    → Satisfies style admits v s → Satisfies style admits v t
+satisfies_same style admits v s t at facts rows h = record {
+  values = h.values;
+  count = h.count;
+  position = λ here. h.position (sym at ∙ here);
+  facts = subst (λ (fs : List Fact). AllByRecursion (FactHolds style v) fs) (sym facts) h.facts;
+  rows = subst (λ (rs : List Row). AllByRecursion (Holds (numbers v)) rs) (sym rows) h.rows;
+}
+
 -- nothing but the stack changes, and symbols of the state lie on it
 pub moved : (style : Style) (admits : Cond) (list : EntryList) (v : Valuation) (state : State) (c : Config) (below : List Value)
     (tops : List Sym) (stack : List Sym) (events : List Event) (log : List (List ℕ)) → Stands style admits list v state c below
     → reverse stack ≡ tops
     → Stands style admits list v (record state { stack = stack }) (with_stack (value_list v tops ++ below) events log c) below
 moved style admits list v state c below tops stack events log h e = record {
-  satisfied = record {
-    values = h.satisfied.values;
-    count = h.satisfied.count;
-    position = h.satisfied.position;
-    facts = h.satisfied.facts;
-    rows = h.satisfied.rows;
-  };
+  satisfied = satisfies_same style admits v state (record state { stack = stack }) refl refl refl h.satisfied;
   has_list = list_same style admits list v v (value_list v tops ++ below) events log c refl h.has_list;
   visiting = λ entered. visiting_same v v (value_list v tops ++ below) events log c refl (h.visiting entered);
   stack = ap (λ (l : List Sym). value_list v l ++ below) (sym e);
@@ -136,7 +141,7 @@ pushed style admits list v state c below rest kind facts rows value events log m
     let a = next_agrees state.next value v in
     let stack = value ∷ (value_list v rest ++ below) in
     let s = satisfies_next style admits v state kind facts rows value made h.satisfied is of_kind fine shown in record {
-      satisfied = record { values = s.values; count = s.count; position = s.position; facts = s.facts; rows = s.rows };
+      satisfied = satisfies_same style admits w (with_symbol kind facts rows state) (with_result kind facts rows (without rest state)) refl refl refl s;
       has_list = list_same style admits list v w stack events log c refl h.has_list;
       visiting = λ entered. visiting_same v w stack events log c refl (h.visiting entered);
       stack = ap (λ (x : Value). x ∷ (value_list v rest ++ below)) (sym (next_is state.next value v))

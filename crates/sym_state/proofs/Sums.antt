@@ -119,19 +119,19 @@ three_bounded constant l r m s n t bound hl hm hn =
     record { parts = omega (arith, a, b, c); constant = bound; coefficients = omega (arith, d, e, f, g, h, i, none) }
 
 -- the parts of a part, and of two, are within the bound of what is added to
-pub one_within : (m : ℤ) (s : Term) → IsWithin (2 ^ 40) m → All (λ p. IsWithin (2 ^ 42) p.coefficient) (and_part m s [])
+pub one_within : (m : ℤ) (s : Term) → IsWithin (2 ^ 40) m → All (λ p. IsWithin (2 ^ 45) p.coefficient) (and_part m s [])
 one_within m s hm =
     let a = kept_size m s [] in
     let b = size_within (2 ^ 40) m hm in
     let none : sizes [] ≡ 0 = refl in
-    each_within (2 ^ 42) (kept_part m s []) (omega (arith, a, b, none))
+    each_within (2 ^ 45) (kept_part m s []) (omega (arith, a, b, none))
 
 pub two_within : (l : ℤ) (r : Term) (m : ℤ) (s : Term) → IsWithin (2 ^ 40) l → IsWithin (2 ^ 40) m
-    → All (λ p. IsWithin (2 ^ 42) p.coefficient) (and_part m s (and_part l r []))
+    → All (λ p. IsWithin (2 ^ 45) p.coefficient) (and_part m s (and_part l r []))
 two_within l r m s hl hm =
     let a = kept_size l r [] in
     let b = and_size m s (kept_part l r []) in
     let c = size_within (2 ^ 40) l hl in
     let d = size_within (2 ^ 40) m hm in
     let none : sizes [] ≡ 0 = refl in
-    each_within (2 ^ 42) (and_part m s (kept_part l r [])) (omega (arith, a, b, c, d, none))
+    each_within (2 ^ 45) (and_part m s (kept_part l r [])) (omega (arith, a, b, c, d, none))

@@ -1,4 +1,5 @@
 pub mod State
+pub mod Subjects
 pub mod Symbols
 pub mod Facts
 pub mod Decided

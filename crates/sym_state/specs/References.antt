@@ -8,6 +8,8 @@ use Rattle.lin_facts.specs.declared.row.Row.{Row}
 use Rattle.lin_facts.specs.declared.row.StepUse.{StepUse}
 use Rattle.bv_base.specs.declared.limits.TheConstants.{GREATEST_INTEGER}
 use Rattle.bst_meaning.specs.declared.condition.Cond.{Cond}
+use Rattle.sym_state.specs.declared.references.Bound.{Bound}
+use Rattle.sym_state.specs.declared.references.Bound.TheVariants.{Least, Most}
 use Rattle.sym_state.specs.declared.proof.Reference.{Reference}
 use Rattle.sym_state.specs.declared.proof.Reference.TheVariants as ref
 use Rattle.sym_state.specs.declared.proof.Use.{Use}
@@ -23,6 +25,11 @@ at_least term n = record { constant = neg_ℤ n; parts = record { coefficient = 
 -- the term is at most n
 abbrev pub at_most : Term → ℤ → Row
 at_most term n = record { constant = n; parts = record { coefficient = negsuc 0; term = term } ∷ [] }
+
+-- the row of a bound on a term by n
+abbrev pub bound_row : Bound → ℤ → Row
+bound_row (Least term) n = at_least term n
+bound_row (Most term) n = at_most term n
 
 -- the first term is at least n more than the second
 abbrev pub exceeds : Term → Term → ℤ → Row

@@ -23,11 +23,9 @@ use text_ops::is_blank::is_blank;
 pub fn exact_integer(facts: &SharedList<Fact>, sym: Sym) -> Option<i32>
     ensures { result ≡ decided.exact_integer facts.now sym.0 }
 {
-    let found = facts.find(|fact| subject(fact).0 == sym.0 && integer_said(fact).is_some());
-    match found {
-        Some(fact) => integer_said(fact),
-        None => None,
-    }
+    facts
+        .find(|fact| subject(fact).0 == sym.0 && integer_said(fact).is_some())
+        .and_then(|fact| integer_said(fact))
 }
 
 /// The exact text of a symbol.
@@ -46,11 +44,9 @@ pub fn exact_text<'a>(facts: &'a SharedList<Fact>, sym: Sym) -> Option<&'a [u8]>
 pub fn known_emptiness(facts: &SharedList<Fact>, sym: Sym) -> Option<bool>
     ensures { result ≡ decided.first_said decided.emptiness_said sym.0 facts.now }
 {
-    let found = facts.find(|fact| subject(fact).0 == sym.0 && emptiness_said(fact).is_some());
-    match found {
-        Some(fact) => emptiness_said(fact),
-        None => None,
-    }
+    facts
+        .find(|fact| subject(fact).0 == sym.0 && emptiness_said(fact).is_some())
+        .and_then(|fact| emptiness_said(fact))
 }
 
 /// Whether the first fact on a symbol that decides `empty$` decides 0.
@@ -67,22 +63,18 @@ pub fn is_known_nonblank(facts: &SharedList<Fact>, sym: Sym) -> bool
 pub fn exact_name(facts: &SharedList<Fact>, sym: Sym) -> Option<NameId>
     ensures { result ≡ option_and_then decided.name_of (decided.exact_function facts.now sym.0) }
 {
-    let found = facts.find(|fact| subject(fact).0 == sym.0 && is_function_said(fact));
-    match found {
-        Some(fact) => function_name(fact),
-        None => None,
-    }
+    facts
+        .find(|fact| subject(fact).0 == sym.0 && is_function_said(fact))
+        .and_then(|fact| function_name(fact))
 }
 
 /// The number of the block that a symbol exactly is.
 pub fn exact_block(facts: &SharedList<Fact>, sym: Sym) -> Option<u32>
     ensures { result ≡ option_and_then decided.number_of (decided.exact_function facts.now sym.0) }
 {
-    let found = facts.find(|fact| subject(fact).0 == sym.0 && is_function_said(fact));
-    match found {
-        Some(fact) => function_number(fact),
-        None => None,
-    }
+    facts
+        .find(|fact| subject(fact).0 == sym.0 && is_function_said(fact))
+        .and_then(|fact| block_said(fact))
 }
 
 /// The kind of a symbol: the first single kind that a fact says, and where none does that of strings and missing fields
@@ -106,11 +98,9 @@ pub fn known_kind(facts: &SharedList<Fact>, sym: Sym) -> Kinds
 fn single_kind(facts: &SharedList<Fact>, sym: Sym) -> Option<Kinds>
     ensures { result ≡ decided.first_said (λ fact. decided.single (decided.kind_said fact)) sym.0 facts.now }
 {
-    let found = facts.find(|fact| subject(fact).0 == sym.0 && single(kind_said(fact)).is_some());
-    match found {
-        Some(fact) => single(kind_said(fact)),
-        None => None,
-    }
+    facts
+        .find(|fact| subject(fact).0 == sym.0 && single(kind_said(fact)).is_some())
+        .and_then(|fact| single(kind_said(fact)))
 }
 
 /// A kind, where all its values are integers, or strings, or missing fields, or functions.
@@ -305,16 +295,6 @@ fn function_name(fact: &Fact) -> Option<NameId>
     }
 }
 
-/// The number of the block that a fact says.
-fn function_number(fact: &Fact) -> Option<u32>
-    ensures { result ≡ option_and_then decided.number_of (decided.function_said fact.now) }
-{
-    match fact {
-        Fact::Block(_, number) => Some(*number),
-        _ => None,
-    }
-}
-
 /// The id of the name that a fact says.
 fn name_said(fact: &Fact) -> Option<u32>
     ensures { result ≡ option_map (λ name. name.0) (decided.name_said fact.now) }
@@ -327,7 +307,8 @@ fn name_said(fact: &Fact) -> Option<u32>
 
 /// The number of the block that a fact says.
 fn block_said(fact: &Fact) -> Option<u32>
-    ensures { result ≡ decided.block_said fact.now }
+    ensures said { result ≡ decided.block_said fact.now }
+    ensures function { result ≡ option_and_then decided.number_of (decided.function_said fact.now) }
 {
     match fact {
         Fact::Block(_, number) => Some(*number),

@@ -1,11 +1,11 @@
 //! The rows that references say (docs/STATES.md, "References").
 
-ghost use Rattle.std.specs.Prelude.{◌≡◌, ◌≤◌, ◌^◌, None, Some, length, pos, slice_get, option_map, if◌then◌else◌, IfOk, IfSome};
-ghost use Rattle.std.specs.List.{All};
+ghost use Rattle.std.specs.Prelude.{◌≡◌, ◌^◌, [], ◌∷◌, None, Some, length, pos, slice_get, option_map, if◌then◌else◌, IfOk, IfSome};
 ghost use Rattle.lin_facts.specs.Rows.{IsSmall, IsWithin};
 ghost use Rattle.sym_state.specs.Decided as decided;
 ghost use Rattle.sym_state.specs.References as rule;
-ghost use Rattle.sym_state.specs.WellMade.{HasBounds, IsBounded, HasShortText};
+ghost use Rattle.sym_state.specs.Results.{part};
+ghost use Rattle.sym_state.specs.WellMade.{HasBounds, IsBounded};
 
 use crate::proof::Reference;
 use crate::state::State;
@@ -18,8 +18,18 @@ use bv_base::seq::Seq;
 use lin_facts::row::{Part, Row, Term};
 use std::alloc::Global;
 
+/// The least integer of the style language.
+const LEAST_INTEGER: i64 = -2147483648;
+
+/// A term that is at least a number, or at most.
+#[derive(Clone, Copy, Debug, PartialEq, Eq)]
+enum Bound {
+    Least(Term),
+    Most(Term),
+}
+
 /// The row that a reference says, where it is there.
-pub(crate) fn row_said(
+pub fn row_said(
     alloc: Global,
     state: &State,
     cond: &Cond,
@@ -29,33 +39,27 @@ pub(crate) fn row_said(
     ensures said { IfOk result (λ row. row ≡ rule.row_said cond.now state.now reference) }
     ensures small { IfOk result (λ row. IfSome row IsSmall) }
 {
+    use Bound::{Least, Most};
     match reference {
         Reference::Row(k) => row_at(alloc, state, k),
-        Reference::ValueLow(s) => Ok(on_symbol(
+        Reference::ValueLow(s) => bounded(state, s, Least(Term::Value(s.0)), Some(LEAST_INTEGER)),
+        Reference::ValueHigh(s) => bounded(
             state,
             s,
-            at_least(alloc, Term::Value(s.0), -(GREATEST_INTEGER as i64) - 1)?,
-        )),
-        Reference::ValueHigh(s) => Ok(on_symbol(
-            state,
-            s,
-            at_most(alloc, Term::Value(s.0), GREATEST_INTEGER as i64)?,
-        )),
-        Reference::LengthLow(s) => Ok(on_symbol(state, s, at_least(alloc, Term::Length(s.0), 0)?)),
-        Reference::NamesLow(s) => Ok(on_symbol(state, s, at_least(alloc, Term::Names(s.0), 0)?)),
-        Reference::NamesHigh(s) => Ok(on_symbol(
-            state,
-            s,
-            exceeds(alloc, Term::Length(s.0), Term::Names(s.0), 0)?,
-        )),
-        Reference::ExactLow(s) => exact_low(alloc, state, s),
-        Reference::ExactHigh(s) => exact_high(alloc, state, s),
-        Reference::NonblankLength(s) => nonblank(alloc, state, s, Term::Length(s.0)),
-        Reference::NonblankNames(s) => nonblank(alloc, state, s, Term::Names(s.0)),
-        Reference::TextLow(s) => text_low(alloc, state, s),
-        Reference::TextHigh(s) => text_high(alloc, state, s),
-        Reference::PosLow => pos_low(alloc, state.is_at_entry()),
-        Reference::PosHigh => pos_high(alloc, state.is_at_entry()),
+            Most(Term::Value(s.0)),
+            Some(GREATEST_INTEGER as i64),
+        ),
+        Reference::LengthLow(s) => bounded(state, s, Least(Term::Length(s.0)), Some(0)),
+        Reference::NamesLow(s) => bounded(state, s, Least(Term::Names(s.0)), Some(0)),
+        Reference::NamesHigh(s) => names_high(alloc, state, s),
+        Reference::ExactLow(s) => bounded(state, s, Least(Term::Value(s.0)), integer(state, s)),
+        Reference::ExactHigh(s) => bounded(state, s, Most(Term::Value(s.0)), integer(state, s)),
+        Reference::NonblankLength(s) => bounded(state, s, Least(Term::Length(s.0)), ink(state, s)),
+        Reference::NonblankNames(s) => bounded(state, s, Least(Term::Names(s.0)), ink(state, s)),
+        Reference::TextLow(s) => bounded(state, s, Least(Term::Length(s.0)), text_length(state, s)),
+        Reference::TextHigh(s) => bounded(state, s, Most(Term::Length(s.0)), text_length(state, s)),
+        Reference::PosLow => Ok(at_entry(state, at_least(alloc, Term::Pos, 0)?)),
+        Reference::PosHigh => Ok(at_entry(state, exceeds(alloc, Term::Count, Term::Pos, 1)?)),
         Reference::CountLow => Ok(Some(at_least(alloc, Term::Count, 0)?)),
         Reference::CountHigh => Ok(Some(at_most(alloc, Term::Count, cond.entries as i64)?)),
     }
@@ -63,7 +67,7 @@ pub(crate) fn row_said(
 
 /// A row of the state, by its number.
 fn row_at(alloc: Global, state: &State, k: u32) -> Result<Option<Row>, NoMemory>
-    requires { All IsBounded state.now.rows }
+    requires { HasBounds state.now }
     ensures said { IfOk result (λ row. row ≡ slice_get state.now.rows k) }
     ensures small { IfOk result (λ row. IfSome row IsSmall) }
 {
@@ -71,6 +75,45 @@ fn row_at(alloc: Global, state: &State, k: u32) -> Result<Option<Row>, NoMemory>
         Some(row) => Ok(Some(row.copied(alloc)?)),
         None => Ok(None),
     }
+}
+
+/// A bound on a term of a symbol of the state, where there is a number.
+fn bounded(
+    state: &State,
+    s: Sym,
+    bound: Bound,
+    number: Option<i64>,
+) -> Result<Option<Row>, NoMemory>
+    requires { IfSome number (IsWithin (2 ^ 45)) }
+    ensures said { IfOk result (λ row. row ≡ rule.on_symbol state.now s (option_map (rule.bound_row bound) number)) }
+    ensures small { IfOk result (λ row. IfSome row IsSmall) }
+{
+    match number {
+        Some(n) => Ok(on_symbol(state, s, bound_row(state.alloc(), bound, n)?)),
+        None => Ok(None),
+    }
+}
+
+/// The row of a bound.
+fn bound_row(alloc: Global, bound: Bound, n: i64) -> Result<Row, NoMemory>
+    requires { IsWithin (2 ^ 45) n }
+    ensures said { IfOk result (λ row. row ≡ rule.bound_row bound n) }
+    ensures small { IfOk result IsSmall }
+{
+    match bound {
+        Bound::Least(term) => at_least(alloc, term, n),
+        Bound::Most(term) => at_most(alloc, term, n),
+    }
+}
+
+/// A string has no more names than bytes.
+fn names_high(alloc: Global, state: &State, s: Sym) -> Result<Option<Row>, NoMemory>
+    ensures said { IfOk result (λ row. row ≡ rule.on_symbol state.now s
+        (Some (rule.exceeds (Term.Length s.0) (Term.Names s.0) (pos 0)))) }
+    ensures small { IfOk result (λ row. IfSome row IsSmall) }
+{
+    let row = exceeds(alloc, Term::Length(s.0), Term::Names(s.0), 0)?;
+    Ok(on_symbol(state, s, row))
 }
 
 /// A row on a symbol, where it is the state's.
@@ -82,98 +125,47 @@ fn on_symbol(state: &State, s: Sym, row: Row) -> Option<Row>
     if s.0 < state.next() { Some(row) } else { None }
 }
 
-/// An exact integer is at least itself.
-fn exact_low(alloc: Global, state: &State, s: Sym) -> Result<Option<Row>, NoMemory>
-    ensures said { IfOk result (λ row. row ≡ rule.on_symbol state.now s
-        (option_map (rule.at_least (Term.Value s.0)) (decided.exact_integer state.now.facts s.0))) }
-    ensures small { IfOk result (λ row. IfSome row IsSmall) }
+/// A row on the visits, where an entry is visited.
+fn at_entry(state: &State, row: Row) -> Option<Row>
+    requires { IsSmall row }
+    ensures said { result ≡ (if state.now.at_entry then Some row else None) }
+    ensures small { IfSome result IsSmall }
+{
+    if state.is_at_entry() { Some(row) } else { None }
+}
+
+/// The exact integer of a symbol.
+fn integer(state: &State, s: Sym) -> Option<i64>
+    ensures said { result ≡ decided.exact_integer state.now.facts s.0 }
+    ensures small { IfSome result (IsWithin (2 ^ 45)) }
 {
     match state.exact_integer(s) {
-        Some(n) => Ok(on_symbol(state, s, at_least(alloc, Term::Value(s.0), n as i64)?)),
-        None => Ok(None),
+        Some(n) => Some(n as i64),
+        None => None,
     }
 }
 
-/// An exact integer is at most itself.
-fn exact_high(alloc: Global, state: &State, s: Sym) -> Result<Option<Row>, NoMemory>
-    ensures said { IfOk result (λ row. row ≡ rule.on_symbol state.now s
-        (option_map (rule.at_most (Term.Value s.0)) (decided.exact_integer state.now.facts s.0))) }
-    ensures small { IfOk result (λ row. IfSome row IsSmall) }
-{
-    match state.exact_integer(s) {
-        Some(n) => Ok(on_symbol(state, s, at_most(alloc, Term::Value(s.0), n as i64)?)),
-        None => Ok(None),
-    }
-}
-
-/// A term of a symbol known nonblank is at least 1.
-fn nonblank(alloc: Global, state: &State, s: Sym, term: Term) -> Result<Option<Row>, NoMemory>
-    ensures said { IfOk result (λ row. row ≡ rule.on_symbol state.now s
-        (if decided.is_known_nonblank state.now.facts s.0 then Some (rule.at_least term (pos 1)) else None)) }
-    ensures small { IfOk result (λ row. IfSome row IsSmall) }
+/// The least length of a string known nonblank, and its least number of names.
+fn ink(state: &State, s: Sym) -> Option<i64>
+    ensures said { result ≡ (if decided.is_known_nonblank state.now.facts s.0 then Some (pos 1) else None) }
+    ensures small { IfSome result (IsWithin (2 ^ 45)) }
 {
     if state.is_known_nonblank(s) {
-        Ok(on_symbol(state, s, at_least(alloc, term, 1)?))
+        Some(1)
     } else {
-        Ok(None)
+        None
     }
 }
 
-/// The length of an exact text is at least what it is.
-fn text_low(alloc: Global, state: &State, s: Sym) -> Result<Option<Row>, NoMemory>
-    requires { All HasShortText state.now.facts }
-    ensures said { IfOk result (λ row. row ≡ rule.on_symbol state.now s
-        (option_map (λ text. rule.at_least (Term.Length s.0) (pos (length text))) (decided.exact_text state.now.facts s.0))) }
-    ensures small { IfOk result (λ row. IfSome row IsSmall) }
+/// The length of an exact text.
+fn text_length(state: &State, s: Sym) -> Option<i64>
+    requires { HasBounds state.now }
+    ensures said { result ≡ option_map (λ text. pos (length text)) (decided.exact_text state.now.facts s.0) }
+    ensures small { IfSome result (IsWithin (2 ^ 45)) }
 {
     match state.exact_text(s) {
-        Some(text) => Ok(on_symbol(
-            state,
-            s,
-            at_least(alloc, Term::Length(s.0), text.len() as i64)?,
-        )),
-        None => Ok(None),
-    }
-}
-
-/// The length of an exact text is at most what it is.
-fn text_high(alloc: Global, state: &State, s: Sym) -> Result<Option<Row>, NoMemory>
-    requires { All HasShortText state.now.facts }
-    ensures said { IfOk result (λ row. row ≡ rule.on_symbol state.now s
-        (option_map (λ text. rule.at_most (Term.Length s.0) (pos (length text))) (decided.exact_text state.now.facts s.0))) }
-    ensures small { IfOk result (λ row. IfSome row IsSmall) }
-{
-    match state.exact_text(s) {
-        Some(text) => Ok(on_symbol(
-            state,
-            s,
-            at_most(alloc, Term::Length(s.0), text.len() as i64)?,
-        )),
-        None => Ok(None),
-    }
-}
-
-/// At an entry, the number of entries visited before is at least 0.
-fn pos_low(alloc: Global, at_entry: bool) -> Result<Option<Row>, NoMemory>
-    ensures said { IfOk result (λ row. row ≡ (if at_entry then Some (rule.at_least Term.Pos (pos 0)) else None)) }
-    ensures small { IfOk result (λ row. IfSome row IsSmall) }
-{
-    if at_entry {
-        Ok(Some(at_least(alloc, Term::Pos, 0)?))
-    } else {
-        Ok(None)
-    }
-}
-
-/// At an entry, the number of entries visited before is below the number of entries.
-fn pos_high(alloc: Global, at_entry: bool) -> Result<Option<Row>, NoMemory>
-    ensures said { IfOk result (λ row. row ≡ (if at_entry then Some (rule.exceeds Term.Count Term.Pos (pos 1)) else None)) }
-    ensures small { IfOk result (λ row. IfSome row IsSmall) }
-{
-    if at_entry {
-        Ok(Some(exceeds(alloc, Term::Count, Term::Pos, 1)?))
-    } else {
-        Ok(None)
+        Some(text) => Some(text.len() as i64),
+        None => None,
     }
 }
 
@@ -184,14 +176,7 @@ pub fn at_least(alloc: Global, term: Term, n: i64) -> Result<Row, NoMemory>
     ensures small { IfOk result IsSmall }
     ensures bounded { IfOk result IsBounded }
 {
-    let part = Part {
-        coefficient: 1,
-        term,
-    };
-    Ok(Row {
-        constant: -n,
-        parts: Seq::from_vec([part].to_vec(alloc)?),
-    })
+    of_term(alloc, -n, 1, term)
 }
 
 /// A term is at most a number.
@@ -201,12 +186,23 @@ pub fn at_most(alloc: Global, term: Term, n: i64) -> Result<Row, NoMemory>
     ensures small { IfOk result IsSmall }
     ensures bounded { IfOk result IsBounded }
 {
+    of_term(alloc, n, -1, term)
+}
+
+/// A number and a term, of which a bound takes the one and leaves the other.
+fn of_term(alloc: Global, constant: i64, sign: i64, term: Term) -> Result<Row, NoMemory>
+    requires constant { IsWithin (2 ^ 45) constant }
+    requires sign { IsWithin 1 sign }
+    ensures said { IfOk result (λ row. row ≡ record { constant = constant; parts = part sign term ∷ [] }) }
+    ensures small { IfOk result IsSmall }
+    ensures bounded { IfOk result IsBounded }
+{
     let part = Part {
-        coefficient: -1,
+        coefficient: sign,
         term,
     };
     Ok(Row {
-        constant: n,
+        constant,
         parts: Seq::from_vec([part].to_vec(alloc)?),
     })
 }

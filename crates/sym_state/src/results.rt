@@ -62,9 +62,9 @@ fn row(constant: i64, parts: Vec<Part>) -> Row
 
 /// Parts and one more: it is added to the first part with its term, or else comes last, and what comes to zero is left
 /// out.
-fn and_part(alloc: Global, parts: &[Part], more: Part) -> Result<Vec<Part>, NoMemory>
-    requires parts { All (λ part. IsWithin (2 ^ 42) part.coefficient) parts.now }
-    requires more { IsWithin (2 ^ 40) more.coefficient }
+pub fn and_part(alloc: Global, parts: &[Part], more: Part) -> Result<Vec<Part>, NoMemory>
+    requires parts { All (λ part. IsWithin (2 ^ 45) part.coefficient) parts.now }
+    requires more { IsWithin (2 ^ 45) more.coefficient }
     ensures { IfOk result (λ all. all.items ≡ rule.and_part more.coefficient more.term parts.now) }
 {
     let mut all = Vec::new(alloc);
@@ -85,8 +85,8 @@ fn with_rest(
     first: Part,
     rest: &[Part],
 ) -> Result<Vec<Part>, NoMemory>
-    requires first { IsWithin (2 ^ 42) first.coefficient }
-    requires more { IsWithin (2 ^ 40) more.coefficient }
+    requires first { IsWithin (2 ^ 45) first.coefficient }
+    requires more { IsWithin (2 ^ 45) more.coefficient }
     ensures { IfOk result (λ all. all.items
         ≡ (passed.items ++ rule.kept_part (more.coefficient +ℤ first.coefficient) more.term []) ++ rest.now) }
 {

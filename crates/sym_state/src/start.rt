@@ -2,13 +2,10 @@
 
 ghost use Rattle.std.specs.Prelude.{◌≡◌, ◌+◌, ◌<◌, ◌++◌, List, Some, length, map, nat_eq, OnOk, IfOk};
 ghost use Rattle.std.specs.List.{All, filter, flat_map, list_any};
-ghost use Rattle.bst_meaning.specs.Config.{Config};
 ghost use Rattle.bst_meaning.specs.StyleParts.{kind_of};
-ghost use Rattle.bst_meaning.specs.declared.entry.EntryList.{EntryList};
-ghost use Rattle.bst_meaning.specs.declared.value.Value.{Value};
 ghost use Rattle.sym_state.specs.Opening.{CanStart, StandsOpen};
 ghost use Rattle.sym_state.specs.Starting as rule;
-ghost use Rattle.sym_state.specs.Symbols.{Valuation};
+ghost use Rattle.sym_state.specs.Subjects.{Config, EntryList, Valuation, Value};
 ghost use Rattle.sym_state.specs.WellMade as made;
 
 use crate::bindings::symbol_at;
@@ -52,12 +49,13 @@ pub fn start(
     add_own_facts(&mut facts, style, cond, binds.as_slice())?;
     let mut rows = from.rows;
     add_own_rows(alloc, &mut rows, style, cond, binds.as_slice())?;
+    let (variables, fields) = parted(alloc, style, at_entry, binds.as_slice())?;
     let parts = Parts {
         stack: Seq::from_vec(from.stack),
         whole,
         at_entry,
-        vars: Seq::from_vec(variables(alloc, style, at_entry, binds.as_slice())?),
-        fields: Seq::from_vec(fields(alloc, style, at_entry, binds.as_slice())?),
+        vars: Seq::from_vec(variables),
+        fields: Seq::from_vec(fields),
         facts: Seq::from_vec(facts),
         rows: Seq::from_vec(rows),
         next,
@@ -136,42 +134,29 @@ pub fn seats(
     Ok((all, next))
 }
 
-/// The bindings of variables.
-fn variables(
+/// The bindings of variables, and those of fields.
+fn parted(
     alloc: Global,
     style: &Style,
     at_entry: bool,
     binds: &[Bind],
-) -> Result<Vec<Bind>, NoMemory>
+) -> Result<(Vec<Bind>, Vec<Bind>), NoMemory>
     requires { All (λ bind. bind.name.0 < length style.now.names) binds.now }
-    ensures { IfOk result (λ found. found.items ≡ filter (rule.has_kind style.now (made.is_variable at_entry)) binds.now) }
+    ensures variables { IfOk result (λ found. found.0.items ≡ filter (rule.has_kind style.now (made.is_variable at_entry)) binds.now) }
+    ensures fields { IfOk result (λ found. found.1.items ≡ filter (rule.has_kind style.now (made.is_field at_entry)) binds.now) }
 {
-    let mut found = Vec::new(alloc);
+    let mut variables = Vec::new(alloc);
+    let mut fields = Vec::new(alloc);
     for bind in binds {
-        if is_variable(at_entry, style.names.kind(bind.name)) {
-            found.push(*bind)?;
+        let kind = style.names.kind(bind.name);
+        if is_variable(at_entry, kind) {
+            variables.push(*bind)?;
+        }
+        if is_field(at_entry, kind) {
+            fields.push(*bind)?;
         }
     }
-    Ok(found)
-}
-
-/// The bindings of fields.
-fn fields(
-    alloc: Global,
-    style: &Style,
-    at_entry: bool,
-    binds: &[Bind],
-) -> Result<Vec<Bind>, NoMemory>
-    requires { All (λ bind. bind.name.0 < length style.now.names) binds.now }
-    ensures { IfOk result (λ found. found.items ≡ filter (rule.has_kind style.now (made.is_field at_entry)) binds.now) }
-{
-    let mut found = Vec::new(alloc);
-    for bind in binds {
-        if is_field(at_entry, style.names.kind(bind.name)) {
-            found.push(*bind)?;
-        }
-    }
-    Ok(found)
+    Ok((variables, fields))
 }
 
 /// Adds the facts that each variable and field gives.

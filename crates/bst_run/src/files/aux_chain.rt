@@ -1,14 +1,12 @@
 //! The `.aux` file of a run and its inputs.
 
 ghost use Rattle.std.specs.Prelude.{◌≡◌, ◌≤◌, length, IfOk, IfErr};
-ghost use Rattle.aux_read.specs.FileNames.{GivesFileNames, IsFileName};
-ghost use Rattle.aux_read.specs.Keys.{HaveKeys};
-ghost use Rattle.entry_list.specs.Keys.{AreCitations};
 ghost use Rattle.bst_run.specs.AuxChain as chain;
 ghost use Rattle.bst_run.specs.FileNames.{NamesFiles, NeedsFiles};
 ghost use Rattle.bst_run.specs.FilesBegun.{Begins, aux_begun, file_begun, input_begun, inputs_begun, needs_begun};
 ghost use Rattle.bst_run.specs.Reads.{Reads};
 ghost use Rattle.bst_run.specs.Stops as stops;
+ghost use Rattle.bst_run.specs.Subjects.{AreCitations, GivesFileNames, HaveKeys, IsFileName};
 
 use crate::data_fault::DataFault;
 use crate::files::names::text_of;

@@ -2,8 +2,8 @@
 
 ghost use Rattle.std.specs.Prelude.{◌≡◌, IfOk};
 ghost use Rattle.std.specs.String.{string_bytes};
-ghost use Rattle.aux_read.specs.FileNames.{IsFileName};
 ghost use Rattle.bst_run.specs.Files as file;
+ghost use Rattle.bst_run.specs.Subjects.{IsFileName};
 
 use bv_base::memory::NoMemory;
 use bv_base::text::Text;

@@ -1,9 +1,9 @@
 //! What `.aux` files ask for together.
 
 ghost use Rattle.std.specs.Prelude.{◌≡◌, IfSome};
-ghost use Rattle.aux_read.specs.FileNames.{AreFileNames, IsFileName};
 ghost use Rattle.bst_run.specs.FileNames.{NamesFiles};
 ghost use Rattle.bst_run.specs.Requests as requests;
+ghost use Rattle.bst_run.specs.Subjects.{AreFileNames, IsFileName};
 
 use crate::data_fault::DataFault;
 use aux_read::aux::{Aux, AuxItem};

@@ -1,17 +1,13 @@
 //! All that a run reads.
 
 ghost use Rattle.std.specs.Prelude.{◌≡◌, ◌≤◌, codes, length, IfOk, IfErr};
-ghost use Rattle.aux_read.specs.FileNames.{AreFileNames, IsFileName};
-ghost use Rattle.bib_read.specs.Additions.{AreKeyed};
-ghost use Rattle.bib_read.specs.Reading.{database_of};
-ghost use Rattle.entry_list.specs.Keys.{AreCitations};
-ghost use Rattle.name_table.specs.Sound.{IsSound};
 ghost use Rattle.bst_run.specs.FileNames.{NeedsFiles};
 ghost use Rattle.bst_run.specs.Files as file;
 ghost use Rattle.bst_run.specs.FilesBegun.{Begins, databases_begun, file_begun, sources_begun, sources_begun_for};
 ghost use Rattle.bst_run.specs.Sources as rule;
 ghost use Rattle.bst_run.specs.Reads.{Reads};
 ghost use Rattle.bst_run.specs.Stops as stops;
+ghost use Rattle.bst_run.specs.Subjects.{AreCitations, AreFileNames, AreKeyed, IsFileName, IsSound, database_of};
 
 use crate::data_fault::DataFault;
 use crate::files::aux_chain::needs_of;

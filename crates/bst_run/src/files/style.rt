@@ -1,10 +1,9 @@
 //! Styles that are read.
 
 ghost use Rattle.std.specs.Prelude.{◌≤◌, length, IfOk, IfErr};
-ghost use Rattle.bst_parse.specs.Reading.{style_of};
-ghost use Rattle.name_table.specs.Sound.{IsSound};
 ghost use Rattle.bst_run.specs.Sources.{read_style};
 ghost use Rattle.bst_run.specs.Stops.{Decides, IsInside};
+ghost use Rattle.bst_run.specs.Subjects.{IsSound, style_of};
 
 use crate::report::bad_style;
 use crate::stop::Stop;

@@ -32,29 +32,29 @@ macro_rules! begins {
 const TREE: &[File] = &[
     file_of!(
         "p.aux",
-        b"\\@input{i.aux}\n\\@input{j.aux}\n\\bibstyle{a}\n\\bibdata{d,e}\n"
+        "\\@input{i.aux}\n\\@input{j.aux}\n\\bibstyle{a}\n\\bibdata{d,e}\n"
     ),
-    file_of!("i.aux", b"\\@input{k.aux}\n"),
-    file_of!("j.aux", b"\\citation{k}\n"),
-    file_of!("k.aux", b""),
+    file_of!("i.aux", "\\@input{k.aux}\n"),
+    file_of!("j.aux", "\\citation{k}\n"),
+    file_of!("k.aux", ""),
     file_of!("a.bst", JOINS),
-    file_of!("e.bib", b""),
+    file_of!("e.bib", ""),
 ];
 
 /// A file without inputs.
 const LEAF: &[File] = &[
-    file_of!("q.aux", b"\\bibstyle{a}\n\\bibdata{e}\n"),
+    file_of!("q.aux", "\\bibstyle{a}\n\\bibdata{e}\n"),
     file_of!("a.bst", JOINS),
-    file_of!("e.bib", b""),
+    file_of!("e.bib", ""),
 ];
 
 /// A file that inputs itself, and names a style.
-const ITSELF: &[File] = &[file_of!("p.aux", b"\\@input{p.aux}\n")];
+const ITSELF: &[File] = &[file_of!("p.aux", "\\@input{p.aux}\n")];
 
 /// An input that names a second style, and has an input of its own.
 const SECOND_STYLE: &[File] = &[
-    file_of!("p.aux", b"\\bibstyle{a}\n\\@input{i.aux}\n"),
-    file_of!("i.aux", b"\\@input{k.aux}\n\\bibstyle{a}\n"),
+    file_of!("p.aux", "\\bibstyle{a}\n\\@input{i.aux}\n"),
+    file_of!("i.aux", "\\@input{k.aux}\n\\bibstyle{a}\n"),
 ];
 
 static BEGINNINGS: [Beginning; 15] = [

@@ -1,68 +1,106 @@
 //! Runs over bad data, and inputs that nest.
 
 use crate::tests::run::{KEYS, ONE};
-use crate::tests::{Example, Failing, File};
+use crate::tests::{Example, Failing, File, compare};
 use bv_base::status::Status;
+use std::test::Fail;
 
-/// Databases, each at fault.
-pub static BAD_DATABASES: [Example; 5] = [
-    ran!(ONE, b"", KEYS, b"@misc k", "9" => BadData, "", "bad data d.bib 1:7 Expected\n"),
-    ran!(ONE, b"", KEYS, b"@misc{k, a = {x}", "9" => BadData, "", "bad data d.bib 1:17 EndOfFile\n"),
-    ran!(ONE, b"", KEYS, b"@misc{k, a = \"}\"}", "9" => BadData, "", "bad data d.bib 1:15 Unbalanced\n"),
-    ran!(ONE, b"", KEYS, b"@misc{k}\n@misc{K}\n", "9" => BadData, "", "bad data d.bib 2:7 RepeatedKey\n"),
+/// What is answered to a run whose `.aux` file, input or database is at fault.
+macro_rules! unread {
+    ($aux:expr, $input:expr, $data:expr => $fault:literal) => {
+        ran!($aux, $input, KEYS, $data, "9" => BadData, "", concat!("bad data ", $fault, "\n"))
+    };
+}
+
+/// What is answered where the database is.
+macro_rules! bad_data {
+    ($aux:expr, $data:expr => $fault:literal) => {
+        unread!($aux, "", $data => $fault)
+    };
+}
+
+/// What is answered where the `.aux` file is, or its input.
+macro_rules! bad_aux {
+    ($aux:expr => $fault:literal) => {
+        bad_aux!($aux, "" => $fault)
+    };
+    ($aux:expr, $input:expr => $fault:literal) => {
+        unread!($aux, $input, "" => $fault)
+    };
+}
+
+#[test]
+fn bad_data_is_named_with_its_place(rt: HostRuntime) -> Result<(), Fail> {
+    compare(&rt, rt.alloc(), &UNREAD)
+}
+
+/// Databases, each at fault, and then `.aux` files.
+static UNREAD: [Example; 16] = [
+    bad_data!(ONE, "@misc k" => "d.bib 1:7 Expected"),
+    bad_data!(ONE, "@misc{k, a = {x}" => "d.bib 1:17 EndOfFile"),
+    bad_data!(ONE, "@misc{k, a = \"}\"}" => "d.bib 1:15 Unbalanced"),
+    bad_data!(ONE, "@misc{k}\n@misc{K}\n" => "d.bib 2:7 RepeatedKey"),
     // A database that is named twice is read twice.
-    ran!(b"\\bibstyle{s}\n\\bibdata{d,d.bib}", b"", KEYS, b"\n@misc{k}\n", "9" => BadData, "", "bad data d.bib 2:7 RepeatedKey\n"),
-];
-
-/// `.aux` files, each at fault.
-pub static BAD_AUX: [Example; 11] = [
-    ran!(b"\n\\citation{a", b"", KEYS, b"", "9" => BadData, "", "bad data p.aux 2:1 BadCommand\n"),
-    ran!(b"\\bibstyle{s}\n\\bibstyle{s}\n", b"", KEYS, b"", "9" => BadData, "", "bad data p.aux 2:1 SecondStyle\n"),
-    ran!(b"\\bibdata{d}\n\\bibdata{d}\n", b"", KEYS, b"", "9" => BadData, "", "bad data p.aux 2:1 SecondData\n"),
+    bad_data!("\\bibstyle{s}\n\\bibdata{d,d.bib}", "\n@misc{k}\n" => "d.bib 2:7 RepeatedKey"),
+    bad_aux!("\n\\citation{a" => "p.aux 2:1 BadCommand"),
+    bad_aux!("\\bibstyle{s}\n\\bibstyle{s}\n" => "p.aux 2:1 SecondStyle"),
+    bad_aux!("\\bibdata{d}\n\\bibdata{d}\n" => "p.aux 2:1 SecondData"),
     // A style and databases are wanted, the style first, at the end of the first file and after its inputs.
-    ran!(b"", b"", KEYS, b"", "9" => BadData, "", "bad data p.aux 1:1 NoStyle\n"),
-    ran!(b"\\bibdata{d}\n", b"", KEYS, b"", "9" => BadData, "", "bad data p.aux 2:1 NoStyle\n"),
-    ran!(b"\\@input{i.aux}\n\\bibstyle{s}", b"\n\n", KEYS, b"", "9" => BadData, "", "bad data p.aux 2:13 NoData\n"),
+    bad_aux!("" => "p.aux 1:1 NoStyle"),
+    bad_aux!("\\bibdata{d}\n" => "p.aux 2:1 NoStyle"),
+    bad_aux!("\\@input{i.aux}\n\\bibstyle{s}", "\n\n" => "p.aux 2:13 NoData"),
     // An input is read later, so it is at fault, at the first of its lines that is.
-    ran!(b"\\bibstyle{s}\n\\@input{i.aux}\n", b"\n\\bibstyle{s}\n", KEYS, b"", "9" => BadData, "", "bad data i.aux 2:1 SecondStyle\n"),
-    ran!(b"\\@input{i.aux}\n\\bibdata{d}\n", b"\\bibdata{d}\n", KEYS, b"", "9" => BadData, "", "bad data i.aux 1:1 SecondData\n"),
-    ran!(b"\\bibstyle{s}\n\\bibdata{d}\n\\@input{i.aux}\n", b"\\bibdata{d}\n\\bibstyle{s}\n", KEYS, b"", "9" => BadData, "", "bad data i.aux 1:1 SecondData\n"),
-    ran!(b"\\bibstyle{s}\n\\@input{i.aux}\n", b"\\bibstyle{s}\n\\citation{}\n", KEYS, b"", "9" => BadData, "", "bad data i.aux 2:1 BadCommand\n"),
+    bad_aux!("\\bibstyle{s}\n\\@input{i.aux}\n", "\n\\bibstyle{s}\n" => "i.aux 2:1 SecondStyle"),
+    bad_aux!("\\@input{i.aux}\n\\bibdata{d}\n", "\\bibdata{d}\n" => "i.aux 1:1 SecondData"),
+    bad_aux!("\\bibstyle{s}\n\\bibdata{d}\n\\@input{i.aux}\n", "\\bibdata{d}\n\\bibstyle{s}\n" => "i.aux 1:1 SecondData"),
+    bad_aux!("\\bibstyle{s}\n\\@input{i.aux}\n", "\\bibstyle{s}\n\\citation{}\n" => "i.aux 2:1 BadCommand"),
     // A file that inputs itself nests too deep.
-    ran!(b"\\citation{a}\n\\@input{p.aux}\n", b"", KEYS, b"", "9" => BadData, "", "bad data p.aux 2:1 TooDeep\n"),
+    bad_aux!("\\citation{a}\n\\@input{p.aux}\n" => "p.aux 2:1 TooDeep"),
 ];
 
-/// A file for each depth below 16, each with the next as an input. The first also asks for the style and the database.
-const NEST: &[File] = &[
-    file_of!("s.bst", KEYS),
-    file_of!("d.bib", b"@misc{a}@misc{b}@misc{c}"),
-    file_of!(
-        "p.aux",
-        b"\\bibstyle{s}\n\\citation{a}\n\\@input{q1.aux}\n\\citation{b}\n\\bibdata{d}\n"
-    ),
-    file_of!("q1.aux", b"\\@input{q2.aux}\n"),
-    file_of!("q2.aux", b"\\@input{q3.aux}\n"),
-    file_of!("q3.aux", b"\\@input{q4.aux}\n"),
-    file_of!("q4.aux", b"\\@input{q5.aux}\n"),
-    file_of!("q5.aux", b"\\@input{q6.aux}\n"),
-    file_of!("q6.aux", b"\\@input{q7.aux}\n"),
-    file_of!("q7.aux", b"\\@input{q8.aux}\n"),
-    file_of!("q8.aux", b"\\@input{q9.aux}\n"),
-    file_of!("q9.aux", b"\\@input{q10.aux}\n"),
-    file_of!("q10.aux", b"\\@input{q11.aux}\n"),
-    file_of!("q11.aux", b"\\@input{q12.aux}\n"),
-    file_of!("q12.aux", b"\\@input{q13.aux}\n"),
-    file_of!("q13.aux", b"\\@input{q14.aux}\n"),
-    file_of!("q14.aux", b"\\@input{q15.aux}\n"),
-    file_of!("q15.aux", b"\\@input{q16.aux}\n"),
-];
+/// The style, the database, the first file, which asks for both, and a file for each of these depths, with that of the depth behind
+/// it as its input.
+macro_rules! nest {
+    ($($depth:literal > $next:literal),*) => {
+        &[
+            file_of!("s.bst", KEYS),
+            file_of!("d.bib", "@misc{a}@misc{b}@misc{c}"),
+            file_of!("p.aux", "\\bibstyle{s}\n\\citation{a}\n\\@input{q1.aux}\n\\citation{b}\n\\bibdata{d}\n"),
+            $(file_of!(concat!("q", $depth, ".aux"), concat!("\\@input{q", $next, ".aux}\n")),)*
+        ]
+    };
+}
+
+/// The files of all depths below 16.
+const NEST: &[File] = nest!(
+    1 > 2,
+    2 > 3,
+    3 > 4,
+    4 > 5,
+    5 > 6,
+    6 > 7,
+    7 > 8,
+    8 > 9,
+    9 > 10,
+    10 > 11,
+    11 > 12,
+    12 > 13,
+    13 > 14,
+    14 > 15,
+    15 > 16
+);
+
+#[test]
+fn inputs_nest_sixteen_deep(rt: HostRuntime) -> Result<(), Fail> {
+    compare(&rt, rt.alloc(), &NESTED)
+}
 
 /// The file of depth 16.
-pub static NESTED: [Example; 4] = [
+static NESTED: [Example; 4] = [
     // What an input cites takes its place among the citations.
-    nested!(b"\\citation{c}\n" => Done, "a\nc\nb\n", ""),
-    nested!(b"\\@input{x}\n" => BadData, "", "bad data q16.aux 1:1 TooDeep\n"),
+    nested!("\\citation{c}\n" => Done, "a\nc\nb\n", ""),
+    nested!("\\@input{x}\n" => BadData, "", "bad data q16.aux 1:1 TooDeep\n"),
     // The earlier line is at fault.
-    nested!(b"\n\\@input{x}\n\\bibstyle{s}\n" => BadData, "", "bad data q16.aux 2:1 TooDeep\n"),
-    nested!(b"\n\\bibdata{s}\n\\@input{x}\n" => BadData, "", "bad data q16.aux 2:1 SecondData\n"),
+    nested!("\n\\@input{x}\n\\bibstyle{s}\n" => BadData, "", "bad data q16.aux 2:1 TooDeep\n"),
+    nested!("\n\\bibdata{s}\n\\@input{x}\n" => BadData, "", "bad data q16.aux 2:1 SecondData\n"),
 ];

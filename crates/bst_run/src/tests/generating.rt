@@ -1,14 +1,8 @@
 //! Styles that are made. The first is worked by hand; the bytes of the others were counted outside of the program.
 
-use crate::command::command;
 use crate::generating::generate;
-use crate::tests::words::USAGE;
-use crate::tests::{Example, Failing, compare, owned};
-use bv_base::mem_files::MemFiles;
-use bv_base::mem_sink::MemSink;
+use crate::tests::{Example, Failing, compare};
 use bv_base::status::Status;
-use std::alloc::Global;
-use std::process::Abort;
 use std::test::Fail;
 
 /// The style of seed 3 and five functions, by the numbers 1163074432, 465823161, 679304702, 544774495 and 1351511980: the choices
@@ -28,26 +22,27 @@ ITERATE{f4}
 ITERATE{f5}
 ";
 
-/// A seed, a number of functions, and the bytes of the style that is made.
-#[derive(Clone, Copy)]
-struct Made {
-    seed: &'static str,
-    count: &'static str,
-    bytes: &'static str,
+#[test]
+fn a_style_is_made_from_a_seed(rt: HostRuntime) -> Result<(), Fail> {
+    let text = generate(rt.alloc(), 3, 5)?;
+    assert_eq!(&rt; text.as_slice(), FIVE.as_bytes());
+    Ok(())
 }
 
+/// What is answered for a seed and a number of functions: that number, and the bytes of the style that is made.
 macro_rules! made {
-    ($seed:expr, $count:expr => $bytes:expr) => {
-        Made {
-            seed: $seed,
-            count: $count,
-            bytes: $bytes,
-        }
+    ($seed:literal, $count:literal => $bytes:literal) => {
+        told!(["gen", $seed, $count], [] => Done, concat!("functions ", $count, "\nbytes ", $bytes, "\naccepted\n"), "")
     };
 }
 
+#[test]
+fn styles_that_are_made_are_shown(rt: HostRuntime) -> Result<(), Fail> {
+    compare(&rt, rt.alloc(), &MADE)
+}
+
 /// Styles that are read and shown: no seed was found for which that fails.
-static MADE: [Made; 20] = [
+static MADE: [Example; 20] = [
     made!("0", "1" => "123"),
     made!("0", "2" => "197"),
     made!("1", "2" => "209"),
@@ -70,61 +65,3 @@ static MADE: [Made; 20] = [
     made!("999999998", "30" => "1845"),
     made!("999999999", "30" => "1740"),
 ];
-
-/// Numbers that the words may have and may not, and sinks that fail. No file is begun, so none can fail.
-static WORDS: [Example; 18] = [
-    answered!(["gen", "1", "1"], &[], Failing::Nothing => Done, "functions 1\nbytes 129\naccepted\n", ""),
-    answered!(["gen", "0", "1"], &[], Failing::Files(1) => Done, "functions 1\nbytes 123\naccepted\n", ""),
-    answered!(["gen", "999999999", "1"], &[], Failing::Nothing => Done, "functions 1\nbytes 95\naccepted\n", ""),
-    answered!(["gen", "1", "1"], &[], Failing::Out => WriteFailed, "", ""),
-    answered!(["gen", "1", "1"], &[], Failing::Err => Done, "functions 1\nbytes 129\naccepted\n", ""),
-    answered!(["gen", "1", "0"], &[], Failing::Nothing => Usage, "", USAGE),
-    answered!(["gen", "1", "0"], &[], Failing::Err => WriteFailed, "", ""),
-    answered!(["gen", "1", "2001"], &[], Failing::Nothing => Usage, "", USAGE),
-    answered!(["gen", "1", "01"], &[], Failing::Nothing => Usage, "", USAGE),
-    answered!(["gen", "01", "1"], &[], Failing::Nothing => Usage, "", USAGE),
-    answered!(["gen", "00", "1"], &[], Failing::Nothing => Usage, "", USAGE),
-    answered!(["gen", "1000000000", "1"], &[], Failing::Nothing => Usage, "", USAGE),
-    answered!(["gen", "4294967296", "1"], &[], Failing::Nothing => Usage, "", USAGE),
-    answered!(["gen", "-1", "1"], &[], Failing::Nothing => Usage, "", USAGE),
-    answered!(["gen", "", "1"], &[], Failing::Nothing => Usage, "", USAGE),
-    answered!(["gen", "1"], &[], Failing::Nothing => Usage, "", USAGE),
-    answered!(["gen", "1", "1", "1"], &[], Failing::Nothing => Usage, "", USAGE),
-    answered!(["Gen", "1", "1"], &[], Failing::Nothing => Usage, "", USAGE),
-];
-
-#[test]
-fn numbers_of_seeds_and_functions_have_one_spelling(rt: HostRuntime) -> Result<(), Fail> {
-    compare(&rt, rt.alloc(), &WORDS)
-}
-
-#[test]
-fn a_style_is_made_from_a_seed(rt: HostRuntime) -> Result<(), Fail> {
-    let text = generate(rt.alloc(), 3, 5)?;
-    assert_eq!(&rt; text.as_slice(), FIVE.as_bytes());
-    Ok(())
-}
-
-#[test]
-fn styles_that_are_made_are_shown(rt: HostRuntime) -> Result<(), Fail> {
-    for row in &MADE {
-        compare_made(&rt, rt.alloc(), row)?;
-    }
-    Ok(())
-}
-
-/// Asserts what is answered for a seed and a number of functions.
-fn compare_made(rt: &impl Abort, alloc: Global, row: &Made) -> Result<(), Fail> {
-    let count = row.count;
-    let bytes = row.bytes;
-    let words = owned(alloc, &["gen", row.seed, count])?;
-    let wanted = format!(in alloc; "functions {count}\nbytes {bytes}\naccepted\n")?;
-    let mut files = MemFiles::new(alloc);
-    let mut out = MemSink::new(alloc);
-    let mut err = MemSink::new(alloc);
-    let status = command(alloc, words.as_slice(), &mut files, &mut out, &mut err);
-    assert_eq!(rt; err.bytes(), b"".as_slice());
-    assert_eq!(rt; out.bytes(), wanted.as_bytes());
-    assert_eq!(rt; status, Status::Done);
-    Ok(())
-}

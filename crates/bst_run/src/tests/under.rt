@@ -1,25 +1,16 @@
 //! Runs under certificates.
 
-use crate::tests::check::{JOINS, NO_ENTRIES};
+use crate::tests::check::{JOINS, NINES, NO_ENTRIES};
 use crate::tests::run::{KEYS, ONE, TYPES, ZZ};
-use crate::tests::{Example, Failing, File};
+use crate::tests::{Example, Failing, File, compare};
 use bv_base::status::Status;
+use std::test::Fail;
 
-/// Lets in entries of every type.
-const NINES: &[u8] =
-    b"bstcert 1\nentries 9\nkey 9\npreamble 9\nlength 9\nothertype yes\nend\ndone\n";
-
-/// The same, and entries of the style's own type `misc`.
-const MISC: &[u8] =
-    b"bstcert 1\nentries 9\nkey 9\npreamble 9\nlength 9\ntype misc\nothertype yes\nend\ndone\n";
-
-/// Enters the function of each entry's type once more while it is running.
-const AGAIN: &[u8] =
-    b"ENTRY{}{}{} INTEGERS{n} FUNCTION{misc}{cite$ write$ newline$ n #0 > {#0 'n := call.type$} 'skip$ if$} FUNCTION{f}{#1 'n := call.type$} READ ITERATE{f}";
-
-/// Its summary is used in its own check.
-const AGAIN_CERT: &[u8] =
-    b"bstcert 1\nentries 9\nkey 9\npreamble 9\nlength 9\ntype misc\nothertype no\nend\nsummary misc\nentry\nwrites n\npre\npost\nhints\nkeep\nkeep\nuse 0\ncase 0\ncase 0\nend\ncommand 5\nhints\nuse 0\nend\ndone\n";
+/// Lets in entries of every type, those of the style's own type `misc` too.
+const MISC: &str = cert!(
+    "entries 9\nkey 9\npreamble 9\nlength 9\ntype misc\nothertype yes\n",
+    ""
+);
 
 /// What is answered to a run of so many steps under a certificate over the files `p.aux`, `s.bst`, `d.bib` and `b.cert`.
 macro_rules! under {
@@ -32,57 +23,79 @@ macro_rules! under {
     };
 }
 
+#[test]
+fn a_run_under_a_certificate_tells_of_its_condition(rt: HostRuntime) -> Result<(), Fail> {
+    compare(&rt, rt.alloc(), &UNDER)
+}
+
 /// Whether the entries meet the condition stands before all warnings, also where the steps are taken.
-pub static UNDER: [Example; 10] = [
-    under!(ONE, TYPES, b"@misc{k}\n", MISC, "1000" => Done, "x\n", "inside\n"),
-    under!(ONE, TYPES, b"@output{k}\n", MISC, "1000" => Fault, "", "outside\nunmet k othertype yes\nfault 1:30 EmptyPop k\n"),
-    under!(ONE, KEYS, b"@misc{k}", NO_ENTRIES, "99" => Done, "k\n", "outside\nunmet - entries 0\n"),
-    under!(b"\\citation{longer.key}\n\\bibstyle{s}\n\\bibdata{d}\n", KEYS, b"@misc{longer.key}", NINES, "99" => Done, "longer.key\n", "outside\nunmet longer.key key 9\n"),
-    under!(ZZ, JOINS, b"", NINES, "11" => Done, "ab\n", "inside\nWarning--no entry zz\n"),
-    under!(ZZ, JOINS, b"", NINES, "10" => Budget, "ab\n", "inside\nWarning--no entry zz\nbudget 10\n"),
-    under!(ONE, AGAIN, b"@misc{k}", AGAIN_CERT, "99" => Done, "k\nk\n", "inside\n"),
+static UNDER: [Example; 10] = [
+    under!(ONE, TYPES, "@misc{k}\n", MISC, "1000" => Done, "x\n", "inside\n"),
+    under!(ONE, TYPES, "@output{k}\n", MISC, "1000" => Fault, "", "outside\nunmet k othertype yes\nfault 1:30 EmptyPop k\n"),
+    under!(ONE, KEYS, "@misc{k}", NO_ENTRIES, "99" => Done, "k\n", "outside\nunmet - entries 0\n"),
+    under!("\\citation{longer.key}\n\\bibstyle{s}\n\\bibdata{d}\n", KEYS, "@misc{longer.key}", NINES, "99" => Done, "longer.key\n", "outside\nunmet longer.key key 9\n"),
+    under!(ZZ, JOINS, "", NINES, "11" => Done, "ab\n", "inside\nWarning--no entry zz\n"),
+    under!(ZZ, JOINS, "", NINES, "10" => Budget, "ab\n", "inside\nWarning--no entry zz\nbudget 10\n"),
+    // Each entry's type is entered once more while it is running, and its summary is used in its own check.
+    under!(ONE, "ENTRY{}{}{} INTEGERS{n} FUNCTION{misc}{cite$ write$ newline$ n #0 > {#0 'n := call.type$} 'skip$ if$} FUNCTION{f}{#1 'n := call.type$} READ ITERATE{f}", "@misc{k}", cert!("entries 9\nkey 9\npreamble 9\nlength 9\ntype misc\nothertype no\n", "summary misc\nentry\nwrites n\npre\npost\nhints\nkeep\nkeep\nuse 0\ncase 0\ncase 0\nend\ncommand 5\nhints\nuse 0\nend\n"), "99" => Done, "k\nk\n", "inside\n"),
     // A last line stands alone.
-    under!(ONE, KEYS, b"@misc{k}", b"", "99" => BadCert, "", "bad certificate 1:1 Syntax\n"),
-    under!(ONE, b"ENTRY{}{}{} FUNCTION{f}{*} READ EXECUTE{f}", b"@misc{k}", NINES, "99" => Refused, "", "refused 1:25 EmptyPop 1\n"),
-    under!(ONE, b"READ", b"@", b"", "1" => BadStyle, "", "bad style 1:1 ReadBeforeEntry\n"),
+    under!(ONE, KEYS, "@misc{k}", "", "99" => BadCert, "", "bad certificate 1:1 Syntax\n"),
+    under!(ONE, "ENTRY{}{}{} FUNCTION{f}{*} READ EXECUTE{f}", "@misc{k}", NINES, "99" => Refused, "", "refused 1:25 EmptyPop 1\n"),
+    under!(ONE, "READ", "@", "", "1" => BadStyle, "", "bad style 1:1 ReadBeforeEntry\n"),
 ];
 
 /// Writes the keys, and has authors and titles.
-const TITLES: &[u8] =
-    b"ENTRY{author title}{}{} FUNCTION{misc}{} FUNCTION{f}{cite$ write$ newline$} READ ITERATE{f}";
+const TITLES: &str =
+    "ENTRY{author title}{}{} FUNCTION{misc}{} FUNCTION{f}{cite$ write$ newline$} READ ITERATE{f}";
 
 /// Lets in three entries of the type `misc`, with a title and at most two authors each.
-const LISTED: &[u8] =
-    b"bstcert 1\nentries 3\nkey 4\npreamble 4\nlength 13\nnames author 2\nnonblank title\ntype misc\nothertype no\nend\ndone\n";
+const LISTED: &str = cert!(
+    "entries 3\nkey 4\npreamble 4\nlength 13\nnames author 2\nnonblank title\ntype misc\nothertype no\n",
+    ""
+);
 
 /// The same, and entries of other types.
-const OTHERS: &[u8] =
-    b"bstcert 1\nentries 3\nkey 4\npreamble 4\nlength 13\nnames author 2\nnonblank title\ntype misc\nothertype yes\nend\ndone\n";
+const OTHERS: &str = cert!(
+    "entries 3\nkey 4\npreamble 4\nlength 13\nnames author 2\nnonblank title\ntype misc\nothertype yes\n",
+    ""
+);
+
+/// What is answered to a run that cites these keys of this database, under a certificate.
+macro_rules! cited {
+    ($keys:literal, $data:expr, $cert:expr => $out:expr, $err:expr) => {
+        under!(concat!("\\citation{", $keys, "}\n\\bibstyle{s}\n\\bibdata{d}\n"), TITLES, $data, $cert, "999" => Done, $out, $err)
+    };
+}
+
+#[test]
+fn the_first_line_that_is_not_kept_is_told(rt: HostRuntime) -> Result<(), Fail> {
+    compare(&rt, rt.alloc(), &UNMET)
+}
 
 /// The first line that isn't kept is told with the entry: each line unmet on the first entry, where later lines and later
 /// entries are unmet too, and on the last.
-pub static UNMET: [Example; 17] = [
+static UNMET: [Example; 17] = [
     // All lines are kept, up to their numbers.
-    under!(b"\\citation{a,b,last}\n\\bibstyle{s}\n\\bibdata{d}\n", TITLES, b"@preamble{{1234}}@misc{a,title={1234567890123}}@misc{b,title={t},author={A and B}}@misc{last,title={t}}", LISTED, "999" => Done, "a\nb\nlast\n", "inside\n"),
+    cited!("a,b,last", "@preamble{{1234}}@misc{a,title={1234567890123}}@misc{b,title={t},author={A and B}}@misc{last,title={t}}", LISTED => "a\nb\nlast\n", "inside\n"),
     // The number of entries comes before all else, and the preamble before each entry.
-    under!(b"\\citation{a,b,c,d}\n\\bibstyle{s}\n\\bibdata{d}\n", TITLES, b"@preamble{{12345}}@book{a}@misc{b,title={t}}@misc{c,title={t}}@misc{d,title={t}}", LISTED, "999" => Done, "a\nb\nc\nd\n", "outside\nunmet - entries 3\n"),
-    under!(b"\\citation{a,b,c,d}\n\\bibstyle{s}\n\\bibdata{d}\n", TITLES, b"@misc{a,title={t}}@misc{b,title={t}}@misc{c,title={t}}@misc{d,title={t}}", LISTED, "999" => Done, "a\nb\nc\nd\n", "outside\nunmet - entries 3\n"),
-    under!(b"\\citation{first,b,c}\n\\bibstyle{s}\n\\bibdata{d}\n", TITLES, b"@preamble{{12345}}@book{first}@misc{b,title={t}}@misc{c,title={t}}", LISTED, "999" => Done, "first\nb\nc\n", "outside\nunmet - preamble 4\n"),
-    under!(b"\\citation{a,b,c}\n\\bibstyle{s}\n\\bibdata{d}\n", TITLES, b"@preamble{{12}}@preamble{{345}}@misc{a,title={t}}@misc{b,title={t}}@misc{c,title={t}}", LISTED, "999" => Done, "a\nb\nc\n", "outside\nunmet - preamble 4\n"),
+    cited!("a,b,c,d", "@preamble{{12345}}@book{a}@misc{b,title={t}}@misc{c,title={t}}@misc{d,title={t}}", LISTED => "a\nb\nc\nd\n", "outside\nunmet - entries 3\n"),
+    cited!("a,b,c,d", "@misc{a,title={t}}@misc{b,title={t}}@misc{c,title={t}}@misc{d,title={t}}", LISTED => "a\nb\nc\nd\n", "outside\nunmet - entries 3\n"),
+    cited!("first,b,c", "@preamble{{12345}}@book{first}@misc{b,title={t}}@misc{c,title={t}}", LISTED => "first\nb\nc\n", "outside\nunmet - preamble 4\n"),
+    cited!("a,b,c", "@preamble{{12}}@preamble{{345}}@misc{a,title={t}}@misc{b,title={t}}@misc{c,title={t}}", LISTED => "a\nb\nc\n", "outside\nunmet - preamble 4\n"),
     // Then come the lines on each entry, entry by entry: its key, the length of its fields, their names, blank fields and its type.
-    under!(b"\\citation{first,b,final}\n\\bibstyle{s}\n\\bibdata{d}\n", TITLES, b"@book{first,author={A and B and C,}}@misc{b,title={t}}@misc{final,title={t}}", LISTED, "999" => Done, "first\nb\nfinal\n", "outside\nunmet first key 4\n"),
-    under!(b"\\citation{a,b,final}\n\\bibstyle{s}\n\\bibdata{d}\n", TITLES, b"@misc{a,title={t}}@misc{b,title={t}}@book{final,author={A and B and C,}}", LISTED, "999" => Done, "a\nb\nfinal\n", "outside\nunmet final key 4\n"),
-    under!(b"\\citation{a,b,final}\n\\bibstyle{s}\n\\bibdata{d}\n", TITLES, b"@book{a,author={A and B and C,}}@misc{b,title={t}}@misc{final,title={t}}", LISTED, "999" => Done, "a\nb\nfinal\n", "outside\nunmet a length 13\n"),
-    under!(b"\\citation{a,b,c}\n\\bibstyle{s}\n\\bibdata{d}\n", TITLES, b"@misc{a,title={t}}@misc{b,title={t}}@book{c,author={A and B and C,}}", LISTED, "999" => Done, "a\nb\nc\n", "outside\nunmet c length 13\n"),
-    under!(b"\\citation{a,b,final}\n\\bibstyle{s}\n\\bibdata{d}\n", TITLES, b"@book{a,author={A and B and C}}@misc{b,title={t}}@misc{final,title={t}}", LISTED, "999" => Done, "a\nb\nfinal\n", "outside\nunmet a names author 2\n"),
-    under!(b"\\citation{a,b,c}\n\\bibstyle{s}\n\\bibdata{d}\n", TITLES, b"@misc{a,title={t}}@misc{b,title={t}}@book{c,author={A,}}", LISTED, "999" => Done, "a\nb\nc\n", "outside\nunmet c names author 2\n"),
-    under!(b"\\citation{a,b,final}\n\\bibstyle{s}\n\\bibdata{d}\n", TITLES, b"@book{a,author={A and B}}@misc{b,title={t}}@misc{final,title={t}}", LISTED, "999" => Done, "a\nb\nfinal\n", "outside\nunmet a nonblank title\n"),
-    under!(b"\\citation{a,b,c}\n\\bibstyle{s}\n\\bibdata{d}\n", TITLES, b"@misc{a,title={t}}@misc{b,title={t}}@book{c,title={ }}", LISTED, "999" => Done, "a\nb\nc\n", "outside\nunmet c nonblank title\n"),
+    cited!("first,b,final", "@book{first,author={A and B and C,}}@misc{b,title={t}}@misc{final,title={t}}", LISTED => "first\nb\nfinal\n", "outside\nunmet first key 4\n"),
+    cited!("a,b,final", "@misc{a,title={t}}@misc{b,title={t}}@book{final,author={A and B and C,}}", LISTED => "a\nb\nfinal\n", "outside\nunmet final key 4\n"),
+    cited!("a,b,final", "@book{a,author={A and B and C,}}@misc{b,title={t}}@misc{final,title={t}}", LISTED => "a\nb\nfinal\n", "outside\nunmet a length 13\n"),
+    cited!("a,b,c", "@misc{a,title={t}}@misc{b,title={t}}@book{c,author={A and B and C,}}", LISTED => "a\nb\nc\n", "outside\nunmet c length 13\n"),
+    cited!("a,b,final", "@book{a,author={A and B and C}}@misc{b,title={t}}@misc{final,title={t}}", LISTED => "a\nb\nfinal\n", "outside\nunmet a names author 2\n"),
+    cited!("a,b,c", "@misc{a,title={t}}@misc{b,title={t}}@book{c,author={A,}}", LISTED => "a\nb\nc\n", "outside\nunmet c names author 2\n"),
+    cited!("a,b,final", "@book{a,author={A and B}}@misc{b,title={t}}@misc{final,title={t}}", LISTED => "a\nb\nfinal\n", "outside\nunmet a nonblank title\n"),
+    cited!("a,b,c", "@misc{a,title={t}}@misc{b,title={t}}@book{c,title={ }}", LISTED => "a\nb\nc\n", "outside\nunmet c nonblank title\n"),
     // A type that isn't listed, and one that the style defines.
-    under!(b"\\citation{a,b,final}\n\\bibstyle{s}\n\\bibdata{d}\n", TITLES, b"@book{a,title={t}}@misc{b,title={t}}@misc{final,title={t}}", LISTED, "999" => Done, "a\nb\nfinal\n", "outside\nunmet a othertype no\n"),
-    under!(b"\\citation{a,b,c}\n\\bibstyle{s}\n\\bibdata{d}\n", TITLES, b"@misc{a,title={t}}@book{b,title={t}}@f{c,title={t}}", OTHERS, "999" => Done, "a\nb\nc\n", "outside\nunmet c othertype yes\n"),
+    cited!("a,b,final", "@book{a,title={t}}@misc{b,title={t}}@misc{final,title={t}}", LISTED => "a\nb\nfinal\n", "outside\nunmet a othertype no\n"),
+    cited!("a,b,c", "@misc{a,title={t}}@book{b,title={t}}@f{c,title={t}}", OTHERS => "a\nb\nc\n", "outside\nunmet c othertype yes\n"),
     // The length of `crossref` counts as that of each field.
-    under!(b"\\citation{a,parent-of-14-b}\n\\bibstyle{s}\n\\bibdata{d}\n", TITLES, b"@misc{a,title={t},crossref={parent-of-14-b}}@misc{parent-of-14-b,title={t}}", LISTED, "999" => Done, "a\nparent-of-14-b\n", "outside\nunmet a length 13\n"),
+    cited!("a,parent-of-14-b", "@misc{a,title={t},crossref={parent-of-14-b}}@misc{parent-of-14-b,title={t}}", LISTED => "a\nparent-of-14-b\n", "outside\nunmet a length 13\n"),
     // No entry is let in, and there is none.
-    under!(ZZ, KEYS, b"", NO_ENTRIES, "99" => Done, "", "inside\nWarning--no entry zz\n"),
+    under!(ZZ, KEYS, "", NO_ENTRIES, "99" => Done, "", "inside\nWarning--no entry zz\n"),
 ];

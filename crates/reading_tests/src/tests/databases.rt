@@ -1,6 +1,7 @@
 //! Small databases, worked out by hand. A row is a text, ` -> ` and what comes of it, with `|` for a line end. What has no
 //! arrow is a heading.
 
+use crate::tests::with_line_ends;
 use bib_read::database::{Database, RawEntry};
 use bib_read::fault::BibFault;
 use bib_read::read::{opening, read};
@@ -263,20 +264,11 @@ fn texts_add_to_what_was_read_before(rt: HostRuntime) -> Result<(), Fail> {
 fn expect(rt: &impl Abort, alloc: Global, style: &Style, rows: &str) -> Result<(), NoMemory> {
     for row in rows.lines() {
         if let Some((written, wanted)) = row.split_once(" -> ") {
-            let source = with_line_ends(alloc, written)?;
+            let source = with_line_ends(alloc, written, b'|')?;
             expect_opened(rt, alloc, style, source.as_slice(), wanted.as_bytes())?;
         }
     }
     Ok(())
-}
-
-/// The bytes of a text that is written with `|` for a line end.
-fn with_line_ends(alloc: Global, written: &str) -> Result<Vec<u8>, NoMemory> {
-    let mut bytes = Vec::new(alloc);
-    for b in written.as_bytes() {
-        bytes.push(if *b == b'|' { b'\n' } else { *b })?;
-    }
-    Ok(bytes)
 }
 
 /// Expects a text after a style's macros to be read so.

@@ -7,6 +7,7 @@ ghost use Rattle.aux_read.specs.Keys.{HaveKeys};
 ghost use Rattle.bib_read.specs.Additions.{AreKeyed};
 ghost use Rattle.entry_list.specs.Keys.{is_no_input};
 
+use crate::tests::with_line_ends;
 use aux_read::aux::AuxItem;
 use bib_read::database::Database;
 use bib_read::read::opening;
@@ -127,19 +128,10 @@ fn expect_row(
     bib: &str,
     wanted: &str,
 ) -> Result<(), Fail> {
-    let aux = with_line_ends(alloc, aux)?;
+    let aux = with_line_ends(alloc, aux, b'/')?;
     let lines = joined(rt, alloc, style, aux.as_slice(), bib.as_bytes())?;
     assert_eq!(rt; lines.as_slice(), wanted.as_bytes());
     Ok(())
-}
-
-/// The bytes of a text that is written with `/` for a line end.
-fn with_line_ends(alloc: Global, written: &str) -> Result<Vec<u8>, NoMemory> {
-    let mut bytes = Vec::new(alloc);
-    for b in written.as_bytes() {
-        bytes.push(if *b == b'/' { b'\n' } else { *b })?;
-    }
-    Ok(bytes)
 }
 
 /// What an `.aux` file and a database are joined to, as lines.

@@ -61,6 +61,11 @@ pub fn add_fault(line: &mut String, fault: EffectFault) -> Result<(), NoMemory> 
     Ok(())
 }
 
+/// Adds whether something is so.
+pub fn add_truth(line: &mut String, is_so: bool) -> Result<(), Unread> {
+    Ok(write!(line, "{is_so}")?)
+}
+
 /// Adds how many hints are left of those that were given: where there is an answer if any are, else if any were taken.
 pub fn add_left(line: &mut String, is_ok: bool, given: usize, left: usize) -> Result<(), NoMemory> {
     if left != if is_ok { 0 } else { given } {

@@ -5,8 +5,9 @@ ghost use Rattle.std.specs.List.{All};
 ghost use Rattle.lin_facts.specs.Rows.{IsSmall};
 ghost use Rattle.sym_state.specs.WellMade.{IsBounded};
 
-use crate::tests::lines::{Answers, compare};
+use crate::tests::lines::compare;
 use crate::tests::reading::{Item, Unread, divided, halves, integer, natural, thirds};
+use crate::tests::states::Asked;
 use bv_base::memory::NoMemory;
 use bv_base::seq::Seq;
 use lin_facts::follows::follows;
@@ -135,26 +136,11 @@ static STEPS: [&str; 11] = [
 
 #[test]
 fn steps_show_rows(rt: HostRuntime) {
-    compare(&rt, rt.alloc(), &Steps, &STEPS);
-}
-
-struct Steps;
-
-impl Answers for Steps {
-    fn add_answer(&self, line: &mut String, given: &'static str) -> Result<(), Unread> {
-        let (_, given) = halves(given, ": ");
-        let shown = is_shown(*line.allocator(), given)?;
-        add_truth(line, shown)
-    }
-}
-
-/// Adds whether something is so.
-pub fn add_truth(line: &mut String, is_so: bool) -> Result<(), Unread> {
-    Ok(write!(line, "{is_so}")?)
+    compare(&rt, rt.alloc(), &Asked::Step, &STEPS);
 }
 
 /// Whether a step that uses the row shows the goal.
-fn is_shown(alloc: Global, given: &'static str) -> Result<bool, Unread> {
+pub fn is_shown(alloc: Global, given: &'static str) -> Result<bool, Unread> {
     let (used, step, goal) = thirds(given);
     let rows = rows_there(alloc, used)?;
     let (divisor, uses) = divided(alloc, step)?;

@@ -5,16 +5,6 @@ ghost use Rattle.std.specs.List.{All};
 ghost use Rattle.sym_state.specs.Entailing.{line_count};
 ghost use Rattle.sym_state.specs.WellMade.{HasBounds, IsBounded};
 
-/// A name of this id with a symbol.
-macro_rules! bind {
-    ($name:literal, $sym:literal) => {
-        sym_state::symbol::Bind {
-            name: name_table::names::NameId($name),
-            sym: sym_state::symbol::Sym($sym),
-        }
-    };
-}
-
 mod changes;
 mod claims;
 pub mod example;
@@ -24,9 +14,9 @@ mod references;
 
 use crate::tests::hints::proof;
 use crate::tests::known::{Shape, condition, piece, state_of};
-use crate::tests::lines::Answers;
+use crate::tests::lines::{Answers, add_truth};
 use crate::tests::reading::{Unread, halves};
-use crate::tests::rows::{add_truth, row};
+use crate::tests::rows::{is_shown, row};
 use crate::tests::states::changes::{add_changed, add_last};
 use crate::tests::states::claims::add_claim;
 use crate::tests::states::example::{add_entailed, add_example_shown, add_started};
@@ -42,7 +32,7 @@ use sym_state::shows::shows;
 use sym_state::state::State;
 
 /// What the rows of a table ask.
-enum Asked {
+pub enum Asked {
     /// Whether a fact is known.
     Claim,
     /// Which line of a stack or of names fails first.
@@ -61,6 +51,8 @@ enum Asked {
     Last,
     /// Whether so many uses of a row show a constant and values.
     Greatest,
+    /// Whether a step shows a row.
+    Step,
 }
 
 impl Answers for Asked {
@@ -76,6 +68,7 @@ impl Answers for Asked {
             Asked::Changed => add_changed(line, given),
             Asked::Last => add_last(line, given),
             Asked::Greatest => add_greatest(line, given),
+            Asked::Step => add_truth(line, is_shown(*line.allocator(), given)?),
         }
     }
 }

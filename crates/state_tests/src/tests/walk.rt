@@ -27,7 +27,7 @@ use sym_state::hint::{Hint, Hints};
 use sym_state::piece::Piece;
 use sym_state::start::start;
 use sym_state::state::State;
-use sym_state::symbol::{Bind, Fact, Kinds, Sym};
+use sym_state::symbol::{Fact, Kinds, Sym};
 
 /// The step shows that the length has 32 bits. That it is above 30000 can't be, so the case of 1 is dropped.
 static WALKED: [&str; 1] = [
@@ -94,20 +94,7 @@ fn nonblank_s(alloc: Global) -> Result<Piece, NoMemory>
     ensures few { IfOk result (λ piece. symbols_of piece ≤ 9) }
     ensures fit { IfOk result (λ piece. (style : StyleValue) → IsFit style piece) }
 {
-    let mut vars = Seq::new(alloc);
-    vars.push(Bind {
-        name: NameId(42),
-        sym: Sym(0),
-    })?;
-    let mut facts = Seq::new(alloc);
-    facts.push(Fact::Nonblank(Sym(0)))?;
-    Ok(Piece {
-        stack: Seq::new(alloc),
-        vars,
-        fields: Seq::new(alloc),
-        facts,
-        rows: Seq::new(alloc),
-    })
+    piece_of_one!(alloc, 42, Fact::Nonblank(Sym(0)))
 }
 
 /// The state that starts from that piece.

@@ -8,12 +8,12 @@ use Rattle.bst_run.proofs.command.answer_infer.Goals as goal
 
 pub returns-clause-answer : goal.returns-clause-answer
 returns-clause-answer g c =
-    told_answer g.F.Files c.args.files.now c.infer-found.new.files (Infer c.args.style.now (name_in c.args.cond))
-    (λ t. infer_outcome t c.args.style.now (name_in c.args.cond)) c.infer-found.result c.told.result
-    c.infer-found.ensures.reads c.infer-found.ensures.decided c.infer-found.ensures.safe (λ under. absurd under) (λ t. refl) (λ o. tt) c.told.ensures
+    told_answer g.F.Files c.args.files.now c.infer.new.files (Infer c.args.style.now (name_in c.args.cond))
+    (λ t. infer_outcome t c.args.style.now (name_in c.args.cond)) c.infer.result c.told.result
+    c.infer.ensures.reads c.infer.ensures.decided c.infer.ensures.safe (λ under. absurd under) (λ t. refl) (λ o. tt) c.told.ensures
 
 pub returns-clause-begun : goal.returns-clause-begun
 returns-clause-begun g c =
-    told_begun g.F.Files c.args.files.now c.infer-found.new.files (λ t. infer_begun t c.args.style.now (name_in c.args.cond))
-    (g.F.Files.told c.args.files.now) c.infer-found.result c.told.result
-    c.infer-found.ensures.begun c.infer-found.ensures.reads.cause c.told.ensures
+    told_begun g.F.Files c.args.files.now c.infer.new.files (λ t. infer_begun t c.args.style.now (name_in c.args.cond))
+    (g.F.Files.told c.args.files.now) c.infer.result c.told.result
+    c.infer.ensures.begun c.infer.ensures.reads.cause c.told.ensures

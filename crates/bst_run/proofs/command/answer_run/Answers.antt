@@ -8,12 +8,12 @@ use Rattle.bst_run.proofs.command.answer_run.Goals as goal
 
 pub returns-clause-answer : goal.returns-clause-answer
 returns-clause-answer g c =
-    told_answer g.F.Files c.args.files.now c.run-found.new.files (Run c.args.aux.now c.args.steps)
-    (λ t. run_outcome t c.args.aux.now c.args.steps) c.run-found.result c.told.result
-    c.run-found.ensures.reads c.run-found.ensures.decided
-    (run_promises (g.F.Files.told c.args.files.now) c.args.aux.now c.args.steps c.run-found.result) (λ under. absurd under) (λ t. refl) (λ o. tt) c.told.ensures
+    told_answer g.F.Files c.args.files.now c.run.new.files (Run c.args.aux.now c.args.steps)
+    (λ t. run_outcome t c.args.aux.now c.args.steps) c.run.result c.told.result
+    c.run.ensures.reads c.run.ensures.decided
+    (run_promises (g.F.Files.told c.args.files.now) c.args.aux.now c.args.steps c.run.result) (λ under. absurd under) (λ t. refl) (λ o. tt) c.told.ensures
 
 pub returns-clause-begun : goal.returns-clause-begun
 returns-clause-begun g c =
-    told_begun g.F.Files c.args.files.now c.run-found.new.files (λ t. sources_begun t c.args.aux.now) (g.F.Files.told c.args.files.now) c.run-found.result c.told.result
-    c.run-found.ensures.begun c.run-found.ensures.reads.cause c.told.ensures
+    told_begun g.F.Files c.args.files.now c.run.new.files (λ t. sources_begun t c.args.aux.now) (g.F.Files.told c.args.files.now) c.run.result c.told.result
+    c.run.ensures.begun c.run.ensures.reads.cause c.told.ensures

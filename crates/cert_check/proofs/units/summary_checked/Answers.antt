@@ -1,11 +1,10 @@
 use Rattle.std.proofs.Common.{List, refl, ap, subst, ◌∙◌, None}
 use Rattle.std.proofs.lemmas.Result.{err_from_is_err_and}
-use Rattle.name_table.specs.declared.style.Style.{Style}
 use Rattle.bst_meaning.specs.declared.condition.Cond.{Cond}
 use Rattle.sym_state.specs.declared.piece.Piece.{Piece}
-use Rattle.cert_check.specs.Units.{beginning, body_of, place_of}
+use Rattle.cert_check.specs.Units.{beginning}
 use Rattle.cert_check.specs.Walks.{scope_of}
-use Rattle.cert_check.proofs.UnitSteps.{Checks, at_end, own_ends, own_room, started_is, unit_checks, unit_refused}
+use Rattle.cert_check.proofs.UnitSteps.{Checks, at_end, own_ends, own_room, started_is, summary_parts, unit_checks, unit_refused}
 use Rattle.cert_check.proofs.units.summary_checked.Goals as goal
 
 -- the walk begins in the state that the pre starts
@@ -24,16 +23,11 @@ returns-in_err-own_walked c =
     rw (p.1, p.2)
     (unit_refused (scope_of c.args.scope.now None) c.args.summary.now c.body_of-body.result c.place_of-place.result c.in_ok-state.state _ c.new-course.result
     c.in_err-own_walked.field-0.0
-    (record {
-      writes = c.requires.writes;
-      unmade = refl;
-      body_is = c.body_of-body.ensures ∙ ap (λ (style : Style). body_of style c.args.summary.now.body) c.style.ensures;
-      place_is = c.place_of-place.ensures ∙ ap (λ (style : Style). place_of style c.body_of-body.result) c.style-2.ensures;
-      state_is = started_is c.args.scope.now.style c.style-3.result.now c.args.scope.now.cert.cond c.cond.result.now c.from_ref-pieces.result.now
-          c.args.summary.now.pre c.args.summary.now.whole c.args.summary.now.entry c.start.result c.in_ok-state.state c.in_ok-state.ensures c.start.ensures.started
-          c.style-3.ensures c.cond.ensures c.from_ref-pieces.ensures.value;
-      kept_is = refl;
-    })
+    (summary_parts (scope_of c.args.scope.now None) c.args.summary.now _ _ c.body_of-body.result c.place_of-place.result c.in_ok-state.state _ c.requires.writes refl
+    c.style.ensures c.style-2.ensures c.body_of-body.ensures c.place_of-place.ensures
+    (started_is c.args.scope.now.style c.style-3.result.now c.args.scope.now.cert.cond c.cond.result.now c.from_ref-pieces.result.now c.args.summary.now.pre
+    c.args.summary.now.whole c.args.summary.now.entry c.start.result c.in_ok-state.state c.in_ok-state.ensures c.start.ensures.started c.style-3.ensures c.cond.ensures
+    c.from_ref-pieces.ensures.value) refl)
     (c.new-course.ensures ∙ ap beginning c.as_slice.ensures) c.in_err-own_walked.ensures.takes)
 
 -- the states at its end
@@ -52,16 +46,11 @@ pub returns : goal.returns
 returns c =
     unit_checks (scope_of c.args.scope.now None) c.args.summary.now c.body_of-body.result c.place_of-place.result c.in_ok-state.state c.symbols_of-kept.result c.new-course.result
     c.own_walked.new.course c.ends.result
-    (record {
-      writes = c.requires.writes;
-      unmade = refl;
-      body_is = c.body_of-body.ensures ∙ ap (λ (style : Style). body_of style c.args.summary.now.body) c.style.ensures;
-      place_is = c.place_of-place.ensures ∙ ap (λ (style : Style). place_of style c.body_of-body.result) c.style-2.ensures;
-      state_is = started_is c.args.scope.now.style c.style-3.result.now c.args.scope.now.cert.cond c.cond.result.now c.from_ref-pieces.result.now
-          c.args.summary.now.pre c.args.summary.now.whole c.args.summary.now.entry c.start.result c.in_ok-state.state c.in_ok-state.ensures c.start.ensures.started
-          c.style-3.ensures c.cond.ensures c.from_ref-pieces.ensures.value;
-      kept_is = c.symbols_of-kept.ensures;
-    })
+    (summary_parts (scope_of c.args.scope.now None) c.args.summary.now _ _ c.body_of-body.result c.place_of-place.result c.in_ok-state.state c.symbols_of-kept.result
+    c.requires.writes refl c.style.ensures c.style-2.ensures c.body_of-body.ensures c.place_of-place.ensures
+    (started_is c.args.scope.now.style c.style-3.result.now c.args.scope.now.cert.cond c.cond.result.now c.from_ref-pieces.result.now c.args.summary.now.pre
+    c.args.summary.now.whole c.args.summary.now.entry c.start.result c.in_ok-state.state c.in_ok-state.ensures c.start.ensures.started c.style-3.ensures c.cond.ensures
+    c.from_ref-pieces.ensures.value) c.symbols_of-kept.ensures)
     (c.new-course.ensures ∙ ap beginning c.as_slice.ensures) c.in_ok-own_walked.ensures.takes
     (subst (λ (admits : Cond). Checks (at_end admits c.place_of-place.result c.symbols_of-kept.result c.args.summary.now.posts c.own_walked.new.course) c.ends.result)
     c.cond-2.ensures

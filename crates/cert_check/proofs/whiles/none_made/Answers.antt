@@ -4,4 +4,4 @@ use Rattle.cert_check.proofs.WhileSteps.{none_are}
 use Rattle.cert_check.proofs.whiles.none_made.Goals as goal
 
 pub returns-clause-made : goal.returns-clause-made
-returns-clause-made c = λ style. none_are style c.new.result.items c.args.course.now (search rules) c.loop_count.ensures.few
+returns-clause-made g c = none_are c.args.at.now.scope.now.style c.new.result.items c.args.course.now (search rules) c.loop_count.ensures.few

@@ -13,9 +13,6 @@ while_taken-requires-clause-states g c = all_only (WellMade c.args.at.now.scope.
 pub while_taken-requires-clause-among : goal.while_taken-requires-clause-among
 while_taken-requires-clause-among g c = among_only c.args.state.now c.from_ref.result.now c.from_ref.ensures.value
 
-pub while_taken-requires-clause-made : goal.while_taken-requires-clause-made
-while_taken-requires-clause-made g c = c.none_made-made.ensures.made c.args.at.now.scope.now.style
-
 pub returns-in_err-while_taken : goal.returns-in_err-while_taken
 returns-in_err-while_taken g c =
     let p = err_from_is_err_and c.from_residual.result c.from_residual.ensures.1 in

@@ -5,9 +5,6 @@ use Rattle.cert_check.specs.Walks.{made_by}
 use Rattle.cert_check.proofs.WhileSteps.{whiles_end, whiles_refused}
 use Rattle.cert_check.proofs.whiles.whiles.Goals as goal
 
-pub whiles_taken-requires-clause-made : goal.whiles_taken-requires-clause-made
-whiles_taken-requires-clause-made g c = c.none_made-made.ensures.made c.args.at.now.scope.now.style
-
 pub returns-in_err-whiles_taken : goal.returns-in_err-whiles_taken
 returns-in_err-whiles_taken g c =
     let p = err_from_is_err_and c.from_residual.result c.from_residual.ensures.1 in

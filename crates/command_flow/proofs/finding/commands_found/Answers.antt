@@ -28,6 +28,6 @@ loop-index-preserved c =
           c.loop-index.invariant.left c.in_ok-found.ensures.decides put;
       records = before_next c.args.style.now c.loop-index.index c.loop-index.parts.items c.push_record.new.parts.items c.in_ok-found.found.hints
           (subst (λ (l : List CommandAt). c.loop-index.index < length l) c.as_slice-command-items.ensures there) c.loop-index.invariant.records
-          c.in_ok-found.ensures.written put;
-      ready = c.in_ok-found.ensures.ready;
+          c.in_ok-found.ensures.found.written put;
+      ready = c.in_ok-found.ensures.found.ready;
     }

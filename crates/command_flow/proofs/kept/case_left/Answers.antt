@@ -9,8 +9,8 @@ use Rattle.loop_templates.specs.Cases.{Frame, IsSumOver}
 use Rattle.loop_templates.specs.Sums.{IsSmallSum, sums}
 use Rattle.loop_templates.specs.Visits.{common_case}
 use Rattle.loop_templates.proofs.Over.{command_sums_over}
-use Rattle.command_flow.specs.Templates.{frame_left}
-use Rattle.command_flow.proofs.FramesLeft.{frame_is_left, frame_of_parts}
+use Rattle.command_flow.specs.Templates.{frame_left, frame_of_parts}
+use Rattle.command_flow.proofs.FramesLeft.{frame_is_left}
 use Rattle.command_flow.proofs.kept.case_left.Goals as goal
 
 pub common_case-requires-clause-frame : goal.common_case-requires-clause-frame

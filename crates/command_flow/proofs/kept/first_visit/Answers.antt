@@ -22,9 +22,6 @@ pub returns-clause-visit : goal.returns-clause-visit
 returns-clause-visit c =
     let style = c.args.at.now.style.now in
     let admits = c.args.at.now.cond.now in
-    let from = ap (λ (pieces : List Piece). started style admits pieces true false) c.from_ref-starts.ensures.value in
-    IfOk-weaker c.case_left.result (λ case. case ≡ common_case (frame_left style admits c.args.name before_visits c.in_ok-start.start) (c.in_ok-state_of.field-0 ∷ []))
-    (IsVisit style)
-    (λ case is. first_stands style admits c.args.name c.args.between.now case
-    (first_is style admits c.args.name c.args.between.now c.in_ok-start.start c.in_ok-state_of.field-0 case (c.in_ok-start.ensures.started ∙ from)
-    (c.in_ok-state_of.ensures.started ∙ from) is) c.requires.at.sound c.requires.at.small c.requires.ready) c.case_left.ensures
+    IfOk-weaker c.case_left.result (λ case. case ≡ first_visit style admits c.args.name c.args.between.now) (IsVisit style)
+    (λ case is. first_stands style admits c.args.name c.args.between.now case is c.requires.at.sound c.requires.at.small c.requires.ready)
+    (returns-clause-first c)

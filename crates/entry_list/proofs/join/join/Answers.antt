@@ -1,20 +1,27 @@
 use Rattle.std.proofs.Common.{◌≡◌, ◌∙◌}
-use Rattle.entry_list.proofs.Fitting.{entries_are, joined_is, list_fits}
+use Rattle.entry_list.specs.Parents.{whole_list}
+use Rattle.entry_list.proofs.Fitting.{entries_are, joined_is, list_fits, warnings_are, whole_is}
 use Rattle.entry_list.proofs.join.join.Goals as goal
 
 pub returns-clause-joined : goal.returns-clause-joined
 returns-clause-joined c =
+    let items = c.args.items.now in
     let table : c.in_ok-table.table ≡ c.args.database.now.entries = c.in_ok-table.ensures ∙ c.as_slice.ensures in
-    joined_is c.args.style.now c.args.items.now c.args.database.now _ _ _ _ table
-    (entries_are c.args.style.now c.args.items.now _ _ c.as_slice-2.result.now c.in_ok-entries.entries table
-    (c.as_slice-2.ensures.value ∙ c.in_ok-whole.ensures.list) c.in_ok-entries.ensures.joined)
-    (c.in_ok-preamble.ensures.copied ∙ c.as_slice-3.ensures) c.in_ok-whole.ensures.warnings
+    let whole : c.in_ok-whole.whole.list.items ≡ whole_list items c.in_ok-table.table =
+    whole_is items _ _ _ c.in_ok-cited.ensures.list c.in_ok-whole.ensures.list in
+    joined_is c.args.style.now items c.args.database.now _ _ _ _ table
+    (entries_are c.args.style.now items _ _ c.as_slice-2.result.now c.in_ok-entries.entries table
+    (c.as_slice-2.ensures.value ∙ whole) c.in_ok-entries.ensures.joined)
+    (c.in_ok-preamble.ensures.copied ∙ c.as_slice-3.ensures)
+    (warnings_are items _ _ _ _ whole c.in_ok-cited.ensures.warnings c.in_ok-whole.ensures.warnings)
 
 pub returns-clause-fits : goal.returns-clause-fits
 returns-clause-fits c =
+    let items = c.args.items.now in
     let table : c.in_ok-table.table ≡ c.args.database.now.entries = c.in_ok-table.ensures ∙ c.as_slice.ensures in
-    list_fits c.args.style.now c.args.items.now c.args.database.now.entries c.in_ok-entries.entries _
+    list_fits c.args.style.now items c.args.database.now.entries c.in_ok-entries.entries _
     c.requires.items c.requires.keys
-    (entries_are c.args.style.now c.args.items.now _ _ c.as_slice-2.result.now c.in_ok-entries.entries table
-    (c.as_slice-2.ensures.value ∙ c.in_ok-whole.ensures.list) c.in_ok-entries.ensures.joined)
+    (entries_are c.args.style.now items _ _ c.as_slice-2.result.now c.in_ok-entries.entries table
+    (c.as_slice-2.ensures.value ∙ whole_is items _ _ _ c.in_ok-cited.ensures.list c.in_ok-whole.ensures.list)
+    c.in_ok-entries.ensures.joined)
     c.in_ok-entries.ensures.bytes c.in_ok-preamble.ensures.bytes

@@ -9,7 +9,8 @@ use Rattle.loop_templates.specs.Bound.{all_bound}
 use Rattle.loop_templates.specs.Cases.{IsSumOver}
 use Rattle.loop_templates.specs.Sums.{IsSmallSum}
 use Rattle.loop_templates.proofs.Over.{sums_over_names}
-use Rattle.infer_loops.proofs.FoundFrames.{found_there, frame_found, frame_with}
+use Rattle.infer_loops.specs.Invariants.{frame_with}
+use Rattle.infer_loops.proofs.FoundFrames.{found_there, frame_found}
 use Rattle.infer_loops.proofs.sequence.invariant.Goals as goal
 
 pub found_in-requires-clause-frame : goal.found_in-requires-clause-frame

@@ -1,11 +1,10 @@
 -- A turn from one case more.
 use Rattle.std.proofs.Common.{◌<◌, length, subst, sym, arith}
-use Rattle.std.proofs.lemmas.Result.{err_from_is_err_and}
 use Rattle.cert_check.specs.Certified.{IsPieceOf}
 use Rattle.cert_check.specs.Units.{everywhere}
 use Rattle.cert_check.proofs.TourSteps.{kept_on}
 use Rattle.loop_templates.specs.declared.candidates.Added.{Added}
-use Rattle.infer_loops.proofs.NextTurns.{added_done, added_stops, next_added}
+use Rattle.infer_loops.proofs.NextTurns.{added_done, added_stops, handed_on, next_added}
 use Rattle.infer_loops.proofs.turns.turns_added.Goals as goal
 
 pub find_turn-requires-clause-none : goal.find_turn-requires-clause-none
@@ -34,8 +33,6 @@ returns-clause-takes c =
 
 pub returns-in_err-find_turn-clause-takes : goal.returns-in_err-find_turn-clause-takes
 returns-in_err-find_turn-clause-takes c =
-    let more : c.loop-one_added.one_added-index < length c.args.added.now = omega arith in
-    let p = err_from_is_err_and c.from_residual.result c.from_residual.ensures.1 in
-    rw (p.1, p.2)
+    handed_on _ _ c.from_residual.result c.in_err-find_turn.field-0.0 c.from_residual.ensures.1
     (added_stops (everywhere c.args.checker.now.style c.args.checker.now.cert) c.args.one c.args.added.now c.loop-one_added.one_added-index c.one_added-item.result
-    c.loop-one_added.tour _ c.in_err-find_turn.field-0.0 more c.one_added-item.is c.loop-one_added.invariant.turned c.in_err-find_turn.ensures.takes)
+    c.loop-one_added.tour _ c.in_err-find_turn.field-0.0 (omega arith) c.one_added-item.is c.loop-one_added.invariant.turned c.in_err-find_turn.ensures.takes)

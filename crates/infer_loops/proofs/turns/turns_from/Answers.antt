@@ -1,6 +1,6 @@
 -- Turns from the cases of the states that enter, and then from those that were added.
 use Rattle.std.proofs.Common.{◌≡◌, List, Ok, subst}
-use Rattle.std.proofs.lemmas.Result.{err_from_is_err_and, on_ok_weaker}
+use Rattle.std.proofs.lemmas.Result.{on_ok_weaker}
 use Rattle.sym_state.specs.declared.piece.Piece.{Piece}
 use Rattle.loop_templates.specs.declared.candidates.Added.{Added}
 use Rattle.cert_check.specs.Given.{Refused, Takes}
@@ -8,14 +8,13 @@ use Rattle.cert_check.specs.Tours.{turns_of}
 use Rattle.cert_check.specs.Units.{everywhere}
 use Rattle.cert_check.proofs.TourSteps.{kept_on}
 use Rattle.infer_loops.specs.Invariants.{added_cases}
-use Rattle.infer_loops.proofs.NextTurns.{both_take, first_stops}
+use Rattle.infer_loops.proofs.NextTurns.{both_take, first_stops, handed_on}
 use Rattle.infer_loops.proofs.turns.turns_from.Goals as goal
 
 pub returns-in_err-turns_of-clause-takes : goal.returns-in_err-turns_of-clause-takes
 returns-in_err-turns_of-clause-takes c =
     let scope = everywhere c.args.checker.now.style c.args.checker.now.cert in
-    let p = err_from_is_err_and c.from_residual.result c.from_residual.ensures.1 in
-    rw (p.1, p.2)
+    handed_on _ _ c.from_residual.result c.in_err-turns_of.field-0.0 c.from_residual.ensures.1
     (first_stops scope c.args.one c.args.candidate.now.first (added_cases c.args.candidate.now.added) c.args.tour.now c.in_err-turns_of.field-0.0
     (subst (λ (cases : List Piece). Refused (turns_of scope c.args.one cases c.args.tour.now) c.in_err-turns_of.field-0.0) c.as_slice.ensures
     c.in_err-turns_of.ensures.takes))

@@ -1,10 +1,9 @@
 -- A turn from one case more.
 use Rattle.std.proofs.Common.{◌<◌, length, subst, sym, arith}
-use Rattle.std.proofs.lemmas.Result.{err_from_is_err_and}
 use Rattle.cert_check.specs.Certified.{IsPieceOf}
 use Rattle.cert_check.specs.Units.{everywhere}
 use Rattle.cert_check.proofs.TourSteps.{kept_on}
-use Rattle.infer_loops.proofs.NextTurns.{next_turn, turn_stops, turns_done}
+use Rattle.infer_loops.proofs.NextTurns.{handed_on, next_turn, turn_stops, turns_done}
 use Rattle.infer_loops.proofs.turns.turns_of.Goals as goal
 
 pub find_turn-requires-clause-none : goal.find_turn-requires-clause-none
@@ -31,8 +30,6 @@ returns-clause-takes c =
 
 pub returns-in_err-find_turn-clause-takes : goal.returns-in_err-find_turn-clause-takes
 returns-in_err-find_turn-clause-takes c =
-    let more : c.loop-case.case-index < length c.args.cases.now = omega arith in
-    let p = err_from_is_err_and c.from_residual.result c.from_residual.ensures.1 in
-    rw (p.1, p.2)
+    handed_on _ _ c.from_residual.result c.in_err-find_turn.field-0.0 c.from_residual.ensures.1
     (turn_stops (everywhere c.args.checker.now.style c.args.checker.now.cert) c.args.one c.args.cases.now c.loop-case.case-index c.case-item.result
-    c.loop-case.tour _ c.in_err-find_turn.field-0.0 more c.case-item.is c.loop-case.invariant.turned c.in_err-find_turn.ensures.takes)
+    c.loop-case.tour _ c.in_err-find_turn.field-0.0 (omega arith) c.case-item.is c.loop-case.invariant.turned c.in_err-find_turn.ensures.takes)

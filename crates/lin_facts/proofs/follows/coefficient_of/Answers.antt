@@ -1,5 +1,5 @@
 -- A part of the term adds its coefficient, and every other part adds 0.
-use Rattle.std.proofs.Common.{◌≡◌, cond, ap, sym, ◌∙◌, get_or, arith, to_z, w64}
+use Rattle.std.proofs.Common.{◌≡◌, ◌*◌, cond, ap, sym, ◌∙◌, get_or, arith, to_z, w64}
 use Rattle.std.specs.Prelude.{pos, ◌+ℤ◌}
 use Rattle.std.proofs.lemmas.Int.{ints}
 use Rattle.lin_facts.proofs.Steps.{no_part, added, coefficient_kept, coefficient_size}
@@ -23,5 +23,10 @@ loop-part-preserved c =
     ] in
     record {
       left = coefficient_kept parts c.args.term i _ _ c.loop-part-test.true is c.loop-part.invariant.left;
-      size = coefficient_size parts c.args.term i _ _ c.loop-part-test.true is c.requires.small c.loop-part.invariant.size;
+      size =
+          coefficient_size 10133099161583616 (i * 10133099161583616) _ parts c.args.term i _ _ c.loop-part-test.true (omega arith) is
+          c.requires.small c.loop-part.invariant.size;
+      small = λ each.
+          coefficient_size 35184372088832 (i * 35184372088832) _ parts c.args.term i _ _ c.loop-part-test.true (omega arith) is each
+          (c.loop-part.invariant.small each);
     }

@@ -118,17 +118,7 @@ fn exact_n(alloc: Global) -> Result<Piece, NoMemory>
     ensures few { IfOk result (λ piece. symbols_of piece ≤ 9) }
     ensures fit { IfOk result (λ piece. (style : StyleValue) → IsFit style piece) }
 {
-    let mut vars = Seq::new(alloc);
-    vars.push(bind!(41, 0))?;
-    let mut facts = Seq::new(alloc);
-    facts.push(Fact::Int(Sym(0), 97))?;
-    Ok(Piece {
-        stack: Seq::new(alloc),
-        vars,
-        fields: Seq::new(alloc),
-        facts,
-        rows: Seq::new(alloc),
-    })
+    piece_of_one!(alloc, 41, Fact::Int(Sym(0), 97))
 }
 
 /// The state that starts from that piece.

@@ -8,9 +8,6 @@ use Rattle.straight_proofs.proofs.search.+search.Given as goal
 abbrev pub decreases-list_within : goal.decreases-list_within
 decreases-list_within l = 5 * l.most + 4
 
-abbrev pub decreases-list_if_there : goal.decreases-list_if_there
-decreases-list_if_there l = 5 * l.most + 3
-
 abbrev pub decreases-first_list : goal.decreases-first_list
 decreases-first_list l = 5 * l.most + 6
 

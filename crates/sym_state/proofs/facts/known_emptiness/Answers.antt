@@ -1,10 +1,7 @@
-use Rattle.std.proofs.Common.{rules, ◌∙◌}
+use Rattle.std.proofs.Common.{rules}
 use Rattle.sym_state.specs.Decided.{emptiness_said}
 use Rattle.sym_state.proofs.Finding.{decides, said_of}
 use Rattle.sym_state.proofs.facts.known_emptiness.Goals as goal
 
-pub returns-in-Some : goal.returns-in-Some
-returns-in-Some c = c.emptiness_said.ensures ∙ said_of (λ b. b.now) emptiness_said c.args.sym.0 c.args.facts.now c.find-found.result _ c.in-Some.is (c.find-found.ensures (decides emptiness_said c.args.sym.0) (λ item r post. search rules))
-
-pub returns-in-None : goal.returns-in-None
-returns-in-None c = said_of (λ b. b.now) emptiness_said c.args.sym.0 c.args.facts.now c.find-found.result _ c.in-None.is (c.find-found.ensures (decides emptiness_said c.args.sym.0) (λ item r post. search rules))
+pub returns : goal.returns
+returns c = said_of (λ b. b.now) emptiness_said c.args.sym.0 c.args.facts.now c.find.result _ _ (λ b post. search rules) c.and_then.ensures (c.find.ensures (decides emptiness_said c.args.sym.0) (λ item r post. search rules))

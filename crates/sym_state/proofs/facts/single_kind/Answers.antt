@@ -1,17 +1,7 @@
-use Rattle.std.proofs.Common.{rules, ap, sym, ◌∙◌}
-use Rattle.std.specs.Option.{option_and_then}
+use Rattle.std.proofs.Common.{rules}
 use Rattle.sym_state.specs.Decided.{kind_said, single}
-use Rattle.sym_state.proofs.Finding.{decides, found_said}
+use Rattle.sym_state.proofs.Finding.{decides, said_of}
 use Rattle.sym_state.proofs.facts.single_kind.Goals as goal
 
-pub returns-in-Some : goal.returns-in-Some
-returns-in-Some c =
-    c.single.ensures ∙ ap single c.kind_said.ensures ∙ ap (option_and_then (λ b. single (kind_said b.now))) (sym c.in-Some.is)
-    ∙ found_said (λ b. b.now) (λ fact. single (kind_said fact)) c.args.sym.0 c.args.facts.now c.find-found.result
-    (c.find-found.ensures (decides (λ fact. single (kind_said fact)) c.args.sym.0) (λ item r post. search rules))
-
-pub returns-in-None : goal.returns-in-None
-returns-in-None c =
-    ap (option_and_then (λ b. single (kind_said b.now))) (sym c.in-None.is)
-    ∙ found_said (λ b. b.now) (λ fact. single (kind_said fact)) c.args.sym.0 c.args.facts.now c.find-found.result
-    (c.find-found.ensures (decides (λ fact. single (kind_said fact)) c.args.sym.0) (λ item r post. search rules))
+pub returns : goal.returns
+returns c = said_of (λ b. b.now) (λ fact. single (kind_said fact)) c.args.sym.0 c.args.facts.now c.find.result _ _ (λ b post. search rules) c.and_then.ensures (c.find.ensures (decides (λ fact. single (kind_said fact)) c.args.sym.0) (λ item r post. search rules))

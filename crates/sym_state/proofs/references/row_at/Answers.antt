@@ -6,5 +6,5 @@ use Rattle.sym_state.proofs.references.row_at.Goals as goal
 pub returns-in_ok-copied-in-Some-clause-small : goal.returns-in_ok-copied-in-Some-clause-small
 returns-in_ok-copied-in-Some-clause-small c =
     subst IsSmall (sym c.in_ok-copied-in-Some.ensures)
-    (small_row c.in-Some.row.now (row_bounded c.args.state.now.rows c.args.k c.in-Some.row.now c.requires
+    (small_row c.in-Some.row.now (row_bounded c.args.state.now.rows c.args.k c.in-Some.row.now c.requires.rows
     (sym c.row.ensures ∙ ap (option_map (λ row. row.now)) c.in-Some.is)))

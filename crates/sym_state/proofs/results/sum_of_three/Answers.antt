@@ -10,7 +10,7 @@ use Rattle.sym_state.proofs.results.sum_of_three.Goals as goal
 
 pub and_part-requires-2-clause-parts : goal.and_part-requires-2-clause-parts
 and_part-requires-2-clause-parts c =
-    subst (λ (ps : List Part). All (λ (p : Part). IsWithin (2 ^ 42) p.coefficient) ps) (sym (c.as_slice.ensures.value ∙ c.in_ok-parts.ensures))
+    subst (λ (ps : List Part). All (λ (p : Part). IsWithin (2 ^ 45) p.coefficient) ps) (sym (c.as_slice.ensures.value ∙ c.in_ok-parts.ensures))
     (one_within c.args.first.coefficient c.args.first.term c.requires.first)
 
 pub and_part-requires-3-clause-parts : goal.and_part-requires-3-clause-parts
@@ -18,7 +18,7 @@ and_part-requires-3-clause-parts c =
     let parts =
     c.as_slice-2.ensures.value ∙ c.in_ok-parts-2.ensures
     ∙ ap (λ (ps : List Part). and_part c.args.second.coefficient c.args.second.term ps) (c.as_slice.ensures.value ∙ c.in_ok-parts.ensures) in
-    subst (λ (ps : List Part). All (λ (p : Part). IsWithin (2 ^ 42) p.coefficient) ps) (sym parts)
+    subst (λ (ps : List Part). All (λ (p : Part). IsWithin (2 ^ 45) p.coefficient) ps) (sym parts)
     (two_within c.args.first.coefficient c.args.first.term c.args.second.coefficient c.args.second.term c.requires.first c.requires.second)
 
 pub row-requires-clause-parts : goal.row-requires-clause-parts

@@ -10,7 +10,7 @@ use Rattle.sym_state.proofs.results.sum_of_two.Goals as goal
 
 pub and_part-requires-2-clause-parts : goal.and_part-requires-2-clause-parts
 and_part-requires-2-clause-parts c =
-    subst (λ (ps : List Part). All (λ (p : Part). IsWithin (2 ^ 42) p.coefficient) ps) (sym (c.as_slice.ensures.value ∙ c.in_ok-parts.ensures))
+    subst (λ (ps : List Part). All (λ (p : Part). IsWithin (2 ^ 45) p.coefficient) ps) (sym (c.as_slice.ensures.value ∙ c.in_ok-parts.ensures))
     (one_within c.args.first.coefficient c.args.first.term c.requires.first)
 
 pub row-requires-clause-parts : goal.row-requires-clause-parts

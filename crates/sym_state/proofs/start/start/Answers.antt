@@ -34,11 +34,8 @@ add_own_facts-requires c = seen_within _ _ _ _ _ c.as_slice-3.ensures.value c.in
 pub add_own_rows-requires : goal.add_own_rows-requires
 add_own_rows-requires c = seen_within _ _ _ _ _ c.as_slice-4.ensures.value c.in_ok-binds.ensures.names c.as_slice-2.ensures.value c.in_ok-names.ensures.within
 
-pub variables-requires : goal.variables-requires
-variables-requires c = seen_within _ _ _ _ _ c.as_slice-5.ensures.value c.in_ok-binds.ensures.names c.as_slice-2.ensures.value c.in_ok-names.ensures.within
-
-pub fields-requires : goal.fields-requires
-fields-requires c = seen_within _ _ _ _ _ c.as_slice-6.ensures.value c.in_ok-binds.ensures.names c.as_slice-2.ensures.value c.in_ok-names.ensures.within
+pub parted-requires : goal.parted-requires
+parted-requires c = seen_within _ _ _ _ _ c.as_slice-5.ensures.value c.in_ok-binds.ensures.names c.as_slice-2.ensures.value c.in_ok-names.ensures.within
 
 pub returns-clause-started : goal.returns-clause-started
 returns-clause-started c = IfOk-weaker c.from_parts.result _ _ (λ state is. is ∙ (
@@ -51,8 +48,8 @@ returns-clause-started c = IfOk-weaker c.from_parts.result _ _ (λ state is. is 
     (c.as_slice-2.ensures.value ∙ c.in_ok-names.ensures.names)
     c.in_ok-binds.ensures.seats
     c.in_ok-binds.ensures.next
-    (c.from_vec-2.ensures ∙ c.in_ok-variables.ensures ∙ ap (λ (bs : List Bind). filter (has_kind c.args.style.now (is_variable c.args.at_entry)) bs) c.as_slice-5.ensures.value)
-    (c.from_vec-3.ensures ∙ c.in_ok-fields.ensures ∙ ap (λ (bs : List Bind). filter (has_kind c.args.style.now (is_field c.args.at_entry)) bs) c.as_slice-6.ensures.value)
+    (c.from_vec-2.ensures ∙ c.in_ok-variables.ensures.variables ∙ ap (λ (bs : List Bind). filter (has_kind c.args.style.now (is_variable c.args.at_entry)) bs) c.as_slice-5.ensures.value)
+    (c.from_vec-3.ensures ∙ c.in_ok-variables.ensures.fields ∙ ap (λ (bs : List Bind). filter (has_kind c.args.style.now (is_field c.args.at_entry)) bs) c.as_slice-5.ensures.value)
     (c.from_vec-4.ensures ∙ c.in_ok-add_own_facts.ensures
     ∙ ap (λ (fs : List Fact). fs ++ flat_map (λ bind. own_facts c.args.cond.now (kind_of c.args.style.now bind.name) bind) c.as_slice-3.result.now) c.in_ok-from.ensures.facts
     ∙ ap (λ (bs : List Bind). flat_map (λ piece. piece.facts) (numbered_on 0 c.args.pieces.now) ++ flat_map (λ bind. own_facts c.args.cond.now (kind_of c.args.style.now bind.name) bind) bs) c.as_slice-3.ensures.value)

@@ -1,47 +1,19 @@
 -- The innermost frame has moved on, and what is left of the step is the step.
-use Rattle.std.proofs.Common.{◌≡◌, ◌∙◌, arith, false, subst, true}
-use Rattle.std.specs.Result.{OnOk}
-use Rattle.bst_meaning.specs.Config.{Config}
-use Rattle.bst_step.specs.Marks.{Marks}
+use Rattle.std.proofs.Common.{◌∙◌, arith}
 use Rattle.bst_step.specs.State.{config_of}
+use Rattle.bst_step.proofs.AssignSteps.{comes_to}
 use Rattle.bst_step.proofs.state.State.going_step.Goals as goal
 
-pub returns-in-Token-clause-moved : goal.returns-in-Token-clause-moved
-returns-in-Token-clause-moved c =
-    subst (λ (d : Config). OnOk c.token_step.result (config_of c.token_step.new.self ≡ d))
-    (c.in-Token.ensures.moved c.args.style.now (config_of c.args.self.now)) c.token_step.ensures.moved
+pub returns-clause-moved : goal.returns-clause-moved
+returns-clause-moved c =
+    comes_to c.step_left.result _ _ _ (c.next-next.ensures.moved c.args.style.now (config_of c.args.self.now)) c.step_left.ensures.moved
 
-pub returns-in-Token-clause-marks : goal.returns-in-Token-clause-marks
-returns-in-Token-clause-marks c =
-    subst (λ (m : Marks). OnOk c.token_step.result (c.token_step.new.self.values.marks ≡ m))
-    (c.in-Token.ensures.marks c.args.style.now (config_of c.args.self.now) c.args.self.now.values.marks) c.token_step.ensures.marks
+pub returns-clause-marks : goal.returns-clause-marks
+returns-clause-marks c =
+    comes_to c.step_left.result _ _ _ (c.next-next.ensures.marks c.args.style.now (config_of c.args.self.now) c.args.self.now.values.marks)
+    c.step_left.ensures.marks
 
-pub returns-in-Token-clause-fits : goal.returns-in-Token-clause-fits
-returns-in-Token-clause-fits c = λ takes room.
-    c.token_step.ensures.fits (c.in-Token.ensures.takes c.args.style.now (config_of c.args.self.now) ∙ takes)
-    (omega (arith, room.0, c.in-Token.ensures.room), room.1)
-
-pub returns-in-Return-clause-moved : goal.returns-in-Return-clause-moved
-returns-in-Return-clause-moved c =
-    subst (λ (d : Config). OnOk c.return_step.result (config_of c.return_step.new.self ≡ d))
-    (c.in-Return.ensures.moved c.args.style.now (config_of c.args.self.now)) c.return_step.ensures.moved
-
-pub returns-in-Return-clause-marks : goal.returns-in-Return-clause-marks
-returns-in-Return-clause-marks c =
-    subst (λ (m : Marks). OnOk c.return_step.result (c.return_step.new.self.values.marks ≡ m))
-    (c.in-Return.ensures.marks c.args.style.now (config_of c.args.self.now) c.args.self.now.values.marks) c.return_step.ensures.marks
-
-pub returns-in-Outer-clause-moved : goal.returns-in-Outer-clause-moved
-returns-in-Outer-clause-moved c =
-    subst (λ (d : Config). OnOk c.outer_step.result (config_of c.outer_step.new.self ≡ d))
-    (c.in-Outer.ensures.moved c.args.style.now (config_of c.args.self.now)) c.outer_step.ensures.moved
-
-pub returns-in-Outer-clause-marks : goal.returns-in-Outer-clause-marks
-returns-in-Outer-clause-marks c =
-    subst (λ (m : Marks). OnOk c.outer_step.result (c.outer_step.new.self.values.marks ≡ m))
-    (c.in-Outer.ensures.marks c.args.style.now (config_of c.args.self.now) c.args.self.now.values.marks) c.outer_step.ensures.marks
-
--- a step of the commands isn't one that takes room alone
-pub returns-in-Outer-clause-fits : goal.returns-in-Outer-clause-fits
-returns-in-Outer-clause-fits c = λ takes room.
-    let fits : false ≡ true = c.in-Outer.ensures.takes c.args.style.now (config_of c.args.self.now) ∙ takes in absurd (cc)
+pub returns-clause-fits : goal.returns-clause-fits
+returns-clause-fits c = λ takes room.
+    c.step_left.ensures.fits (c.next-next.ensures.takes c.args.style.now (config_of c.args.self.now) ∙ takes)
+    (omega (arith, room.0, c.next-next.ensures.room), room.1)

@@ -3,16 +3,14 @@ use Rattle.std.proofs.Common.{◌∙◌, List, ℕ, ap, drop, le_refl, length, m
 use Rattle.std.proofs.lemmas.List.{drop_all}
 use Rattle.bst_step.specs.declared.held.Held.{Held}
 use Rattle.bst_step.specs.Held.{value_in}
-use Rattle.bst_step.proofs.HeldSteps.{held_dropped}
 use Rattle.bst_step.specs.Marks.{cleared, mark_of}
 use Rattle.bst_step.proofs.MarkSteps.{stack_marked}
 use Rattle.bst_step.specs.Values.{Holding}
+use Rattle.bst_step.proofs.HeldSteps.{held_dropped}
 use Rattle.bst_step.proofs.values.Values.clear.Goals as goal
 
 pub invariant_of-self : goal.invariant_of-self
-invariant_of-self c =
-    held_dropped c.self.inside.pool.items c.self.inside.kept c.len.result c.self.inside.stack.items c.drop_top.new.self.items
-    c.self.inside.globals c.self.inside.entries.items c.drop_top.ensures.moved c.self.invariant
+invariant_of-self c = held_dropped _ _ _ _ _ _ _ c.drop_top.ensures.moved c.self.invariant
 
 pub returns-clause-stack : goal.returns-clause-stack
 returns-clause-stack c =

@@ -1,28 +1,13 @@
 -- The entry is that of the state at the place.
-use Rattle.std.proofs.Common.{◌≡◌, ◌∙◌, List, Some, None, ap, length, refl, slice_get, sym}
-use Rattle.std.specs.Option.{option_map}
-use Rattle.std.proofs.lemmas.Option.{slice_get_past, slice_get_read}
-use Rattle.bst_meaning.specs.declared.entry.Entry.{Entry}
-use Rattle.bst_meaning.specs.Config as config
-use Rattle.bst_step.specs.declared.entry_states.EntryState.{EntryState}
-use Rattle.bst_step.specs.Values.{Holding}
-use Rattle.bst_step.proofs.ViewSteps.{none_seen, seen_at}
+use Rattle.std.proofs.Common.{◌∙◌, Some, ap}
+use Rattle.bst_step.proofs.ViewSteps.{none_seen, read_seen}
 use Rattle.bst_step.proofs.values.Values.entry.Goals as goal
 
 pub returns-in-Some : goal.returns-in-Some
 returns-in-Some c =
-    let here : slice_get c.self.inside.entries.items c.args.at ≡ Some c.in-Some.state.now =
-    ap (λ (es : List EntryState). slice_get es c.args.at) (sym c.as_slice.ensures.value)
-    ∙ slice_get_read c.as_slice.result.now (length c.as_slice.result.now) c.args.at c.in-Some.state.now refl c.in-Some.ensures.lookup.3.0
-    c.in-Some.ensures.lookup.1 in
-    ap (λ (e : Entry). Some e) c.entry.ensures
-    ∙ sym (seen_at c.self.inside.pool.items c.self.inside.entries.items c.args.at c.in-Some.state.now (λ (e : config.EntryState). e.entry) here)
-    ∙ ap (λ (h : Holding). option_map (λ (e : config.EntryState). e.entry) (slice_get h.entries c.args.at)) c.self.view_is
+    ap Some c.entry.ensures
+    ∙ read_seen _ _ _ _ _ _ _ c.args.at c.in-Some.state.now (λ e. e.entry) c.self.view_is c.as_slice.ensures.value c.in-Some.ensures.lookup.3.0
+    c.in-Some.ensures.lookup.1
 
 pub returns-in-None : goal.returns-in-None
-returns-in-None c =
-    let nothing : slice_get c.self.inside.entries.items c.args.at ≡ None =
-    ap (λ (es : List EntryState). slice_get es c.args.at) (sym c.as_slice.ensures.value)
-    ∙ slice_get_past c.as_slice.result.now c.args.at c.in-None.ensures.lookup.3 in
-    sym (none_seen c.self.inside.pool.items c.self.inside.entries.items c.args.at (λ (e : config.EntryState). e.entry) nothing)
-    ∙ ap (λ (h : Holding). option_map (λ (e : config.EntryState). e.entry) (slice_get h.entries c.args.at)) c.self.view_is
+returns-in-None c = none_seen _ _ _ _ _ _ _ c.args.at (λ e. e.entry) c.self.view_is c.as_slice.ensures.value c.in-None.ensures.lookup.3

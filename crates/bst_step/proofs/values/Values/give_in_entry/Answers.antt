@@ -1,29 +1,22 @@
 -- The top is taken off, and the entry's variable holds it.
-use Rattle.std.proofs.Common.{sym, ◌∙◌, List, ℕ, Some, ap, arith, drop, length, map, max, slice_get}
+use Rattle.std.proofs.Common.{sym, ◌∙◌, List, Some, ap, drop, length, map, max}
 use Rattle.bst_step.specs.declared.entry_states.EntryState.{EntryState}
-use Rattle.bst_step.specs.declared.held.Held.{Held}
 use Rattle.bst_step.specs.EntryStates.{state_in}
 use Rattle.bst_step.specs.Values.{Holding, given_in_entry}
-use Rattle.bst_step.proofs.HeldSteps.{held_given_in, stack_end, written_back}
+use Rattle.bst_step.proofs.HeldSteps.{held_given_in, top_in_lent, written_back}
 use Rattle.bst_step.proofs.ViewSteps.{given_in_view}
 use Rattle.bst_step.proofs.MarkSteps.{given_in_marks, none_given_in}
 use Rattle.bst_step.specs.Marks as marks
 use Rattle.bst_step.proofs.values.Values.give_in_entry.Goals as goal
 
 pub end-requires : goal.end-requires
-end-requires c =
-    omega (
-      arith,
-      stack_end c.self.inside.pool.items c.self.inside.kept c.self.inside.stack.items c.self.inside.globals c.self.inside.entries.items 0 c.in-Some.value
-          c.self.invariant (ap (λ (l : List Held). slice_get l 0) c.in-Some.ensures),
-      ap (λ (pool : List ℕ). length pool) c.as_slice.ensures.value,
-    )
+end-requires c = top_in_lent _ _ _ _ _ _ _ c.self.invariant c.in-Some.ensures c.as_slice.ensures.value
 
 pub invariant_of-self : goal.invariant_of-self
 invariant_of-self c =
     held_given_in c.self.inside.pool.items c.self.inside.kept c.max-self-inside.result c.args.at c.in-Some.value c.args.name c.self.inside.stack.items
     c.drop_top.new.self.items c.self.inside.globals c.self.inside.entries.items _
-    (ap (λ (l : List Held). slice_get l 0) c.in-Some.ensures) c.drop_top.ensures.moved
+    c.in-Some.ensures c.drop_top.ensures.moved
     (c.max-self-inside.ensures ∙ ap (λ n. max c.self.inside.kept n) c.end.ensures)
     (written_back (record { name = c.args.name; value = c.in-Some.value }) c.args.at c.as_mut_slice.result.now c.self.inside.entries.items
     c.set_in_entry.new.entries (drop (length c.set_in_entry.new.entries) c.self.inside.entries.items) c.self.inside.entries.len
@@ -37,13 +30,13 @@ returns-in-Some-clause-entries c =
     c.set_in_entry.new.entries (drop (length c.set_in_entry.new.entries) c.self.inside.entries.items) c.self.inside.entries.len
     c.as_mut_slice.ensures.value c.as_mut_slice.ensures.len c.set_in_entry.ensures)
     ∙ given_in_view c.self.inside.pool.items c.self.inside.stack.items c.self.inside.entries.items c.args.name c.args.at c.in-Some.value
-    (ap (λ (l : List Held). slice_get l 0) c.in-Some.ensures)
+    c.in-Some.ensures
     ∙ ap (λ (h : Holding). given_in_entry c.args.name (Some c.args.at) h.stack h.entries) c.self.view_is
 
 pub returns-in-Some-clause-marks : goal.returns-in-Some-clause-marks
 returns-in-Some-clause-marks c =
     given_in_marks c.args.name c.args.at c.self.inside.stack.items c.drop_top.new.self.items c.self.inside.globals c.self.inside.entries.items _ c.in-Some.value
-    (ap (λ (l : List Held). slice_get l 0) c.in-Some.ensures) c.drop_top.ensures.moved
+    c.in-Some.ensures c.drop_top.ensures.moved
     (written_back (record { name = c.args.name; value = c.in-Some.value }) c.args.at c.as_mut_slice.result.now c.self.inside.entries.items
     c.set_in_entry.new.entries (drop (length c.set_in_entry.new.entries) c.self.inside.entries.items) c.self.inside.entries.len
     c.as_mut_slice.ensures.value c.as_mut_slice.ensures.len c.set_in_entry.ensures)

@@ -5,7 +5,7 @@ use Rattle.bst_meaning.specs.declared.value.Value.{Value}
 use Rattle.bst_step.specs.Held.{value_in}
 use Rattle.bst_step.specs.declared.held.Held.{Held}
 use Rattle.bst_step.specs.Values.{Holding, joined}
-use Rattle.bst_step.proofs.HeldSteps.{entries_grown, globals_grown, held_dropped, held_grown, held_replaced, stack_end, stack_grown, top_end}
+use Rattle.bst_step.proofs.HeldSteps.{entries_seen, globals_seen, held_dropped, held_grown, held_replaced, stack_end, stack_grown, top_end}
 use Rattle.bst_step.proofs.ViewSteps.{is_there, joined_view, none_joined, second_left}
 use Rattle.bst_step.proofs.MarkSteps.{joined_marks, no_two, stack_marked}
 use Rattle.bst_step.specs.Marks.{Made, mark_of, resulting}
@@ -32,16 +32,10 @@ invariant_of-self c =
     c.self.inside.entries.items c.joined_in.ensures.grown c.self.invariant
 
 pub returns-in_err-joined-in-Some-clause-globals : goal.returns-in_err-joined-in-Some-clause-globals
-returns-in_err-joined-in-Some-clause-globals c =
-    globals_grown c.self.inside.pool.items c.joined_in.new.pool.items c.self.inside.kept c.self.inside.stack.items c.self.inside.globals
-    c.self.inside.entries.items c.joined_in.ensures.grown c.self.invariant
-    ∙ ap (λ (h : Holding). h.globals) c.self.view_is
+returns-in_err-joined-in-Some-clause-globals c = globals_seen _ _ _ _ _ _ _ _ c.joined_in.ensures.grown c.self.invariant c.self.view_is
 
 pub returns-in_err-joined-in-Some-clause-entries : goal.returns-in_err-joined-in-Some-clause-entries
-returns-in_err-joined-in-Some-clause-entries c =
-    entries_grown c.self.inside.pool.items c.joined_in.new.pool.items c.self.inside.kept c.self.inside.stack.items c.self.inside.globals
-    c.self.inside.entries.items c.joined_in.ensures.grown c.self.invariant
-    ∙ ap (λ (h : Holding). h.entries) c.self.view_is
+returns-in_err-joined-in-Some-clause-entries c = entries_seen _ _ _ _ _ _ _ _ c.joined_in.ensures.grown c.self.invariant c.self.view_is
 
 pub replace_top-requires : goal.replace_top-requires
 replace_top-requires c =
@@ -67,16 +61,10 @@ returns-in_ok-joined-in-Some-clause-stack c =
     ∙ ap (λ (h : Holding). joined h.stack) c.self.view_is
 
 pub returns-in_ok-joined-in-Some-clause-globals : goal.returns-in_ok-joined-in-Some-clause-globals
-returns-in_ok-joined-in-Some-clause-globals c =
-    globals_grown c.self.inside.pool.items c.joined_in.new.pool.items c.self.inside.kept c.self.inside.stack.items c.self.inside.globals
-    c.self.inside.entries.items c.joined_in.ensures.grown c.self.invariant
-    ∙ ap (λ (h : Holding). h.globals) c.self.view_is
+returns-in_ok-joined-in-Some-clause-globals c = globals_seen _ _ _ _ _ _ _ _ c.joined_in.ensures.grown c.self.invariant c.self.view_is
 
 pub returns-in_ok-joined-in-Some-clause-entries : goal.returns-in_ok-joined-in-Some-clause-entries
-returns-in_ok-joined-in-Some-clause-entries c =
-    entries_grown c.self.inside.pool.items c.joined_in.new.pool.items c.self.inside.kept c.self.inside.stack.items c.self.inside.globals
-    c.self.inside.entries.items c.joined_in.ensures.grown c.self.invariant
-    ∙ ap (λ (h : Holding). h.entries) c.self.view_is
+returns-in_ok-joined-in-Some-clause-entries c = entries_seen _ _ _ _ _ _ _ _ c.joined_in.ensures.grown c.self.invariant c.self.view_is
 
 pub returns-in-None-clause-stack : goal.returns-in-None-clause-stack
 returns-in-None-clause-stack c =

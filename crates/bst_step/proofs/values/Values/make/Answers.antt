@@ -6,7 +6,7 @@ use Rattle.bst_meaning.specs.declared.value.Value.TheVariants.{Str}
 use Rattle.bst_step.specs.declared.held.Held.{Held}
 use Rattle.bst_step.specs.Held.{value_in}
 use Rattle.bst_step.specs.Values.{Holding}
-use Rattle.bst_step.proofs.HeldSteps.{entries_grown, globals_grown, held_grown, held_replaced, stack_grown}
+use Rattle.bst_step.proofs.HeldSteps.{entries_seen, globals_seen, held_grown, held_replaced, stack_grown}
 use Rattle.bst_step.proofs.ViewSteps.{dropped_view}
 use Rattle.bst_step.specs.Marks.{Made, mark_of, resulting}
 use Rattle.bst_step.proofs.MarkSteps.{put_marks, stack_marked}
@@ -18,16 +18,10 @@ invariant_of-self c =
     c.self.inside.entries.items c.made_in.ensures.grown c.self.invariant
 
 pub returns-in_err-made-clause-globals : goal.returns-in_err-made-clause-globals
-returns-in_err-made-clause-globals c =
-    globals_grown c.self.inside.pool.items c.made_in.new.pool.items c.self.inside.kept c.self.inside.stack.items c.self.inside.globals
-    c.self.inside.entries.items c.made_in.ensures.grown c.self.invariant
-    ∙ ap (λ (h : Holding). h.globals) c.self.view_is
+returns-in_err-made-clause-globals c = globals_seen _ _ _ _ _ _ _ _ c.made_in.ensures.grown c.self.invariant c.self.view_is
 
 pub returns-in_err-made-clause-entries : goal.returns-in_err-made-clause-entries
-returns-in_err-made-clause-entries c =
-    entries_grown c.self.inside.pool.items c.made_in.new.pool.items c.self.inside.kept c.self.inside.stack.items c.self.inside.globals
-    c.self.inside.entries.items c.made_in.ensures.grown c.self.invariant
-    ∙ ap (λ (h : Holding). h.entries) c.self.view_is
+returns-in_err-made-clause-entries c = entries_seen _ _ _ _ _ _ _ _ c.made_in.ensures.grown c.self.invariant c.self.view_is
 
 pub put-requires : goal.put-requires
 put-requires c = (
@@ -57,16 +51,10 @@ returns-clause-stack c =
     ∙ ap (λ (h : Holding). h.stack) c.self.view_is))
 
 pub returns-clause-globals : goal.returns-clause-globals
-returns-clause-globals c =
-    globals_grown c.self.inside.pool.items c.made_in.new.pool.items c.self.inside.kept c.self.inside.stack.items c.self.inside.globals
-    c.self.inside.entries.items c.made_in.ensures.grown c.self.invariant
-    ∙ ap (λ (h : Holding). h.globals) c.self.view_is
+returns-clause-globals c = globals_seen _ _ _ _ _ _ _ _ c.made_in.ensures.grown c.self.invariant c.self.view_is
 
 pub returns-clause-entries : goal.returns-clause-entries
-returns-clause-entries c =
-    entries_grown c.self.inside.pool.items c.made_in.new.pool.items c.self.inside.kept c.self.inside.stack.items c.self.inside.globals
-    c.self.inside.entries.items c.made_in.ensures.grown c.self.invariant
-    ∙ ap (λ (h : Holding). h.entries) c.self.view_is
+returns-clause-entries c = entries_seen _ _ _ _ _ _ _ _ c.made_in.ensures.grown c.self.invariant c.self.view_is
 
 pub returns-clause-marks : goal.returns-clause-marks
 returns-clause-marks c =
