@@ -92,31 +92,22 @@ line_added [] found aux e = refl
 line_added (first ∷ rest) [] aux e = refl
 line_added (first ∷ rest) (other ∷ others) aux e = absurd (cc)
 
--- what items add to what was asked for before them
-record Takes (told : Listing) (levels : ℕ) (items : List AuxItem) (before after : Requests) : Type 0 where
+-- what items add to what was asked for before them, where the files in front of those that they name have it too
+record Takes (told : Listing) (levels : ℕ) (items : List AuxItem) (front : List Aux) (before after : Requests) : Type 0 where
   files : List Aux
   joined : List AuxItem
   tree : Joined told levels items files joined
   items_are : after.items ≡ before.items ++ joined
-  styles_are : named after.style ≡ named before.style ++ styles files
-  lines_are : listed after.databases ≡ listed before.databases ++ databases files
+  styles_are : named after.style ≡ named before.style ++ styles (front ++ files)
+  lines_are : listed after.databases ≡ listed before.databases ++ databases (front ++ files)
 
--- what one file adds with its items
-record Adds (told : Listing) (levels : ℕ) (aux : Aux) (before after : Requests) : Type 0 where
-  files : List Aux
-  joined : List AuxItem
-  tree : Joined told levels aux.items files joined
-  items_are : after.items ≡ before.items ++ joined
-  styles_are : named after.style ≡ named before.style ++ styles (aux ∷ files)
-  lines_are : listed after.databases ≡ listed before.databases ++ databases (aux ∷ files)
-
--- the same of a file that an item names
+-- what a file adds that an item names
 record TakesFile (told : Listing) (levels : ℕ) (name : List ℕ) (before after : Requests) : Type 0 where
   aux : Aux
   asks : Asks told name aux
-  adds : Adds told levels aux before after
+  adds : Takes told levels aux.items (aux ∷ []) before after
 
-takes_none : (told : Listing) (levels : ℕ) (before after : Requests) → before ≡ after → Takes told levels [] before after
+takes_none : (told : Listing) (levels : ℕ) (before after : Requests) → before ≡ after → Takes told levels [] [] before after
 takes_none told levels before after same =
     record {
       files = [];
@@ -127,26 +118,15 @@ takes_none told levels before after same =
       lines_are = ap (λ (r : Requests). listed r.databases) (sym same) ∙ sym (append-nil (listed before.databases));
     }
 
-takes_key : (told : Listing) (levels : ℕ) (cited : List ℕ) (items : List AuxItem) (before after : Requests)
-    → Takes told levels items (with_item (Cite cited) before) after → Takes told levels (Cite cited ∷ items) before after
-takes_key told levels cited items before after t =
+takes_item : (told : Listing) (levels : ℕ) (item : AuxItem) (items : List AuxItem) (before after : Requests)
+    → ((files : List Aux) (joined : List AuxItem) → Joined told levels items files joined → Joined told levels (item ∷ items) files (item ∷ joined))
+    → Takes told levels items [] (with_item item before) after → Takes told levels (item ∷ items) [] before after
+takes_item told levels item items before after one t =
     record {
       files = t.files;
-      joined = Cite cited ∷ t.joined;
-      tree = key t.tree;
-      items_are = t.items_are ∙ append_assoc before.items (Cite cited ∷ []) t.joined;
-      styles_are = t.styles_are;
-      lines_are = t.lines_are;
-    }
-
-takes_all : (told : Listing) (levels : ℕ) (items : List AuxItem) (before after : Requests)
-    → Takes told levels items (with_item All before) after → Takes told levels (All ∷ items) before after
-takes_all told levels items before after t =
-    record {
-      files = t.files;
-      joined = All ∷ t.joined;
-      tree = all t.tree;
-      items_are = t.items_are ∙ append_assoc before.items (All ∷ []) t.joined;
+      joined = item ∷ t.joined;
+      tree = one t.files t.joined t.tree;
+      items_are = t.items_are ∙ append_assoc before.items (item ∷ []) t.joined;
       styles_are = t.styles_are;
       lines_are = t.lines_are;
     }
@@ -163,8 +143,8 @@ lines_joined (aux ∷ first) second =
     ∙ sym (append_assoc (listed aux.databases) (databases first) (databases second))
 
 takes_input : (told : Listing) (levels : ℕ) (name : List ℕ) (place : Place) (items : List AuxItem) (before middle after : Requests)
-    → TakesFile told levels name before middle → Takes told (suc levels) items middle after
-    → Takes told (suc levels) (Input name place ∷ items) before after
+    → TakesFile told levels name before middle → Takes told (suc levels) items [] middle after
+    → Takes told (suc levels) (Input name place ∷ items) [] before after
 takes_input told levels name place items before middle after f t =
     record {
       files = f.aux ∷ (f.adds.files ++ t.files);
@@ -183,24 +163,24 @@ takes_input told levels name place items before middle after f t =
 
 -- items below which no input may lie
 flat_read : (told : Listing) (items : List AuxItem) (before after : Requests) → first_input items ≡ None
-    → take_items (take_input zero told) items before ≡ Ok after → Takes told zero items before after
+    → take_items (take_input zero told) items before ≡ Ok after → Takes told zero items [] before after
 flat_read told [] before after flat e = takes_none told zero before after (let same : before ≡ after = cc in same)
 flat_read told (Cite cited ∷ items) before after flat e =
-    takes_key told zero cited items before after (flat_read told items (with_item (Cite cited) before) after flat e)
+    takes_item told zero (Cite cited) items before after (λ files joined t. key t) (flat_read told items (with_item (Cite cited) before) after flat e)
 flat_read told (All ∷ items) before after flat e =
-    takes_all told zero items before after (flat_read told items (with_item All before) after flat e)
+    takes_item told zero All items before after (λ files joined t. all t) (flat_read told items (with_item All before) after flat e)
 flat_read told (Input name place ∷ items) before after flat e = absurd (cc)
 
 -- items, by what is read of each file that they name
 deep_read : (told : Listing) (levels : ℕ)
     → ((name : List ℕ) (before after : Requests) → take_input (suc levels) told name before ≡ Ok after → TakesFile told levels name before after)
     → (items : List AuxItem) (before after : Requests) → take_items (take_input (suc levels) told) items before ≡ Ok after
-    → Takes told (suc levels) items before after
+    → Takes told (suc levels) items [] before after
 deep_read told levels file [] before after e = takes_none told (suc levels) before after (let same : before ≡ after = cc in same)
 deep_read told levels file (Cite cited ∷ items) before after e =
-    takes_key told (suc levels) cited items before after (deep_read told levels file items (with_item (Cite cited) before) after e)
+    takes_item told (suc levels) (Cite cited) items before after (λ files joined t. key t) (deep_read told levels file items (with_item (Cite cited) before) after e)
 deep_read told levels file (All ∷ items) before after e =
-    takes_all told (suc levels) items before after (deep_read told levels file items (with_item All before) after e)
+    takes_item told (suc levels) All items before after (λ files joined t. all t) (deep_read told levels file items (with_item All before) after e)
 deep_read told levels file (Input name place ∷ items) before after e =
     let has = then_ok (take_input (suc levels) told name before) (take_items (take_input (suc levels) told) items) after e in
     takes_input told levels name place items before has.0 after (file name before has.0 has.1)
@@ -208,13 +188,13 @@ deep_read told levels file (Input name place ∷ items) before after e =
 
 -- a file, by what is read of its items
 file_adds : (told : Listing) (levels : ℕ) (name : List ℕ) (before after : Requests) (aux : Aux)
-    → ((middle : Requests) → too_deep levels aux.items ≡ None → take_items (take_input levels told) aux.items middle ≡ Ok after → Takes told levels aux.items middle after)
-    → take_aux levels (take_input levels told) name before aux ≡ Ok after → Adds told levels aux before after
+    → ((middle : Requests) → too_deep levels aux.items ≡ None → take_items (take_input levels told) aux.items middle ≡ Ok after → Takes told levels aux.items [] middle after)
+    → take_aux levels (take_input levels told) name before aux ≡ Ok after → Takes told levels aux.items (aux ∷ []) before after
 file_adds told levels name before after aux items e = by (fault_after levels before aux) refl e
   where
     by : (o : Option DataFault) → fault_after levels before aux ≡ o
         → unless_faulty name o (take_items (take_input levels told) aux.items (with_names aux before)) ≡ Ok after
-        → Adds told levels aux before after
+        → Takes told levels aux.items (aux ∷ []) before after
     by (Some fault) is e = absurd (cc)
     by None is e =
         let sound = no_fault levels before aux is in
@@ -233,7 +213,7 @@ file_adds told levels name before after aux items e = by (fault_after levels bef
         }
 
 items_read : (told : Listing) (levels : ℕ) (items : List AuxItem) (before after : Requests) → too_deep levels items ≡ None
-    → take_items (take_input levels told) items before ≡ Ok after → Takes told levels items before after
+    → take_items (take_input levels told) items before ≡ Ok after → Takes told levels items [] before after
 items_read told zero items before after flat e = flat_read told items before after flat e
 items_read told (suc levels) items before after flat e =
     deep_read told levels
