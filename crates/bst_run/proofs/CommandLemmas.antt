@@ -286,18 +286,12 @@ form_inside see old new form (Ok o) given out err answer delivered inside is =
     apart inside.before inside.rest log.0 o.err log.1
     (ap (λ (b : Option (List ℕ)). appended b o.err) (sym inside.was) ∙ sym whole.1.taken ∙ inside.is)
 
--- the words `run AUX N` promise nothing of a text
-pub run_promises : (t : Option Listing) (aux : List ℕ) (steps : ℕ) (result : Result Outcome Stop) → IfOk result (λ o. IfSome t (λ told. Promises told (Run aux steps) o))
-run_promises None aux steps (Ok o) = tt
-run_promises (Some t) aux steps (Ok o) = tt
-run_promises t aux steps (Err stop) = tt
-
--- neither do the words `run AUX N CERT`
-pub under_promises : (t : Option Listing) (aux : List ℕ) (steps : ℕ) (cert : List ℕ) (result : Result Outcome Stop)
-    → IfOk result (λ o. IfSome t (λ told. Promises told (RunUnder aux steps cert) o))
-under_promises None aux steps cert (Ok o) = tt
-under_promises (Some t) aux steps cert (Ok o) = tt
-under_promises t aux steps cert (Err stop) = tt
+-- the words `run AUX N` and `run AUX N CERT` promise nothing of a text
+pub nothing_promised : (t : Option Listing) (form : Form) (result : Result Outcome Stop) → ((told : Listing) (o : Outcome) → Promises told form o)
+    → IfOk result (λ o. IfSome t (λ told. Promises told form o))
+nothing_promised None form (Ok o) none = tt
+nothing_promised (Some t) form (Ok o) none = none t o
+nothing_promised t form (Err stop) none = tt
 
 -- what the words `gen SEED COUNT` come to
 pub gen_told : (seed count : ℕ) (result : Result Outcome Stop) (found : Result Outcome NoMemory)

@@ -25,9 +25,9 @@ use Rattle.bst_run.specs.declared.data_fault.DataFault.TheVariants.{Aux as AuxFi
 use Rattle.bst_run.specs.declared.files.requests.Needs.{Needs}
 use Rattle.bst_run.specs.declared.files.requests.Requests.{Requests}
 use Rattle.bst_run.specs.declared.outcome.Outcome.{Outcome}
-use Rattle.bst_run.proofs.TreeLemmas.{text_read}
+use Rattle.bst_run.proofs.TreeLemmas.{file_read, text_read}
 use Rattle.bst_run.proofs.AuxPlaces.{AuxStands, ItemStands, aux_stands}
-use Rattle.bv_base.proofs.ThenLemmas.{then_faulty}
+use Rattle.bv_base.proofs.ThenLemmas.{then_faulty, then_ok}
 
 -- the first or the second of two faults
 first_stands : (text : List ℕ) (a b : Option DataFault) → IfSome a (IsFaultOf text) → IfSome b (IsFaultOf text) → IfSome (first_fault a b) (IsFaultOf text)
@@ -82,18 +82,6 @@ module _ (told : Listing) where
       by None is = Missing name is refl
       by (Some bytes) is = sized bytes is (nat_lt DATA_BYTES (length bytes)) refl
 
-  -- a file that was read is there
-  file_there : (name text : List ℕ) → file_in told DATA_BYTES name ≡ Ok text → get told name ≡ Some text
-  file_there name text e = by (get told name) e
-    where
-      sized : (bytes : List ℕ) (t : Bool) → cond t (Err (too_long name)) (Ok bytes) ≡ Ok text → Some bytes ≡ Some text
-      sized bytes true e = absurd (cc)
-      sized bytes false e = cc
-
-      by : (o : Option (List ℕ)) → whole_file DATA_BYTES name o ≡ Ok text → o ≡ Some text
-      by None e = absurd (cc)
-      by (Some bytes) e = sized bytes (nat_lt DATA_BYTES (length bytes)) e
-
   -- a text that isn't read
   text_faulty : (name text : List ℕ) → get told name ≡ Some text → IfErr (aux_in name text) (IsFileFault told)
   text_faulty name text there = by (aux_of text) refl
@@ -126,20 +114,17 @@ module _ (told : Listing) where
   named_faulty : (levels : ℕ) (name : List ℕ) (before : Requests) (aux : Aux) → aux_file told name ≡ Ok aux
       → ((n : List ℕ) (r : Requests) → IfErr (take_input levels told n r) (IsFileFault told))
       → IfErr (take_aux levels (take_input levels told) name before aux) (IsFileFault told)
-  named_faulty levels name before aux e each = by (file_in told DATA_BYTES name) refl e
-    where
-      by : (r : Result (List ℕ) Outcome) → file_in told DATA_BYTES name ≡ r → then_do r (aux_in name) ≡ Ok aux
-          → IfErr (take_aux levels (take_input levels told) name before aux) (IsFileFault told)
-      by (Ok text) is read =
-          aux_faulty levels (take_input levels told) name text before aux (file_there name text is) (aux_stands text aux (text_read name text aux read)) each
-      by (Err outcome) is read = absurd (cc)
+  named_faulty levels name before aux e each =
+      let has = then_ok (file_in told DATA_BYTES name) (aux_in name) aux e in
+      aux_faulty levels (take_input levels told) name has.0 before aux (file_read told name has.0 has.1).0
+      (aux_stands has.0 aux (text_read name has.0 aux has.2)) each
 
   input_faulty : (levels : ℕ) (name : List ℕ) (before : Requests) → IfErr (take_input levels told name before) (IsFileFault told)
   input_faulty zero name before = tt
   input_faulty (suc levels) name before =
       then_faulty (IsFileFault told) (aux_file told name) (take_aux levels (take_input levels told) name before)
       (then_faulty (IsFileFault told) (file_in told DATA_BYTES name) (aux_in name) (file_faulty name)
-      (λ text read. text_faulty name text (file_there name text read)))
+      (λ text read. text_faulty name text (file_read told name text read).0))
       (λ aux read. named_faulty levels name before aux read (input_faulty levels))
 
   complete_faulty : (name text : List ℕ) (items : List AuxItem) (style : Option (List ℕ)) (databases : List (List ℕ)) → get told name ≡ Some text
@@ -160,5 +145,5 @@ module _ (told : Listing) where
   pub needs_faulty : (name : List ℕ) (outcome : Outcome) → needs_of told name ≡ Err outcome → IsFileFault told outcome
   needs_faulty name outcome e =
       let all = then_faulty (IsFileFault told) (file_in told DATA_BYTES name) (needs_after told name) (file_faulty name)
-      (λ text read. after_faulty name text (file_there name text read)) in
+      (λ text read. after_faulty name text (file_read told name text read).0) in
       subst (λ (r : Result Needs Outcome). IfErr r (IsFileFault told)) e all

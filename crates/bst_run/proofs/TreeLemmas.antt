@@ -25,7 +25,7 @@ use Rattle.bst_run.specs.declared.files.requests.Requests.{Requests}
 use Rattle.bst_run.specs.declared.outcome.Outcome.{Outcome}
 use Rattle.bv_base.proofs.ThenLemmas.{then_ok}
 
--- a file that is read
+-- a text that is read
 pub text_read : (name text : List ℕ) (aux : Aux) → aux_in name text ≡ Ok aux → aux_of text ≡ Ok aux
 text_read name text aux e = by (aux_of text) e
   where
@@ -36,21 +36,26 @@ text_read name text aux e = by (aux_of text) e
 text_in : (name text : List ℕ) (aux : Aux) → AuxReads text aux → aux_in name text ≡ Ok aux
 text_in name text aux reads = ap (read_aux name) (of_reads text aux reads)
 
+-- a file that is read is there, and short
+pub file_read : (told : Listing) (name text : List ℕ) → file_in told DATA_BYTES name ≡ Ok text → (get told name ≡ Some text) × (length text ≤ DATA_BYTES)
+file_read told name text e = by (get told name) e
+  where
+    sized : (bytes : List ℕ) (t : Bool) → nat_lt DATA_BYTES (length bytes) ≡ t → cond t (Err (too_long name)) (Ok bytes) ≡ Ok text
+        → (Some bytes ≡ Some text) × (length text ≤ DATA_BYTES)
+    sized bytes true long e = absurd (cc)
+    sized bytes false long e =
+        let same : bytes ≡ text = cc in
+        (ap (λ (t : List ℕ). Some t) same, subst (λ (t : List ℕ). length t ≤ DATA_BYTES) same (ltb-false DATA_BYTES (length bytes) long))
+
+    by : (o : Option (List ℕ)) → whole_file DATA_BYTES name o ≡ Ok text → (o ≡ Some text) × (length text ≤ DATA_BYTES)
+    by None e = absurd (cc)
+    by (Some bytes) e = sized bytes (nat_lt DATA_BYTES (length bytes)) refl e
+
 asks_of : (told : Listing) (name : List ℕ) (aux : Aux) → aux_file told name ≡ Ok aux → Asks told name aux
 asks_of told name aux e =
     let has = then_ok (file_in told DATA_BYTES name) (aux_in name) aux e in
-    by has.0 (reads_of has.0 aux (text_read name has.0 aux has.2)) (get told name) refl has.1
-  where
-    short : (text bytes : List ℕ) → AuxReads text aux → get told name ≡ Some bytes → (t : Bool) → nat_lt DATA_BYTES (length bytes) ≡ t
-        → cond t (Err (too_long name)) (Ok bytes) ≡ Ok text → Asks told name aux
-    short text bytes reads is true long e = absurd (cc)
-    short text bytes reads is false long e =
-        let same : text ≡ bytes = cc in
-        record { text = bytes; there = is; short = ltb-false DATA_BYTES (length bytes) long; reads = subst (λ (t : List ℕ). AuxReads t aux) same reads }
-
-    by : (text : List ℕ) → AuxReads text aux → (o : Option (List ℕ)) → get told name ≡ o → whole_file DATA_BYTES name o ≡ Ok text → Asks told name aux
-    by text reads None is e = absurd (cc)
-    by text reads (Some bytes) is e = short text bytes reads is (nat_lt DATA_BYTES (length bytes)) refl e
+    let read = file_read told name has.0 has.1 in
+    record { text = has.0; there = read.0; short = read.1; reads = reads_of has.0 aux (text_read name has.0 aux has.2) }
 
 file_asks : (told : Listing) (name : List ℕ) (aux : Aux) → Asks told name aux → aux_file told name ≡ Ok aux
 file_asks told name aux asks =

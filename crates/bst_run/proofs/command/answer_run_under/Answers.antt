@@ -3,7 +3,7 @@ use Rattle.bst_run.specs.FilesBegun.{under_begun}
 use Rattle.bst_run.specs.Forms.{RunUnder}
 use Rattle.bst_run.specs.Under.{under_outcome}
 use Rattle.bst_run.proofs.BegunLemmas.{told_begun}
-use Rattle.bst_run.proofs.CommandLemmas.{told_answer, under_promises}
+use Rattle.bst_run.proofs.CommandLemmas.{nothing_promised, told_answer}
 use Rattle.bst_run.proofs.command.answer_run_under.Goals as goal
 
 pub returns-clause-answer : goal.returns-clause-answer
@@ -11,7 +11,7 @@ returns-clause-answer g c =
     told_answer g.F.Files c.args.files.now c.run_under.new.files (RunUnder c.args.aux.now c.args.steps c.args.cert.now)
     (λ t. under_outcome t c.args.aux.now c.args.steps c.args.cert.now) c.run_under.result c.told.result
     c.run_under.ensures.reads c.run_under.ensures.decided
-    (under_promises (g.F.Files.told c.args.files.now) c.args.aux.now c.args.steps c.args.cert.now c.run_under.result)
+    (nothing_promised (g.F.Files.told c.args.files.now) (RunUnder c.args.aux.now c.args.steps c.args.cert.now) c.run_under.result (λ told o. tt))
     (λ under. c.run_under.ensures.outside) (λ t. refl) (λ o. tt) c.told.ensures
 
 pub returns-clause-begun : goal.returns-clause-begun
