@@ -1,12 +1,13 @@
 //! What the effects of the built-in functions cover and keep.
 
 ghost use Rattle.std.specs.Prelude.{◌≡◌, ℕ, List, Ok, drop};
-ghost use Rattle.sym_state.specs.Subjects.{Builtin, Cond, Config, EntryList, Hint, Place, Stands, State, Style, Valuation, Value, WellMade};
+ghost use Rattle.sym_state.specs.Subjects.{Builtin, Cond, Config, EntryList, Place, Stands, State, Style, Valuation, Value, WellMade};
 ghost use Rattle.sym_state.specs.Covers.{Covers};
 ghost use Rattle.sym_state.specs.Demands.{After};
 ghost use Rattle.sym_state.specs.Effects.{effect_of};
 ghost use Rattle.sym_state.specs.Frames.{EffectFrame};
 ghost use Rattle.sym_state.specs.WellMade.{HasSmallLimits};
+ghost use Rattle.sym_state.specs.declared.hint.Hint.{Hint};
 
 /// Where a well-made state stands for a configuration and a built-in function has an effect on it, the function gives no
 /// fault, and the state after the effect stands for the configuration after the function.

@@ -2,9 +2,10 @@
 
 ghost use Rattle.std.specs.Prelude.{◌≡◌, ◌<◌, ◌≤◌, ℤ, List, Some, Ok, drop, length};
 ghost use Rattle.std.specs.List.{All};
-ghost use Rattle.sym_state.specs.Subjects.{Builtin, Cond, Config, EntryList, Hint, Place, Stands, State, Style, Valuation, Value, WellMade};
+ghost use Rattle.sym_state.specs.Subjects.{Builtin, Cond, Config, EntryList, Place, Stands, State, Style, Valuation, Value, WellMade};
 ghost use Rattle.bst_meaning.specs.declared.value.Value.TheVariants.{Int};
 ghost use Rattle.bst_meaning.specs.Operands.{is_positive};
+ghost use Rattle.sym_state.specs.declared.hint.Hint.{Hint};
 ghost use Rattle.sym_state.specs.declared.symbol.Sym.{Sym};
 ghost use Rattle.sym_state.specs.declared.test.Test.{Test};
 ghost use Rattle.sym_state.specs.declared.test.Test.TheVariants.{Above};

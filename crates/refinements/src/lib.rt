@@ -35,7 +35,6 @@ mod weighing;
 /// The states of the cases of a test, that of 1 or of an integer above 0 first. A test that is decided has one case. The
 /// integer of `Above` is one: the caller has made that demand. The hints are taken one after the other, and each is
 /// decided before the next is taken. Where there is a fault, none is taken.
-#[tactic(auto, using(crate::proofs::Kept::split_made))]
 pub fn split(
     state: &State,
     cond: &Cond,
@@ -57,7 +56,6 @@ pub fn split(
 
 /// The cases of whether an integer is above 0, each with its label, which is whether it is: that of an integer above 0
 /// first. Without their labels they are those of `split`. With one case left its label tells which function `if$` enters.
-#[tactic(auto, using(crate::proofs::Kept::above_made))]
 pub fn above(
     state: &State,
     cond: &Cond,
