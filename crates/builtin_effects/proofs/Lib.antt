@@ -3,7 +3,6 @@ pub mod Assigned
 pub mod CharactersCover
 pub mod CountsCover
 pub mod Covering
-pub mod Dispatched
 pub mod EffectsCover
 pub mod EntryCovers
 pub mod FormatCovers

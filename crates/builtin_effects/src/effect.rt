@@ -53,7 +53,6 @@ fn limits_are_small(key: u32, preamble: u32)
 {}
 
 /// The same, with a cursor that may have moved after a fault.
-#[tactic(auto, using(crate::proofs::Dispatched::by_op))]
 fn effect_by(
     style: &Style,
     at: &At<'_>,
