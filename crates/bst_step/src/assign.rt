@@ -1,12 +1,11 @@
 //! `:=`
 
-ghost use Rattle.std.specs.Prelude.{◌≡◌, ℕ, List, true, Some, drop, slice_get, IfOk};
+ghost use Rattle.std.specs.Prelude.{◌≡◌, ℕ, true, Some, drop, slice_get, IfOk};
 ghost use Rattle.bst_meaning.specs.Operands.{as_string, as_integer};
 ghost use Rattle.bst_meaning.specs.StyleParts as parts;
 ghost use Rattle.bst_meaning.specs.Builtins as rule;
 ghost use Rattle.bst_step.specs.Held.{value_of};
 ghost use Rattle.bst_meaning.specs.declared.value.Target.TheVariants.{Named};
-ghost use Rattle.bst_meaning.specs.declared.value.Value.{Value};
 ghost use Rattle.bst_meaning.specs.declared.value.Value.TheVariants.{Func};
 ghost use Rattle.bst_step.specs.Assignments.{Gives, name_of};
 ghost use Rattle.bst_step.specs.Room.{Fits, cuts_nothing};
@@ -45,38 +44,49 @@ pub fn assignment_of<'a>(around: Surroundings<'a>, values: &Values<'a>) -> Resul
 {
     let (value, target) = two(values)?;
     match target {
-        Operand::Func(Target::Named(name)) => assign_to(around, name, value),
+        Operand::Func(Target::Named(name)) => assign_to(around, name, value, values),
         Operand::Func(Target::Block(_)) => Err(Stop::Fault(Fault::NotVariable)),
         _ => Err(Stop::Fault(Fault::WrongKind)),
     }
 }
 
 /// `:=` of a value, the second from the top, to what a name stands for.
-fn assign_to(around: Surroundings<'_>, name: NameId, value: Operand<'_>) -> Result<Assignment, Stop>
-    ensures effect { (stack : List Value) → slice_get stack 1 ≡ Some (value_of value.entry) → Gives result stack
-        (rule.assign_to (context_in around.entry) (parts.kind_of around.entry.style.now name) name (value_of value.entry) (drop 2 stack)) }
+fn assign_to<'a>(
+    around: Surroundings<'a>,
+    name: NameId,
+    value: Operand<'_>,
+    values: &Values<'a>,
+) -> Result<Assignment, Stop>
+    requires { slice_get values.now.stack 1 ≡ Some (value_of value) }
+    ensures effect { Gives result values.now.stack
+        (rule.assign_to (context_in around.entry) (parts.kind_of around.entry.style.now name) name (value_of value.entry) (drop 2 values.now.stack)) }
     ensures named { IfOk result (λ assignment. name_of assignment ≡ name) }
-    ensures fits { (rest : List Value) → cuts_nothing
-        (rule.assign_to (context_in around.entry) (parts.kind_of around.entry.style.now name) name (value_of value.entry) rest) ≡ true → Fits result }
+    ensures fits { cuts_nothing (rule.assign_to (context_in around.entry) (parts.kind_of around.entry.style.now name) name (value_of value.entry)
+        (drop 2 values.now.stack)) ≡ true → Fits result }
 {
     let visits = around.entry.is_some();
     match kind_of(around.style, name) {
-        Some(Kind::IntGlobal) => assign_integer(name, value),
-        Some(Kind::StrGlobal) => assign_string(around, name, GLOBAL_SIZE, value),
-        Some(Kind::IntEntry) if visits => assign_integer(name, value),
-        Some(Kind::StrEntry) if visits => assign_string(around, name, ENTRY_SIZE, value),
+        Some(Kind::IntGlobal) => assign_integer(name, value, values),
+        Some(Kind::StrGlobal) => assign_string(around, name, GLOBAL_SIZE, value, values),
+        Some(Kind::IntEntry) if visits => assign_integer(name, value, values),
+        Some(Kind::StrEntry) if visits => assign_string(around, name, ENTRY_SIZE, value, values),
         Some(Kind::IntEntry | Kind::StrEntry) => Err(Stop::Fault(Fault::NoEntry)),
         _ => Err(Stop::Fault(Fault::NotVariable)),
     }
 }
 
 /// `:=` of an integer to an integer variable.
-fn assign_integer(name: NameId, value: Operand<'_>) -> Result<Assignment, Stop>
-    ensures effect { (stack : List Value) → slice_get stack 1 ≡ Some (value_of value.entry) →
-        Gives result stack (as_integer (value_of value.entry) (λ n. rule.assigned_integer name n (drop 2 stack))) }
+fn assign_integer<'a>(
+    name: NameId,
+    value: Operand<'_>,
+    values: &Values<'a>,
+) -> Result<Assignment, Stop>
+    requires { slice_get values.now.stack 1 ≡ Some (value_of value) }
+    ensures effect { Gives result values.now.stack (as_integer (value_of value.entry) (λ n. rule.assigned_integer name n (drop 2 values.now.stack))) }
     ensures named { IfOk result (λ assignment. name_of assignment ≡ name) }
     ensures fits { Fits result }
 {
+    let _ = values;
     match value {
         Operand::Int(_) => Ok(Assignment::Whole(name)),
         _ => Err(Stop::Fault(Fault::WrongKind)),
@@ -84,18 +94,21 @@ fn assign_integer(name: NameId, value: Operand<'_>) -> Result<Assignment, Stop>
 }
 
 /// `:=` of a string to a string variable of a size.
-fn assign_string(
-    around: Surroundings<'_>,
+fn assign_string<'a>(
+    around: Surroundings<'a>,
     name: NameId,
     size: u32,
     value: Operand<'_>,
+    values: &Values<'a>,
 ) -> Result<Assignment, Stop>
-    ensures effect { (stack : List Value) → slice_get stack 1 ≡ Some (value_of value.entry) →
-        Gives result stack (as_string (value_of value.entry) (λ bytes. rule.assigned_string around.entry.style.now name size bytes (drop 2 stack))) }
+    requires { slice_get values.now.stack 1 ≡ Some (value_of value) }
+    ensures effect { Gives result values.now.stack
+        (as_string (value_of value.entry) (λ bytes. rule.assigned_string around.entry.style.now name size bytes (drop 2 values.now.stack))) }
     ensures named { IfOk result (λ assignment. name_of assignment ≡ name) }
-    ensures fits { (rest : List Value) → cuts_nothing
-        (as_string (value_of value.entry) (λ bytes. rule.assigned_string around.entry.style.now name size bytes rest)) ≡ true → Fits result }
+    ensures fits { cuts_nothing (as_string (value_of value.entry)
+        (λ bytes. rule.assigned_string around.entry.style.now name size bytes (drop 2 values.now.stack))) ≡ true → Fits result }
 {
+    let _ = values;
     let Operand::Str(bytes) = value else {
         return Err(Stop::Fault(Fault::WrongKind));
     };
