@@ -81,11 +81,8 @@ record IsBare (outcome : Outcome) : Type 0 where
 
 -- so is one that the bytes of the files decide and that stops a command, and that of each stop
 refusal_bare : (outcome : Outcome) → IsRefusal outcome → IsBare outcome
-refusal_bare outcome refusal = record {
-  none = refusal.0;
-  not_done = λ done. subst IsRefusing done refusal.1;
-  no_fault = λ fault. subst IsRefusing fault refusal.1;
-}
+refusal_bare outcome refusal =
+    record { none = refusal.0; not_done = λ done. subst IsRefusing done refusal.1; no_fault = λ fault. subst IsRefusing fault refusal.1 }
 
 stop_bare : (stop : Stop) (outcome : Outcome) (begun : Option Begun) (f f' : ℕ) → told_of (Err stop) ≡ Some outcome → HasCause stop begun f f' → IsBare outcome
 stop_bare (Told o) outcome begun f f' is cause = subst IsBare (same_told o outcome is) (refusal_bare o cause)
@@ -206,20 +203,14 @@ form_not_usage see old new form (Ok o) given out err answer delivered is =
 
 -- what an outcome promises, a front of its text on standard output promises
 promised : (told : Listing) (form : Form) (o : Outcome) (out : Sunk) → IsFront o.out out → Promises told form o → IsPromised told form out
-promised told (Check style cert) o out front acceptance = record {
-  found = acceptance.found;
-  printed = subst (λ (x : Outcome). IsFront x.out out) acceptance.printed front;
-}
-promised told (Infer style cond) o out front writing = record {
-  found = writing.found;
-  printed = subst (λ (x : Outcome). IsFront x.out out) writing.printed front;
-}
+promised told (Check style cert) o out front acceptance =
+    record { found = acceptance.found; printed = subst (λ (x : Outcome). IsFront x.out out) acceptance.printed front }
+promised told (Infer style cond) o out front writing =
+    record { found = writing.found; printed = subst (λ (x : Outcome). IsFront x.out out) writing.printed front }
 promised told (Run aux steps) o out front acceptance = tt
 promised told (RunUnder aux steps cert) o out front acceptance = tt
-promised told (Gen seed count) o out front generating = record {
-  made = generating.made;
-  printed = subst (λ (x : Outcome). IsFront x.out out) generating.printed front;
-}
+promised told (Gen seed count) o out front generating =
+    record { made = generating.made; printed = subst (λ (x : Outcome). IsFront x.out out) generating.printed front }
 
 -- a text on standard output promises what the outcome does
 pub form_safe : {F : Type 0} (see : Ghosts F) (old new : F) (form : Form) (found : Result Outcome NoMemory) (given : Status) (out err : Sunk)

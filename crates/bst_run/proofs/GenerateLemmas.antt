@@ -35,21 +35,16 @@ body_short choice k few = by (nat_eq choice 0) (nat_eq choice 1) (nat_eq choice 
         (cond c (codes "author duplicate$ missing$ 'pop$ 'write$ if$ newline$") (codes "f" ++ decimal (k - 1))))) ≤ 60
     by true b c = omega arith
     by false true c =
-        let digits = few_digits k few in
-        omega (arith, digits, length-append (codes "\"") (decimal k ++ codes "\" write$ newline$"), length-append (decimal k) (codes "\" write$ newline$"))
+        omega (arith, few_digits k few, length-append (codes "\"") (decimal k ++ codes "\" write$ newline$"), length-append (decimal k) (codes "\" write$ newline$"))
     by false false true = omega arith
-    by false false false =
-        let digits = few_digits (k - 1) (omega (arith, few)) in
-        omega (arith, digits, length-append (codes "f") (decimal (k - 1)))
+    by false false false = omega (arith, few_digits (k - 1) (omega (arith, few)), length-append (codes "f") (decimal (k - 1)))
 
 line_short : (choice k : ℕ) → k ≤ 2000 → length (function_line choice k) ≤ 80
 line_short choice k few =
-    let digits = few_digits k few in
-    let body = body_short choice k few in
     omega (
       arith,
-      digits,
-      body,
+      few_digits k few,
+      body_short choice k few,
       length-append (codes "FUNCTION{f") (decimal k ++ (codes "}{" ++ (body_by choice k ++ codes "}\n"))),
       length-append (decimal k) (codes "}{" ++ (body_by choice k ++ codes "}\n")),
       length-append (codes "}{") (body_by choice k ++ codes "}\n"),
@@ -59,31 +54,23 @@ line_short choice k few =
 functions_short : (seed k : ℕ) → k ≤ 2000 → length (functions seed k) ≤ 80 * k
 functions_short seed zero few = omega arith
 functions_short seed (suc k) few =
-    let before = functions_short seed k (omega (arith, few)) in
     let line = line_short (choice_of (number_of seed (suc k))) (suc k) few in
-    omega (arith, before, line, length-append (functions seed k) (function_line (choice_of (number_of seed (suc k))) (suc k)))
+    omega (arith, functions_short seed k (omega (arith, few)), line, length-append (functions seed k) (function_line (choice_of (number_of seed (suc k))) (suc k)))
 
 visit_short : (k : ℕ) → k ≤ 2000 → length (visit_line k) ≤ 20
-visit_short k few =
-    let digits = few_digits k few in
-    omega (arith, digits, length-append (codes "ITERATE{f") (decimal k ++ codes "}\n"), length-append (decimal k) (codes "}\n"))
+visit_short k few = omega (arith, few_digits k few, length-append (codes "ITERATE{f") (decimal k ++ codes "}\n"), length-append (decimal k) (codes "}\n"))
 
 visits_short : (k : ℕ) → k ≤ 2000 → length (visits k) ≤ 20 * k
 visits_short zero few = omega arith
-visits_short (suc k) few =
-    let before = visits_short k (omega (arith, few)) in
-    let line = visit_short (suc k) few in
-    omega (arith, before, line, length-append (visits k) (visit_line (suc k)))
+visits_short (suc k) few = omega (arith, visits_short k (omega (arith, few)), visit_short (suc k) few, length-append (visits k) (visit_line (suc k)))
 
 pub generated_short : (seed count : ℕ) → count ≤ MOST_FUNCTIONS → length (generated seed count) ≤ STYLE_BYTES
 generated_short seed count few =
-    let made = functions_short seed count few in
-    let visited = visits_short count few in
     omega (
       arith,
       few,
-      made,
-      visited,
+      functions_short seed count few,
+      visits_short count few,
       length-append (codes "ENTRY{title author}{}{}\nFUNCTION{f0}{skip$}\n") (functions seed count ++ (codes "READ\n" ++ visits count)),
       length-append (functions seed count) (codes "READ\n" ++ visits count),
       length-append (codes "READ\n") (visits count),

@@ -112,12 +112,8 @@ reads_next {B = B} see old mid new first value next result h k =
 -- a stop ends the reading
 pub reads_stopped : {F A B : Type 0} (see : Ghosts F) (old new : F) (first : Listing → Result A Outcome) (next : Listing → A → Result B Outcome) (stop : Stop)
     → Reads {F = F} {A = A} see old new first (Err stop) → Reads {F = F} {A = B} see old new (λ t. then_do (first t) (next t)) (Err stop)
-reads_stopped see old new first next stop h = record {
-  gives = stop_given (see.told old) first next stop h.gives;
-  cause = h.cause;
-  told = h.told;
-  count = h.count;
-}
+reads_stopped see old new first next stop h =
+    record { gives = stop_given (see.told old) first next stop h.gives; cause = h.cause; told = h.told; count = h.count }
 
 -- memory is wanting
 pub reads_wanting : {F : Type 0} (A : Type 0) (see : Ghosts F) (old new : F) (wanted : Listing → Result A Outcome)

@@ -3,7 +3,6 @@ use Rattle.std.proofs.Common.{◌≡◌, ℕ, List, ◌++◌, Result, ◌∙◌,
 use Rattle.std.specs.Prelude.{IfOk}
 use Rattle.bv_base.specs.declared.memory.NoMemory.{NoMemory}
 use Rattle.bv_base.specs.declared.status.Status.{Status}
-use Rattle.bv_base.specs.declared.status.Status.TheVariants.{Budget, Done, Fault}
 use Rattle.name_table.specs.declared.style.Style.{Style}
 use Rattle.bst_meaning.specs.declared.entry.EntryList.{EntryList}
 use Rattle.bst_meaning.specs.Config.{Config, opening}
@@ -27,22 +26,17 @@ ran_is style style' n n' c c' list moved e f opened =
 abbrev made : Status → List ℕ → List ℕ → Outcome
 made status out err = record { status = status; out = out; err = err }
 
+made_is : {s s' : Status} {o o' e e' : List ℕ} → s ≡ s' → o ≡ o' → e ≡ e' → made s o e ≡ made s' o' e'
+made_is {s' = s'} {o = o} {o' = o'} {e = e} f g h =
+    ap (λ (x : Status). made x o e) f ∙ ap (λ (x : List ℕ). made s' x e) g ∙ ap (λ (x : List ℕ). made s' o' x) h
+
 -- a status, lines and a log make the answer of a configuration
 pub outcome_is : (count : ℕ) (log : List ℕ) (turn : Turn) (c : Config) (status : Status) (out err : List ℕ)
     → status ≡ (answered count log turn c).status → out ≡ lines_of c → err ≡ (answered count log turn c).err
     → made status out err ≡ answered count log turn c
-outcome_is count log Ended c status out err is written told =
-    ap (λ (s : Status). made s out err) is
-    ∙ ap (λ (o : List ℕ). made Done o err) written
-    ∙ ap (λ (e : List ℕ). made Done (lines_of c) e) told
-outcome_is count log Went c status out err is written told =
-    ap (λ (s : Status). made s out err) is
-    ∙ ap (λ (o : List ℕ). made Budget o err) written
-    ∙ ap (λ (e : List ℕ). made Budget (lines_of c) e) told
-outcome_is count log (Faulted fault site) c status out err is written told =
-    ap (λ (s : Status). made s out err) is
-    ∙ ap (λ (o : List ℕ). made Fault o err) written
-    ∙ ap (λ (e : List ℕ). made Fault (lines_of c) e) told
+outcome_is count log Ended c status out err is written told = made_is is written told
+outcome_is count log Went c status out err is written told = made_is is written told
+outcome_is count log (Faulted fault site) c status out err is written told = made_is is written told
 
 -- what a machine answers is what its configuration does
 pub outcome_at : (count : ℕ) (result : Result Outcome NoMemory) (log : List ℕ) (turn : Turn) (reading reading' joining joining' : List (List ℕ)) (c c' : Config)

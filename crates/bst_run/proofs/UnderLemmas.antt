@@ -34,10 +34,7 @@ use Rattle.bst_run.specs.Under.{FaultsOutside, IsBegunBy, joined_under, logged, 
 -- each line has a byte
 line_byte : (line : List (List ℕ)) → 1 ≤ length (line_text line)
 line_byte [] = omega arith
-line_byte (item ∷ items) =
-    let split = length-append item (after_item items) in
-    let some = end_byte items in
-    omega (arith, split, some)
+line_byte (item ∷ items) = omega (arith, length-append item (after_item items), end_byte items)
   where
     end_byte : (items : List (List ℕ)) → 1 ≤ length (after_item items)
     end_byte [] = omega arith
@@ -45,11 +42,7 @@ line_byte (item ∷ items) =
 
 lines_short : (lines : List (List (List ℕ))) → length lines ≤ length (text_of lines)
 lines_short [] = omega arith
-lines_short (line ∷ lines) =
-    let split = length-append (line_text line) (text_of lines) in
-    let some = line_byte line in
-    let rest = lines_short lines in
-    omega (arith, split, some, rest)
+lines_short (line ∷ lines) = omega (arith, length-append (line_text line) (text_of lines), line_byte line, lines_short lines)
 
 -- a condition has as many lines as its text, at least
 lists_length : (names : List (List ℕ × Kind)) (cond : Cond)
@@ -57,17 +50,11 @@ lists_length : (names : List (List ℕ × Kind)) (cond : Cond)
 lists_length names cond =
     let first = length-append (map (names_items names) cond.names) (map (nonblank_items names) cond.nonblank ++ map type_items cond.types) in
     let second = length-append (map (nonblank_items names) cond.nonblank) (map type_items cond.types) in
-    let a = length-map cond.names (names_items names) in
-    let b = length-map cond.nonblank (nonblank_items names) in
-    let d = length-map cond.types type_items in
-    omega (arith, first, second, a, b, d)
+    omega (arith, first, second, length-map cond.names (names_items names), length-map cond.nonblank (nonblank_items names), length-map cond.types type_items)
 
 lists_in : (names : List (List ℕ × Kind)) (cond : Cond) (rest : List (List (List ℕ)))
     → length (cond_lists names cond) ≤ length (cond_items names cond ++ rest)
-lists_in names cond rest =
-    let first = length-append (cond_items names cond) rest in
-    let second = length-append (cond_lists names cond) (cond_end cond.other) in
-    omega (arith, first, second)
+lists_in names cond rest = omega (arith, length-append (cond_items names cond) rest, length-append (cond_lists names cond) (cond_end cond.other))
 
 -- the lines of a certificate behind its condition
 abbrev units_of : Style → Cert → List (List (List ℕ))
