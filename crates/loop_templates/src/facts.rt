@@ -163,7 +163,7 @@ fn push_stack(
     Ok(())
 }
 
-/// Adds what a state records on those of some places that are written.
+/// Adds what a state records on the places that are written.
 fn push_written(
     alloc: Global,
     all: &mut Vec<Fact>,
@@ -176,11 +176,28 @@ fn push_written(
     ensures { OnOk result (all.new.items ≡ all.old.items ++ flat_map (rule.written_facts writes.now state.now) places.now) }
 {
     for place in places {
-        if is_written(writes, place.name) {
-            push_facts_on(alloc, all, facts, symbol_in(state, place.name), place.sym)?;
-        }
+        push_written_on(alloc, all, writes, state, facts, *place)?;
     }
     Ok(())
+}
+
+/// Adds what a state records on a place, where that is written.
+fn push_written_on(
+    alloc: Global,
+    all: &mut Vec<Fact>,
+    writes: &[NameId],
+    state: &State,
+    facts: &[&Fact],
+    place: Bind,
+) -> Result<(), NoMemory>
+    requires { map (λ fact. fact.now) facts.now ≡ state.now.facts }
+    ensures { OnOk result (all.new.items ≡ all.old.items ++ rule.written_facts writes.now state.now place) }
+{
+    if is_written(writes, place.name) {
+        push_facts_on(alloc, all, facts, symbol_in(state, place.name), place.sym)
+    } else {
+        Ok(())
+    }
 }
 
 /// Adds the facts on one symbol, on another one.

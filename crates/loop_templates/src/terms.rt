@@ -70,6 +70,19 @@ fn integers_of(
     occurring_of(alloc, style, named, |kind| is_integer(bound, kind))
 }
 
+/// The strings that occur.
+fn lengths_of(
+    alloc: Global,
+    style: &Style,
+    found: &Occurrences,
+    at_entry: bool,
+) -> Result<Vec<NameId>, NoMemory>
+    ensures { IfOk result (λ names. names.items ≡ rule.occurring_of (rule.has_length at_entry) style.now found.now.named) }
+{
+    let named = found.named.as_slice();
+    occurring_of(alloc, style, named, |kind| has_length(at_entry, kind))
+}
+
 /// The strings that occur and stay what they are.
 fn strings_of(
     alloc: Global,
@@ -79,9 +92,8 @@ fn strings_of(
 ) -> Result<Vec<NameId>, NoMemory>
     ensures { IfOk result (λ names. names.items ≡ rule.strings_of style.now found.now at_entry) }
 {
-    let named = found.named.as_slice();
     let quoted = found.quoted.as_slice();
-    let mut names = occurring_of(alloc, style, named, |kind| has_length(at_entry, kind))?;
+    let mut names = lengths_of(alloc, style, found, at_entry)?;
     names.retain(|name| stays(style, quoted, at_entry, *name));
     Ok(names)
 }

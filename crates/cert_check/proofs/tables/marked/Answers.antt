@@ -15,9 +15,9 @@ loop-k-preserved-in-Named c = record {
   blocks = name_passed c.loop-k.blocks.items c.args.summaries.now c.loop-k.k _ c.in-Named.name c.loop-k-test.true c.loop-k.auto.k c.in-Named.is c.loop-k.invariant.blocks;
 }
 
-pub loop-k-preserved-in-Block : goal.loop-k-preserved-in-Block
-loop-k-preserved-in-Block c = record {
+pub loop-k-preserved : goal.loop-k-preserved
+loop-k-preserved c = record {
   named = block_passed c.loop-k.named.items c.args.summaries.now c.loop-k.k _ c.in-Block.body c.loop-k-test.true c.loop-k.auto.k c.in-Block.is c.loop-k.invariant.named;
-  blocks = block_next c.loop-k.blocks.items c.put.new.table.items c.args.summaries.now c.loop-k.k _ c.in-Block.body c.loop-k-test.true c.loop-k.auto.k c.in-Block.is c.put.ensures
+  blocks = block_next c.loop-k.blocks.items c.put-in-Block.new.table.items c.args.summaries.now c.loop-k.k _ c.in-Block.body c.loop-k-test.true c.loop-k.auto.k c.in-Block.is c.put-in-Block.ensures
       c.loop-k.invariant.blocks;
 }

@@ -21,7 +21,7 @@ rows_of_sum-requires-clause-sum c =
 pub keep_wanted-requires-clause-small : goal.keep_wanted-requires-clause-small
 keep_wanted-requires-clause-small c =
     let small = subst IsSmallSum (sym (c.as_slice.ensures ∙ c.sum-item.is)) (c.requires.sums c.loop-sum.sum-index c.sum-item.result (omega arith)) in
-    subst (λ found. All HasSmallSum found) (sym (c.as_slice-2.ensures.value ∙ c.in_ok-found.ensures.rows))
+    subst (λ found. All HasSmallSum found) (sym (c.as_slice-in-loop-sum.ensures.value ∙ c.in_ok-found.ensures.rows))
     (rows_small c.args.cond.now (sought c.loop-sum.searches) c.as_slice.result.now small)
 
 pub returns-then-len-ge-MOST_ITEMS-clause-rows : goal.returns-then-len-ge-MOST_ITEMS-clause-rows
@@ -36,7 +36,7 @@ returns-then-len-ge-MOST_ITEMS-clause-rows c =
 pub loop-sum-preserved : goal.loop-sum-preserved
 loop-sum-preserved c =
     let more : c.loop-sum.sum-index < length c.args.sums.now = omega arith in
-    let found = c.as_slice-2.ensures.value ∙ c.in_ok-found.ensures.rows
+    let found = c.as_slice-in-loop-sum.ensures.value ∙ c.in_ok-found.ensures.rows
     ∙ ap (λ (them : List Asked). rows_of_sum c.args.cond.now (sought them) c.as_slice.result.now) c.loop-sum.invariant.stays in
     record {
       kept = gathered_next (is_wanted c.args.cond.now c.args.start.now)
