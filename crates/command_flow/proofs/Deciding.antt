@@ -1,5 +1,5 @@
 -- The rules in order: of summaries, of loops, and of commands.
-use Rattle.std.proofs.Common.{◌≡◌, ℕ, zero, suc, ◌+◌, ◌≤◌, ◌<◌, List, [], ◌∷◌, drop, Option, None, Some, Result, Ok, Err, slice_get, nat_eq, refl, sym, ap, subst, ◌∙◌, add-one, arith, Bor, get_or, Bor, length}
+use Rattle.std.proofs.Common.{◌≡◌, ℕ, zero, suc, ◌+◌, ◌≤◌, ◌<◌, List, [], ◌∷◌, drop, Option, None, Some, Result, Ok, slice_get, refl, sym, ap, subst, ◌∙◌, add-one, arith, Bor, get_or, Bor, length}
 use Rattle.std.specs.List.{All}
 use Rattle.std.specs.Option.{ForSome, MatchOption, option_map, option_map_or}
 use Rattle.std.proofs.lemmas.List.Elements.{All-head, All-tail}
@@ -10,7 +10,6 @@ use Rattle.name_table.specs.declared.style.CommandAt.{CommandAt}
 use Rattle.name_table.specs.declared.style.Style.{Style}
 use Rattle.cert_format.specs.declared.cert.Cert.{Cert}
 use Rattle.cert_format.specs.declared.cert.CommandPart.{CommandPart}
-use Rattle.sym_state.specs.declared.hint.Hint.{Hint}
 use Rattle.cert_check.specs.Given.{Refused}
 use Rattle.cert_check.specs.declared.refusal.Refusal.{Refusal}
 use Rattle.command_flow.specs.Checks.{commands_checked, each_checked}

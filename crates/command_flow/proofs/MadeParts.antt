@@ -1,5 +1,5 @@
 -- What is made for a command stands in a certificate, and what stands behind it may last.
-use Rattle.std.proofs.Common.{◌≡◌, ℕ, ◌+◌, ◌<◌, ◌≤◌, Bool, true, false, List, [], ◌∷◌, ◌++◌, length, Option, None, Some, IfSome, ap, refl, sym, subst, ◌∙◌, arith}
+use Rattle.std.proofs.Common.{◌≡◌, ℕ, ◌<◌, Bool, true, false, List, [], ◌∷◌, ◌++◌, length, Option, None, Some, IfSome, ap, refl, sym, subst, ◌∙◌, arith}
 use Rattle.std.specs.List.{All}
 use Rattle.std.proofs.lemmas.List.{length-append}
 use Rattle.std.proofs.lemmas.List.Elements.{All-append, All-cons, All-nil}
@@ -11,24 +11,21 @@ use Rattle.cert_format.specs.CertText.{IsCommandPart, IsHint, IsPiece}
 use Rattle.cert_format.specs.declared.cert.CommandPart.{CommandPart}
 use Rattle.cert_format.proofs.Plain.{each_append}
 use Rattle.sym_state.specs.Positions.{AtEnd, AtNext, AtStart}
-use Rattle.sym_state.specs.State.{State}
-use Rattle.sym_state.specs.WellMade.{HasSmallFields, WellMade}
+use Rattle.sym_state.specs.WellMade.{HasSmallFields}
 use Rattle.sym_state.specs.declared.hint.Hint.{Hint}
 use Rattle.sym_state.specs.declared.piece.Piece.{Piece}
 use Rattle.straight_hints.specs.Found.{piece_hints}
 use Rattle.straight_hints.specs.declared.finding.Finding.TheVariants.{Straight}
 use Rattle.straight_hints.proofs.Written.{piece_written}
-use Rattle.loop_templates.specs.Cases.{Frame}
 use Rattle.cert_check.specs.Certified.{IsCommandOf, IsStanding}
 use Rattle.cert_check.specs.Given.{CanEnd}
 use Rattle.cert_check.specs.Room.{HasRoom}
 use Rattle.cert_check.proofs.Certifying.{command_read}
-use Rattle.cert_check.proofs.ReadTexts.{HasShortParts, HasShortTexts}
-use Rattle.command_flow.specs.Between.{nothing, piece_moved}
+use Rattle.cert_check.proofs.ReadTexts.{HasShortTexts}
+use Rattle.command_flow.specs.Between.{piece_moved}
 use Rattle.command_flow.specs.Commands.{given, started_between, started_visit}
-use Rattle.command_flow.specs.Ready.{AreReady, IsReady}
+use Rattle.command_flow.specs.Ready.{IsReady}
 use Rattle.command_flow.specs.Templates.{AreMadeAt, CanLast, HasCalled, HasMade, IsLeft, IsVisit, after_execute, after_visit, ends_hints, executed_by, executed_parts, frame_left, left_in, visited_by}
-use Rattle.command_flow.specs.declared.between.Between.{Between}
 use Rattle.command_flow.specs.declared.templates.Lasting.{Lasting}
 use Rattle.command_flow.specs.declared.templates.Visits.{Visits}
 use Rattle.cert_check.specs.declared.checker.Called.{Called}

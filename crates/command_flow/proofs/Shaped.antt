@@ -114,7 +114,7 @@ rows_below p next (row ∷ rows) all =
     (moved_below p next [] row.parts (All-nil _) (All-head (λ (r : Row). AreBelow next r.parts) row rows all))
     (rows_below p next rows (All-tail (λ (r : Row). AreBelow next r.parts) row rows all))
 
-rows_bounded : (p : Position) (rows : List Row) → All IsBounded rows → All IsMovable rows → All IsBounded (map (row_moved p) rows)
+pub rows_bounded : (p : Position) (rows : List Row) → All IsBounded rows → All IsMovable rows → All IsBounded (map (row_moved p) rows)
 rows_bounded p [] bounded movable = All-nil IsBounded
 rows_bounded p (row ∷ rows) bounded movable =
     All-cons IsBounded (row_moved p row) (map (row_moved p) rows)

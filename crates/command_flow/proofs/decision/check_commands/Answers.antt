@@ -1,5 +1,5 @@
 -- One command more is taken with its record, or its rule fails.
-use Rattle.std.proofs.Common.{◌≡◌, ℕ, ◌+◌, List, ◌∙◌, refl, sym, ap, subst, length, ◌<◌, arith}
+use Rattle.std.proofs.Common.{◌∙◌, arith}
 use Rattle.std.proofs.lemmas.Result.{err_from_is_err_and}
 use Rattle.command_flow.proofs.Deciding.{command_refused, fit_behind, fit_first, next_command, one_command}
 use Rattle.command_flow.proofs.decision.check_commands.Goals as goal

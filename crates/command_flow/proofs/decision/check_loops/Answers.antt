@@ -1,5 +1,5 @@
 -- One loop more is checked, or its rule fails.
-use Rattle.std.proofs.Common.{◌≡◌, ◌∙◌}
+use Rattle.std.proofs.Common.{◌∙◌}
 use Rattle.std.proofs.lemmas.Result.{err_from_is_err_and}
 use Rattle.cert_check.specs.Units.{loop_checked}
 use Rattle.command_flow.proofs.Deciding.{next_unit, unit_refused}

@@ -1,5 +1,5 @@
 -- One summary more is checked, or its rule fails.
-use Rattle.std.proofs.Common.{◌≡◌, ◌∙◌}
+use Rattle.std.proofs.Common.{◌∙◌}
 use Rattle.std.proofs.lemmas.Result.{err_from_is_err_and}
 use Rattle.cert_check.specs.Units.{summary_checked}
 use Rattle.command_flow.proofs.Deciding.{next_unit, unit_refused}

@@ -1,5 +1,4 @@
 -- The first record is taken where it is that of the number, and else none is.
-use Rattle.std.proofs.Common.{◌≡◌}
 use Rattle.command_flow.proofs.Records.{passed_from, passed_none, taken_from}
 use Rattle.command_flow.proofs.decision.first_record.Goals as goal
 

@@ -1,5 +1,5 @@
 -- Both states are the one before all visits.
-use Rattle.std.proofs.Common.{◌≡◌, List, [], ◌∷◌, true, false, ap, refl, ◌∙◌}
+use Rattle.std.proofs.Common.{◌≡◌, List, [], ◌∷◌, true, false, ap, ◌∙◌}
 use Rattle.std.proofs.lemmas.Result.{IfOk-weaker}
 use Rattle.sym_state.specs.Starting.{started}
 use Rattle.sym_state.specs.declared.piece.Piece.{Piece}

@@ -1,5 +1,4 @@
 -- What the states have in common may be left.
-use Rattle.std.proofs.Common.{◌≡◌}
 use Rattle.command_flow.specs.Templates.{frame_left}
 use Rattle.command_flow.proofs.LeftPieces.{case_left, frame_ready}
 use Rattle.command_flow.proofs.kept.left_in.Goals as goal

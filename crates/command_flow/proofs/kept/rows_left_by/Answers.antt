@@ -1,8 +1,8 @@
 -- The rows are those of the piece that is moved to the next entry.
-use Rattle.std.proofs.Common.{◌≡◌, List, map, ap, sym, subst, ◌∙◌}
+use Rattle.std.proofs.Common.{List, ap, sym, subst, ◌∙◌}
 use Rattle.std.specs.List.{All}
 use Rattle.lin_facts.specs.declared.row.Row.{Row}
-use Rattle.sym_state.specs.Positions.{AtNext, row_moved}
+use Rattle.sym_state.specs.Positions.{AtNext}
 use Rattle.sym_state.specs.WellMade.{IsBounded}
 use Rattle.sym_state.specs.declared.piece.Piece.{Piece}
 use Rattle.command_flow.proofs.LeftPieces.{ends_match}

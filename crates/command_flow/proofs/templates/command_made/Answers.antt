@@ -1,5 +1,5 @@
 -- ITERATE and REVERSE make what their visits come to, and another command makes nothing.
-use Rattle.std.proofs.Common.{◌≡◌, List, sym, subst}
+use Rattle.std.proofs.Common.{List, sym, subst}
 use Rattle.cert_format.specs.declared.cert.CommandPart.{CommandPart}
 use Rattle.command_flow.specs.Templates.{AreMadeAt, seeking_by}
 use Rattle.command_flow.proofs.CommandsMade.{nothing_made, visits_made}

@@ -1,7 +1,6 @@
 -- One command more is walked, or its rule fails.
 use Rattle.std.proofs.Common.{◌≡◌, ◌<◌, ◌++◌, List, length, sym, subst, arith}
 use Rattle.std.proofs.lemmas.Result.{err_from_is_err_and}
-use Rattle.name_table.specs.declared.style.CommandAt.{CommandAt}
 use Rattle.cert_format.specs.declared.cert.CommandPart.{CommandPart}
 use Rattle.command_flow.specs.Templates.{AreMadeBefore, seeking_by}
 use Rattle.command_flow.proofs.CommandsFound.{put_on}

@@ -12,10 +12,11 @@ pub returns-in_err-calling-clause-makes : goal.returns-in_err-calling-clause-mak
 returns-in_err-calling-clause-makes g c =
     let p = err_from_is_err_and c.from_residual-in_err-calling.result c.from_residual-in_err-calling.ensures.1 in
     let at = c.args.at.now in
+    let seeking = seeking_by at.checker.now (g.M.Loops.made c.args.maker.now) in
     rw (p.1, p.2)
-    (execute_refused _ c.args.index c.args.name at.command.place c.args.lasting (length c.as_slice-stay.result.now) c.in_ok-start.start c.in_err-calling.field-0.0
+    (execute_refused seeking c.args.index c.args.name at.command.place c.args.lasting (length c.as_slice-stay.result.now) c.in_ok-start.start c.in_err-calling.field-0.0
     (ap (λ (loops : List Loop). length loops) c.as_slice-stay.ensures)
-    (between_is _ at.style.now at.cond.now c.args.lasting.between c.from_ref-starts.result.now c.state_of.result c.in_ok-start.start c.requires.at.style
+    (between_is seeking at.style.now at.cond.now c.args.lasting.between c.from_ref-starts.result.now c.state_of.result c.in_ok-start.start c.requires.at.style
     c.requires.at.cond c.from_ref-starts.ensures.value c.in_ok-start.ensures c.state_of.ensures.started)
     c.in_err-calling.ensures.walks)
 

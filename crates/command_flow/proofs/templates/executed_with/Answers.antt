@@ -1,5 +1,5 @@
 -- What is left may be shown.
-use Rattle.std.proofs.Common.{◌≡◌, false, ap, ◌∙◌}
+use Rattle.std.proofs.Common.{false, ap, ◌∙◌}
 use Rattle.command_flow.specs.Commands.{given}
 use Rattle.command_flow.proofs.MadeParts.{known_bare, known_ready, one_bare, one_ends}
 use Rattle.command_flow.proofs.templates.executed_with.Goals as goal

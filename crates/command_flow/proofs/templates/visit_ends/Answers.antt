@@ -1,5 +1,5 @@
 -- What stands before the next visit, and what is kept, may be shown.
-use Rattle.std.proofs.Common.{◌≡◌, sym, subst}
+use Rattle.std.proofs.Common.{sym, subst}
 use Rattle.sym_state.specs.Positions.{AtNext}
 use Rattle.command_flow.specs.Ready.{IsReady}
 use Rattle.command_flow.proofs.MadeParts.{two_end}

@@ -1,5 +1,5 @@
 -- The copies are the pieces.
-use Rattle.std.proofs.Common.{◌≡◌, true, List, [], ◌∷◌, ap, ◌∙◌}
+use Rattle.std.proofs.Common.{◌≡◌, true, [], ◌∷◌, ap, ◌∙◌}
 use Rattle.std.proofs.lemmas.Result.{IfOk-weaker}
 use Rattle.sym_state.specs.Starting.{started}
 use Rattle.sym_state.specs.declared.piece.Piece.{Piece}

@@ -10,9 +10,10 @@ pub returns-in_err-found-clause-makes : goal.returns-in_err-found-clause-makes
 returns-in_err-found-clause-makes g c =
     let p = err_from_is_err_and c.from_residual-in_err-found.result c.from_residual-in_err-found.ensures.1 in
     let at = c.args.at.now in
+    let seeking = seeking_by at.checker.now (g.M.Loops.made c.args.maker.now) in
     rw (p.1, p.2)
-    (visited_refused _ c.args.index c.args.name at.command.place c.args.lasting c.in_ok-first.first 65 c.in_err-found.field-0.0 refl
-    (first_is _ at.style.now at.cond.now c.args.name c.args.lasting.between c.first_visit.result c.in_ok-first.first c.requires.at.style c.requires.at.cond
+    (visited_refused seeking c.args.index c.args.name at.command.place c.args.lasting c.in_ok-first.first 65 c.in_err-found.field-0.0 refl
+    (first_is seeking at.style.now at.cond.now c.args.name c.args.lasting.between c.first_visit.result c.in_ok-first.first c.requires.at.style c.requires.at.cond
     c.in_ok-first.ensures c.first_visit.ensures.first)
     c.in_err-found.ensures.finds)
 

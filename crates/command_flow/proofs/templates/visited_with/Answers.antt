@@ -1,5 +1,5 @@
 -- What is kept may be shown.
-use Rattle.std.proofs.Common.{◌≡◌, false, ap, ◌∙◌}
+use Rattle.std.proofs.Common.{false, ap, ◌∙◌}
 use Rattle.command_flow.specs.Commands.{given}
 use Rattle.command_flow.specs.declared.between.Between.{Between}
 use Rattle.command_flow.proofs.MadeParts.{known_bare, known_ready}
