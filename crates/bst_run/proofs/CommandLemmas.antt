@@ -1,5 +1,5 @@
 -- From what a command's words come to and what was delivered to what is promised of a call.
-use Rattle.std.proofs.Common.{◌≡◌, ◌≢◌, ℕ, ◌⊎◌, List, [], Bool, true, false, ◌∷◌, ◌++◌, codes, get_or, nat_eq, Option, None, Some, Result, Ok, Err, refl, sym, ◌∙◌, ap, subst, inl, inr}
+use Rattle.std.proofs.Common.{◌≡◌, ◌≢◌, ℕ, ◌⊎◌, List, [], Bool, true, false, ◌++◌, codes, get_or, nat_eq, Option, None, Some, Result, Ok, Err, refl, sym, ◌∙◌, ap, subst, inl, inr}
 use Rattle.std.specs.Prelude.{IfSome, IsSomeAnd, IfOk, IfErr}
 use Rattle.std.specs.String.{string_bytes}
 use Rattle.bv_base.specs.Outside.{Listing, Rose, appended, last_begun}

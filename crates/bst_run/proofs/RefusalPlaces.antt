@@ -1,6 +1,6 @@
 -- A refusal of the rules for a style that was read stands in its text, or at its end.
-use Rattle.std.proofs.Common.{◌≡◌, ℕ, ◌⊎◌, List, Option, Some, inl, inr, sym, subst, arith}
-use Rattle.std.specs.Prelude.{IfSome, slice_get}
+use Rattle.std.proofs.Common.{ℕ, ◌⊎◌, List, Option, inl, inr, sym, subst, arith}
+use Rattle.std.specs.Prelude.{IfSome}
 use Rattle.bv_base.specs.Places.{StandsIn}
 use Rattle.bv_base.specs.declared.place.Place.{Place}
 use Rattle.name_table.specs.Sound.{Each}

@@ -1,14 +1,14 @@
 -- The fault of a run of a style that was read stands at a byte of its text.
-use Rattle.std.proofs.Common.{◌≡◌, ℕ, zero, suc, Bool, true, false, cond, nat_lt, List, [], ◌∷◌, length, filter, Option, None, Some, Result, Ok, Err, subst}
+use Rattle.std.proofs.Common.{◌≡◌, ℕ, Bool, true, false, cond, nat_lt, List, [], ◌∷◌, length, Option, None, Some, Result, Ok, Err, subst}
 use Rattle.std.specs.Prelude.{IfSome, slice_get}
 use Rattle.std.specs.Option.{option_map_or}
 use Rattle.bv_base.specs.declared.place.Place.{Place}
 use Rattle.name_table.specs.Sound.{Each}
 use Rattle.name_table.specs.declared.names.NameId.{NameId}
 use Rattle.name_table.specs.declared.names.Kind.{Kind}
-use Rattle.name_table.specs.declared.names.Kind.TheVariants.{Builtin as BuiltinKind, Wizard, Field, IntEntry, StrEntry, IntGlobal, StrGlobal}
+use Rattle.name_table.specs.declared.names.Kind.TheVariants.{Builtin as BuiltinKind, Wizard, IntEntry, StrEntry}
 use Rattle.name_table.specs.declared.style.Token.{Token}
-use Rattle.name_table.specs.declared.style.Token.TheVariants.{Int as IntToken, Str as StrToken, Quote, Block as BlockToken, Call}
+use Rattle.name_table.specs.declared.style.Token.TheVariants.{Call}
 use Rattle.name_table.specs.declared.style.TokenAt.{TokenAt}
 use Rattle.name_table.specs.declared.style.Body.{Body}
 use Rattle.name_table.specs.declared.style.BodyId.{BodyId}
@@ -29,7 +29,7 @@ use Rattle.bst_meaning.specs.Config.{Config, Frame, Part, Whole, Testing, Turnin
 use Rattle.bst_meaning.specs.Effect.{Effect, Entered}
 use Rattle.bst_meaning.specs.Operands.{is_positive}
 use Rattle.bst_meaning.specs.Builtins.{built_in}
-use Rattle.bst_meaning.specs.Machine.{assigned_by, call_end_step, call_ended, call_step, command_step, context_of, frame_step, going_step, outer_step, return_step, run, step, steps, stopped_by, test_ended, token_step, unless_stopped, visit_of, visit_step, with_assigned, with_call, with_effect, with_entered, with_found, with_frame, with_value}
+use Rattle.bst_meaning.specs.Machine.{assigned_by, call_end_step, call_ended, call_step, command_step, context_of, frame_step, going_step, outer_step, return_step, run, step, stopped_by, test_ended, token_step, visit_of, visit_step, with_assigned, with_call, with_effect, with_entered, with_found, with_frame, with_value}
 use Rattle.name_table.proofs.Within.{each_kept, got}
 use Rattle.bst_meaning.proofs.Stepping.{kept_step, kept_steps}
 

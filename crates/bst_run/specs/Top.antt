@@ -24,7 +24,7 @@ use Rattle.bst_run.specs.Ran.{run_outcome}
 use Rattle.bst_run.specs.Report.{absent, accepted, holding, unread}
 use Rattle.bst_run.specs.Sources.{HoldsStyle, read_cert, read_style}
 use Rattle.bst_run.specs.Stops.{IsDecided}
-use Rattle.bst_run.specs.Under.{FaultsOutside, IsBegunBy, under_outcome}
+use Rattle.bst_run.specs.Under.{FaultsOutside, under_outcome}
 
 -- the rules decide a style and a certificate
 abbrev pub judged : Style → Cert → Result Outcome Outcome

@@ -1,5 +1,5 @@
 -- What is answered is what the configuration after the steps answers.
-use Rattle.std.proofs.Common.{◌≡◌, ◌∙◌, ap, refl, subst, List}
+use Rattle.std.proofs.Common.{◌≡◌, ap, refl, subst, List}
 use Rattle.std.specs.Prelude.{IfOk}
 use Rattle.bst_meaning.specs.Config.{Event}
 use Rattle.bst_meaning.specs.Lines.{lines_after}
