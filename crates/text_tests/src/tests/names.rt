@@ -11,66 +11,49 @@ use std::alloc::Global;
 use std::process::Abort;
 use std::test::Fail;
 
-/// A name of every style.
-#[derive(Clone, Copy)]
-struct Opening {
-    name: &'static [u8],
-    id: NameId,
-    kind: Kind,
-}
-
-macro_rules! opening {
-    ($name:literal $id:expr => $kind:expr) => {
-        Opening {
-            name: $name,
-            id: $id,
-            kind: $kind,
-        }
-    };
-}
-
-static OPENING: [Opening; 41] = [
-    opening!(b"=" NameId(0) => Kind::Builtin(Builtin::Equal)),
-    opening!(b">" NameId(1) => Kind::Builtin(Builtin::Greater)),
-    opening!(b"<" NameId(2) => Kind::Builtin(Builtin::Less)),
-    opening!(b"+" NameId(3) => Kind::Builtin(Builtin::Plus)),
-    opening!(b"-" NameId(4) => Kind::Builtin(Builtin::Minus)),
-    opening!(b"*" NameId(5) => Kind::Builtin(Builtin::Join)),
-    opening!(b":=" NameId(6) => Kind::Builtin(Builtin::Assign)),
-    opening!(b"add.period$" NameId(7) => Kind::Builtin(Builtin::AddPeriod)),
-    opening!(b"call.type$" NameId(8) => Kind::Builtin(Builtin::CallType)),
-    opening!(b"change.case$" NameId(9) => Kind::Builtin(Builtin::ChangeCase)),
-    opening!(b"chr.to.int$" NameId(10) => Kind::Builtin(Builtin::ChrToInt)),
-    opening!(b"cite$" NameId(11) => Kind::Builtin(Builtin::Cite)),
-    opening!(b"duplicate$" NameId(12) => Kind::Builtin(Builtin::Duplicate)),
-    opening!(b"empty$" NameId(13) => Kind::Builtin(Builtin::Empty)),
-    opening!(b"format.name$" NameId(14) => Kind::Builtin(Builtin::FormatName)),
-    opening!(b"if$" NameId(15) => Kind::Builtin(Builtin::IfElse)),
-    opening!(b"int.to.chr$" NameId(16) => Kind::Builtin(Builtin::IntToChr)),
-    opening!(b"int.to.str$" NameId(17) => Kind::Builtin(Builtin::IntToStr)),
-    opening!(b"missing$" NameId(18) => Kind::Builtin(Builtin::Missing)),
-    opening!(b"newline$" NameId(19) => Kind::Builtin(Builtin::Newline)),
-    opening!(b"num.names$" NameId(20) => Kind::Builtin(Builtin::NumNames)),
-    opening!(b"pop$" NameId(21) => Kind::Builtin(Builtin::Pop)),
-    opening!(b"preamble$" NameId(22) => Kind::Builtin(Builtin::Preamble)),
-    opening!(b"purify$" NameId(23) => Kind::Builtin(Builtin::Purify)),
-    opening!(b"quote$" NameId(24) => Kind::Builtin(Builtin::Quote)),
-    opening!(b"skip$" NameId(25) => Kind::Builtin(Builtin::Skip)),
-    opening!(b"stack$" NameId(26) => Kind::Builtin(Builtin::Stack)),
-    opening!(b"substring$" NameId(27) => Kind::Builtin(Builtin::Substring)),
-    opening!(b"swap$" NameId(28) => Kind::Builtin(Builtin::Swap)),
-    opening!(b"text.length$" NameId(29) => Kind::Builtin(Builtin::TextLength)),
-    opening!(b"text.prefix$" NameId(30) => Kind::Builtin(Builtin::TextPrefix)),
-    opening!(b"top$" NameId(31) => Kind::Builtin(Builtin::Top)),
-    opening!(b"type$" NameId(32) => Kind::Builtin(Builtin::TypeName)),
-    opening!(b"warning$" NameId(33) => Kind::Builtin(Builtin::Warning)),
-    opening!(b"while$" NameId(34) => Kind::Builtin(Builtin::WhileDo)),
-    opening!(b"width$" NameId(35) => Kind::Builtin(Builtin::Width)),
-    opening!(b"write$" NameId(36) => Kind::Builtin(Builtin::Write)),
-    opening!(b"crossref" NameId(37) => Kind::Field),
-    opening!(b"sort.key$" NameId(38) => Kind::StrEntry),
-    opening!(b"entry.max$" NameId(39) => Kind::IntGlobal),
-    opening!(b"global.max$" NameId(40) => Kind::IntGlobal),
+/// The names of every style, with their ids and kinds.
+static OPENING: [(&[u8], u32, Kind); 41] = [
+    (b"=", 0, Kind::Builtin(Builtin::Equal)),
+    (b">", 1, Kind::Builtin(Builtin::Greater)),
+    (b"<", 2, Kind::Builtin(Builtin::Less)),
+    (b"+", 3, Kind::Builtin(Builtin::Plus)),
+    (b"-", 4, Kind::Builtin(Builtin::Minus)),
+    (b"*", 5, Kind::Builtin(Builtin::Join)),
+    (b":=", 6, Kind::Builtin(Builtin::Assign)),
+    (b"add.period$", 7, Kind::Builtin(Builtin::AddPeriod)),
+    (b"call.type$", 8, Kind::Builtin(Builtin::CallType)),
+    (b"change.case$", 9, Kind::Builtin(Builtin::ChangeCase)),
+    (b"chr.to.int$", 10, Kind::Builtin(Builtin::ChrToInt)),
+    (b"cite$", 11, Kind::Builtin(Builtin::Cite)),
+    (b"duplicate$", 12, Kind::Builtin(Builtin::Duplicate)),
+    (b"empty$", 13, Kind::Builtin(Builtin::Empty)),
+    (b"format.name$", 14, Kind::Builtin(Builtin::FormatName)),
+    (b"if$", 15, Kind::Builtin(Builtin::IfElse)),
+    (b"int.to.chr$", 16, Kind::Builtin(Builtin::IntToChr)),
+    (b"int.to.str$", 17, Kind::Builtin(Builtin::IntToStr)),
+    (b"missing$", 18, Kind::Builtin(Builtin::Missing)),
+    (b"newline$", 19, Kind::Builtin(Builtin::Newline)),
+    (b"num.names$", 20, Kind::Builtin(Builtin::NumNames)),
+    (b"pop$", 21, Kind::Builtin(Builtin::Pop)),
+    (b"preamble$", 22, Kind::Builtin(Builtin::Preamble)),
+    (b"purify$", 23, Kind::Builtin(Builtin::Purify)),
+    (b"quote$", 24, Kind::Builtin(Builtin::Quote)),
+    (b"skip$", 25, Kind::Builtin(Builtin::Skip)),
+    (b"stack$", 26, Kind::Builtin(Builtin::Stack)),
+    (b"substring$", 27, Kind::Builtin(Builtin::Substring)),
+    (b"swap$", 28, Kind::Builtin(Builtin::Swap)),
+    (b"text.length$", 29, Kind::Builtin(Builtin::TextLength)),
+    (b"text.prefix$", 30, Kind::Builtin(Builtin::TextPrefix)),
+    (b"top$", 31, Kind::Builtin(Builtin::Top)),
+    (b"type$", 32, Kind::Builtin(Builtin::TypeName)),
+    (b"warning$", 33, Kind::Builtin(Builtin::Warning)),
+    (b"while$", 34, Kind::Builtin(Builtin::WhileDo)),
+    (b"width$", 35, Kind::Builtin(Builtin::Width)),
+    (b"write$", 36, Kind::Builtin(Builtin::Write)),
+    (b"crossref", 37, Kind::Field),
+    (b"sort.key$", 38, Kind::StrEntry),
+    (b"entry.max$", 39, Kind::IntGlobal),
+    (b"global.max$", 40, Kind::IntGlobal),
 ];
 
 /// The names of every style. Nothing is told of them, so that no proof of a test sees all of them.
@@ -103,14 +86,14 @@ fn are_found(rt: &impl Abort, names: &Names, rows: &[(&[u8], Option<NameId>)]) {
     }
 }
 
-fn have_names(rt: &impl Abort, names: &Names, rows: &[Opening]) {
-    for row in rows {
-        let Some(found) = names.find(row.name) else {
+fn have_names(rt: &impl Abort, names: &Names, rows: &[(&[u8], u32, Kind)]) {
+    for (name, id, kind) in rows {
+        let Some(found) = names.find(name) else {
             panic!(rt; "a name is missing");
         };
-        assert_eq!(rt; found, row.id);
-        assert_eq!(rt; names.kind(found), row.kind);
-        assert_eq!(rt; names.text(found), row.name);
+        assert_eq!(rt; found, NameId(*id));
+        assert_eq!(rt; names.kind(found), *kind);
+        assert_eq!(rt; names.text(found), *name);
     }
 }
 

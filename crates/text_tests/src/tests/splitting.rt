@@ -29,33 +29,21 @@ fn have_count(rt: &impl Abort, rows: &[(&[u8], u64)]) {
     }
 }
 
-/// A text with its names.
-#[derive(Clone, Copy)]
-struct Listed {
-    text: &'static [u8],
-    names: &'static [&'static [u8]],
-}
-
-static LISTED: [Listed; 3] = [
-    Listed {
-        text: b"",
-        names: &[],
-    },
-    Listed {
-        text: b" A  and\n{B and C}\t AND and D ",
-        names: &[b"A", b"{B and C}", b"", b"D"],
-    },
-    Listed {
-        text: b"Andy and B",
-        names: &[b"Andy", b"B"],
-    },
+/// Texts with their names.
+static LISTED: [(&[u8], &[&[u8]]); 3] = [
+    (b"", &[]),
+    (
+        b" A  and\n{B and C}\t AND and D ",
+        &[b"A", b"{B and C}", b"", b"D"],
+    ),
+    (b"Andy and B", &[b"Andy", b"B"]),
 ];
 
 #[test]
 fn names_between_separators(rt: HostRuntime) {
-    for row in &LISTED {
-        let mut list = names(row.text);
-        are_next(&rt, &mut list, row.names);
+    for (text, wanted) in &LISTED {
+        let mut list = names(text);
+        are_next(&rt, &mut list, wanted);
         assert!(rt; list.next().is_none());
         assert!(rt; list.next().is_none());
     }
