@@ -1,7 +1,7 @@
 -- The insides of braces and quotes, byte by byte.
-use Rattle.std.proofs.Common.{◌≡◌, ℕ, suc, ◌+◌, ◌-◌, ◌<◌, Bool, true, false, ◌&&◌, ◌||◌, cond, nat_eq, List, ◌∷◌, refl, ap, ◌∙◌, arith}
+use Rattle.std.proofs.Common.{◌≡◌, ℕ, suc, ◌+◌, ◌-◌, ◌<◌, Bool, true, false, ◌&&◌, ◌||◌, cond, nat_eq, List, ◌∷◌, refl, arith}
 use Rattle.std.proofs.lemmas.Bool.Decides.{nat_tests}
-use Rattle.bib_read.specs.Runs.{inside_length, level_after}
+use Rattle.bib_read.specs.Runs.{inside_length}
 
 no_brace : (b : ℕ) → b < 123 → nat_eq b 123 ≡ false
 no_brace b low = grind (arith, nat_tests)

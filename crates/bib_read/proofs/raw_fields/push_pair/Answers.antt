@@ -1,5 +1,5 @@
 -- A name and its value stand behind the others.
-use Rattle.std.proofs.Common.{◌≡◌, ◌∙◌, ◌++◌, ◌∷◌, [], Some, ap, List, Option, subst, sym, ℕ}
+use Rattle.std.proofs.Common.{◌∙◌, ap, subst, sym}
 use Rattle.bib_read.specs.RawFields.{ArePaired, fields_in}
 use Rattle.bib_read.proofs.FieldLists.{field_pushed, pair_pushed, pushed_twice}
 use Rattle.bib_read.proofs.raw_fields.push_pair.Goals as goal

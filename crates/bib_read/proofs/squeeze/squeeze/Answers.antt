@@ -1,4 +1,4 @@
-use Rattle.std.proofs.Common.{◌≡◌, ◌∙◌, ◌++◌, ap, sym, drop, take, List, ℕ}
+use Rattle.std.proofs.Common.{◌∙◌, ◌++◌, ap, sym, drop, List, ℕ}
 use Rattle.bib_read.specs.Squeeze.{squeezed}
 use Rattle.bib_read.proofs.Squeezing.{front_kept, squeezed_on}
 use Rattle.bib_read.proofs.squeeze.squeeze.Goals as goal

@@ -1,5 +1,5 @@
 -- The field is the first of its name.
-use Rattle.std.proofs.Common.{◌≡◌, ◌∙◌, Some, None, add-one, ap, false, rules, subst, sym, take, true, ℕ}
+use Rattle.std.proofs.Common.{◌≡◌, ◌∙◌, Some, add-one, ap, false, rules, subst, sym, take, true, ℕ}
 use Rattle.name_table.specs.Names.{same_name}
 use Rattle.bib_read.specs.Names.{text_of}
 use Rattle.bib_read.specs.RawFields.{RawField}
