@@ -80,6 +80,7 @@ fn start<'a>(alloc: Global, source: &'a [u8], before: Database) -> Result<Reader
         warnings: before.warnings,
         text: Vec::new(alloc),
         value: Vec::new(alloc),
+        name: Vec::new(alloc),
         fields: Fields::new(alloc),
     })
 }

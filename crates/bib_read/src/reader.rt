@@ -1,7 +1,8 @@
 //! What has been read of a database, and the parts of it that come next.
 
-ghost use Rattle.std.specs.Prelude.{◌≡◌, ◌++◌, length, IfOk, OnOk};
-ghost use Rattle.bv_base.specs.Answers.{GivesAndLeaves, Leaves};
+ghost use Rattle.std.specs.Prelude.{◌≡◌, ◌++◌, Ok, length, IfOk, OnOk};
+ghost use Rattle.std.specs.Result.{MatchResult};
+ghost use Rattle.bv_base.specs.Answers.{GivesAndLeaves, Leaves, Refuses};
 ghost use Rattle.name_table.specs.Names as names;
 ghost use Rattle.bib_read.specs.Entering as entering;
 ghost use Rattle.bib_read.specs.Parts as parts;
@@ -37,6 +38,8 @@ pub(crate) struct Reader<'a> {
     pub(crate) text: Vec<u8>,
     /// The value of a field, without white space at its ends: its room serves the next one too.
     pub(crate) value: Vec<u8>,
+    /// The lowered name of a field: its room serves the next one too.
+    pub(crate) name: Vec<u8>,
     /// The fields of the entry that is being read.
     pub(crate) fields: Fields,
 }
@@ -184,15 +187,29 @@ impl<'a> Reader<'a> {
     fn take_field(&mut self, key: &[u8]) -> Result<(), Stop>
         ensures { Leaves WantOfMemory (entering.take_field key.now (progress_of self.old)) (progress_of self.new) result }
     {
-        let name = self.take_identifier()?;
-        self.take_named(key, name)
+        let name = self.take_name()?;
+        self.take_lowered(key, name)
+    }
+
+    /// Takes a field after its name as it stands, which is lowered in room that serves the next one too.
+    fn take_lowered(&mut self, key: &[u8], found: &[u8]) -> Result<(), Stop>
+        ensures { Leaves WantOfMemory
+            (entering.take_named key.now (names.lowered found.now) (progress_of self.old))
+            (progress_of self.new)
+            result }
+    {
+        let mut name = std::mem::replace(&mut self.name, Vec::new(self.alloc));
+        lower_into(&mut name, found)?;
+        let taken = self.take_named(key, name.as_slice());
+        self.name = name;
+        taken
     }
 
     /// Takes a field after its name.
-    fn take_named(&mut self, key: &[u8], name: Text) -> Result<(), Stop>
-        ensures { Leaves WantOfMemory (entering.take_named key.now name (progress_of self.old)) (progress_of self.new) result }
+    fn take_named(&mut self, key: &[u8], name: &[u8]) -> Result<(), Stop>
+        ensures { Leaves WantOfMemory (entering.take_named key.now name.now (progress_of self.old)) (progress_of self.new) result }
     {
-        self.note(key, name.as_slice())?;
+        self.note(key, name)?;
         self.take_equals()?;
         self.add_field(name)?;
         Ok(())
@@ -210,12 +227,12 @@ impl<'a> Reader<'a> {
     }
 
     /// Adds a field with the value that has been read, where none of its name is there.
-    fn add_field(&mut self, name: Text) -> Result<(), NoMemory>
-        ensures { OnOk result (progress_of self.new ≡ entering.with_field name (progress_of self.old)) }
+    fn add_field(&mut self, name: &[u8]) -> Result<(), NoMemory>
+        ensures { OnOk result (progress_of self.new ≡ entering.with_field name.now (progress_of self.old)) }
     {
-        if !self.fields.has(name.as_slice()) {
+        if !self.fields.has(name) {
             trim_into(&mut self.value, self.text.as_slice())?;
-            self.fields.add(name.as_slice(), self.value.as_slice())?;
+            self.fields.add(name, self.value.as_slice())?;
         }
         Ok(())
     }
@@ -224,14 +241,24 @@ impl<'a> Reader<'a> {
     pub(crate) fn take_identifier(&mut self) -> Result<Text, Stop>
         ensures { GivesAndLeaves WantOfMemory (parts.take_identifier (progress_of self.old)) (progress_of self.new) result }
     {
+        let name = self.take_name()?;
+        let name = lowered(self.alloc, name)?;
+        Ok(Text::from_vec(name))
+    }
+
+    /// Takes white space, and an identifier, which is given as it stands.
+    fn take_name(&mut self) -> Result<&'a [u8], Stop>
+        ensures { MatchResult result
+            (λ name. parts.take_identifier (progress_of self.old) ≡ Ok (names.lowered name.now, progress_of self.new))
+            (Refuses WantOfMemory (parts.take_identifier (progress_of self.old))) }
+    {
         let rest = after_white(self.rest);
         if !begins_name(rest) {
             return Err(unexpected(rest));
         }
         let (name, left) = rest.split_at(name_length(rest));
-        let name = lowered(self.alloc, name)?;
         self.rest = left;
-        Ok(Text::from_vec(name))
+        Ok(name)
     }
 
     /// Takes white space, and `{` or `(`; the byte that closes what it opens is given.
@@ -289,6 +316,17 @@ pub(crate) fn lowered(alloc: Global, bytes: &[u8]) -> Result<Vec<u8>, NoMemory>
     ensures { IfOk result (λ found. found.items ≡ names.lowered bytes.now) }
 {
     Ok(bytes.to_ascii_lowercase(alloc)?)
+}
+
+#[tactic(auto, using(crate::proofs::Lowering::lowered_by_ascii))]
+/// Leaves of a buffer the lowered bytes.
+fn lower_into(found: &mut Vec<u8>, bytes: &[u8]) -> Result<(), NoMemory>
+    ensures { OnOk result (found.new.items ≡ names.lowered bytes.now) }
+{
+    found.clear();
+    found.extend_from_slice(bytes)?;
+    found.as_mut_slice().make_ascii_lowercase();
+    Ok(())
 }
 
 /// Appends bytes.
