@@ -20,7 +20,7 @@ use Rattle.bib_read.specs.Runs.{after_at, ends_key}
 use Rattle.bib_read.specs.Squeeze.{squeezed}
 use Rattle.bib_read.specs.Stops.{unexpected}
 use Rattle.bib_read.specs.Values.{take_equals, take_value}
-use Rattle.bib_read.proofs.Kept.{Same, equals_kept, fields_kept, identifier_kept, mark_kept, opening_kept, value_kept, SameAfter}
+use Rattle.bib_read.proofs.Kept.{Any, Same, equals_kept, fields_kept, identifier_kept, mark_kept, opening_kept, value_kept, SameAfter}
 use Rattle.bv_base.proofs.ThenLemmas.{then_holds}
 use Rattle.std.proofs.lemmas.Bool.{cond_both}
 use Rattle.std.specs.Prelude.{IfOk}
@@ -120,8 +120,8 @@ entry_at_grew s close entry_type bytes p same =
 
 definition_grew : (s : Progress) (close : ℕ) (name : List ℕ) (p : Progress) → Same s p → Grew s (take_definition close name p)
 definition_grew s close name p same =
-    then_holds (Same s) (Grown s) (take_equals p) _ (equals_kept s p same)
-    (λ q kept. then_holds (Same s) (Grown s) (take_mark close q) (λ r. Ok (with_definition name r)) (mark_kept s close q kept)
+    then_holds (Same s) (Grown s) (take_equals p) _ (equals_kept Any s p same)
+    (λ q kept. then_holds (Same s) (Grown s) (take_mark close q) (λ r. Ok (with_definition name r)) (mark_kept Any s close q kept)
     (λ r more. (
       (record { name = name; value = squeezed false r.text } ∷ [], ap (defined name (squeezed false r.text)) more.0),
       ([], more.1 ∙ sym (append-nil s.entries), tt),
@@ -131,8 +131,8 @@ definition_grew s close name p same =
 
 preamble_grew : (s : Progress) (close : ℕ) (p : Progress) → Same s p → Grew s (take_preamble close p)
 preamble_grew s close p same =
-    then_holds (Same s) (Grown s) (take_value p) _ (value_kept s p same)
-    (λ q kept. then_holds (Same s) (Grown s) (take_mark close q) (λ r. Ok (with_preamble r)) (mark_kept s close q kept)
+    then_holds (Same s) (Grown s) (take_value p) _ (value_kept Any s p same)
+    (λ q kept. then_holds (Same s) (Grown s) (take_mark close q) (λ r. Ok (with_preamble r)) (mark_kept Any s close q kept)
     (λ r more. (
       ([], more.0),
       ([], more.1 ∙ sym (append-nil s.entries), tt),
@@ -143,21 +143,21 @@ preamble_grew s close p same =
 opened_grew : (s : Progress) (word : List ℕ) (close : ℕ) (p : Progress) → Same s p → Grew s (take_opened word close p)
 opened_grew s word close p same =
     cond_both (same_name word (codes "string")) (take_string close p) _ (Grew s)
-    (λ holds. then_holds (SameAfter s) (Grown s) (take_identifier p) (λ found. take_definition close found.0 found.1) (identifier_kept s p same)
+    (λ holds. then_holds (SameAfter Any s) (Grown s) (take_identifier p) (λ found. take_definition close found.0 found.1) (identifier_kept Any s p same)
     (λ found kept. definition_grew s close found.0 found.1 kept))
     (λ fails. cond_both (same_name word (codes "preamble")) (take_preamble close p) (take_entry close word p) (Grew s)
     (λ holds. preamble_grew s close p same) (λ fails2. entry_at_grew s close word (after_white p.left) p same))
 
 item_grew : (s p : Progress) → Same s p → Grew s (take_item p)
 item_grew s p same =
-    then_holds (SameAfter s) (Grown s) (take_identifier p) _ (identifier_kept s p same)
+    then_holds (SameAfter Any s) (Grown s) (take_identifier p) _ (identifier_kept Any s p same)
     (λ found kept. cond_both (same_name found.0 (codes "comment")) (Ok found.1) _ (Grew s) (λ holds. none_added s found.1 kept)
-    (λ fails. then_holds (SameAfter s) (Grown s) (take_opening found.1) (λ opened. take_opened found.0 opened.0 opened.1)
-    (opening_kept s found.1 kept) (λ opened more. opened_grew s found.0 opened.0 opened.1 more)))
+    (λ fails. then_holds (SameAfter Any s) (Grown s) (take_opening found.1) (λ opened. take_opened found.0 opened.0 opened.1)
+    (opening_kept Any s found.1 kept) (λ opened more. opened_grew s found.0 opened.0 opened.1 more)))
 
 -- nothing has changed
 unchanged : (p : Progress) → Same p p
-unchanged p = (refl, refl, refl, ([], sym (append-nil p.warnings)))
+unchanged p = (refl, refl, refl, ([], sym (append-nil p.warnings)), tt)
 
 grew_on : (s p : Progress) (r : Result Progress Stop) → Grown s p → Grew p r → Grew s r
 grew_on s p (Ok q) x y = grown_on s p q x y

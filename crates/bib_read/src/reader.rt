@@ -5,6 +5,7 @@ ghost use Rattle.std.specs.Result.{MatchResult};
 ghost use Rattle.bv_base.specs.Answers.{GivesAndLeaves, Leaves, Refuses};
 ghost use Rattle.name_table.specs.Names as names;
 ghost use Rattle.bib_read.specs.Entering as entering;
+ghost use Rattle.bib_read.specs.Names.{has_field};
 ghost use Rattle.bib_read.specs.Parts as parts;
 ghost use Rattle.bib_read.specs.Progressing.{progress_of};
 ghost use Rattle.bib_read.specs.Reading as reading;
@@ -209,28 +210,31 @@ impl<'a> Reader<'a> {
     fn take_named(&mut self, key: &[u8], name: &[u8]) -> Result<(), Stop>
         ensures { Leaves WantOfMemory (entering.take_named key.now name.now (progress_of self.old)) (progress_of self.new) result }
     {
-        self.note(key, name)?;
+        let there = self.note(key, name)?;
         self.take_equals()?;
-        self.add_field(name)?;
+        self.add_field(name, there)?;
         Ok(())
     }
 
-    /// Adds a warning where a field of this name is there.
-    fn note(&mut self, key: &[u8], name: &[u8]) -> Result<(), NoMemory>
-        ensures { OnOk result (progress_of self.new ≡ entering.noted key.now name.now (progress_of self.old)) }
+    /// Adds a warning where a field of this name is there, and says whether it is.
+    fn note(&mut self, key: &[u8], name: &[u8]) -> Result<bool, NoMemory>
+        ensures there { IfOk result (λ there. there ≡ has_field name.now self.new.fields) }
+        ensures noted { OnOk result (progress_of self.new ≡ entering.noted key.now name.now (progress_of self.old)) }
     {
-        if self.fields.has(name) {
-            let warning = second_field(self.alloc, name, key)?;
-            self.warnings.push(warning)?;
+        if !self.fields.has(name) {
+            return Ok(false);
         }
-        Ok(())
+        let warning = second_field(self.alloc, name, key)?;
+        self.warnings.push(warning)?;
+        Ok(true)
     }
 
     /// Adds a field with the value that has been read, where none of its name is there.
-    fn add_field(&mut self, name: &[u8]) -> Result<(), NoMemory>
+    fn add_field(&mut self, name: &[u8], there: bool) -> Result<(), NoMemory>
+        requires { there ≡ has_field name.now self.old.fields }
         ensures { OnOk result (progress_of self.new ≡ entering.with_field name.now (progress_of self.old)) }
     {
-        if !self.fields.has(name) {
+        if !there {
             trim_into(&mut self.value, self.text.as_slice())?;
             self.fields.add(name, self.value.as_slice())?;
         }
