@@ -5,5 +5,6 @@ pub mod Fields
 pub mod Joining
 pub mod Keys
 pub mod Parents
+pub mod Sources
 pub mod Tables
 pub mod Warnings

@@ -5,12 +5,14 @@ ghost use Rattle.std.specs.Option.{ForSome, option_map};
 ghost use Rattle.std.specs.List.{AllByRecursion};
 ghost use Rattle.bst_meaning.specs.Entries.{IsByteList};
 ghost use Rattle.entry_list.specs.Fields as fields;
+ghost use Rattle.entry_list.specs.Sources.{value_among};
 ghost use Rattle.entry_list.specs.Tables.{entry_by, has_parent};
 ghost use Rattle.entry_list.specs.Bytes.{HasBytes, HaveBytes};
 
 use crate::chosen::{Chosen, listed_keys};
 use crate::entry_table::EntryTable;
 use crate::parents::{crossref_of, parent_of};
+use crate::sources::Sources;
 use crate::warnings::no_parent;
 use bib_read::database::RawEntry;
 use bst_meaning::entry::{Entry, Fields};
@@ -180,7 +182,8 @@ fn fields_of(
         ≡ fields.values_of declared.now entry.now (option_map (λ e. e.now) parent.entry) keeps) }
     ensures bytes { IfOk result (AllByRecursion (λ f. ForSome f.value IsByteList)) }
 {
-    let values = values_of(alloc, declared.fields.as_slice(), entry, parent, keeps)?;
+    let sources = Sources::of(alloc, entry, parent)?;
+    let values = values_of(alloc, declared.fields.as_slice(), &sources, keeps)?;
     let packed = packed(alloc, values.as_slice())?;
     Ok(Fields::new(declared.names.clone()?, packed))
 }
@@ -189,37 +192,17 @@ fn fields_of(
 fn values_of<'a>(
     alloc: Global,
     declared: &[DeclaredField<'_>],
-    entry: &'a RawEntry,
-    parent: Option<&'a RawEntry>,
+    sources: &Sources<'a>,
     keeps: bool,
 ) -> Result<Vec<Option<&'a [u8]>>, NoMemory>
     ensures { IfOk result (λ found. map (option_map (λ text. text.now)) found.items
-        ≡ map (λ field. fields.value_of entry.now (option_map (λ e. e.now) parent.entry) keeps field.name) declared.now) }
+        ≡ map (λ field. value_among sources.now.own.items sources.now.lent.items keeps field.name) declared.now) }
 {
     let mut found = Vec::with_capacity(alloc, declared.len())?;
     for field in declared {
-        found.push(value_of(field.name, entry, parent, keeps))?;
+        found.push(sources.value_of(keeps, field.name))?;
     }
     Ok(found)
-}
-
-/// The value of the field of this name: the entry's own text or else its parent's; `crossref` is kept or missing.
-fn value_of<'a>(
-    name: &[u8],
-    entry: &'a RawEntry,
-    parent: Option<&'a RawEntry>,
-    keeps: bool,
-) -> Option<&'a [u8]>
-    ensures { option_map (λ text. text.now) result
-        ≡ fields.value_of entry.now (option_map (λ e. e.now) parent.entry) keeps name.now }
-{
-    if name == b"crossref".as_slice() {
-        return if keeps { crossref_of(entry) } else { None };
-    }
-    match entry.fields.find(name) {
-        Some(text) => Some(text),
-        None => parent?.fields.find(name),
-    }
 }
 
 /// Values, copied into one piece of memory of their size.

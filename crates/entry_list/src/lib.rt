@@ -9,4 +9,5 @@ pub mod join;
 pub mod joined;
 pub mod laws;
 mod parents;
+mod sources;
 mod warnings;
