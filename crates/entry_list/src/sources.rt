@@ -1,6 +1,6 @@
 //! The fields that an entry takes its values from.
 
-ghost use Rattle.std.specs.Prelude.{◌≡◌, codes, IfOk};
+ghost use Rattle.std.specs.Prelude.{◌≡◌, if◌then◌else◌, None, codes, IfOk};
 ghost use Rattle.std.specs.Option.{option_map};
 ghost use Rattle.bib_read.specs.Names.{text_of};
 ghost use Rattle.entry_list.specs.Sources as sources;
@@ -40,16 +40,23 @@ impl<'a> Sources<'a> {
             ≡ sources.value_among self.now.own.items self.now.lent.items keeps name.now }
     {
         if name == b"crossref".as_slice() {
-            return if keeps {
-                text_in(self.own.as_slice(), b"crossref")
-            } else {
-                None
-            };
+            return self.kept(keeps);
         }
         match text_in(self.own.as_slice(), name) {
             Some(text) => Some(text),
             None => text_in(self.lent.as_slice(), name),
         }
+    }
+
+    /// The entry's own `crossref`, where it is kept.
+    fn kept(&self, keeps: bool) -> Option<&'a [u8]>
+        ensures { option_map (λ text. text.now) result
+            ≡ (if keeps then text_of (codes "crossref") self.now.own.items else None) }
+    {
+        if !keeps {
+            return None;
+        }
+        text_in(self.own.as_slice(), b"crossref")
     }
 }
 
