@@ -1,6 +1,6 @@
 //! Entries of the list before their fields are joined.
 
-ghost use Rattle.std.specs.Prelude.{◌≡◌, ℕ, List, IfOk};
+ghost use Rattle.std.specs.Prelude.{◌≡◌, ℕ, ◌||◌, List, IfOk, OnOk};
 ghost use Rattle.bv_base.specs.KeySets.{has_lowered};
 ghost use Rattle.entry_list.specs.Keys as keys;
 
@@ -52,8 +52,17 @@ pub(crate) fn listed_keys(alloc: Global, list: &[Chosen<'_>]) -> Result<KeySet, 
     ensures { IfOk result (λ set. (key : List ℕ) → has_lowered key set ≡ keys.is_listed key list.now) }
 {
     let mut set = KeySet::new(alloc);
+    add_keys(&mut set, list)?;
+    Ok(set)
+}
+
+/// Adds the keys of a list.
+pub(crate) fn add_keys(set: &mut KeySet, list: &[Chosen<'_>]) -> Result<(), NoMemory>
+    ensures { OnOk result ((key : List ℕ)
+        → has_lowered key set.new ≡ (has_lowered key set.old || keys.is_listed key list.now)) }
+{
     for chosen in list {
         set.add_lowered(chosen.key)?;
     }
-    Ok(set)
+    Ok(())
 }

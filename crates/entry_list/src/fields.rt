@@ -1,15 +1,17 @@
 //! The fields of the entries of the list.
 
-ghost use Rattle.std.specs.Prelude.{◌≡◌, ◌++◌, List, [], ◌∷◌, map, IfOk, OnOk};
+ghost use Rattle.std.specs.Prelude.{◌≡◌, ◌++◌, ℕ, List, [], ◌∷◌, map, IfOk, OnOk};
 ghost use Rattle.std.specs.Option.{ForSome, option_map};
 ghost use Rattle.std.specs.List.{AllByRecursion};
+ghost use Rattle.bv_base.specs.KeySets.{has_lowered};
 ghost use Rattle.bst_meaning.specs.Entries.{IsByteList};
 ghost use Rattle.entry_list.specs.Fields as fields;
+ghost use Rattle.entry_list.specs.Keys.{is_listed};
 ghost use Rattle.entry_list.specs.Sources.{value_among};
 ghost use Rattle.entry_list.specs.Tables.{entry_by, has_parent};
 ghost use Rattle.entry_list.specs.Bytes.{HasBytes, HaveBytes};
 
-use crate::chosen::{Chosen, listed_keys};
+use crate::chosen::Chosen;
 use crate::entry_table::EntryTable;
 use crate::parents::{crossref_of, parent_of};
 use crate::sources::Sources;
@@ -121,20 +123,21 @@ fn names_of(alloc: Global, fields: &[DeclaredField<'_>]) -> Result<Vec<NameId>, 
     Ok(names)
 }
 
-/// The entries of a list with these fields and no other.
+/// The entries of a list, whose keys are given, with these fields and no other.
 pub(crate) fn join_entries(
     alloc: Global,
     declared: &SharedFields<'_>,
     table: &EntryTable<'_>,
     list: &[Chosen<'_>],
+    listed: &KeySet,
 ) -> Result<Seq<Entry>, NoMemory>
+    requires { (key : List ℕ) → has_lowered key listed.now ≡ is_listed key list.now }
     ensures joined { IfOk result (λ found. found ≡ map (fields.joined_entry declared.now table.now list.now) list.now) }
     ensures bytes { IfOk result HaveBytes }
 {
-    let listed = listed_keys(alloc, list)?;
     let mut found = Seq::from_vec(Vec::with_capacity(alloc, list.len())?);
     for chosen in list {
-        found.push(join_entry(alloc, declared, table, &listed, chosen)?)?;
+        found.push(join_entry(alloc, declared, table, listed, chosen)?)?;
     }
     Ok(found)
 }

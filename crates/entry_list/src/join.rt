@@ -1,10 +1,12 @@
 //! Joining citations and databases.
 
-ghost use Rattle.std.specs.Prelude.{◌≡◌, ◌++◌, IfOk};
+ghost use Rattle.std.specs.Prelude.{◌≡◌, ◌++◌, ℕ, List, IfOk};
+ghost use Rattle.bv_base.specs.KeySets.{has_lowered};
 ghost use Rattle.bib_read.specs.Additions.{AreKeyed};
 ghost use Rattle.bst_meaning.specs.Entries.{Fits};
 ghost use Rattle.entry_list.specs.Bytes.{HaveBytes};
 ghost use Rattle.entry_list.specs.Joining as joining;
+ghost use Rattle.entry_list.specs.Keys.{is_listed};
 
 use crate::chosen::Chosen;
 use crate::citing::{Cited, cited_list};
@@ -15,8 +17,10 @@ use crate::parents::append_parents;
 use aux_read::aux::AuxItem;
 use bib_read::database::Database;
 use bst_meaning::entry::{Entry, EntryList};
+use bv_base::key_set::KeySet;
 use bv_base::memory::NoMemory;
 use bv_base::seq::Seq;
+use bv_base::text::Text;
 use name_table::style::Style;
 use std::alloc::Global;
 
@@ -44,7 +48,7 @@ pub fn join(
     let table = EntryTable::new(alloc, database.entries.as_slice())?;
     let cited = cited_list(alloc, items, &table)?;
     let whole = with_parents(alloc, cited, &table)?;
-    let entries = entries_of(alloc, style, &table, whole.list.as_slice())?;
+    let entries = entries_of(alloc, style, &table, whole.list.as_slice(), &whole.listed)?;
     let preamble = copied(alloc, database.preamble.as_slice())?;
     Ok(Joined {
         list: EntryList { entries, preamble },
@@ -52,33 +56,48 @@ pub fn join(
     })
 }
 
+/// The whole list, the keys of its entries, and the warnings.
+#[derive(Drop)]
+struct Whole<'a> {
+    list: Vec<Chosen<'a>>,
+    listed: KeySet,
+    warnings: Seq<Text>,
+}
+
 /// Appends the parents of cited entries to them, and their warnings.
 fn with_parents<'a>(
     alloc: Global,
     cited: Cited<'a>,
     table: &EntryTable<'a>,
-) -> Result<Cited<'a>, NoMemory>
+) -> Result<Whole<'a>, NoMemory>
     ensures list { IfOk result (λ whole. whole.list.items ≡ cited.entry.list.items ++ joining.appended table.now cited.entry.list.items) }
+    ensures listed { IfOk result (λ whole. (key : List ℕ) → has_lowered key whole.listed ≡ is_listed key whole.list.items) }
     ensures warnings { IfOk result (λ whole. whole.warnings
         ≡ cited.entry.warnings ++ joining.without_parents table.now whole.list.items) }
 {
     let mut list = cited.list;
     let mut warnings = cited.warnings;
-    append_parents(alloc, &mut list, table)?;
+    let listed = append_parents(alloc, &mut list, table)?;
     warn_of_parents(alloc, &mut warnings, table, list.as_slice())?;
-    Ok(Cited { list, warnings })
+    Ok(Whole {
+        list,
+        listed,
+        warnings,
+    })
 }
 
-/// The entries of a list, with the fields that the style declares.
+/// The entries of a list, whose keys are given, with the fields that the style declares.
 fn entries_of(
     alloc: Global,
     style: &Style,
     table: &EntryTable<'_>,
     list: &[Chosen<'_>],
+    listed: &KeySet,
 ) -> Result<Seq<Entry>, NoMemory>
+    requires { (key : List ℕ) → has_lowered key listed.now ≡ is_listed key list.now }
     ensures joined { IfOk result (λ entries. entries ≡ joining.all_joined style.now table.now list.now) }
     ensures bytes { IfOk result HaveBytes }
 {
     let declared = SharedFields::new(alloc, declared_fields(alloc, style)?)?;
-    join_entries(alloc, &declared, table, list)
+    join_entries(alloc, &declared, table, list, listed)
 }

@@ -4,26 +4,44 @@ ghost use Rattle.std.specs.Prelude.{◌≡◌, ℕ, ◌&&◌, ◌||◌, ◌++◌
 ghost use Rattle.std.specs.Option.{option_map, option_to_list};
 ghost use Rattle.bv_base.specs.KeySets.{has_lowered};
 ghost use Rattle.entry_list.specs.Keys as keys;
+ghost use Rattle.entry_list.specs.Keys.{Listed};
 ghost use Rattle.entry_list.specs.Parents as naming;
 
-use crate::chosen::{Chosen, listed_keys};
+use crate::chosen::{Chosen, add_keys, listed_keys};
 use crate::entry_table::EntryTable;
 use bib_read::database::RawEntry;
 use bv_base::key_set::KeySet;
 use bv_base::memory::NoMemory;
 use std::alloc::Global;
 
-/// Appends the parents that at least two entries of a list name and that aren't in it.
+/// Appends the parents that at least two entries of a list name and that aren't in it. The keys of the whole list are given.
 pub(crate) fn append_parents<'a>(
     alloc: Global,
     list: &mut Vec<Chosen<'a>>,
     table: &EntryTable<'a>,
-) -> Result<(), NoMemory>
-    ensures { OnOk result (list.new.items ≡ list.old.items ++ naming.appended table.now list.old.items) }
+) -> Result<KeySet, NoMemory>
+    ensures list { OnOk result (list.new.items ≡ list.old.items ++ naming.appended table.now list.old.items) }
+    ensures listed { IfOk result (λ listed. (key : List ℕ) → has_lowered key listed ≡ keys.is_listed key list.new.items) }
 {
-    let parents = parents_of(alloc, list.as_slice(), table)?;
-    let wanted = wanted(alloc, parents.as_slice(), list.as_slice())?;
-    append(list, wanted.as_slice())
+    let mut listed = listed_keys(alloc, list.as_slice())?;
+    let wanted = wanted_by(alloc, list.as_slice(), table, &listed)?;
+    add_keys(&mut listed, wanted.as_slice())?;
+    append(list, wanted.as_slice())?;
+    Ok(listed)
+}
+
+/// The parents that at least two entries of a list name and that aren't in it. The keys of the list are given.
+fn wanted_by<'a>(
+    alloc: Global,
+    list: &[Chosen<'a>],
+    table: &EntryTable<'a>,
+    listed: &KeySet,
+) -> Result<Vec<Chosen<'a>>, NoMemory>
+    requires { (key : List ℕ) → has_lowered key listed.now ≡ keys.is_listed key list.now }
+    ensures { IfOk result (λ found. found.items ≡ naming.appended table.now list.now) }
+{
+    let parents = parents_of(alloc, list, table)?;
+    wanted(alloc, parents.as_slice(), listed)
 }
 
 /// The entries that a list names by `crossref`, one for each naming.
@@ -85,17 +103,17 @@ pub(crate) fn crossref_of(entry: &RawEntry) -> Option<&[u8]>
     entry.fields.find(b"crossref")
 }
 
-/// The wanted ones of these parents, in the order in which they are first named.
+/// The wanted ones of these parents, in the order in which they are first named. The keys of a list say what is in it.
 fn wanted<'a>(
     alloc: Global,
     parents: &[Chosen<'a>],
-    list: &[Chosen<'a>],
+    listed: &KeySet,
 ) -> Result<Vec<Chosen<'a>>, NoMemory>
-    ensures { IfOk result (λ found. found.items ≡ naming.wanted parents.now list.now) }
+    ensures { (list : List Listed) → ((key : List ℕ) → has_lowered key listed.now ≡ keys.is_listed key list)
+        → IfOk result (λ found. found.items ≡ naming.wanted parents.now list) }
 {
     let twice = named_twice(alloc, parents)?;
-    let listed = listed_keys(alloc, list)?;
-    wanted_of(alloc, parents, &twice, &listed)
+    wanted_of(alloc, parents, &twice, listed)
 }
 
 /// Those of these parents that are named twice and not listed, in the order in which they are first named.

@@ -19,7 +19,7 @@ loop-chosen-preserved c =
           map_more (joined_entry declared table list) list c.loop-chosen.chosen-index chosen entry c.loop-chosen.found _
           c.loop-chosen-test.true c.chosen-item.is c.loop-chosen.invariant.joined c.in_ok-push.ensures.ok
           (c.in_ok-join_entry.ensures.joined
-          ∙ entry_same c.in_ok-listed.listed list c.in_ok-listed.ensures declared table chosen);
+          ∙ entry_same c.args.listed.now list c.requires declared table chosen);
       bytes =
           subst (AllByRecursion HasBytes) (sym c.in_ok-push.ensures.ok)
           (all_append HasBytes c.loop-chosen.found (entry ∷ []) c.loop-chosen.invariant.bytes (c.in_ok-join_entry.ensures.bytes, tt));

@@ -8,14 +8,13 @@ use Rattle.entry_list.proofs.parents.wanted.Goals as goal
 
 -- the sets of keys say what is wanted
 pub returns : goal.returns
-returns c =
+returns c = λ list same.
     let parents = c.args.parents.now in
-    let list = c.args.list.now in
     let twice = c.in_ok-twice.twice in
-    let listed = c.in_ok-listed.listed in
+    let listed = c.args.listed.now in
     subst (λ (l : List Listed). IfOk c.wanted_of.result (λ found. found.items ≡ l))
     (filter_same (is_chosen twice listed) (is_wanted parents list)
     (λ p. ap (λ b. b && not (has_lowered p.key listed)) (c.in_ok-twice.ensures p.key)
-    ∙ ap (λ b. is_named_twice p.key parents && not b) (c.in_ok-listed.ensures p.key))
+    ∙ ap (λ b. is_named_twice p.key parents && not b) (same p.key))
     (firsts same_listed parents))
     c.wanted_of.ensures
