@@ -16,6 +16,7 @@ pub mod Moves
 pub mod MarkRules
 pub mod Room
 pub mod Frames
+pub mod AtOnce
 pub mod Lines
 pub mod Machine
 pub mod Subjects

@@ -1,8 +1,9 @@
 //! The steps of commands.
 
-ghost use Rattle.std.specs.Prelude.{◌≡◌, ◌≤◌, true, [], ◌∷◌, drop, filter, IsOk, MatchOption, OnErr, OnOk};
+ghost use Rattle.std.specs.Prelude.{◌≡◌, ◌+◌, ◌≤◌, true, [], ◌∷◌, drop, filter, IfOk, IsOk, MatchOption, OnErr, OnOk};
 ghost use Rattle.bst_meaning.specs.Config.{is_step as takes_step};
 ghost use Rattle.bst_meaning.specs.Machine as rule;
+ghost use Rattle.bst_step.specs.AtOnce.{IsWithin};
 ghost use Rattle.bst_step.specs.State.{config_of, visit_in, HasRoom, LeavesRoom};
 ghost use Rattle.bst_step.specs.Machine.{HasEntriesOf, at_rest};
 ghost use Rattle.bst_step.specs.MarkRules as rules;
@@ -29,8 +30,8 @@ impl<'a> State<'a> {
             if self.is_at_rest() {
                 return Ok(());
             }
-            self.advance(style)?;
-            left -= 1;
+            let more = self.advance(style, left)?;
+            left -= more + 1;
         }
         Ok(())
     }
@@ -48,18 +49,21 @@ impl<'a> State<'a> {
         first_step(self.commands).is_none()
     }
 
-    /// One step.
-    fn advance(&mut self, style: &'a Style) -> Result<(), NoMemory>
-        ensures moved { OnOk result (config_of self.new ≡ rule.step style.now (config_of self.old)) }
+    /// One step, and the steps that are taken with it, whose number is given.
+    #[inline(always)]
+    fn advance(&mut self, style: &'a Style, left: u64) -> Result<u64, NoMemory>
+        ensures moved { IfOk result (λ more. config_of self.new ≡ rule.steps style.now more (rule.step style.now (config_of self.old))) }
         ensures entries { OnErr result (self.new.values.entries ≡ self.old.values.entries) }
-        ensures marks { OnOk result (self.new.values.marks ≡ rules.marks_after style.now (config_of self.old) self.old.values.marks) }
+        ensures marks { IfOk result (λ more. self.new.values.marks ≡ rules.marks_after_steps style.now more (rule.step style.now (config_of self.old))
+            (rules.marks_after style.now (config_of self.old) self.old.values.marks)) }
         ensures fits { step_takes_room style.now (config_of self.old) ≡ true → HasRoom self.old → IsOk result }
-        ensures room { OnOk result (LeavesRoom 1 self.old self.new) }
+        ensures room { IfOk result (λ more. LeavesRoom (more + 1) self.old self.new) }
+        ensures few { IfOk result (λ more. IsWithin more left) }
     {
         if self.stopped.is_some() {
-            return Ok(());
+            return Ok(0);
         }
-        self.going_step(style)
+        self.going_steps(style, left)
     }
 
     /// A step where no frame is left.

@@ -4,6 +4,7 @@ ghost use Rattle.std.specs.Prelude.{◌≡◌, ◌+◌, ◌≤◌, ◌∷◌, []
 ghost use Rattle.name_table.specs.declared.style.Style.{Style};
 ghost use Rattle.bst_meaning.specs.Config.{Config};
 ghost use Rattle.bst_meaning.specs.Machine as rule;
+ghost use Rattle.bst_step.specs.AtOnce.{AreAhead, with_tokens};
 ghost use Rattle.bst_step.specs.Frames.{has_none, marks_after_next, next_takes_room, with_next, frame_of};
 ghost use Rattle.bst_step.specs.MarkRules as rules;
 ghost use Rattle.bst_step.specs.Marks.{Marks};
@@ -13,7 +14,7 @@ use crate::stack::Stack;
 use crate::state::{Frame, Part, Rest};
 use bv_base::memory::NoMemory;
 use bv_base::place::Place;
-use name_table::style::Token;
+use name_table::style::{Token, TokenAt};
 use std::alloc::Global;
 use std::marker::Model;
 
@@ -126,6 +127,29 @@ impl<'a> Frames<'a> {
                 Next::Token(Token::Call(name), at)
             }
         }
+    }
+
+    /// The tokens that the innermost frame has left. None are given where a name is left to call, or no frame is entered.
+    #[inline(always)]
+    pub fn tokens(&self) -> &'a [TokenAt]
+        ensures { AreAhead result.now (map frame_of self.now.items) }
+    {
+        if !self.entered {
+            return &[];
+        }
+        match self.innermost.rest {
+            Rest::Tokens(tokens) => tokens,
+            Rest::Call(_, _) => &[],
+        }
+    }
+
+    /// Leaves these tokens to the innermost frame.
+    #[inline(always)]
+    pub fn go_to(&mut self, tokens: &'a [TokenAt])
+        ensures moved { map frame_of self.new.items ≡ with_tokens tokens.now (map frame_of self.old.items) }
+        ensures room { self.new.room ≡ self.old.room }
+    {
+        self.innermost.rest = Rest::Tokens(tokens);
     }
 
     /// Leaves the innermost frame, where one is entered.

@@ -1,9 +1,10 @@
 //! The steps of frames.
 
-ghost use Rattle.std.specs.Prelude.{◌≡◌, ◌≤◌, true, map, IsOk, OnErr, OnOk};
+ghost use Rattle.std.specs.Prelude.{◌≡◌, ◌+◌, ◌≤◌, true, map, None, IfOk, IsOk, OnErr, OnOk};
 ghost use Rattle.name_table.specs.declared.style.Style.{Style};
 ghost use Rattle.bst_meaning.specs.Machine as rule;
 ghost use Rattle.bst_step.specs.State.{config_of, HasRoom, LeavesRoom};
+ghost use Rattle.bst_step.specs.AtOnce.{IsWithin};
 ghost use Rattle.bst_step.specs.Frames.{frame_of, marks_after_next, next_takes_room, part_of, with_next};
 ghost use Rattle.bst_step.specs.MarkRules as rules;
 ghost use Rattle.bst_step.specs.Room.{frames_take_room};
@@ -16,20 +17,52 @@ use bst_meaning::fault::Fault;
 use bst_meaning::value::Target;
 use bv_base::memory::NoMemory;
 use bv_base::place::Place;
-use name_table::style::Style;
+use name_table::style::{Style, Token};
 
 impl<'a> State<'a> {
-    /// A step of the innermost frame, or of the first command where no frame is left.
-    pub fn going_step(&mut self, style: &'a Style) -> Result<(), NoMemory>
-        ensures moved { OnOk result (config_of self.new ≡ rule.going_step style.now (map frame_of self.old.frames.items) (config_of self.old)) }
+    /// A step of the innermost frame, or of the first command where no frame is left. Where three steps may be taken, up to two
+    /// more are taken with it, and their number is given.
+    #[inline(always)]
+    pub fn going_steps(&mut self, style: &'a Style, left: u64) -> Result<u64, NoMemory>
+        requires { (config_of self.old).stopped ≡ None }
+        ensures moved { IfOk result (λ more. config_of self.new
+            ≡ rule.steps style.now more (rule.going_step style.now (map frame_of self.old.frames.items) (config_of self.old))) }
         ensures entries { OnErr result (self.new.values.entries ≡ self.old.values.entries) }
-        ensures marks { OnOk result (self.new.values.marks ≡
-            rules.going_marks style.now (map frame_of self.old.frames.items) (config_of self.old) self.old.values.marks) }
+        ensures marks { IfOk result (λ more. self.new.values.marks
+            ≡ rules.marks_after_steps style.now more (rule.going_step style.now (map frame_of self.old.frames.items) (config_of self.old))
+            (rules.going_marks style.now (map frame_of self.old.frames.items) (config_of self.old) self.old.values.marks)) }
         ensures fits { frames_take_room style.now (map frame_of self.old.frames.items) (config_of self.old) ≡ true → HasRoom self.old → IsOk result }
-        ensures room { OnOk result (LeavesRoom 1 self.old self.new) }
+        ensures room { IfOk result (λ more. LeavesRoom (more + 1) self.old self.new) }
+        ensures few { IfOk result (λ more. IsWithin more left) }
     {
         let next = self.frames.next();
-        self.step_left(style, next)
+        self.steps_left(style, next, left)
+    }
+
+    /// What is left of a step, once the innermost frame has moved on, and the steps that are taken with it.
+    #[inline(always)]
+    fn steps_left(&mut self, style: &'a Style, next: Next, left: u64) -> Result<u64, NoMemory>
+        requires { (config_of self.old).stopped ≡ None }
+        ensures moved { IfOk result (λ more. config_of self.new ≡ rule.steps style.now more (with_next style.now next (config_of self.old))) }
+        ensures entries { OnErr result (self.new.values.entries ≡ self.old.values.entries) }
+        ensures marks { IfOk result (λ more. self.new.values.marks ≡ rules.marks_after_steps style.now more (with_next style.now next (config_of self.old))
+            (marks_after_next style.now next (config_of self.old) self.old.values.marks)) }
+        ensures fits { next_takes_room style.now next (config_of self.old) ≡ true → HasRoom self.old → IsOk result }
+        ensures room { IfOk result (λ more. LeavesRoom (more + 1) self.old self.new) }
+        ensures few { IfOk result (λ more. IsWithin more left) }
+    {
+        match next {
+            Next::Token(Token::Quote(name), _) if left > 2 => {
+                self.function_steps(style, Target::Named(name))
+            }
+            Next::Token(Token::Block(body), _) if left > 2 => {
+                self.function_steps(style, Target::Block(body))
+            }
+            next => {
+                self.step_left(style, next)?;
+                Ok(0)
+            }
+        }
     }
 
     /// What is left of a step, once the innermost frame has moved on.

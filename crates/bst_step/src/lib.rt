@@ -2,6 +2,7 @@
 #![tactic(auto)]
 
 mod assign;
+mod at_once;
 mod built_in;
 mod commands;
 mod effects;

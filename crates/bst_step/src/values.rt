@@ -2,7 +2,7 @@
 
 ghost use Rattle.std.specs.Prelude.{◌≡◌, ◌+◌, ◌<◌, ◌≤◌, ◌∷◌, [], drop, is_some, length, map, option_map, slice_get, slice_index_or, Some, IfOk, IfSome, IsOk, MatchOption, OnErr, OnOk};
 ghost use Rattle.std.specs.Option.{option_and_then};
-ghost use Rattle.bst_meaning.specs.declared.value.Value.TheVariants.{Str};
+ghost use Rattle.bst_meaning.specs.declared.value.Value.TheVariants.{Int, Str};
 ghost use Rattle.bst_meaning.specs.Machine as rule;
 ghost use Rattle.bst_meaning.specs.Sorting.{sorted};
 ghost use Rattle.bst_step.specs.EntryStates.{EntriesWithin, state_in};
@@ -97,6 +97,17 @@ impl<'a> Values<'a> {
         match self.stack.top() {
             Some(held) => Some(held.operand(self.pool.as_slice())),
             None => None,
+        }
+    }
+
+    /// The integer on top.
+    #[inline(always)]
+    pub fn top_integer(&self) -> Option<i32>
+        ensures { IfSome result (λ n. self.now.stack ≡ Int n ∷ drop 1 self.now.stack) }
+    {
+        match self.top() {
+            Some(Operand::Int(n)) => Some(n),
+            _ => None,
         }
     }
 
