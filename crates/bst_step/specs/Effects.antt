@@ -14,6 +14,11 @@ use Rattle.bst_step.specs.Marks.{Marks}
 use Rattle.bst_step.specs.State.{config_of, LeavesRoom}
 use Rattle.bst_step.specs.Values.{Holding, Kept}
 
+-- the fault is the one that is wanted
+abbrev pub IsStopOf : Stop → Result Effect Fault → Type 0
+IsStopOf (Faulted fault) wanted = wanted ≡ Err fault
+IsStopOf NoMemory wanted = Unit {0}
+
 -- the literal stack is what the effect leaves, which does nothing else; or the fault is the one that is wanted, and the stack is as it
 -- was
 abbrev pub Left : Result (Unit {0}) Stop → List Value → List Value → Result Effect Fault → Type 0

@@ -21,6 +21,7 @@ use crate::stack::Stack;
 use crate::variables::{Variable, Variables};
 use bst_meaning::entry::Entry;
 use bv_base::memory::NoMemory;
+use name_format::known_pattern::KnownPattern;
 use name_table::names::NameId;
 use std::alloc::Global;
 use std::marker::Model;
@@ -43,6 +44,8 @@ pub struct Values<'a> {
     stack: Stack<Held<'a>>,
     globals: Variables<'a>,
     entries: Vec<EntryState<'a>>,
+    /// The pattern by which a name was written last.
+    known: KnownPattern,
 }
 
 impl<'a> Model for Values<'a> {
@@ -72,7 +75,23 @@ impl<'a> Values<'a> {
             stack: Stack::new(alloc),
             globals,
             entries,
+            known: KnownPattern::new(alloc),
         }
+    }
+
+    /// Takes the pattern out by which a name was written last.
+    pub fn take_known(&mut self) -> KnownPattern
+        ensures { self.new ≡ self.old }
+    {
+        let none = KnownPattern::new(*self.pool.allocator());
+        std::mem::replace(&mut self.known, none)
+    }
+
+    /// Keeps the pattern by which a name was written last.
+    pub fn keep_known(&mut self, known: KnownPattern)
+        ensures { self.new ≡ self.old }
+    {
+        self.known = known;
     }
 
     /// How many values are on the stack.

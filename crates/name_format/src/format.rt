@@ -8,11 +8,11 @@ ghost use Rattle.name_split.specs.Names.{names_of};
 ghost use Rattle.name_split.specs.Spans.{slice};
 ghost use Rattle.name_split.specs.declared.spans.Span.{Span};
 
+use crate::known_pattern::KnownPattern;
 use crate::pattern::pattern_written;
 use bv_base::memory::NoMemory;
 use name_split::names::names;
 use name_split::parts::part_spans;
-use name_split::pattern::pattern_ok;
 use std::alloc::Global;
 
 /// Why a name isn't written. Where several reasons hold, the first of them is given.
@@ -29,9 +29,10 @@ pub enum FormatFault {
 }
 
 /// The name of a text with a number, counted from 1, by a pattern. A byte outside the pattern's groups stands for
-/// itself, and a group for its text, or for a part of the name.
+/// itself, and a group for its text, or for a part of the name. The pattern that was asked for last is known to be well formed.
 pub fn format(
     alloc: Global,
+    known: &mut KnownPattern,
     text: &[u8],
     index: i32,
     pattern: &[u8],
@@ -45,7 +46,7 @@ pub fn format(
     let Ok(parts) = part_spans(name) else {
         return Err(FormatFault::BadName);
     };
-    if !pattern_ok(pattern) {
+    if !known.is_well_formed(pattern) {
         return Err(FormatFault::BadPattern);
     }
     match pattern_written(alloc, name, parts, pattern) {

@@ -4,6 +4,7 @@
 pub mod format;
 mod group;
 mod initial;
+pub mod known_pattern;
 mod pattern;
 mod tie;
 mod tokens;

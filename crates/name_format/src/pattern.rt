@@ -19,7 +19,7 @@ pub(crate) fn pattern_written(
 ) -> Result<Vec<u8>, NoMemory>
     ensures { IfOk result (λ v. v.items ≡ specs.pattern_written name.now parts 0 pattern.now) }
 {
-    let mut out = Vec::new(alloc);
+    let mut out = Vec::with_capacity(alloc, pattern.len().saturating_add(name.len()))?;
     let mut rest = pattern;
     while let [first, after @ ..] = rest {
         if *first == b'{' {

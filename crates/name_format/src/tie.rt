@@ -13,7 +13,8 @@ use text_ops::text_length::text_length;
 pub(crate) fn tied(alloc: Global, before: &[u8], since: &[u8]) -> Result<Vec<u8>, NoMemory>
     ensures { IfOk result (λ v. v.items ≡ specs.tied before.now since.now) }
 {
-    let mut whole = Vec::from_slice(alloc, before)?;
+    let mut whole = Vec::with_capacity(alloc, before.len().saturating_add(since.len()))?;
+    whole.extend_from_slice(before)?;
     whole.extend_from_slice(since)?;
     let text = whole.as_slice();
     if !ends_with_tie(text) {

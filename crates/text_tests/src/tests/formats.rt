@@ -1,6 +1,7 @@
 //! Names by patterns, worked out by hand.
 
 use name_format::format::{FormatFault, format};
+use name_format::known_pattern::KnownPattern;
 use std::alloc::Global;
 use std::process::Abort;
 use std::test::Fail;
@@ -87,8 +88,9 @@ fn names_by_patterns(rt: HostRuntime) {
 }
 
 fn are_written(rt: &impl Abort, alloc: Global, rows: &[(&[u8], &[u8], &[u8])]) {
+    let mut known = KnownPattern::new(alloc);
     for (name, pattern, text) in rows {
-        match format(alloc, name, 1, pattern) {
+        match format(alloc, &mut known, name, 1, pattern) {
             Ok(found) => assert_eq!(rt; found.as_slice(), *text),
             Err(_) => panic!(rt; "the name isn't written"),
         }
@@ -97,9 +99,10 @@ fn are_written(rt: &impl Abort, alloc: Global, rows: &[(&[u8], &[u8], &[u8])]) {
 
 #[test]
 fn the_name_with_a_number(rt: HostRuntime) -> Result<(), Fail> {
-    let second = format(rt.alloc(), b"Ann Lee and Bo Ray", 2, b"{ll}, {ff}")?;
+    let mut known = KnownPattern::new(rt.alloc());
+    let second = format(rt.alloc(), &mut known, b"Ann Lee and Bo Ray", 2, b"{ll}, {ff}")?;
     assert_eq!(rt; second.as_slice(), b"Ray, Bo".as_slice());
-    let after_a_bad_one = format(rt.alloc(), b"Smith, John, and B", 2, b"{ll}")?;
+    let after_a_bad_one = format(rt.alloc(), &mut known, b"Smith, John, and B", 2, b"{ll}")?;
     assert_eq!(rt; after_a_bad_one.as_slice(), b"B".as_slice());
     Ok(())
 }
@@ -129,8 +132,9 @@ fn the_first_fault_is_given(rt: HostRuntime) {
 }
 
 fn are_refused(rt: &impl Abort, alloc: Global, rows: &[Faulty]) {
+    let mut known = KnownPattern::new(alloc);
     for (names, index, pattern, fault) in rows {
-        match format(alloc, names, *index, pattern) {
+        match format(alloc, &mut known, names, *index, pattern) {
             Ok(_) => panic!(rt; "a fault is missing"),
             Err(found) => assert_eq!(rt; found, *fault),
         }
