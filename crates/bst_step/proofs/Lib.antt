@@ -27,3 +27,4 @@ pub mod PlaceSteps
 pub mod RoomSteps
 pub mod MarkSteps
 pub mod MarkMoves
+pub mod PreparedSteps

@@ -17,6 +17,7 @@ pub mod MarkRules
 pub mod Room
 pub mod Frames
 pub mod AtOnce
+pub mod Prepared
 pub mod Lines
 pub mod Machine
 pub mod Subjects

@@ -9,16 +9,17 @@ ghost use Rattle.bst_step.specs.Machine.{HasEntriesOf, at_rest};
 ghost use Rattle.bst_step.specs.MarkRules as rules;
 ghost use Rattle.bst_step.specs.Room.{TakeRoom, step_takes_room};
 
+use crate::prepared::PreparedStyle;
 use crate::state::{Part, Rest, State, Visit};
 use bst_meaning::fault::Fault;
 use bv_base::memory::NoMemory;
 use bv_base::place::Place;
 use name_table::names::NameId;
-use name_table::style::{Command, CommandAt, Style};
+use name_table::style::{Command, CommandAt};
 
 impl<'a> State<'a> {
     /// So many steps, or those up to where no step changes anything any more.
-    pub fn advance_by(&mut self, style: &'a Style, n: u64) -> Result<(), NoMemory>
+    pub fn advance_by(&mut self, style: &PreparedStyle<'a>, n: u64) -> Result<(), NoMemory>
         ensures moved { OnOk result (config_of self.new ≡ rule.steps style.now n (config_of self.old)) }
         ensures places { HasEntriesOf (config_of self.old) (config_of self.new) }
         ensures marks { OnOk result (self.new.values.marks ≡ rules.marks_after_steps style.now n (config_of self.old) self.old.values.marks) }
@@ -51,7 +52,7 @@ impl<'a> State<'a> {
 
     /// One step, and the steps that are taken with it, whose number is given.
     #[inline(always)]
-    fn advance(&mut self, style: &'a Style, left: u64) -> Result<u64, NoMemory>
+    fn advance(&mut self, style: &PreparedStyle<'a>, left: u64) -> Result<u64, NoMemory>
         ensures moved { IfOk result (λ more. config_of self.new ≡ rule.steps style.now more (rule.step style.now (config_of self.old))) }
         ensures entries { OnErr result (self.new.values.entries ≡ self.old.values.entries) }
         ensures marks { IfOk result (λ more. self.new.values.marks ≡ rules.marks_after_steps style.now more (rule.step style.now (config_of self.old))

@@ -6,11 +6,12 @@ ghost use Rattle.bst_step.specs.Marks as mark;
 ghost use Rattle.bst_step.specs.Subjects.{Fits, Makes, Place, Style, built_in, config_of, context_of};
 
 use crate::held::Operand;
+use crate::prepared::PreparedStyle;
 use crate::state::State;
 use crate::stop::Stop;
 use bst_meaning::fault::Fault;
 use name_table::builtin::Builtin;
-use name_table::style::{Style, TypeTarget};
+use name_table::style::TypeTarget;
 
 impl<'a> State<'a> {
     /// `cite$`
@@ -27,7 +28,7 @@ impl<'a> State<'a> {
     }
 
     /// `type$`
-    pub fn type_of(&mut self, style: &Style) -> Result<(), Stop>
+    pub fn type_of(&mut self, style: &PreparedStyle<'a>) -> Result<(), Stop>
         ensures made { (place : Place) → Makes style.now place result self.old self.new
             (built_in Builtin.TypeName (context_of style.now (config_of self.old)) self.old.values.stack) (mark.pushed mark.Lent) }
         ensures fits { 1 ≤ self.old.values.room → Fits result }
@@ -44,7 +45,7 @@ impl<'a> State<'a> {
 }
 
 /// The type, where the style defines it, and else no bytes.
-fn defined_type<'a>(style: &Style, entry_type: &'a [u8]) -> &'a [u8]
+fn defined_type<'a>(style: &PreparedStyle<'_>, entry_type: &'a [u8]) -> &'a [u8]
     ensures { result.now ≡ type_name style.now entry_type.now }
 {
     match style.type_target(entry_type) {

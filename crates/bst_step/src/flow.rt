@@ -7,6 +7,7 @@ ghost use Rattle.bst_step.specs.Subjects.{Fits, Makes, built_in, config_of, cont
 
 use crate::held::Operand;
 use crate::operands::{three, two};
+use crate::prepared::PreparedStyle;
 use crate::state::{Part, State};
 use crate::stop::Stop;
 use bst_meaning::fault::Fault;
@@ -47,7 +48,7 @@ impl<'a> State<'a> {
     }
 
     /// `call.type$`, for the visited entry.
-    pub fn call_type(&mut self, style: &'a Style, place: Place) -> Result<(), Stop>
+    pub fn call_type(&mut self, style: &PreparedStyle<'a>, place: Place) -> Result<(), Stop>
         ensures made { Makes style.now place result self.old self.new
             (built_in Builtin.CallType (context_of style.now (config_of self.old)) self.old.values.stack) (λ m. m) }
         ensures entries { OnErr result (self.new.values.entries ≡ self.old.values.entries) }
@@ -60,6 +61,6 @@ impl<'a> State<'a> {
             TypeTarget::Default(name) => name,
             TypeTarget::Skip => SKIP,
         };
-        self.enter_over(style, 0, Target::Named(name), place, Part::Whole)
+        self.enter_over(style.base, 0, Target::Named(name), place, Part::Whole)
     }
 }

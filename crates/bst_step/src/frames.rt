@@ -12,6 +12,7 @@ ghost use Rattle.bst_step.specs.Room.{frames_take_room};
 use crate::effects::entered_at;
 use crate::frame_list::Next;
 use crate::held::Operand;
+use crate::prepared::PreparedStyle;
 use crate::state::{Part, State};
 use bst_meaning::fault::Fault;
 use bst_meaning::value::Target;
@@ -23,7 +24,7 @@ impl<'a> State<'a> {
     /// A step of the innermost frame, or of the first command where no frame is left. Where three steps may be taken, up to two
     /// more are taken with it, and their number is given.
     #[inline(always)]
-    pub fn going_steps(&mut self, style: &'a Style, left: u64) -> Result<u64, NoMemory>
+    pub fn going_steps(&mut self, style: &PreparedStyle<'a>, left: u64) -> Result<u64, NoMemory>
         requires { (config_of self.old).stopped ≡ None }
         ensures moved { IfOk result (λ more. config_of self.new
             ≡ rule.steps style.now more (rule.going_step style.now (map frame_of self.old.frames.items) (config_of self.old))) }
@@ -41,7 +42,7 @@ impl<'a> State<'a> {
 
     /// What is left of a step, once the innermost frame has moved on, and the steps that are taken with it.
     #[inline(always)]
-    fn steps_left(&mut self, style: &'a Style, next: Next, left: u64) -> Result<u64, NoMemory>
+    fn steps_left(&mut self, style: &PreparedStyle<'a>, next: Next, left: u64) -> Result<u64, NoMemory>
         requires { (config_of self.old).stopped ≡ None }
         ensures moved { IfOk result (λ more. config_of self.new ≡ rule.steps style.now more (with_next style.now next (config_of self.old))) }
         ensures entries { OnErr result (self.new.values.entries ≡ self.old.values.entries) }
@@ -53,10 +54,10 @@ impl<'a> State<'a> {
     {
         match next {
             Next::Token(Token::Quote(name), _) if left > 2 => {
-                self.function_steps(style, Target::Named(name))
+                self.function_steps(style.base, Target::Named(name))
             }
             Next::Token(Token::Block(body), _) if left > 2 => {
-                self.function_steps(style, Target::Block(body))
+                self.function_steps(style.base, Target::Block(body))
             }
             next => {
                 self.step_left(style, next)?;
@@ -67,7 +68,7 @@ impl<'a> State<'a> {
 
     /// What is left of a step, once the innermost frame has moved on.
     #[inline(always)]
-    fn step_left(&mut self, style: &'a Style, next: Next) -> Result<(), NoMemory>
+    fn step_left(&mut self, style: &PreparedStyle<'a>, next: Next) -> Result<(), NoMemory>
         ensures moved { OnOk result (config_of self.new ≡ with_next style.now next (config_of self.old)) }
         ensures entries { OnErr result (self.new.values.entries ≡ self.old.values.entries) }
         ensures marks { OnOk result (self.new.values.marks ≡ marks_after_next style.now next (config_of self.old) self.old.values.marks) }
@@ -76,7 +77,7 @@ impl<'a> State<'a> {
     {
         match next {
             Next::Token(token, place) => self.token_step(style, token, place),
-            Next::Return(part, place) => self.return_step(style, part, place),
+            Next::Return(part, place) => self.return_step(style.base, part, place),
             Next::Outer => self.outer_step(),
         }
     }

@@ -23,6 +23,7 @@ mod numbers;
 mod opening;
 mod operands;
 mod order;
+mod prepared;
 mod stack;
 mod state;
 mod stop;

@@ -12,6 +12,7 @@ ghost use Rattle.bst_step.specs.Room.{TakeRoom, step_takes_room};
 use crate::commands::first_step;
 use crate::lines::{lines_of, with_ends};
 use crate::opening::opening;
+use crate::prepared::PreparedStyle;
 pub use crate::state::Site;
 use crate::state::State;
 use crate::written::Written;
@@ -37,7 +38,7 @@ pub enum Turn {
 /// copied.
 #[derive(Drop)]
 pub struct Machine<'a> {
-    style: &'a Style,
+    style: PreparedStyle<'a>,
     state: State<'a>,
     /// Whether memory was wanting: then the configuration is none of the run's.
     broken: bool,
@@ -51,7 +52,7 @@ impl<'a> Model for Machine<'a> {
 
     ghost Value = { Standing };
 
-    ghost view = { λ m. standing_of m.style.now m.state m.broken m.spare };
+    ghost view = { λ m. standing_of m.style m.state m.broken m.spare };
 
     ghost invariant = { λ m. (m.spare ≤ m.state.frames.room) × (m.spare ≤ m.state.values.room) };
 }
@@ -69,7 +70,7 @@ impl<'a> Machine<'a> {
         ensures marks { IfOk result (λ machine. marks_of machine ≡ lent_marks (config.opening style.now list.now)) }
     {
         Ok(Machine {
-            style,
+            style: PreparedStyle::new(alloc, style)?,
             state: opening(alloc, style, list)?,
             broken: false,
             spare: 0,
@@ -133,7 +134,7 @@ impl<'a> Machine<'a> {
         if self.broken {
             return Err(NoMemory);
         }
-        match self.state.advance_by(self.style, n) {
+        match self.state.advance_by(&self.style, n) {
             Ok(()) => {
                 self.spare = self.spare.saturating_sub(n);
                 Ok(self.turn())

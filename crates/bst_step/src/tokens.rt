@@ -14,6 +14,7 @@ ghost use Rattle.bst_step.specs.Moves.{with_field, with_entry_value, with_global
 ghost use Rattle.bst_step.specs.Values.{with_pushed};
 
 use crate::held::Operand;
+use crate::prepared::PreparedStyle;
 use crate::state::{Part, Rest, State};
 use crate::stop::Stop;
 use bst_meaning::fault::Fault;
@@ -23,13 +24,13 @@ use bv_base::memory::NoMemory;
 use bv_base::place::Place;
 use name_table::builtin::Builtin;
 use name_table::names::{Kind, NameId};
-use name_table::style::{Style, Token};
+use name_table::style::Token;
 
 impl<'a> State<'a> {
     /// Executes a token, which its frame no longer has.
     pub fn token_step(
         &mut self,
-        style: &'a Style,
+        style: &PreparedStyle<'a>,
         token: Token,
         place: Place,
     ) -> Result<(), NoMemory>
@@ -41,7 +42,7 @@ impl<'a> State<'a> {
     {
         match token {
             Token::Int(n) => self.push(Operand::Int(n)),
-            Token::Str(text) => self.push(Operand::Str(text_of(style, text))),
+            Token::Str(text) => self.push(Operand::Str(text_of(style.base, text))),
             Token::Quote(name) => self.push(Operand::Func(Target::Named(name))),
             Token::Block(body) => self.push(Operand::Func(Target::Block(body))),
             Token::Call(name) => self.call_step(style, name, place),
@@ -49,7 +50,12 @@ impl<'a> State<'a> {
     }
 
     /// Calls a name.
-    fn call_step(&mut self, style: &'a Style, name: NameId, place: Place) -> Result<(), NoMemory>
+    fn call_step(
+        &mut self,
+        style: &PreparedStyle<'a>,
+        name: NameId,
+        place: Place,
+    ) -> Result<(), NoMemory>
         ensures moved { OnOk result (config_of self.new ≡ rule.call_step style.now (parts.kind_of style.now name) name place (config_of self.old)) }
         ensures entries { OnErr result (self.new.values.entries ≡ self.old.values.entries) }
         ensures marks { OnOk result (self.new.values.marks ≡
@@ -57,10 +63,10 @@ impl<'a> State<'a> {
         ensures fits { call_takes_room style.now (parts.kind_of style.now name) (config_of self.old) ≡ true → HasRoom self.old → IsOk result }
         ensures room { OnOk result (LeavesRoom 1 self.old self.new) }
     {
-        match kind_of(style, name) {
+        match kind_of(style.base, name) {
             Some(Kind::Builtin(op)) => self.built_in_step(style, op, place),
             Some(Kind::Wizard(body)) => {
-                self.enter(Rest::Tokens(tokens_of(style, body)), place, Part::Whole)
+                self.enter(Rest::Tokens(tokens_of(style.base, body)), place, Part::Whole)
             }
             Some(Kind::Field) => self.push_field(name, place),
             Some(Kind::IntEntry | Kind::StrEntry) => self.push_entry_variable(name, place),
@@ -70,7 +76,12 @@ impl<'a> State<'a> {
     }
 
     /// Calls a built-in function.
-    fn built_in_step(&mut self, style: &'a Style, op: Builtin, place: Place) -> Result<(), NoMemory>
+    fn built_in_step(
+        &mut self,
+        style: &PreparedStyle<'a>,
+        op: Builtin,
+        place: Place,
+    ) -> Result<(), NoMemory>
         ensures moved { OnOk result (config_of self.new ≡
             rule.with_effect style.now (built_in op (rule.context_of style.now (config_of self.old)) self.old.values.stack) place (config_of self.old)) }
         ensures entries { OnErr result (self.new.values.entries ≡ self.old.values.entries) }
