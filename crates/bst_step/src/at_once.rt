@@ -96,7 +96,8 @@ impl<'a> State<'a> {
         let visits = self.visits();
         match (kind_of(style, name), self.values.top()) {
             (Some(Kind::IntGlobal), Some(Operand::Int(_))) => true,
-            (Some(Kind::StrGlobal), Some(Operand::Str(bytes))) => bytes.len() <= GLOBAL_SIZE as usize,
+            (Some(Kind::StrGlobal), Some(Operand::Str(bytes))) => bytes.len()
+                <= GLOBAL_SIZE as usize,
             (Some(Kind::IntEntry), Some(Operand::Int(_))) => visits,
             (Some(Kind::StrEntry), Some(Operand::Str(bytes))) => {
                 visits && bytes.len() <= ENTRY_SIZE as usize

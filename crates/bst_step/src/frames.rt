@@ -42,7 +42,12 @@ impl<'a> State<'a> {
 
     /// What is left of a step, once the innermost frame has moved on, and the steps that are taken with it.
     #[inline(always)]
-    fn steps_left(&mut self, style: &PreparedStyle<'a>, next: Next, left: u64) -> Result<u64, NoMemory>
+    fn steps_left(
+        &mut self,
+        style: &PreparedStyle<'a>,
+        next: Next,
+        left: u64,
+    ) -> Result<u64, NoMemory>
         requires { (config_of self.old).stopped ≡ None }
         ensures moved { IfOk result (λ more. config_of self.new ≡ rule.steps style.now more (with_next style.now next (config_of self.old))) }
         ensures entries { OnErr result (self.new.values.entries ≡ self.old.values.entries) }

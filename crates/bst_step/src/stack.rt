@@ -49,10 +49,8 @@ impl<T: Copy + Default> Stack<T> {
         ensures fits { 1 ≤ self.old.room → IsOk result }
         ensures room { self.old.room ≤ self.new.room + 1 }
     {
-        if self.count < self.slots.len() {
-            if let Some(slot) = self.slots.get_mut(self.count) {
-                *slot = item;
-            }
+        if let Some(slot) = self.slots.get_mut(self.count) {
+            *slot = item;
             self.count += 1;
             return Ok(());
         }

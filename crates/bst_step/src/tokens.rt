@@ -66,7 +66,11 @@ impl<'a> State<'a> {
         match kind_of(style.base, name) {
             Some(Kind::Builtin(op)) => self.built_in_step(style, op, place),
             Some(Kind::Wizard(body)) => {
-                self.enter(Rest::Tokens(tokens_of(style.base, body)), place, Part::Whole)
+                self.enter(
+                    Rest::Tokens(tokens_of(style.base, body)),
+                    place,
+                    Part::Whole,
+                )
             }
             Some(Kind::Field) => self.push_field(name, place),
             Some(Kind::IntEntry | Kind::StrEntry) => self.push_entry_variable(name, place),

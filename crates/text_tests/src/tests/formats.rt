@@ -100,7 +100,13 @@ fn are_written(rt: &impl Abort, alloc: Global, rows: &[(&[u8], &[u8], &[u8])]) {
 #[test]
 fn the_name_with_a_number(rt: HostRuntime) -> Result<(), Fail> {
     let mut known = KnownPattern::new(rt.alloc());
-    let second = format(rt.alloc(), &mut known, b"Ann Lee and Bo Ray", 2, b"{ll}, {ff}")?;
+    let second = format(
+        rt.alloc(),
+        &mut known,
+        b"Ann Lee and Bo Ray",
+        2,
+        b"{ll}, {ff}",
+    )?;
     assert_eq!(rt; second.as_slice(), b"Ray, Bo".as_slice());
     let after_a_bad_one = format(rt.alloc(), &mut known, b"Smith, John, and B", 2, b"{ll}")?;
     assert_eq!(rt; after_a_bad_one.as_slice(), b"B".as_slice());
