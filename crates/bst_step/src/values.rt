@@ -68,10 +68,11 @@ impl<'a> Values<'a> {
         ensures entries { result.entries ≡ map (state_in []) entries.entry.items }
         ensures marks { result.marks ≡ marks_in [] globals.entry entries.entry.items }
     {
+        let limit = limit_of(0, entries.len());
         Values {
             pool: Vec::new(alloc),
             kept: 0,
-            limit: LEAST_LIMIT,
+            limit,
             stack: Stack::new(alloc),
             globals,
             entries,
