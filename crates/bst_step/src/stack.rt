@@ -49,6 +49,8 @@ impl<T: Copy + Default> Stack<T> {
         ensures fits { 1 ≤ self.old.room → IsOk result }
         ensures room { self.old.room ≤ self.new.room + 1 }
     {
+        // A length has 64 bits, and so has the count of one item more where there is a slot for it.
+        let _ = self.slots.len();
         if let Some(slot) = self.slots.get_mut(self.count) {
             *slot = item;
             self.count += 1;
