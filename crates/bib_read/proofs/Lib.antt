@@ -6,7 +6,6 @@ pub mod Growing
 pub mod Insides
 pub mod ItemsSpelled
 pub mod Kept
-pub mod Lowering
 pub mod Pieces
 pub mod Rounds
 pub mod Shorter

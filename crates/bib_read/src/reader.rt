@@ -19,6 +19,7 @@ use crate::runs::{after_at, begins_name, key_length, name_length};
 use crate::squeeze::{squeezed, trim_into};
 use crate::stop::{Stop, unexpected};
 use crate::warnings::second_field;
+use bv_base::key_set::lowered;
 use bv_base::memory::NoMemory;
 use bv_base::runs::after_white;
 use bv_base::seq::Seq;
@@ -314,15 +315,7 @@ impl<'a> Reader<'a> {
     }
 }
 
-#[tactic(auto, using(crate::proofs::Lowering::lowered_by_ascii))]
-/// The lowered bytes, in one piece of memory of their length.
-pub(crate) fn lowered(alloc: Global, bytes: &[u8]) -> Result<Vec<u8>, NoMemory>
-    ensures { IfOk result (λ found. found.items ≡ names.lowered bytes.now) }
-{
-    Ok(bytes.to_ascii_lowercase(alloc)?)
-}
-
-#[tactic(auto, using(crate::proofs::Lowering::lowered_by_ascii))]
+#[tactic(auto, using(bv_base::proofs::Lowering::lowered_by_ascii))]
 /// Leaves of a buffer the lowered bytes.
 fn lower_into(found: &mut Vec<u8>, bytes: &[u8]) -> Result<(), NoMemory>
     ensures { OnOk result (found.new.items ≡ names.lowered bytes.now) }

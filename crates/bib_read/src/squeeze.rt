@@ -1,6 +1,7 @@
 //! White space in values.
 
 ghost use Rattle.std.specs.Prelude.{◌≡◌, ◌≤◌, ◌++◌, ◌&&◌, ◌||◌, not, nat_eq, if◌then◌else◌, [], ◌∷◌, length, take, drop, IfOk, OnOk, false, true};
+ghost use Rattle.bv_base.specs.Bytes.{is_white as white};
 ghost use Rattle.bib_read.specs.Squeeze as squeeze;
 
 use bv_base::bytes::is_white;
@@ -38,7 +39,7 @@ fn squeeze(found: &mut Vec<u8>, begun: bool, text: &[u8]) -> Result<(), NoMemory
     let (front, rest) = text.split_at(count);
     found.extend_from_slice(front)?;
     for b in rest {
-        let white = is_white(*b);
+        let white = is_white_quickly(*b);
         push_squeezed(found, begun, white, *b)?;
         begun = white;
     }
@@ -76,11 +77,18 @@ fn same_front(begun: bool, text: &[u8]) -> (usize, bool)
 {
     let mut begun = begun;
     for (i, b) in text.iter().enumerate() {
-        let white = is_white(*b);
+        let white = is_white_quickly(*b);
         if changes(begun, white, *b) {
             return (i, begun);
         }
         begun = white;
     }
     (text.len(), begun)
+}
+
+/// Whether a byte is white space. Most bytes lie above all of it, which one look at each tells.
+fn is_white_quickly(b: u8) -> bool
+    ensures { result ≡ white b }
+{
+    b <= b' ' && is_white(b)
 }

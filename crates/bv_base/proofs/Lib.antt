@@ -2,6 +2,7 @@ pub mod Appended
 pub mod Inserted
 pub mod KeyLists
 pub mod Listed
+pub mod Lowering
 pub mod Packing
 pub mod Parts
 pub mod RunLemmas

@@ -5,7 +5,6 @@ ghost use Rattle.std.specs.Cmp.Lexicographic.{pointwise};
 ghost use Rattle.bv_base.specs.Bytes as bytes;
 ghost use Rattle.bv_base.specs.KeySets.{has_key, has_lowered, with_key};
 
-use crate::bytes::lower;
 use crate::memory::NoMemory;
 use indexmap::IndexSet;
 use std::alloc::Global;
@@ -81,13 +80,10 @@ impl KeySet {
     }
 }
 
-/// A key as it is compared where upper and lower case are the same.
+#[tactic(auto, using(crate::proofs::Lowering::lowered_by_ascii))]
+/// A key as it is compared where upper and lower case are the same, in one piece of memory of its length.
 pub fn lowered(alloc: Global, key: &[u8]) -> Result<Vec<u8>, NoMemory>
     ensures { IfOk result (λ found. found.items ≡ map bytes.lower key.now) }
 {
-    let mut found = Vec::new(alloc);
-    for b in key {
-        found.push(lower(*b))?;
-    }
-    Ok(found)
+    Ok(key.to_ascii_lowercase(alloc)?)
 }
