@@ -1,3 +1,4 @@
 pub mod Ending
 pub mod Initials
 pub mod Passing
+pub mod Tying

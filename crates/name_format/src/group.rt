@@ -1,26 +1,24 @@
 //! The text of a group.
 
-ghost use Rattle.std.specs.Prelude.{◌≡◌, ◌++◌, IfOk, OnOk, option_map};
+ghost use Rattle.std.specs.Prelude.{◌≡◌, ◌++◌, OnOk, option_map};
 ghost use Rattle.name_format.specs.Manners.{manner_of};
 ghost use Rattle.name_split.specs.Formatted as specs;
 ghost use Rattle.name_split.specs.Patterns.{letter_runs};
 ghost use Rattle.name_split.specs.Tokens as tokens;
 
 use crate::pattern::behind_brace;
-use crate::tie::tied;
-use crate::tokens::{Manner, tokens_written};
+use crate::tie::tie;
+use crate::tokens::{Manner, write_tokens};
 use bv_base::bytes::lower;
 use bv_base::memory::NoMemory;
 use name_split::front::inside;
 use name_split::pattern::first_run;
 use name_split::spans::{Parts, Span, slice};
 use name_split::tokens::tokens_of;
-use std::alloc::Global;
 
 /// Appends the text of a group, by what stands within its braces: that itself where it has no letters at level 1, and else
 /// the part that they name.
 pub(crate) fn write_group(
-    alloc: Global,
     out: &mut Vec<u8>,
     name: &[u8],
     parts: Parts,
@@ -38,35 +36,37 @@ pub(crate) fn write_group(
         is_whole: found.letters.len() > 1,
         between: between(found.behind),
     };
-    let written = part_written(
-        alloc,
+    write_part(
+        out,
         &manner,
         text,
         found.before,
         behind_between(found.behind),
-    )?;
-    out.extend_from_slice(written.as_slice())?;
-    Ok(())
+    )
 }
 
-/// The tokens of a part between what stands before and behind the letters. It is empty where there are none.
-fn part_written(
-    alloc: Global,
+/// Appends the tokens of a part between what stands before and behind the letters, and nothing where there are none.
+fn write_part(
+    out: &mut Vec<u8>,
     manner: &Manner,
     text: &[u8],
     before: &[u8],
     behind: &[u8],
-) -> Result<Vec<u8>, NoMemory>
-    ensures { IfOk result (λ v. v.items
-        ≡ specs.part_written (manner_of manner.now) text.now (tokens.tokens_of 0 text.now) before.now behind.now) }
+) -> Result<(), NoMemory>
+    ensures { OnOk result (out.new.items ≡ out.old.items
+        ++ specs.part_written (manner_of manner.now) text.now (tokens.tokens_of 0 text.now) before.now behind.now) }
 {
     let mut tokens = tokens_of(0, text);
     let Some(first) = tokens.next() else {
-        return Ok(Vec::new(alloc));
+        return Ok(());
     };
-    let mut since = tokens_written(alloc, manner, text, first, tokens)?;
-    since.extend_from_slice(behind)?;
-    tied(alloc, before, since.as_slice())
+    let begun = out.len();
+    out.extend_from_slice(before)?;
+    let from = out.len();
+    write_tokens(out, manner, text, first, tokens)?;
+    out.extend_from_slice(behind)?;
+    tie(out, begun, from);
+    Ok(())
 }
 
 /// The part that a letter names.

@@ -1,6 +1,6 @@
 //! The pattern that was found well formed last.
 
-ghost use Rattle.std.specs.Prelude.{◌≡◌};
+ghost use Rattle.std.specs.Prelude.{◌≡◌, []};
 ghost use Rattle.name_split.specs.Patterns as patterns;
 
 use name_split::pattern::pattern_ok;
@@ -27,7 +27,9 @@ impl Model for KnownPattern {
 
 impl KnownPattern {
     /// The empty pattern.
-    pub fn new(alloc: Global) -> KnownPattern {
+    pub fn new(alloc: Global) -> KnownPattern
+        ensures { result ≡ [] }
+    {
         KnownPattern {
             bytes: Vec::new(alloc),
         }

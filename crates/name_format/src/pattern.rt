@@ -23,7 +23,7 @@ pub(crate) fn pattern_written(
     let mut rest = pattern;
     while let [first, after @ ..] = rest {
         if *first == b'{' {
-            write_group(alloc, &mut out, name, parts, inside(after))?;
+            write_group(&mut out, name, parts, inside(after))?;
             rest = behind_brace(after);
         } else {
             out.push(*first)?;

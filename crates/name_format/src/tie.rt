@@ -1,34 +1,29 @@
 //! The `~` at the end of a group.
 
-ghost use Rattle.std.specs.Prelude.{◌≡◌, ◌-◌, IfOk, length, nat_lt, take};
+ghost use Rattle.std.specs.Prelude.{◌≡◌, ◌≤◌, length, nat_lt};
+ghost use Rattle.name_format.specs.Steps as steps;
 ghost use Rattle.name_split.specs.Formatted as specs;
 
-use bv_base::memory::NoMemory;
-use std::alloc::Global;
 use text_ops::text_length::text_length;
 
-/// A group's text, by what stands before its tokens and what was written since the first of them. Of two `~` at its end
-/// one is taken away, and one alone becomes a space where three text characters or more were written since the first
-/// token.
-pub(crate) fn tied(alloc: Global, before: &[u8], since: &[u8]) -> Result<Vec<u8>, NoMemory>
-    ensures { IfOk result (λ v. v.items ≡ specs.tied before.now since.now) }
+/// Ties the end of a group, whose text begins at the one place and its first token at the other. Of two `~` at its end one
+/// is taken away, and one alone becomes a space where three text characters or more were written since the first token.
+#[tactic(auto, using(crate::proofs::Tying::untied, crate::proofs::Tying::one_of_two, crate::proofs::Tying::too_short, crate::proofs::Tying::spaced))]
+pub(crate) fn tie(out: &mut Vec<u8>, begun: usize, from: usize)
+    requires order { begun ≤ from }
+    requires within { from ≤ length out.old.items }
+    ensures { out.new.items ≡ steps.tied_at begun from out.old.items }
 {
-    let mut whole = Vec::with_capacity(alloc, before.len().saturating_add(since.len()))?;
-    whole.extend_from_slice(before)?;
-    whole.extend_from_slice(since)?;
-    let text = whole.as_slice();
+    let text = out.as_slice().split_at(begun).1;
     if !ends_with_tie(text) {
-        return Ok(whole);
+        return;
     }
-    let twice = ends_with_tie(but_last_byte(text));
-    if !twice && is_short(but_last_byte(since)) {
-        return Ok(whole);
+    let last = out.len() - 1;
+    if ends_with_tie(but_last_byte(text)) {
+        out.truncate(last);
+    } else if !is_short(but_last_byte(out.as_slice().split_at(from).1)) {
+        out[last] = b' ';
     }
-    whole.truncate(whole.len() - 1);
-    if !twice {
-        whole.push(b' ')?;
-    }
-    Ok(whole)
 }
 
 /// Whether a text has fewer than three text characters.

@@ -1,6 +1,6 @@
 //! The tokens of a part, and what joins them.
 
-ghost use Rattle.std.specs.Prelude.{◌≡◌, [], ◌∷◌, OnOk, IfOk, is_none};
+ghost use Rattle.std.specs.Prelude.{◌≡◌, ◌≤◌, [], ◌∷◌, ◌++◌, length, take, drop, OnOk, is_none};
 ghost use Rattle.name_format.specs.Manners.{manner_of};
 ghost use Rattle.name_split.specs.Formatted as specs;
 
@@ -9,7 +9,6 @@ use crate::tie::is_short;
 use bv_base::memory::NoMemory;
 use name_split::spans::{Span, slice};
 use name_split::tokens::{Token, Tokens};
-use std::alloc::Global;
 
 /// How the tokens of a part are written: whole or by their initials, with a text of the pattern's between them or by
 /// their joints.
@@ -19,33 +18,41 @@ pub(crate) struct Manner<'a> {
     pub(crate) between: Option<&'a [u8]>,
 }
 
-/// The tokens of a part, with what joins them.
-pub(crate) fn tokens_written(
-    alloc: Global,
+/// Appends the tokens of a part, with what joins them.
+pub(crate) fn write_tokens(
+    out: &mut Vec<u8>,
     manner: &Manner,
     text: &[u8],
     first: Token,
     mut tokens: Tokens,
-) -> Result<Vec<u8>, NoMemory>
-    ensures { IfOk result (λ v. v.items ≡ specs.tokens_written (manner_of manner.now) text.now [] (first ∷ tokens.entry)) }
+) -> Result<(), NoMemory>
+    ensures { OnOk result (out.new.items ≡ out.old.items
+        ++ specs.tokens_written (manner_of manner.now) text.now [] (first ∷ tokens.entry)) }
 {
-    let mut out = Vec::new(alloc);
+    let from = out.len();
     let mut token = first;
     let mut next = tokens.next();
     while let Some(following) = next {
         out.extend_from_slice(token_text(manner, token_bytes(text, token)))?;
         next = tokens.next();
-        join(&mut out, manner, byte_at(text, token.end), next.is_none())?;
+        join(out, from, manner, byte_at(text, token.end), next.is_none())?;
         token = following;
     }
     out.extend_from_slice(token_text(manner, token_bytes(text, token)))?;
-    Ok(out)
+    Ok(())
 }
 
-/// Appends what joins the last token to the next, which may be the last of all.
-fn join(out: &mut Vec<u8>, manner: &Manner, b: u8, is_last: bool) -> Result<(), NoMemory>
+/// Appends what joins the last token to the next, which may be the last of all, behind tokens that begin at a place.
+fn join(
+    out: &mut Vec<u8>,
+    from: usize,
+    manner: &Manner,
+    b: u8,
+    is_last: bool,
+) -> Result<(), NoMemory>
+    requires { from ≤ length out.old.items }
     ensures { let held = manner_of manner.now in
-        OnOk result (out.new.items ≡ specs.joined held held.between b is_last out.old.items) }
+        OnOk result (out.new.items ≡ take from out.old.items ++ specs.joined held held.between b is_last (drop from out.old.items)) }
 {
     if let Some(text) = manner.between {
         out.extend_from_slice(text)?;
@@ -54,7 +61,7 @@ fn join(out: &mut Vec<u8>, manner: &Manner, b: u8, is_last: bool) -> Result<(), 
     if !manner.is_whole {
         out.push(b'.')?;
     }
-    out.push(joint(b, is_last, out.as_slice()))?;
+    out.push(joint(b, is_last, out.as_slice().split_at(from).1))?;
     Ok(())
 }
 
