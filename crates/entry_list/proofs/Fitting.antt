@@ -1,7 +1,6 @@
 -- What joining gives is the joined list, and fits the style.
-use Rattle.std.proofs.Common.{◌≡◌, ℕ, List, [], ◌∷◌, ◌++◌, Option, Some, None, Bool, map, refl, sym, ap, ◌∙◌, subst}
+use Rattle.std.proofs.Common.{◌≡◌, ℕ, List, [], ◌∷◌, ◌++◌, Option, Bool, map, refl, sym, ap, ◌∙◌, subst}
 use Rattle.std.specs.List.{AllByRecursion}
-use Rattle.bv_base.specs.KeySets.{has_lowered}
 use Rattle.name_table.specs.declared.style.Style.{Style}
 use Rattle.aux_read.specs.declared.aux.AuxItem.{AuxItem}
 use Rattle.bib_read.specs.declared.database.Database.{Database}
@@ -14,9 +13,9 @@ use Rattle.entry_list.specs.Bytes.{HaveBytes}
 use Rattle.entry_list.specs.Citing.{cited_list, no_entries}
 use Rattle.entry_list.specs.Fields.{Declared, declared_fields, entry_with, is_parent_listed, joined_entry, values_of, without_parents}
 use Rattle.entry_list.specs.Joining.{all_joined, all_warnings, joined}
-use Rattle.entry_list.specs.Keys.{AreCitations, Listed, is_listed}
+use Rattle.entry_list.specs.Keys.{AreCitations, Listed}
 use Rattle.entry_list.specs.Parents.{appended, parent_of, whole_list}
-use Rattle.entry_list.specs.Tables.{entry_by, has_parent}
+use Rattle.entry_list.specs.Tables.{TellsParent, entry_by}
 use Rattle.entry_list.proofs.Declaring.{declared_ids}
 use Rattle.entry_list.proofs.Keyed.{IsKeyed, whole_keyed}
 
@@ -57,16 +56,10 @@ joined_is style items database table entries preamble warnings same are pre warn
     ∙ ap (λ p. one all p warnings) pre
     ∙ ap (λ w. one all database.preamble w) (warned ∙ ap (all_warnings items) same)
 
-keeps_same : (keys : List (List ℕ)) (list : List Listed) → ((key : List ℕ) → has_lowered key keys ≡ is_listed key list)
-    → (parent : Option RawEntry) → has_parent keys parent ≡ is_parent_listed list parent
-keeps_same keys list same None = refl
-keeps_same keys list same (Some parent) = same parent.key
-
-pub entry_same : (keys : List (List ℕ)) (list : List Listed) → ((key : List ℕ) → has_lowered key keys ≡ is_listed key list)
-    → (fields : List Declared) (raw : List RawEntry) (listed : Listed)
+pub entry_same : (keys : List (List ℕ)) (list : List Listed) (fields : List Declared) (raw : List RawEntry) (listed : Listed)
+    → TellsParent keys raw list listed
     → entry_by keys fields raw listed ≡ joined_entry fields raw list listed
-entry_same keys list same fields raw listed =
-    ap (entry_with fields listed (parent_of raw listed.entry)) (keeps_same keys list same (parent_of raw listed.entry))
+entry_same keys list fields raw listed told = ap (entry_with fields listed (parent_of raw listed.entry)) told
 
 names_are : (fields : List Declared) (entry : RawEntry) (parent : Option RawEntry) (keeps : Bool)
     → map (λ f. f.name) (values_of fields entry parent keeps) ≡ map (λ d. d.id) fields

@@ -1,5 +1,5 @@
 -- Each key of the joined list is a key.
-use Rattle.std.proofs.Common.{◌≡◌, ℕ, Bool, true, false, cond, not, List, [], ◌∷◌, ◌++◌, Option, Some, None, map}
+use Rattle.std.proofs.Common.{arith, ◌≡◌, ℕ, zero, suc, ◌<◌, get_or, length, Bool, true, false, cond, not, List, [], ◌∷◌, ◌++◌, Option, Some, None, map}
 use Rattle.std.specs.Prelude.{filter, flat_map}
 use Rattle.std.specs.List.{AllByRecursion, list_all}
 use Rattle.std.specs.Option.{option_and_then, option_map, option_to_list}
@@ -35,6 +35,11 @@ pub all_flat_map : {X Y : Type 0} (Q : X → Type 0) (P : Y → Type 0) (f : X �
     → (xs : List X) → AllByRecursion Q xs → AllByRecursion P (flat_map f xs)
 all_flat_map Q P f each [] a = tt
 all_flat_map Q P f each (x ∷ xs) a = all_append P (f x) (flat_map f xs) (each x a.0) (all_flat_map Q P f each xs a.1)
+
+pub all_at : {X : Type 0} (P : X → Type 0) (xs : List X) (i : ℕ) (d : X) → AllByRecursion P xs → i < length xs → P (get_or xs i d)
+all_at P [] i d all within = absurd (omega (arith, within))
+all_at P (x ∷ xs) zero d all within = all.0
+all_at P (x ∷ xs) (suc i) d all within = all_at P xs i d all.1 (omega (arith, within))
 
 -- an entry of a list has a key
 abbrev pub IsKeyed : Listed → Type 0

@@ -1,5 +1,5 @@
 -- The fields of an entry, whose values are in one piece of memory.
-use Rattle.std.proofs.Common.{◌≡◌, ℕ, Bool, List, [], ◌∷◌, Option, None, Some, map, refl, ap, ◌∙◌}
+use Rattle.std.proofs.Common.{◌≡◌, ℕ, Bool, List, [], ◌∷◌, Option, map, refl, ap}
 use Rattle.std.specs.List.{AllByRecursion}
 use Rattle.std.specs.Option.{ForSome}
 use Rattle.name_table.specs.declared.names.NameId.{NameId}
@@ -7,20 +7,6 @@ use Rattle.bib_read.specs.declared.database.RawEntry.{RawEntry}
 use Rattle.bst_meaning.specs.Entries.{IsByteList}
 use Rattle.bst_meaning.specs.FieldValues.{FieldValue, named}
 use Rattle.entry_list.specs.Fields.{Declared, value_of, values_of}
-use Rattle.entry_list.specs.Sources.{fields_of, value_among}
-
-value_same : (entry : RawEntry) (parent : Option RawEntry) (keeps : Bool) (name : List ℕ)
-    → value_among entry.fields (fields_of parent) keeps name ≡ value_of entry parent keeps name
-value_same entry None keeps name = refl
-value_same entry (Some found) keeps name = refl
-
--- values that are looked for among the fields of an entry and of its parent
-pub values_same : (entry : RawEntry) (parent : Option RawEntry) (keeps : Bool) (fields : List Declared)
-    → map (λ d. value_among entry.fields (fields_of parent) keeps d.name) fields ≡ map (λ d. value_of entry parent keeps d.name) fields
-values_same entry parent keeps [] = refl
-values_same entry parent keeps (field ∷ fields) =
-    ap (λ v. v ∷ map (λ d. value_among entry.fields (fields_of parent) keeps d.name) fields) (value_same entry parent keeps field.name)
-    ∙ ap (λ l. value_of entry parent keeps field.name ∷ l) (values_same entry parent keeps fields)
 
 -- names and values beside each other are fields
 pub values_named : (fields : List Declared) (entry : RawEntry) (parent : Option RawEntry) (keeps : Bool)

@@ -1,8 +1,7 @@
 -- The entries that others name by `crossref`, and which of them are appended (docs/DATA.md, "The list of entries").
-use Rattle.std.specs.Prelude.{ℕ, Bool, false, ◌&&◌, not, if◌then◌else◌, List, [], ◌∷◌, ◌++◌, Option, None, Some, codes, filter, flat_map}
+use Rattle.std.specs.Prelude.{ℕ, Bool, false, ◌&&◌, not, if◌then◌else◌, List, [], ◌∷◌, ◌++◌, Option, codes, filter, flat_map}
 use Rattle.std.specs.Option.{option_and_then, option_map, option_to_list}
 use Rattle.bv_base.specs.KeySets.{has_lowered}
-use Rattle.name_table.specs.Names.{same_name}
 use Rattle.aux_read.specs.declared.aux.AuxItem.{AuxItem}
 use Rattle.bib_read.specs.declared.database.RawEntry.{RawEntry}
 pub use Rattle.bib_read.specs.Names.{text_of}

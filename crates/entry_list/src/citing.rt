@@ -1,19 +1,21 @@
 //! The entries that are cited.
 
-ghost use Rattle.std.specs.Prelude.{◌≡◌, ℕ, ◌||◌, ◌++◌, if◌then◌else◌, not, List, [], ◌∷◌, IfOk, OnOk};
+ghost use Rattle.std.specs.Prelude.{◌≡◌, ℕ, ◌||◌, ◌++◌, if◌then◌else◌, is_some, List, [], ◌∷◌, IfOk, OnOk};
 ghost use Rattle.std.specs.Option.{option_map, option_to_list};
 ghost use Rattle.bv_base.specs.KeySets.{has_lowered};
 ghost use Rattle.aux_read.specs.declared.aux.AuxItem.{AuxItem};
+ghost use Rattle.aux_read.specs.declared.aux.AuxItem.TheVariants.{Cite};
 ghost use Rattle.entry_list.specs.Citing as citing;
-ghost use Rattle.entry_list.specs.Keys.{entry_of, own};
+ghost use Rattle.entry_list.specs.Keys.{own, same_key};
 ghost use Rattle.entry_list.specs.Tables.{was_asked};
+ghost use Rattle.entry_list.specs.Warnings as warnings;
 
 use crate::chosen::Chosen;
 use crate::entry_table::EntryTable;
 use crate::warnings::no_entry;
 use aux_read::aux::AuxItem;
 use bib_read::database::RawEntry;
-use bv_base::key_set::KeySet;
+use bv_base::key_set::{KeySet, lowered};
 use bv_base::memory::NoMemory;
 use bv_base::seq::Seq;
 use bv_base::text::Text;
@@ -72,56 +74,57 @@ fn take<'a>(
     ensures noted { OnOk result ((later : AuxItem)
         → was_asked later seen.new ≡ (citing.asks_same later item.now || was_asked later seen.old)) }
 {
-    if !note(seen, item)? {
-        return Ok(());
-    }
-    put(alloc, &mut cited.list, items, table, item)?;
-    warn(alloc, &mut cited.warnings, table, item)
-}
-
-/// Notes what a request asks for, and says whether it is new.
-fn note(seen: &mut Seen, item: &AuxItem) -> Result<bool, NoMemory>
-    ensures fresh { IfOk result (λ fresh. fresh ≡ not (was_asked item.now seen.old)) }
-    ensures noted { OnOk result ((later : AuxItem)
-        → was_asked later seen.new ≡ (citing.asks_same later item.now || was_asked later seen.old)) }
-{
     match item {
-        AuxItem::Cite(key) => seen.keys.add_lowered(key.as_slice()),
-        AuxItem::All => Ok(!std::mem::replace(&mut seen.all, true)),
-        AuxItem::Input(_, _) => Ok(true),
-    }
-}
-
-/// Puts what a request asks for into the list.
-fn put<'a>(
-    alloc: Global,
-    list: &mut Vec<Chosen<'a>>,
-    items: &[AuxItem],
-    table: &EntryTable<'a>,
-    item: &'a AuxItem,
-) -> Result<(), NoMemory>
-    ensures { OnOk result (list.new.items ≡ list.old.items ++ citing.asked_for items.now table.now item.now) }
-{
-    match item {
-        AuxItem::Cite(key) => put_cited(list, table, key.as_slice()),
-        AuxItem::All => put_uncited(alloc, list, items, table.entries),
+        AuxItem::Cite(key) => take_key(alloc, cited, &mut seen.keys, table, key.as_slice()),
+        AuxItem::All => {
+            if std::mem::replace(&mut seen.all, true) {
+                return Ok(());
+            }
+            put_uncited(alloc, &mut cited.list, items, table.entries)
+        }
         AuxItem::Input(_, _) => Ok(()),
     }
 }
 
-/// Puts the entry with a key into the list, where there is one.
-fn put_cited<'a>(
-    list: &mut Vec<Chosen<'a>>,
+/// Takes the key of a citation, where no citation before has it. It is lowered once.
+fn take_key<'a>(
+    alloc: Global,
+    cited: &mut Cited<'a>,
+    keys: &mut KeySet,
     table: &EntryTable<'a>,
     key: &'a [u8],
 ) -> Result<(), NoMemory>
-    ensures { OnOk result (list.new.items
-        ≡ list.old.items ++ option_to_list (option_map (citing.cited_as key.now) (entry_of key.now table.now))) }
+    ensures list { OnOk result (cited.new.list.items ≡ cited.old.list.items
+        ++ (if has_lowered key.now keys.old then [] else citing.asked_for [] table.now (Cite key.now))) }
+    ensures warnings { OnOk result (cited.new.warnings ≡ cited.old.warnings
+        ++ (if has_lowered key.now keys.old then [] else citing.not_found table.now (Cite key.now))) }
+    ensures noted { OnOk result ((later : List ℕ)
+        → has_lowered later keys.new ≡ (same_key later key.now || has_lowered later keys.old)) }
 {
-    let Some(entry) = table.find(key)? else {
+    let lowered = lowered(alloc, key)?;
+    let entry = table.find_lowered(lowered.as_slice());
+    if !keys.add(lowered)? {
         return Ok(());
-    };
-    list.push(Chosen { key, entry })?;
+    }
+    put_cited(alloc, cited, key, entry)
+}
+
+/// Puts an entry into the list under the key of its citation, or warns where there is none.
+fn put_cited<'a>(
+    alloc: Global,
+    cited: &mut Cited<'a>,
+    key: &'a [u8],
+    entry: Option<&'a RawEntry>,
+) -> Result<(), NoMemory>
+    ensures list { OnOk result (cited.new.list.items ≡ cited.old.list.items
+        ++ option_to_list (option_map (citing.cited_as key.now) (option_map (λ e. e.now) entry.entry))) }
+    ensures warnings { OnOk result (cited.new.warnings ≡ cited.old.warnings
+        ++ (if is_some (option_map (λ e. e.now) entry.entry) then [] else warnings.no_entry key.now ∷ [])) }
+{
+    match entry {
+        Some(entry) => cited.list.push(Chosen { key, entry })?,
+        None => cited.warnings.push(no_entry(alloc, key)?)?,
+    }
     Ok(())
 }
 
@@ -176,24 +179,5 @@ fn add_cited(keys: &mut KeySet, item: &AuxItem) -> Result<(), NoMemory>
     if let AuxItem::Cite(key) = item {
         keys.add_lowered(key.as_slice())?;
     }
-    Ok(())
-}
-
-/// Warns of a citation without an entry.
-fn warn(
-    alloc: Global,
-    warnings: &mut Seq<Text>,
-    table: &EntryTable<'_>,
-    item: &AuxItem,
-) -> Result<(), NoMemory>
-    ensures { OnOk result (warnings.new ≡ warnings.old ++ citing.not_found table.now item.now) }
-{
-    let AuxItem::Cite(key) = item else {
-        return Ok(());
-    };
-    if let Some(_) = table.find(key.as_slice())? {
-        return Ok(());
-    }
-    warnings.push(no_entry(alloc, key.as_slice())?)?;
     Ok(())
 }

@@ -1,7 +1,8 @@
 //! The entries of the databases by their keys.
 
-ghost use Rattle.std.specs.Prelude.{◌≡◌, IfOk};
+ghost use Rattle.std.specs.Prelude.{◌≡◌, ℕ, List, IfOk};
 ghost use Rattle.std.specs.Option.{option_map};
+ghost use Rattle.name_table.specs.Names as names;
 ghost use Rattle.entry_list.specs.Keys.{entry_of};
 
 use bib_read::database::RawEntry;
@@ -63,9 +64,16 @@ impl<'a> EntryTable<'a> {
         ensures { IfOk result (λ found. option_map (λ e. e.now) found ≡ entry_of key.now self.now) }
     {
         let key = lowered(self.alloc, key)?;
-        match self.table.get(key.as_slice()) {
-            Some(entry) => Ok(Some(*entry)),
-            None => Ok(None),
+        Ok(self.find_lowered(key.as_slice()))
+    }
+
+    /// The entry with a key that is given lowered, by one look-up in a hash table.
+    pub(crate) fn find_lowered(&self, name: &[u8]) -> Option<&'a RawEntry>
+        ensures { (key : List ℕ) → name.now ≡ names.lowered key → option_map (λ e. e.now) result ≡ entry_of key self.now }
+    {
+        match self.table.get(name) {
+            Some(entry) => Some(*entry),
+            None => None,
         }
     }
 }

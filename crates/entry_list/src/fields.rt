@@ -3,12 +3,10 @@
 ghost use Rattle.std.specs.Prelude.{◌≡◌, ◌++◌, ℕ, List, [], ◌∷◌, map, IfOk, OnOk};
 ghost use Rattle.std.specs.Option.{ForSome, option_map};
 ghost use Rattle.std.specs.List.{AllByRecursion};
-ghost use Rattle.bv_base.specs.KeySets.{has_lowered};
 ghost use Rattle.bst_meaning.specs.Entries.{IsByteList};
 ghost use Rattle.entry_list.specs.Fields as fields;
-ghost use Rattle.entry_list.specs.Keys.{is_listed};
 ghost use Rattle.entry_list.specs.Sources.{value_among};
-ghost use Rattle.entry_list.specs.Tables.{entry_by, has_parent};
+ghost use Rattle.entry_list.specs.Tables.{TellsParents, entry_by, has_parent};
 ghost use Rattle.entry_list.specs.Bytes.{HasBytes, HaveBytes};
 
 use crate::chosen::Chosen;
@@ -123,21 +121,22 @@ fn names_of(alloc: Global, fields: &[DeclaredField<'_>]) -> Result<Vec<NameId>, 
     Ok(names)
 }
 
-/// The entries of a list, whose keys are given, with these fields and no other.
-pub(crate) fn join_entries(
+/// The entries of a list with these fields and no other. Keys say of each parent whether it is in the list.
+pub(crate) fn join_entries<'a>(
     alloc: Global,
     declared: &SharedFields<'_>,
-    table: &EntryTable<'_>,
-    list: &[Chosen<'_>],
+    table: &EntryTable<'a>,
+    list: &[Chosen<'a>],
     listed: &KeySet,
 ) -> Result<Seq<Entry>, NoMemory>
-    requires { (key : List ℕ) → has_lowered key listed.now ≡ is_listed key list.now }
+    requires { TellsParents listed.now table.now list.now }
     ensures joined { IfOk result (λ found. found ≡ map (fields.joined_entry declared.now table.now list.now) list.now) }
     ensures bytes { IfOk result HaveBytes }
 {
     let mut found = Seq::from_vec(Vec::with_capacity(alloc, list.len())?);
+    let mut buffers = Buffers::new(alloc);
     for chosen in list {
-        found.push(join_entry(alloc, declared, table, listed, chosen)?)?;
+        found.push(join_entry(alloc, &mut buffers, declared, table, listed, chosen)?)?;
     }
     Ok(found)
 }
@@ -154,12 +153,13 @@ fn is_parent_listed(listed: &KeySet, parent: Option<&RawEntry>) -> Result<bool, 
 }
 
 /// An entry of the list with these fields and no other.
-fn join_entry(
+fn join_entry<'a>(
     alloc: Global,
+    buffers: &mut Buffers<'a>,
     declared: &SharedFields<'_>,
-    table: &EntryTable<'_>,
+    table: &EntryTable<'a>,
     listed: &KeySet,
-    chosen: &Chosen<'_>,
+    chosen: &Chosen<'a>,
 ) -> Result<Entry, NoMemory>
     ensures joined { IfOk result (λ entry. entry ≡ entry_by listed.now declared.now table.now chosen.now) }
     ensures bytes { IfOk result HasBytes }
@@ -169,43 +169,75 @@ fn join_entry(
     Ok(Entry {
         key: copied(alloc, chosen.key)?,
         entry_type: copied(alloc, chosen.entry.entry_type.as_slice())?,
-        fields: fields_of(alloc, declared, chosen.entry, parent, keeps)?,
+        fields: fields_of(alloc, buffers, declared, chosen.entry, parent, keeps)?,
     })
 }
 
 /// The fields of an entry.
-fn fields_of(
+fn fields_of<'a>(
     alloc: Global,
+    buffers: &mut Buffers<'a>,
     declared: &SharedFields<'_>,
-    entry: &RawEntry,
-    parent: Option<&RawEntry>,
+    entry: &'a RawEntry,
+    parent: Option<&'a RawEntry>,
     keeps: bool,
 ) -> Result<Fields, NoMemory>
     ensures values { IfOk result (λ found. found
         ≡ fields.values_of declared.now entry.now (option_map (λ e. e.now) parent.entry) keeps) }
     ensures bytes { IfOk result (AllByRecursion (λ f. ForSome f.value IsByteList)) }
 {
-    let sources = Sources::of(alloc, entry, parent)?;
-    let values = values_of(alloc, declared.fields.as_slice(), &sources, keeps)?;
-    let packed = packed(alloc, values.as_slice())?;
+    buffers.fill(declared.fields.as_slice(), entry, parent, keeps)?;
+    let packed = packed(alloc, buffers.values.as_slice())?;
     Ok(Fields::new(declared.names.clone()?, packed))
 }
 
-/// The values of fields.
-fn values_of<'a>(
-    alloc: Global,
+/// What one entry after the other is joined in: the fields that it takes its values from, and the values.
+#[derive(Drop)]
+struct Buffers<'a> {
+    sources: Sources<'a>,
+    values: Vec<Option<&'a [u8]>>,
+}
+
+impl<'a> Buffers<'a> {
+    /// No field and no value.
+    fn new(alloc: Global) -> Buffers<'a> {
+        Buffers {
+            sources: Sources::new(alloc),
+            values: Vec::new(alloc),
+        }
+    }
+
+    /// Leaves the values of these fields of an entry.
+    fn fill(
+        &mut self,
+        declared: &[DeclaredField<'_>],
+        entry: &'a RawEntry,
+        parent: Option<&'a RawEntry>,
+        keeps: bool,
+    ) -> Result<(), NoMemory>
+        ensures { OnOk result (map (option_map (λ text. text.now)) self.new.values.items
+            ≡ map (λ field. fields.value_of entry.now (option_map (λ e. e.now) parent.entry) keeps field.name) declared.now) }
+    {
+        self.sources.fill(entry, parent)?;
+        values_into(&mut self.values, declared, &self.sources, keeps)
+    }
+}
+
+/// Leaves of a buffer the values of fields.
+fn values_into<'a>(
+    found: &mut Vec<Option<&'a [u8]>>,
     declared: &[DeclaredField<'_>],
     sources: &Sources<'a>,
     keeps: bool,
-) -> Result<Vec<Option<&'a [u8]>>, NoMemory>
-    ensures { IfOk result (λ found. map (option_map (λ text. text.now)) found.items
+) -> Result<(), NoMemory>
+    ensures { OnOk result (map (option_map (λ text. text.now)) found.new.items
         ≡ map (λ field. value_among sources.now.own.items sources.now.lent.items keeps field.name) declared.now) }
 {
-    let mut found = Vec::with_capacity(alloc, declared.len())?;
+    found.clear();
     for field in declared {
         found.push(sources.value_of(keeps, field.name))?;
     }
-    Ok(found)
+    Ok(())
 }
 
 /// Values, copied into one piece of memory of their size.

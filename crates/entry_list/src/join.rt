@@ -1,12 +1,11 @@
 //! Joining citations and databases.
 
-ghost use Rattle.std.specs.Prelude.{◌≡◌, ◌++◌, ℕ, List, IfOk};
-ghost use Rattle.bv_base.specs.KeySets.{has_lowered};
+ghost use Rattle.std.specs.Prelude.{◌≡◌, ◌++◌, IfOk};
 ghost use Rattle.bib_read.specs.Additions.{AreKeyed};
 ghost use Rattle.bst_meaning.specs.Entries.{Fits};
 ghost use Rattle.entry_list.specs.Bytes.{HaveBytes};
 ghost use Rattle.entry_list.specs.Joining as joining;
-ghost use Rattle.entry_list.specs.Keys.{is_listed};
+ghost use Rattle.entry_list.specs.Tables.{TellsParents};
 
 use crate::chosen::Chosen;
 use crate::citing::{Cited, cited_list};
@@ -56,7 +55,7 @@ pub fn join(
     })
 }
 
-/// The whole list, the keys of its entries, and the warnings.
+/// The whole list, keys that say of each parent whether it is in the list, and the warnings.
 #[derive(Drop)]
 struct Whole<'a> {
     list: Vec<Chosen<'a>>,
@@ -71,7 +70,7 @@ fn with_parents<'a>(
     table: &EntryTable<'a>,
 ) -> Result<Whole<'a>, NoMemory>
     ensures list { IfOk result (λ whole. whole.list.items ≡ cited.entry.list.items ++ joining.appended table.now cited.entry.list.items) }
-    ensures listed { IfOk result (λ whole. (key : List ℕ) → has_lowered key whole.listed ≡ is_listed key whole.list.items) }
+    ensures listed { IfOk result (λ whole. TellsParents whole.listed table.now whole.list.items) }
     ensures warnings { IfOk result (λ whole. whole.warnings
         ≡ cited.entry.warnings ++ joining.without_parents table.now whole.list.items) }
 {
@@ -86,15 +85,15 @@ fn with_parents<'a>(
     })
 }
 
-/// The entries of a list, whose keys are given, with the fields that the style declares.
-fn entries_of(
+/// The entries of a list with the fields that the style declares. Keys say of each parent whether it is in the list.
+fn entries_of<'a>(
     alloc: Global,
     style: &Style,
-    table: &EntryTable<'_>,
-    list: &[Chosen<'_>],
+    table: &EntryTable<'a>,
+    list: &[Chosen<'a>],
     listed: &KeySet,
 ) -> Result<Seq<Entry>, NoMemory>
-    requires { (key : List ℕ) → has_lowered key listed.now ≡ is_listed key list.now }
+    requires { TellsParents listed.now table.now list.now }
     ensures joined { IfOk result (λ entries. entries ≡ joining.all_joined style.now table.now list.now) }
     ensures bytes { IfOk result HaveBytes }
 {

@@ -6,42 +6,46 @@ ghost use Rattle.bv_base.specs.KeySets.{has_lowered};
 ghost use Rattle.entry_list.specs.Keys as keys;
 ghost use Rattle.entry_list.specs.Keys.{Listed};
 ghost use Rattle.entry_list.specs.Parents as naming;
+ghost use Rattle.entry_list.specs.Tables.{TellsParents};
 
 use crate::chosen::{Chosen, add_keys, listed_keys};
 use crate::entry_table::EntryTable;
 use bib_read::database::RawEntry;
-use bv_base::key_set::KeySet;
+use bv_base::key_set::{KeySet, lowered};
 use bv_base::memory::NoMemory;
 use std::alloc::Global;
 
-/// Appends the parents that at least two entries of a list name and that aren't in it. The keys of the whole list are given.
+/// Appends the parents that at least two entries of a list name and that aren't in it. Keys are given that say of each parent
+/// whether it is in the whole list: where no entry has a parent, there are none.
 pub(crate) fn append_parents<'a>(
     alloc: Global,
     list: &mut Vec<Chosen<'a>>,
     table: &EntryTable<'a>,
 ) -> Result<KeySet, NoMemory>
     ensures list { OnOk result (list.new.items ≡ list.old.items ++ naming.appended table.now list.old.items) }
+    ensures listed { IfOk result (λ listed. TellsParents listed table.now list.new.items) }
+{
+    let parents = parents_of(alloc, list.as_slice(), table)?;
+    match parents.as_slice() {
+        [] => Ok(KeySet::new(alloc)),
+        named => append_wanted(alloc, list, named),
+    }
+}
+
+/// Appends the wanted ones of these parents to a list. The keys of the whole list are given.
+fn append_wanted<'a>(
+    alloc: Global,
+    list: &mut Vec<Chosen<'a>>,
+    parents: &[Chosen<'a>],
+) -> Result<KeySet, NoMemory>
+    ensures list { OnOk result (list.new.items ≡ list.old.items ++ naming.wanted parents.now list.old.items) }
     ensures listed { IfOk result (λ listed. (key : List ℕ) → has_lowered key listed ≡ keys.is_listed key list.new.items) }
 {
     let mut listed = listed_keys(alloc, list.as_slice())?;
-    let wanted = wanted_by(alloc, list.as_slice(), table, &listed)?;
+    let wanted = wanted(alloc, parents, &listed)?;
     add_keys(&mut listed, wanted.as_slice())?;
     append(list, wanted.as_slice())?;
     Ok(listed)
-}
-
-/// The parents that at least two entries of a list name and that aren't in it. The keys of the list are given.
-fn wanted_by<'a>(
-    alloc: Global,
-    list: &[Chosen<'a>],
-    table: &EntryTable<'a>,
-    listed: &KeySet,
-) -> Result<Vec<Chosen<'a>>, NoMemory>
-    requires { (key : List ℕ) → has_lowered key listed.now ≡ keys.is_listed key list.now }
-    ensures { IfOk result (λ found. found.items ≡ naming.appended table.now list.now) }
-{
-    let parents = parents_of(alloc, list, table)?;
-    wanted(alloc, parents.as_slice(), listed)
 }
 
 /// The entries that a list names by `crossref`, one for each naming.
@@ -142,13 +146,14 @@ fn take_parents<'a>(
 {
     let mut done = KeySet::new(alloc);
     for parent in parents {
-        take_parent(found, &mut done, twice, listed, parent)?;
+        take_parent(alloc, found, &mut done, twice, listed, parent)?;
     }
     Ok(())
 }
 
-/// Takes a parent, where none with its key was taken before.
+/// Takes a parent that is named twice and isn't in the list, where none with its key was taken before. Its key is lowered once.
 fn take_parent<'a>(
+    alloc: Global,
     found: &mut Vec<Chosen<'a>>,
     done: &mut KeySet,
     twice: &KeySet,
@@ -161,29 +166,14 @@ fn take_parent<'a>(
     ensures done { OnOk result ((key : List ℕ)
         → has_lowered key done.new ≡ (keys.same_key key parent.now.key || has_lowered key done.old)) }
 {
-    if !done.add_lowered(parent.key)? {
+    let key = lowered(alloc, parent.key)?;
+    let wanted = twice.has(key.as_slice()) && !listed.has(key.as_slice());
+    if !done.add(key)? {
         return Ok(());
     }
-    push_wanted(found, twice, listed, parent)
-}
-
-/// Adds a parent that is named twice and isn't in the list.
-fn push_wanted<'a>(
-    found: &mut Vec<Chosen<'a>>,
-    twice: &KeySet,
-    listed: &KeySet,
-    parent: &Chosen<'a>,
-) -> Result<(), NoMemory>
-    ensures { OnOk result (found.new.items ≡ found.old.items
-        ++ (if naming.is_chosen twice.now listed.now parent.now then parent.now ∷ [] else [])) }
-{
-    if !twice.has_lowered(parent.key)? {
-        return Ok(());
+    if wanted {
+        found.push(parent.copied())?;
     }
-    if listed.has_lowered(parent.key)? {
-        return Ok(());
-    }
-    found.push(parent.copied())?;
     Ok(())
 }
 

@@ -1,6 +1,6 @@
 //! The fields that an entry takes its values from.
 
-ghost use Rattle.std.specs.Prelude.{◌≡◌, if◌then◌else◌, None, codes, IfOk};
+ghost use Rattle.std.specs.Prelude.{◌≡◌, if◌then◌else◌, None, codes, OnOk};
 ghost use Rattle.std.specs.Option.{option_map};
 ghost use Rattle.bib_read.specs.Names.{text_of};
 ghost use Rattle.entry_list.specs.Sources as sources;
@@ -11,7 +11,8 @@ use bv_base::memory::NoMemory;
 use std::alloc::Global;
 
 /// The fields of an entry and those of its parent, each read out of its database once: every field that the style declares is
-/// looked for among them, and of names that are read out a look at their lengths tells most apart.
+/// looked for among them, and of names that are read out a look at their lengths tells most apart. Their room serves one entry
+/// after the other.
 #[derive(Drop)]
 pub(crate) struct Sources<'a> {
     own: Vec<RawField<'a>>,
@@ -19,19 +20,25 @@ pub(crate) struct Sources<'a> {
 }
 
 impl<'a> Sources<'a> {
-    /// The fields of an entry and of its parent.
-    pub(crate) fn of(
-        alloc: Global,
+    /// No field.
+    pub(crate) fn new(alloc: Global) -> Sources<'a> {
+        Sources {
+            own: Vec::new(alloc),
+            lent: Vec::new(alloc),
+        }
+    }
+
+    /// Leaves the fields of an entry and of its parent.
+    pub(crate) fn fill(
+        &mut self,
         entry: &'a RawEntry,
         parent: Option<&'a RawEntry>,
-    ) -> Result<Sources<'a>, NoMemory>
-        ensures own { IfOk result (λ found. found.own.items ≡ entry.now.fields) }
-        ensures lent { IfOk result (λ found. found.lent.items ≡ sources.fields_of (option_map (λ e. e.now) parent.entry)) }
+    ) -> Result<(), NoMemory>
+        ensures own { OnOk result (self.new.own.items ≡ entry.now.fields) }
+        ensures lent { OnOk result (self.new.lent.items ≡ sources.fields_of (option_map (λ e. e.now) parent.entry)) }
     {
-        Ok(Sources {
-            own: read_out(alloc, &entry.fields)?,
-            lent: lent_by(alloc, parent)?,
-        })
+        read_into(&mut self.own, &entry.fields)?;
+        lend_into(&mut self.lent, parent)
     }
 
     /// The value of the field of this name: the entry's own text or else its parent's; `crossref` is kept or missing.
@@ -60,29 +67,34 @@ impl<'a> Sources<'a> {
     }
 }
 
-/// The fields of a parent, where there is one.
-fn lent_by<'a>(alloc: Global, parent: Option<&'a RawEntry>) -> Result<Vec<RawField<'a>>, NoMemory>
-    ensures { IfOk result (λ found. found.items ≡ sources.fields_of (option_map (λ e. e.now) parent.entry)) }
+/// Leaves of a buffer the fields of a parent, or none where there is no parent.
+fn lend_into<'a>(
+    found: &mut Vec<RawField<'a>>,
+    parent: Option<&'a RawEntry>,
+) -> Result<(), NoMemory>
+    ensures { OnOk result (found.new.items ≡ sources.fields_of (option_map (λ e. e.now) parent.entry)) }
 {
     match parent {
-        Some(entry) => read_out(alloc, &entry.fields),
-        None => Ok(Vec::new(alloc)),
+        Some(entry) => read_into(found, &entry.fields),
+        None => {
+            found.clear();
+            Ok(())
+        }
     }
 }
 
-/// Fields, each read out.
-fn read_out<'a>(alloc: Global, fields: &'a RawFields) -> Result<Vec<RawField<'a>>, NoMemory>
-    ensures { IfOk result (λ found. found.items ≡ fields.now) }
+/// Leaves of a buffer these fields, each read out.
+fn read_into<'a>(found: &mut Vec<RawField<'a>>, fields: &'a RawFields) -> Result<(), NoMemory>
+    ensures { OnOk result (found.new.items ≡ fields.now) }
 {
-    let count = fields.len();
-    let mut found = Vec::with_capacity(alloc, count)?;
-    for at in 0..count {
+    found.clear();
+    for at in 0..fields.len() {
         let Some(field) = fields.get(at) else {
             unreachable!()
         };
         found.push(field)?;
     }
-    Ok(found)
+    Ok(())
 }
 
 /// The value of the first field of this name.

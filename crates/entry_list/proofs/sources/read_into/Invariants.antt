@@ -1,5 +1,5 @@
 use Rattle.std.proofs.Common.{◌≡◌, take}
-use Rattle.entry_list.proofs.sources.read_out.Given as goal
+use Rattle.entry_list.proofs.sources.read_into.Given as goal
 
 -- the fields so far
 abbrev pub invariant-loop-at : goal.invariant-loop-at

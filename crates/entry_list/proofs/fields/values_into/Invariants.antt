@@ -1,7 +1,7 @@
 use Rattle.std.proofs.Common.{◌≡◌, map, take}
 use Rattle.std.specs.Option.{option_map}
 use Rattle.entry_list.specs.Sources.{value_among}
-use Rattle.entry_list.proofs.fields.values_of.Given as goal
+use Rattle.entry_list.proofs.fields.values_into.Given as goal
 
 -- the values so far are those of the fields so far
 abbrev pub invariant-loop-field : goal.invariant-loop-field

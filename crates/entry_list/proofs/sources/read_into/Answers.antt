@@ -1,6 +1,6 @@
 use Rattle.std.proofs.Common.{◌∙◌, ◌++◌, ◌∷◌, [], ap, sym}
 use Rattle.entry_list.proofs.Lists.{take_next}
-use Rattle.entry_list.proofs.sources.read_out.Goals as goal
+use Rattle.entry_list.proofs.sources.read_into.Goals as goal
 
 pub loop-at-preserved : goal.loop-at-preserved
 loop-at-preserved c =
