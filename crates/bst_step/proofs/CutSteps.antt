@@ -2,8 +2,10 @@
 use Rattle.std.proofs.Common.{◌≡◌, ℕ, zero, suc, ◌+◌, ◌-◌, ◌<◌, ◌≤◌, Bool, true, false, cond, List, [], ◌∷◌, ◌++◌, Option, Some, length, take, drop, length-drop, ◌∙◌, refl, sym, ap, subst, arith}
 use Rattle.std.proofs.lemmas.List.{drop-drop}
 use Rattle.bv_base.specs.Bytes.{is_white}
-use Rattle.bst_meaning.specs.Lines.{Cut, Page, after_white, broken, cut_at, cut_of, cut_with, page_of, trimmed_end}
+use Rattle.bst_meaning.specs.Lines.{Cut, after_white, broken, cut_at, cut_of, cut_with, page_of, trimmed_end}
+use Rattle.bst_step.specs.Lines.{Spelt, spelt}
 use Rattle.bst_step.proofs.BrokenLines.{fewer}
+use Rattle.bst_step.proofs.SpeltLines.{line_behind}
 
 -- what is left behind the white space at the front stands at the end
 behind_white : (bytes : List ℕ) → drop (length bytes - length (after_white bytes)) bytes ≡ after_white bytes
@@ -57,19 +59,20 @@ cut_made most lines line old new start next is written =
     ap (λ (bytes : List ℕ). 32 ∷ 32 ∷ bytes) rest ∙ sym written in
     ap (page_of (broken most) lines (drop start old)) is ∙ ap (broken most (lines ++ line ∷ [])) same
 
--- one cut more of what is left comes to the same
-pub one_more : (most start next : ℕ) (lines new_lines : List (List ℕ)) (line old left new : List ℕ) (whole : Page)
-    → left ≡ drop start old → cut_with_rest line (drop (next + 2) left) ≡ cut_of left → new_lines ≡ lines ++ line ∷ []
+-- one cut more of what is left comes to the same, where its line stands behind the text
+pub one_more : (most start next : ℕ) (text new_text line old left new : List ℕ) (whole : Spelt)
+    → left ≡ drop start old → cut_with_rest line (drop (next + 2) left) ≡ cut_of left → new_text ≡ text ++ (line ++ 10 ∷ [])
     → drop (start + next) new ≡ 32 ∷ 32 ∷ drop (start + next + 2) old
-    → broken most lines (drop start old) ≡ whole → 0 < most
-    → broken (most - 1) new_lines (drop (start + next) new) ≡ whole
-one_more most start next lines new_lines line old left new whole is found pushed spaces before some =
+    → spelt text (broken most [] (drop start old)) ≡ whole → 0 < most
+    → spelt new_text (broken (most - 1) [] (drop (start + next) new)) ≡ whole
+one_more most start next text new_text line old left new whole is found pushed spaces before some =
     let count : most ≡ suc (most - 1) = omega (arith, some) in
     let cut : cut_of (drop start old) ≡ cut_with_rest line (drop (next + 2) (drop start old)) =
     subst (λ (bytes : List ℕ). cut_of bytes ≡ cut_with_rest line (drop (next + 2) bytes)) is (sym found) in
-    ap (λ (ls : List (List ℕ)). broken (most - 1) ls (drop (start + next) new)) pushed
-    ∙ sym (cut_made (most - 1) lines line old new start next cut spaces)
-    ∙ ap (λ (n : ℕ). broken n lines (drop start old)) (sym count)
+    ap (λ (t : List ℕ). spelt t (broken (most - 1) [] (drop (start + next) new))) pushed
+    ∙ line_behind (most - 1) text line (drop (start + next) new)
+    ∙ ap (spelt text) (sym (cut_made (most - 1) [] line old new start next cut spaces))
+    ∙ ap (λ (n : ℕ). spelt text (broken n [] (drop start old))) (sym count)
     ∙ before
 
 -- where a buffer goes on is in it

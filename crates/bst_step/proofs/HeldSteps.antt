@@ -5,6 +5,8 @@ use Rattle.std.proofs.Math.Seq.{take-append_seam}
 use Rattle.std.proofs.lemmas.List.{drop-take, length-set, length-take, take-take, take_all}
 use Rattle.name_table.specs.declared.names.NameId.{NameId}
 use Rattle.std.proofs.Math.ListN.{set}
+use Rattle.bst_meaning.specs.Config as config
+use Rattle.bst_meaning.specs.declared.value.Value.{Value}
 use Rattle.bst_meaning.specs.declared.value.Value.TheVariants.{Str}
 use Rattle.bst_step.specs.declared.entry_states.EntryState.{EntryState}
 use Rattle.bst_step.specs.declared.held.Held.{Held}
@@ -12,6 +14,7 @@ use Rattle.bst_step.specs.declared.held.Held.TheVariants.{Int, Str as LentStr, M
 use Rattle.bst_step.specs.declared.variables.Variable.{Variable}
 use Rattle.bst_step.specs.EntryStates.{EntriesWithin, state_in, with_held_in}
 use Rattle.bst_step.specs.Held.{end_of, value_in}
+use Rattle.bst_step.specs.Marks.{marks_in}
 use Rattle.bst_step.specs.Values.{Holding, IsHeld, StackWithin, holding_in}
 use Rattle.bst_step.specs.Variables.{VariablesWithin, held_at, variable_in, with_held}
 
@@ -90,6 +93,11 @@ with_held_within end new (v ∷ vs) here within = by (nat_eq v.name.0 new.name.0
     by true later = (here, within.1)
     by false later = (within.0, later)
 
+-- one variable more
+pub one_within : (end : ℕ) (vs : List Variable) (v : Variable) → VariablesWithin end vs → end_of v.value ≤ end → VariablesWithin end (vs ++ v ∷ [])
+one_within end [] v within here = (here, tt)
+one_within end (first ∷ vs) v within here = (within.0, one_within end vs v within.1 here)
+
 -- one of the values is another
 stack_set : (end : ℕ) (hs : List Held) (n : ℕ) (h : Held) → end_of h ≤ end → StackWithin end hs → StackWithin end (set hs n h)
 stack_set end [] n h here within = within
@@ -107,9 +115,15 @@ held_new pool hs gs es none globals entries = record {
 }
 
 -- the pool has grown
-longer : (pool later : List ℕ) → take (length pool) later ≡ pool → length pool ≤ length later
+pub longer : (pool later : List ℕ) → take (length pool) later ≡ pool → length pool ≤ length later
 longer pool later front =
     omega (arith, ap (λ (l : List ℕ). length l) front, length-take (length pool) later)
+
+-- it grows twice
+pub grown_twice : (first fresh later : List ℕ) → take (length first) fresh ≡ first → take (length fresh) later ≡ fresh → take (length first) later ≡ first
+grown_twice first fresh later one two =
+    let short : length first ≤ length fresh = omega (arith, ap (λ (l : List ℕ). length l) one, length-take (length first) fresh) in
+    sym (take-take (length first) (length fresh) later short) ∙ ap (λ (l : List ℕ). take (length first) l) two ∙ one
 
 pub held_grown : (pool later : List ℕ) (kept : ℕ) (hs : List Held) (gs : List Variable) (es : List EntryState) → take (length pool) later ≡ pool
     → IsHeld pool kept hs gs es → IsHeld later kept hs gs es
@@ -256,24 +270,23 @@ with_held_in_within end at new es here within = by (slice_get es at) refl
         set_within end at (record e { variables = with_held new e.variables }) es
         (with_held_within end new e.variables here (entry_within end at es e within is)) within
 
--- entries that were written in a slice of them
-as_many : (new : Variable) (at : ℕ) (es : List EntryState) → length (with_held_in new at es) ≡ length es
+-- a list that was written in a slice of it
+pub written_back : {A : Type 0} (written : List A → List A) (lent xs later more : List A) (n : ℕ) → length (written lent) ≡ length lent
+    → lent ≡ xs → length lent ≡ n → later ≡ written lent → take n (later ++ more) ≡ written xs
+written_back {A} written lent xs later more n as_many is count same =
+    let all : n ≡ length later = sym count ∙ sym as_many ∙ ap (λ (l : List A). length l) (sym same) in
+    ap (λ (k : ℕ). take k (later ++ more)) all
+    ∙ take-append_seam later more
+    ∙ same
+    ∙ ap written is
+
+pub as_many : (new : Variable) (at : ℕ) (es : List EntryState) → length (with_held_in new at es) ≡ length es
 as_many new at es = by (slice_get es at)
   where
     by : (o : Option EntryState)
         → length (option_map_or (λ (e : EntryState). set es at (record e { variables = with_held new e.variables })) o es) ≡ length es
     by None = refl
     by (Some e) = length-set es at (record e { variables = with_held new e.variables })
-
-pub written_back : (new : Variable) (at : ℕ) (lent es later more : List EntryState) (n : ℕ) → lent ≡ es → length lent ≡ n
-    → later ≡ with_held_in new at lent → take n (later ++ more) ≡ with_held_in new at es
-written_back new at lent es later more n is count written =
-    let all : n ≡ length later =
-    sym count ∙ sym (as_many new at lent) ∙ ap (λ (l : List EntryState). length l) (sym written) in
-    ap (λ (k : ℕ). take k (later ++ more)) all
-    ∙ take-append_seam later more
-    ∙ written
-    ∙ ap (λ (l : List EntryState). with_held_in new at l) is
 
 pub held_given : (pool : List ℕ) (kept more : ℕ) (h : Held) (name : NameId) (hs fewer : List Held) (gs later : List Variable) (es : List EntryState)
     → hs ≡ h ∷ drop 1 hs → fewer ≡ drop 1 hs → more ≡ max kept (end_of h) → later ≡ with_held (record { name = name; value = h }) gs
@@ -332,3 +345,19 @@ globals_trimmed pool front kept hs gs es is held = same_variables kept front poo
 pub entries_trimmed : (pool front : List ℕ) (kept : ℕ) (hs : List Held) (gs : List Variable) (es : List EntryState) → front ≡ take kept pool
     → IsHeld pool kept hs gs es → map (state_in front) es ≡ map (state_in pool) es
 entries_trimmed pool front kept hs gs es is held = same_entries kept front pool (same_trimmed pool front kept is) es held.in_entries
+
+-- an empty stack is seen as the same over any pool
+pub none_seen : (pool later : List ℕ) (hs : List Held) → length hs ≤ 0 → map (value_in later) hs ≡ map (value_in pool) hs
+none_seen pool later [] none = refl
+none_seen pool later (h ∷ hs) none = absurd (omega (arith, none))
+
+-- what is seen stays where all but what variables may hold is let go
+pub same_holding : (pool front : List ℕ) (kept room : ℕ) (hs : List Held) (gs : List Variable) (es : List EntryState) → front ≡ take kept pool
+    → length hs ≤ 0 → IsHeld pool kept hs gs es → holding_in front hs room gs es ≡ holding_in pool hs room gs es
+same_holding pool front kept room hs gs es is none held =
+    ap (λ (stack : List Value). let h : Holding = record { stack = stack; room = room; globals = map (variable_in front) gs; entries = map (state_in front) es; marks = marks_in hs gs es } in h)
+    (none_seen pool front hs none)
+    ∙ ap (λ (globals : List config.Variable). let h : Holding = record { stack = map (value_in pool) hs; room = room; globals = globals; entries = map (state_in front) es; marks = marks_in hs gs es } in h)
+    (globals_trimmed pool front kept hs gs es is held)
+    ∙ ap (λ (entries : List config.EntryState). let h : Holding = record { stack = map (value_in pool) hs; room = room; globals = map (variable_in pool) gs; entries = entries; marks = marks_in hs gs es } in h)
+    (entries_trimmed pool front kept hs gs es is held)

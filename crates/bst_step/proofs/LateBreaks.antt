@@ -5,6 +5,7 @@ use Rattle.std.proofs.lemmas.List.{take-append-le, drop-append-le}
 use Rattle.bv_base.specs.Bytes.{is_white}
 use Rattle.bst_meaning.specs.Config.{Wrote}
 use Rattle.bst_meaning.specs.Lines.{Cut, Page, after_event, after_white, break_among, broken, cut_at, cut_of, cut_with, page_of, trimmed_end, white_places}
+use Rattle.bst_step.specs.Lines.{spelt}
 use Rattle.bst_step.proofs.BrokenLines.{enough, shorter}
 
 -- a place that was found stays, whatever stands behind place 79
@@ -104,7 +105,7 @@ cut_stays buffer more cut = by (nat_lt 79 (length buffer)) (nat_lt 79 (length (b
     by false _ is and e = absurd (cc)
 
 -- a page whose buffer is broken as often as it can be
-abbrev pub all_broken : List (List ℕ) → List ℕ → Page
+abbrev all_broken : List (List ℕ) → List ℕ → Page
 all_broken lines buffer = broken (length buffer) lines buffer
 
 -- a page comes to what it comes to after one cut
@@ -136,11 +137,11 @@ late (suc n) lines buffer more few = by (cut_of buffer) refl (λ line rest. late
         ∙ later cut.line cut.rest (omega (arith, less, few))
 
 -- a buffer that is broken after more is written comes to what one comes to that is broken before and after
-pub late_breaks : (lines : List (List ℕ)) (buffer more : List ℕ)
+late_breaks : (lines : List (List ℕ)) (buffer more : List ℕ)
     → all_broken lines (buffer ++ more) ≡ more_on more (all_broken lines buffer)
 late_breaks lines buffer more = late (length buffer) lines buffer more (le_refl (length buffer))
 
--- a text that is written behind a buffer, which is still to be broken
-pub written : (lines : List (List ℕ)) (buffer more : List ℕ)
-    → broken (length (buffer ++ more)) lines (buffer ++ more) ≡ after_event (broken (length buffer) lines buffer) (Wrote more)
-written lines buffer more = late_breaks lines buffer more
+-- a text that is written behind a buffer, which is still to be broken, and that stands behind the text of the lines before
+pub written_behind : (text buffer more : List ℕ)
+    → spelt text (broken (length (buffer ++ more)) [] (buffer ++ more)) ≡ spelt text (after_event (broken (length buffer) [] buffer) (Wrote more))
+written_behind text buffer more = ap (spelt text) (late_breaks [] buffer more)

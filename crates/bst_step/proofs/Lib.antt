@@ -9,7 +9,7 @@ pub mod CutValues
 pub mod HeldSteps
 pub mod ValueSteps
 pub mod ViewSteps
-pub mod RenewSteps
+pub mod SettledSteps
 pub mod AssignSteps
 pub mod EffectSteps
 pub mod FoundSteps
@@ -21,6 +21,7 @@ pub mod CommandSteps
 pub mod RestSteps
 pub mod BrokenLines
 pub mod LateBreaks
+pub mod SpeltLines
 pub mod CutSteps
 pub mod KeySteps
 pub mod PlaceSteps

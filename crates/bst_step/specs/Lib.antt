@@ -5,6 +5,7 @@ pub mod Operands
 pub mod Variables
 pub mod EntryStates
 pub mod Marks
+pub mod Settled
 pub mod Values
 pub mod Effects
 pub mod Assignments

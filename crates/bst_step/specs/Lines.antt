@@ -1,5 +1,6 @@
 -- Lines and the buffer, as the machine's definition has them.
-use Rattle.std.specs.Prelude.{ℕ, ◌+◌, List, ◌∷◌, drop, length}
+use Rattle.std.specs.Prelude.{ℕ, ◌+◌, List, [], ◌∷◌, ◌++◌, drop, length}
+use Rattle.std.specs.List.{flat_map}
 use Rattle.bst_meaning.specs.Lines as rule
 use Rattle.bst_step.specs.declared.lines.Page.{Page}
 use Rattle.bst_step.specs.declared.lines.Cut.{Cut}
@@ -8,10 +9,23 @@ use Rattle.bst_step.specs.declared.lines.Cut.{Cut}
 abbrev pub cut_in : List ℕ → Cut → rule.Cut
 cut_in buffer c = record { line = c.line.now; rest = 32 ∷ 32 ∷ drop (c.next + 2) buffer }
 
--- finished lines, and the buffer from a place on
-abbrev pub page_from : ℕ → Page → rule.Page
-page_from start p = record { lines = p.lines.items; buffer = drop start p.buffer.items }
+-- the text of finished lines, each with its line end, and the buffer
+pub record Spelt : Type 0 where
+  pub text : List ℕ
+  pub buffer : List ℕ
 
--- finished lines and the buffer, which is still to be broken
-abbrev pub page_in : Page → rule.Page
-page_in p = rule.broken (length p.buffer.items) p.lines.items p.buffer.items
+-- a page whose lines are spelt behind a text
+abbrev pub spelt : List ℕ → rule.Page → Spelt
+spelt text page = record { text = text ++ flat_map (λ line. line ++ 10 ∷ []) page.lines; buffer = page.buffer }
+
+-- the text, and the buffer from a place on
+abbrev pub page_from : ℕ → Page → Spelt
+page_from start p = record { text = p.text.items; buffer = drop start p.buffer.items }
+
+-- the lines that the buffer finishes once it is broken, and what is left of it
+abbrev pub broken_in : Page → rule.Page
+broken_in p = rule.broken (length p.buffer.items) [] p.buffer.items
+
+-- the text and the buffer, once it is broken
+abbrev pub page_in : Page → Spelt
+page_in p = spelt p.text.items (broken_in p)

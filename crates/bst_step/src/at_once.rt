@@ -6,7 +6,7 @@ ghost use Rattle.bst_meaning.specs.declared.value.Value.TheVariants.{Func};
 ghost use Rattle.bst_meaning.specs.Machine.{steps, with_value};
 ghost use Rattle.bst_meaning.specs.StyleParts as parts;
 ghost use Rattle.bst_step.specs.AtOnce as rule;
-ghost use Rattle.bst_step.specs.AtOnce.{Assigns, Branches, Took};
+ghost use Rattle.bst_step.specs.AtOnce.{Assigns, Branches, IsWithin, Took};
 ghost use Rattle.bst_step.specs.MarkRules.{marks_after_steps};
 ghost use Rattle.bst_step.specs.Marks.{NoString, pushed};
 ghost use Rattle.bst_step.specs.State.{config_of, HasRoom, LeavesRoom};
@@ -23,10 +23,15 @@ use name_table::names::{Kind, NameId};
 use name_table::style::{Style, Token, TokenAt};
 
 impl<'a> State<'a> {
-    /// Pushes a function. Where the tokens behind it take it off again, up to two steps more are taken, and their number is
-    /// given.
+    /// Pushes a function. Where three steps may be taken, and the tokens behind it take it off again, up to two steps more are
+    /// taken, and their number is given.
     #[inline(always)]
-    pub fn function_steps(&mut self, style: &'a Style, target: Target) -> Result<u64, NoMemory>
+    pub fn function_steps(
+        &mut self,
+        style: &'a Style,
+        target: Target,
+        left: u64,
+    ) -> Result<u64, NoMemory>
         requires { (config_of self.old).stopped ≡ None }
         ensures moved { IfOk result (λ more. config_of self.new ≡ steps style.now more (with_value (Func target) (config_of self.old))) }
         ensures entries { OnErr result (self.new.values.entries ≡ self.old.values.entries) }
@@ -34,12 +39,12 @@ impl<'a> State<'a> {
             marks_after_steps style.now more (with_value (Func target) (config_of self.old)) (pushed NoString self.old.values.marks)) }
         ensures fits { HasRoom self.old → IsOk result }
         ensures room { IfOk result (λ more. LeavesRoom (more + 1) self.old self.new) }
-        ensures few { IfOk result (λ more. more ≤ 2) }
+        ensures few { IfOk result (λ more. IsWithin more left) }
     {
-        if self.branches(style, target)? {
+        if left > 2 && self.branches(style, target)? {
             return Ok(2);
         }
-        if self.assigns(style, target) {
+        if left > 2 && self.assigns(style, target) {
             return Ok(1);
         }
         self.push(Operand::Func(target))?;

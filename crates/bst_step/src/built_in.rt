@@ -17,6 +17,7 @@ use name_table::builtin::Builtin;
 impl<'a> State<'a> {
     /// Calls a built-in function that stands at a place. A fault leaves all as it was.
     #[tactic(auto, using(crate::proofs::EffectSteps::left_makes))]
+    #[inline(always)]
     pub fn built_in(
         &mut self,
         style: &PreparedStyle<'a>,

@@ -89,6 +89,7 @@ impl<'a> State<'a> {
     }
 
     /// `top$`
+    #[inline(never)]
     pub fn log_top(&mut self, style: &Style) -> Result<(), Stop>
         ensures made { (place : Place) → Makes style.now place result self.old self.new
             (one_operand self.old.values.stack (λ a rest. with_logged (rule.shown style.now a ∷ []) rest)) (mark.taken 1) }
@@ -99,6 +100,7 @@ impl<'a> State<'a> {
     }
 
     /// `warning$`
+    #[inline(never)]
     pub fn warn(&mut self) -> Result<(), Stop>
         ensures made { (style : Style) (place : Place) → Makes style place result self.old self.new
             (string (λ a rest. with_logged (rule.warning a ∷ []) rest) self.old.values.stack) (mark.taken 1) }
@@ -109,6 +111,7 @@ impl<'a> State<'a> {
     }
 
     /// `stack$`
+    #[inline(never)]
     pub fn log_all(&mut self, style: &Style) -> Result<(), Stop>
         ensures made { (place : Place) → Makes style.now place result self.old self.new
             (with_logged (map (rule.shown style.now) self.old.values.stack) []) mark.cleared }
@@ -121,6 +124,7 @@ impl<'a> State<'a> {
     }
 
     /// `newline$`
+    #[inline(never)]
     pub fn end_line(&mut self) -> Result<(), Stop>
         ensures made { (style : Style) (place : Place) → Makes style place result self.old self.new (with_written config.EndedLine self.old.values.stack) (λ m. m) }
         ensures entries { OnErr result (self.new.values.entries ≡ self.old.values.entries) }
@@ -130,6 +134,7 @@ impl<'a> State<'a> {
     }
 
     /// `write$`
+    #[inline(never)]
     pub fn write_top(&mut self) -> Result<(), Stop>
         ensures made { (style : Style) (place : Place) → Makes style place result self.old self.new
             (string (λ a rest. with_written (config.Wrote a) rest) self.old.values.stack) (mark.taken 1) }
@@ -142,6 +147,7 @@ impl<'a> State<'a> {
     }
 
     /// `:=`
+    #[inline(never)]
     pub fn assign(&mut self, style: &'a Style) -> Result<(), Stop>
         ensures made { (place : Place) → Makes style.now place result self.old self.new
             (rule.assign (context_of style.now (config_of self.old)) self.old.values.stack) (rules.assigned style.now self.old.values.stack (visited_index (config_of self.old))) }

@@ -15,6 +15,7 @@ use name_table::style::TypeTarget;
 
 impl<'a> State<'a> {
     /// `cite$`
+    #[inline(never)]
     pub fn cite(&mut self) -> Result<(), Stop>
         ensures made { (style : Style) (place : Place) → Makes style place result self.old self.new
             (built_in Builtin.Cite (context_of style (config_of self.old)) self.old.values.stack) (mark.pushed mark.Lent) }
@@ -28,6 +29,7 @@ impl<'a> State<'a> {
     }
 
     /// `type$`
+    #[inline(never)]
     pub fn type_of(&mut self, style: &PreparedStyle<'a>) -> Result<(), Stop>
         ensures made { (place : Place) → Makes style.now place result self.old self.new
             (built_in Builtin.TypeName (context_of style.now (config_of self.old)) self.old.values.stack) (mark.pushed mark.Lent) }

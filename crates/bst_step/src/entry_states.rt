@@ -1,9 +1,9 @@
 //! The entries of a run, each with its variables.
 
-ghost use Rattle.std.specs.Prelude.{◌≡◌, ℕ, List, length, map, take, IfOk};
-ghost use Rattle.bst_step.specs.EntryStates.{EntriesWithin, state_in, with_held_in};
+ghost use Rattle.std.specs.Prelude.{◌≡◌, ◌+◌, ◌≤◌, ◌++◌, ℕ, List, map, OnOk};
+ghost use Rattle.bst_step.specs.EntryStates.{state_in, with_held_in};
 ghost use Rattle.bst_step.specs.Machine.{key_at};
-ghost use Rattle.bst_step.specs.Marks.{marked_in};
+ghost use Rattle.bst_step.specs.Settled.{entries_bytes, entries_count, entries_settled, entry_settled, variables_count};
 ghost use Rattle.bst_step.specs.Variables.{with_held};
 
 use crate::fields::PlacedEntry;
@@ -30,26 +30,38 @@ pub fn key_in<'a>(entries: &[EntryState<'a>], position: u64) -> &'a [u8]
     &[]
 }
 
-/// Entries, with what was made and stands in a pool in a fresh one.
-pub fn entries_renewed<'a>(
-    entries: &[EntryState<'a>],
+/// Appends the bytes of all strings that were made and stand in a pool to a fresh one.
+pub fn gather_entries(
+    entries: &[EntryState<'_>],
     pool: &[u8],
     fresh: &mut Vec<u8>,
-) -> Result<Vec<EntryState<'a>>, NoMemory>
-    ensures same { IfOk result (λ renewed. map (state_in fresh.new.items) renewed.items ≡ map (state_in pool.now) entries.now) }
-    ensures within { IfOk result (λ renewed. EntriesWithin (length fresh.new.items) renewed.items) }
-    ensures grown { take (length fresh.old.items) fresh.new.items ≡ fresh.old.items }
-    ensures marks { IfOk result (λ renewed. map marked_in renewed.items ≡ map marked_in entries.now) }
+) -> Result<(), NoMemory>
+    ensures { OnOk result (fresh.new.items ≡ fresh.old.items ++ entries_bytes pool.now entries.now) }
 {
-    let mut states = Vec::with_capacity(*fresh.allocator(), entries.len())?;
     for state in entries {
-        states.push(EntryState {
-            entry: state.entry.copied()?,
-            variables: state.variables.renewed(pool, fresh)?,
-            position: state.position,
-        })?;
+        state.variables.gather(pool, fresh)?;
     }
-    Ok(states)
+    Ok(())
+}
+
+/// Puts the strings that were made one after the other from a place on.
+pub fn settle_entries(entries: &mut [EntryState<'_>], at: usize)
+    requires { at + entries_count entries.old ≤ 18446744073709551615 }
+    ensures { entries.new ≡ entries_settled at entries.old }
+{
+    let mut end = at;
+    for i in 0..entries.len() {
+        end = settle_entry(&mut entries[i], end);
+    }
+}
+
+/// Puts the strings of an entry that were made one after the other from a place on, and gives where they end.
+fn settle_entry(entry: &mut EntryState<'_>, at: usize) -> usize
+    requires { at + variables_count entry.old.variables ≤ 18446744073709551615 }
+    ensures settled { entry.new ≡ entry_settled at entry.old }
+    ensures end { result ≡ at + variables_count entry.old.variables }
+{
+    entry.variables.settle(at)
 }
 
 /// Gives a variable of the entry at a place in the list, where there is one, its value.

@@ -57,23 +57,6 @@ impl<'a> PlacedEntry<'a> {
         self.entry
     }
 
-    /// The same entry once more.
-    pub fn copied(&self) -> Result<PlacedEntry<'a>, NoMemory>
-        ensures { IfOk result (λ copy. copy ≡ self.now) }
-    {
-        let entry = self.entry;
-        match &self.places {
-            Some(places) => Ok(PlacedEntry {
-                entry,
-                places: Some(places.clone()?),
-            }),
-            None => Ok(PlacedEntry {
-                entry,
-                places: None,
-            }),
-        }
-    }
-
     /// The value of a field: its bytes, or that the entry doesn't have it.
     pub fn field(&self, name: NameId) -> Operand<'a>
         ensures { value_of result ≡ rule.field_in name self.now.fields }

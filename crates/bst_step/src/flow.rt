@@ -34,6 +34,7 @@ impl<'a> State<'a> {
     }
 
     /// `while$`
+    #[inline(never)]
     pub fn while_do(&mut self, style: &'a Style, place: Place) -> Result<(), Stop>
         ensures made { Makes style.now place result self.old self.new (rule.while_do self.old.values.stack) (mark.taken 2) }
         ensures fits { 1 ≤ self.old.frames.room → Fits result }
@@ -48,6 +49,7 @@ impl<'a> State<'a> {
     }
 
     /// `call.type$`, for the visited entry.
+    #[inline(never)]
     pub fn call_type(&mut self, style: &PreparedStyle<'a>, place: Place) -> Result<(), Stop>
         ensures made { Makes style.now place result self.old self.new
             (built_in Builtin.CallType (context_of style.now (config_of self.old)) self.old.values.stack) (λ m. m) }

@@ -91,7 +91,7 @@ impl<'a> Frames<'a> {
         ensures room { self.old.room ≤ self.new.room + 1 }
     {
         if self.entered {
-            self.outer.push(self.innermost)?;
+            self.outer.push(&self.innermost)?;
         }
         self.innermost = frame;
         self.entered = true;

@@ -7,7 +7,7 @@ ghost use Rattle.bst_step.specs.State.{config_of, HasRoom, LeavesRoom};
 ghost use Rattle.bst_step.specs.AtOnce.{IsWithin};
 ghost use Rattle.bst_step.specs.Frames.{frame_of, marks_after_next, next_takes_room, part_of, with_next};
 ghost use Rattle.bst_step.specs.MarkRules as rules;
-ghost use Rattle.bst_step.specs.Room.{frames_take_room};
+ghost use Rattle.bst_step.specs.Room.{frames_take_room, token_takes_room};
 
 use crate::effects::entered_at;
 use crate::frame_list::Next;
@@ -58,36 +58,48 @@ impl<'a> State<'a> {
         ensures few { IfOk result (λ more. IsWithin more left) }
     {
         match next {
-            Next::Token(Token::Quote(name), _) if left > 2 => {
-                self.function_steps(style.base, Target::Named(name))
+            Next::Token(token, place) => self.token_steps(style, token, place, left),
+            Next::Return(part, place) => {
+                self.return_step(style.base, part, place)?;
+                Ok(0)
             }
-            Next::Token(Token::Block(body), _) if left > 2 => {
-                self.function_steps(style.base, Target::Block(body))
-            }
-            next => {
-                self.step_left(style, next)?;
+            Next::Outer => {
+                self.outer_step()?;
                 Ok(0)
             }
         }
     }
 
-    /// What is left of a step, once the innermost frame has moved on.
+    /// Executes a token, which its frame no longer has, and takes the steps that are taken with it, whose number is given.
     #[inline(always)]
-    fn step_left(&mut self, style: &PreparedStyle<'a>, next: Next) -> Result<(), NoMemory>
-        ensures moved { OnOk result (config_of self.new ≡ with_next style.now next (config_of self.old)) }
+    fn token_steps(
+        &mut self,
+        style: &PreparedStyle<'a>,
+        token: Token,
+        place: Place,
+        left: u64,
+    ) -> Result<u64, NoMemory>
+        requires { (config_of self.old).stopped ≡ None }
+        ensures moved { IfOk result (λ more. config_of self.new ≡ rule.steps style.now more (rule.token_step style.now token place (config_of self.old))) }
         ensures entries { OnErr result (self.new.values.entries ≡ self.old.values.entries) }
-        ensures marks { OnOk result (self.new.values.marks ≡ marks_after_next style.now next (config_of self.old) self.old.values.marks) }
-        ensures fits { next_takes_room style.now next (config_of self.old) ≡ true → HasRoom self.old → IsOk result }
-        ensures room { OnOk result (LeavesRoom 1 self.old self.new) }
+        ensures marks { IfOk result (λ more. self.new.values.marks ≡ rules.marks_after_steps style.now more (rule.token_step style.now token place (config_of self.old))
+            (rules.token_marks style.now token (config_of self.old) self.old.values.marks)) }
+        ensures fits { token_takes_room style.now token (config_of self.old) ≡ true → HasRoom self.old → IsOk result }
+        ensures room { IfOk result (λ more. LeavesRoom (more + 1) self.old self.new) }
+        ensures few { IfOk result (λ more. IsWithin more left) }
     {
-        match next {
-            Next::Token(token, place) => self.token_step(style, token, place),
-            Next::Return(part, place) => self.return_step(style.base, part, place),
-            Next::Outer => self.outer_step(),
+        match token {
+            Token::Quote(name) => self.function_steps(style.base, Target::Named(name), left),
+            Token::Block(body) => self.function_steps(style.base, Target::Block(body), left),
+            token => {
+                self.token_step(style, token, place)?;
+                Ok(0)
+            }
         }
     }
 
     /// Returns from a frame.
+    #[inline(always)]
     fn return_step(&mut self, style: &'a Style, part: Part, place: Place) -> Result<(), NoMemory>
         ensures moved { OnOk result (config_of self.new ≡ rule.return_step style.now (part_of part) place (config_of self.old)) }
         ensures entries { OnErr result (self.new.values.entries ≡ self.old.values.entries) }

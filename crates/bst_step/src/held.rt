@@ -6,6 +6,7 @@ ghost use Rattle.bst_meaning.specs.Sorting.{string_of};
 ghost use Rattle.bst_step.specs.Held.{end_of, lent_of, part_from, value_in, value_of};
 ghost use Rattle.bst_step.specs.Marks as mark;
 ghost use Rattle.bst_step.specs.Marks.{lent_mark, mark_of};
+ghost use Rattle.bst_step.specs.Settled.{made_bytes, made_count, settled};
 
 use bst_meaning::value::Target;
 use bv_base::bytes::part_of;
@@ -116,16 +117,33 @@ impl<'a> Held<'a> {
         }
     }
 
-    /// The same value, with what was made and stands in a pool in a fresh one.
-    pub fn renewed(self, pool: &[u8], fresh: &mut Vec<u8>) -> Result<Held<'a>, NoMemory>
-        ensures same { IfOk result (λ renewed. value_in fresh.new.items renewed ≡ value_in pool.now self.entry) }
-        ensures within { IfOk result (λ renewed. end_of renewed ≤ length fresh.new.items) }
-        ensures grown { take (length fresh.old.items) fresh.new.items ≡ fresh.old.items }
-        ensures mark { IfOk result (λ renewed. mark_of renewed ≡ mark_of self.entry) }
+    /// Appends the bytes of a string that was made and stands in a pool to a fresh one.
+    pub fn gather(self, pool: &[u8], fresh: &mut Vec<u8>) -> Result<(), NoMemory>
+        ensures { OnOk result (fresh.new.items ≡ fresh.old.items ++ made_bytes pool.now self.entry) }
     {
         match self {
-            Held::Made(start, count) => made_in(part_of(pool, start, count), fresh),
-            other => Ok(other),
+            Held::Made(start, count) => Ok(fresh.extend_from_slice(part_of(pool, start, count))?),
+            _ => Ok(()),
+        }
+    }
+
+    /// How many bytes of a string were made.
+    pub fn made_count(self) -> usize
+        ensures { result ≡ made_count self.entry }
+    {
+        match self {
+            Held::Made(_, count) => count,
+            _ => 0,
+        }
+    }
+
+    /// A string that was made, with its bytes from a place on. Another value stays.
+    pub fn settled(self, at: usize) -> Held<'a>
+        ensures { result ≡ settled at self.entry }
+    {
+        match self {
+            Held::Made(_, count) => Held::Made(at, count),
+            other => other,
         }
     }
 

@@ -1,11 +1,11 @@
 //! The lines that a run has written (docs/MACHINE.md, "Lines").
 
-ghost use Rattle.std.specs.Prelude.{◌≡◌, ◌+◌, ◌++◌, ◌∷◌, ◌≤◌, [], drop, length, map, option_map, None, IfOk, OnOk, IfSome};
+ghost use Rattle.std.specs.Prelude.{if◌then◌else◌, ◌≡◌, ◌+◌, ◌++◌, ◌∷◌, ◌≤◌, [], drop, length, map, option_map, None, IfOk, OnOk, IfSome};
 ghost use Rattle.std.specs.List.{flat_map};
 ghost use Rattle.bst_meaning.specs.Config as config;
 ghost use Rattle.bst_meaning.specs.Lines as rule;
 ghost use Rattle.bst_step.specs.State.{event_of};
-ghost use Rattle.bst_step.specs.Lines.{cut_in, page_from, page_in};
+ghost use Rattle.bst_step.specs.Lines.{broken_in, cut_in, page_from, page_in, spelt};
 
 use bv_base::bytes::is_white;
 use bv_base::memory::NoMemory;
@@ -14,10 +14,11 @@ use bv_base::text::Text;
 use std::alloc::Global;
 use text_ops::is_blank::is_blank;
 
-/// The finished lines, and what was written since the last of them was ended. It is broken only where its line ends.
+/// The finished lines, each with its line end, and what was written since the last of them was ended. It is broken only
+/// where its line ends.
 #[derive(Drop)]
 pub struct Page {
-    pub lines: Vec<Text>,
+    pub text: Vec<u8>,
     pub buffer: Vec<u8>,
 }
 
@@ -33,14 +34,14 @@ pub fn lines_of(alloc: Global, events: &PackedTexts) -> Result<Vec<u8>, NoMemory
     ensures { IfOk result (λ v. v.items ≡ rule.lines_after (map event_of events.now)) }
 {
     let mut page = Page {
-        lines: Vec::new(alloc),
+        text: Vec::new(alloc),
         buffer: Vec::new(alloc),
     };
     for at in 0..events.len() {
-        page.add(alloc, events.at(at))?;
+        page.add(events.at(at))?;
     }
-    page.break_buffer(alloc)?;
-    with_ends(alloc, page.lines.as_slice())
+    page.break_buffer()?;
+    Ok(page.text)
 }
 
 /// Lines, each with its line end.
@@ -49,29 +50,38 @@ pub fn with_ends(alloc: Global, lines: &[Text]) -> Result<Vec<u8>, NoMemory>
 {
     let mut text = Vec::new(alloc);
     for line in lines {
-        text.extend_from_slice(line.as_slice())?;
-        text.push(b'\n')?;
+        push_line(&mut text, line.as_slice())?;
     }
     Ok(text)
 }
 
+/// Appends a line and its line end.
+fn push_line(text: &mut Vec<u8>, line: &[u8]) -> Result<(), NoMemory>
+    ensures { OnOk result (text.new.items ≡ text.old.items ++ (line.now ++ 10 ∷ [])) }
+{
+    text.extend_from_slice(line)?;
+    text.push(b'\n')?;
+    Ok(())
+}
+
 impl Page {
     /// Adds a text to the buffer, or ends a line.
-    #[tactic(auto, using(crate::proofs::LateBreaks::written))]
-    fn add(&mut self, alloc: Global, event: Option<&[u8]>) -> Result<(), NoMemory>
-        ensures { OnOk result (page_in self.new ≡ rule.after_event (page_in self.old) (event_of (option_map (λ bytes. bytes.now) event.entry))) }
+    #[tactic(auto, using(crate::proofs::LateBreaks::written_behind))]
+    fn add(&mut self, event: Option<&[u8]>) -> Result<(), NoMemory>
+        ensures { OnOk result (page_in self.new
+            ≡ spelt self.old.text.items (rule.after_event (broken_in self.old) (event_of (option_map (λ bytes. bytes.now) event.entry)))) }
     {
         match event {
             Some(bytes) => {
                 self.buffer.extend_from_slice(bytes)?;
                 Ok(())
             }
-            None => self.end_line(alloc),
+            None => self.end_line(),
         }
     }
 
     /// Breaks the buffer as often as it can be, and gives where what is left of it begins.
-    fn break_buffer(&mut self, alloc: Global) -> Result<usize, NoMemory>
+    fn break_buffer(&mut self) -> Result<usize, NoMemory>
         ensures broken { IfOk result (λ start. page_from start self.new ≡ page_in self.old) }
         ensures within { IfOk result (λ start. start ≤ length self.new.buffer.items) }
     {
@@ -83,7 +93,7 @@ impl Page {
                 return Ok(start);
             };
             let Cut { line, next } = cut;
-            self.lines.push(Text::from_slice(alloc, line)?)?;
+            push_line(&mut self.text, line)?;
             start += next;
             indent(&mut self.buffer, start);
             most -= 1;
@@ -92,18 +102,27 @@ impl Page {
     }
 
     /// Breaks the buffer, finishes what is left of it as a line, and empties it.
-    fn end_line(&mut self, alloc: Global) -> Result<(), NoMemory>
-        ensures { OnOk result (page_in self.new ≡ rule.after_event (page_in self.old) config.EndedLine) }
+    #[tactic(auto, using(crate::proofs::SpeltLines::last_behind))]
+    fn end_line(&mut self) -> Result<(), NoMemory>
+        ensures { OnOk result (page_in self.new ≡ spelt self.old.text.items (rule.after_event (broken_in self.old) config.EndedLine)) }
     {
-        let start = self.break_buffer(alloc)?;
+        let start = self.break_buffer()?;
         let (_, left) = self.buffer.as_slice().split_at(start);
-        if !is_only_white(left) {
-            let line = Text::from_slice(alloc, trimmed_end(left))?;
-            self.lines.push(line)?;
-        }
+        push_last(&mut self.text, left)?;
         self.buffer.clear();
         Ok(())
     }
+}
+
+/// Appends the last line of a buffer, where it has one.
+fn push_last(text: &mut Vec<u8>, buffer: &[u8]) -> Result<(), NoMemory>
+    ensures { OnOk result (text.new.items
+        ≡ (if rule.is_only_white buffer.now then text.old.items else text.old.items ++ (rule.trimmed_end buffer.now ++ 10 ∷ []))) }
+{
+    if is_only_white(buffer) {
+        return Ok(());
+    }
+    push_line(text, trimmed_end(buffer))
 }
 
 /// Whether a buffer has only white space, and has some.

@@ -19,6 +19,7 @@ use name_format::known_pattern::KnownPattern;
 use std::alloc::Global;
 
 /// `num.names$`
+#[inline(never)]
 pub fn num_names(values: &mut Values<'_>) -> Result<(), Stop>
     ensures left { Leaves result values.old values.new (string (λ a rest. ranged (pos (length (names_of a))) rest) values.old.stack) (mark.resulting 1 mark.NoString) }
     ensures fits { Fits result }
@@ -28,6 +29,7 @@ pub fn num_names(values: &mut Values<'_>) -> Result<(), Stop>
 }
 
 /// `format.name$`
+#[inline(never)]
 pub fn format_name(alloc: Global, values: &mut Values<'_>) -> Result<(), Stop>
     ensures { Leaves result values.old values.new (rule.format_name values.old.stack) (mark.resulting 3 mark.Made) }
 {

@@ -10,7 +10,7 @@ ghost use Rattle.bst_step.specs.Marks as mark;
 ghost use Rattle.bst_step.specs.Subjects.{Fits, Leaves, integer, integers, pushed, ranged, string, truth, two_operands};
 
 use crate::held::Operand;
-use crate::operands::{one_integer, one_string, truth, two, two_integers};
+use crate::operands::{one_integer, one_string, top_integers, truth, two, two_integers};
 use crate::stop::Stop;
 use crate::values::Values;
 use bst_meaning::fault::Fault;
@@ -23,6 +23,10 @@ pub fn equal(values: &mut Values<'_>) -> Result<(), Stop>
     ensures left { Leaves result values.old values.new (two_operands values.old.stack rule.equal) (mark.resulting 2 mark.NoString) }
     ensures fits { Fits result }
 {
+    if let Some((a, b)) = top_integers(values) {
+        values.put(2, truth(a == b));
+        return Ok(());
+    }
     let holds = match two(values)? {
         (Operand::Int(a), Operand::Int(b)) => a == b,
         (Operand::Str(a), Operand::Str(b)) => a == b,
@@ -86,6 +90,7 @@ fn put_ranged(n: i64, values: &mut Values<'_>) -> Result<(), Stop>
 }
 
 /// `chr.to.int$`
+#[inline(never)]
 pub fn chr_to_int(values: &mut Values<'_>) -> Result<(), Stop>
     ensures { Leaves result values.old values.new (string byte_number values.old.stack) (mark.resulting 1 mark.NoString) }
 {
@@ -100,6 +105,7 @@ pub fn chr_to_int(values: &mut Values<'_>) -> Result<(), Stop>
 }
 
 /// `int.to.chr$`
+#[inline(never)]
 pub fn int_to_chr(values: &mut Values<'_>) -> Result<(), Stop>
     ensures { Leaves result values.old values.new (integer byte_string values.old.stack) (mark.resulting 1 mark.Made) }
 {
@@ -112,6 +118,7 @@ pub fn int_to_chr(values: &mut Values<'_>) -> Result<(), Stop>
 }
 
 /// `int.to.str$`
+#[inline(never)]
 pub fn int_to_str_of(alloc: Global, values: &mut Values<'_>) -> Result<(), Stop>
     ensures { Leaves result values.old values.new (integer (λ n rest. pushed (Str (numeral n)) rest) values.old.stack) (mark.resulting 1 mark.Made) }
 {

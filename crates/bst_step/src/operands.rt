@@ -1,13 +1,13 @@
 //! The operands of the built-in functions, which are looked at before they are taken: a fault leaves them there.
 
-ghost use Rattle.std.specs.Prelude.{◌≡◌, ◌≤◌, ℕ, ℤ, List, ◌∷◌, Option, Some, Result, Err, drop, slice_get, length, option_map, IfOk, MatchResult, OnOk};
+ghost use Rattle.std.specs.Prelude.{◌≡◌, ◌≤◌, ℕ, ℤ, List, ◌∷◌, Option, Some, Result, Err, drop, slice_get, length, option_map, IfOk, IfSome, MatchResult, OnOk};
 ghost use Rattle.bst_meaning.specs.declared.value.Value.{Value};
 ghost use Rattle.bst_meaning.specs.declared.fault.Fault.{Fault};
 ghost use Rattle.bst_meaning.specs.Effect.{Effect};
 ghost use Rattle.bst_meaning.specs.Operands as rule;
 ghost use Rattle.bst_meaning.specs.Operands.{one_operand, two_operands, three_operands};
 ghost use Rattle.bst_meaning.specs.Builtins.{integers, string};
-ghost use Rattle.bst_meaning.specs.declared.value.Value.TheVariants.{Str};
+ghost use Rattle.bst_meaning.specs.declared.value.Value.TheVariants.{Int, Str};
 ghost use Rattle.bst_step.specs.Held.{value_of};
 ghost use Rattle.bst_step.specs.Operands.{integer, field, strings};
 
@@ -104,6 +104,17 @@ pub fn one_field<'b>(values: &'b Values<'_>) -> Result<Option<&'b [u8]>, Fault>
     }
 }
 
+/// The two topmost values, the lower one first, where both are integers. They are told without a look at other kinds.
+#[inline(always)]
+pub fn top_integers(values: &Values<'_>) -> Option<(i32, i32)>
+    ensures { IfSome result (λ p. values.now.stack ≡ Int p.1 ∷ Int p.0 ∷ drop 2 values.now.stack) }
+{
+    match (values.integer_below(1), values.integer_below(0)) {
+        (Some(a), Some(b)) => Some((a, b)),
+        _ => None,
+    }
+}
+
 /// Two integers, the lower one first.
 #[inline(always)]
 pub fn two_integers(values: &Values<'_>) -> Result<(i32, i32), Fault>
@@ -112,6 +123,9 @@ pub fn two_integers(values: &Values<'_>) -> Result<(i32, i32), Fault>
         (λ p. (rule : ℤ → ℤ → List Value → Result Effect Fault) → integers rule values.now.stack ≡ rule p.0 p.1 (drop 2 values.now.stack))
         (λ fault. (rule : ℤ → ℤ → List Value → Result Effect Fault) → integers rule values.now.stack ≡ Err fault) }
 {
+    if let Some(both) = top_integers(values) {
+        return Ok(both);
+    }
     match two(values)? {
         (Operand::Int(a), Operand::Int(b)) => Ok((a, b)),
         _ => Err(Fault::WrongKind),

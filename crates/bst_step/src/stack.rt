@@ -1,6 +1,7 @@
 //! A list that grows and shrinks at its front.
 
-ghost use Rattle.std.specs.Prelude.{◌≡◌, ◌+◌, ◌<◌, ◌≤◌, ◌∷◌, [], drop, slice_get, slice_index_or, slice_set, length, IsOk, MatchOption, OnErr, OnOk};
+ghost use Rattle.std.specs.Prelude.{◌≡◌, ◌+◌, ◌<◌, ◌≤◌, ◌∷◌, ◌++◌, [], drop, slice_get, slice_index_or, slice_set, length, IsOk, MatchOption, OnErr, OnOk};
+ghost use Rattle.smallvec.specs.SmallVec.{HasRoomFor};
 
 use bv_base::memory::NoMemory;
 use smallvec::SmallVec;
@@ -41,10 +42,10 @@ impl<T: Copy + Default> Stack<T> {
         }
     }
 
-    /// Puts an item on top. It is refused only where there is no room, and then nothing changes.
+    /// Puts a copy of an item on top. It is refused only where there is no room, and then nothing changes.
     #[inline(always)]
-    pub fn push(&mut self, item: T) -> Result<(), NoMemory>
-        ensures moved { OnOk result (self.new.items ≡ item ∷ self.old.items) }
+    pub fn push(&mut self, item: &T) -> Result<(), NoMemory>
+        ensures moved { OnOk result (self.new.items ≡ item.now ∷ self.old.items) }
         ensures refused { OnErr result (self.new ≡ self.old) }
         ensures fits { 1 ≤ self.old.room → IsOk result }
         ensures room { self.old.room ≤ self.new.room + 1 }
@@ -52,11 +53,11 @@ impl<T: Copy + Default> Stack<T> {
         // A length has 64 bits, and so has the count of one item more where there is a slot for it.
         let _ = self.slots.len();
         if let Some(slot) = self.slots.get_mut(self.count) {
-            *slot = item;
+            *slot = *item;
             self.count += 1;
             return Ok(());
         }
-        self.slots.push(item)?;
+        push_slot(&mut self.slots, *item)?;
         self.count = self.slots.len();
         Ok(())
     }
@@ -154,4 +155,18 @@ impl<T: Copy + Default> Stack<T> {
             None
         }
     }
+}
+
+/// Appends a slot. It is a call of its own, so that a push into a slot that is there stays short.
+#[cold]
+#[inline(never)]
+fn push_slot<T: Copy + Default>(slots: &mut SmallVec<T, 32>, item: T) -> Result<(), NoMemory>
+    ensures pushed { OnOk result (slots.new.items ≡ slots.old.items ++ item ∷ []) }
+    ensures refused { OnErr result (slots.new ≡ slots.old) }
+    ensures fits { HasRoomFor slots.old 1 → IsOk result }
+    ensures capacity { slots.old.capacity ≤ slots.new.capacity }
+    ensures had_room { HasRoomFor slots.old 1 → slots.new.capacity ≡ slots.old.capacity }
+{
+    slots.push(item)?;
+    Ok(())
 }

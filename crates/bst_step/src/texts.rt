@@ -41,6 +41,7 @@ pub fn join(values: &mut Values<'_>) -> Result<(), Stop>
 }
 
 /// `add.period$`
+#[inline(never)]
 pub fn add_period(alloc: Global, values: &mut Values<'_>) -> Result<(), Stop>
     ensures { Leaves result values.old values.new (string (λ a rest. pushed (Str (with_period a)) rest) values.old.stack) (mark.resulting 1 mark.Made) }
 {
@@ -61,6 +62,7 @@ fn case_named(text: &[u8]) -> Option<Case>
 }
 
 /// `change.case$`
+#[inline(never)]
 pub fn change_case(alloc: Global, values: &mut Values<'_>) -> Result<(), Stop>
     ensures { Leaves result values.old values.new (strings (λ a mode rest. change_case_in (case_of mode) a rest) values.old.stack) (mark.resulting 2 mark.Made) }
 {
@@ -96,6 +98,7 @@ pub fn missing(values: &mut Values<'_>) -> Result<(), Stop>
 }
 
 /// `purify$`
+#[inline(never)]
 pub fn purify(alloc: Global, values: &mut Values<'_>) -> Result<(), Stop>
     ensures { Leaves result values.old values.new (string (λ a rest. pushed (Str (purified a)) rest) values.old.stack) (mark.resulting 1 mark.Made) }
 {
@@ -128,6 +131,7 @@ fn last_place(text: &[u8], end: usize, count: usize) -> (usize, usize)
 }
 
 /// `substring$`
+#[inline(never)]
 pub fn substring(values: &mut Values<'_>) -> Result<(), Stop>
     ensures left { Leaves result values.old values.new (rule.substring values.old.stack) (mark.taken 2) }
     ensures fits { Fits result }
@@ -144,6 +148,7 @@ pub fn substring(values: &mut Values<'_>) -> Result<(), Stop>
 }
 
 /// `text.length$`
+#[inline(never)]
 pub fn text_length(values: &mut Values<'_>) -> Result<(), Stop>
     ensures left { Leaves result values.old values.new (string (λ a rest. ranged (pos (text_length_of a)) rest) values.old.stack) (mark.resulting 1 mark.NoString) }
     ensures fits { Fits result }
@@ -153,6 +158,7 @@ pub fn text_length(values: &mut Values<'_>) -> Result<(), Stop>
 }
 
 /// `text.prefix$`
+#[inline(never)]
 pub fn text_prefix(alloc: Global, values: &mut Values<'_>) -> Result<(), Stop>
     ensures { Leaves result values.old values.new (rule.text_prefix values.old.stack) (mark.resulting 2 mark.Made) }
 {
@@ -166,6 +172,7 @@ pub fn text_prefix(alloc: Global, values: &mut Values<'_>) -> Result<(), Stop>
 }
 
 /// `width$`
+#[inline(never)]
 pub fn width(values: &mut Values<'_>) -> Result<(), Stop>
     ensures left { Leaves result values.old values.new (string (λ a rest. ranged (pos (width_of a)) rest) values.old.stack) (mark.resulting 1 mark.NoString) }
     ensures fits { Fits result }

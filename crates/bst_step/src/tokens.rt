@@ -28,6 +28,7 @@ use name_table::style::Token;
 
 impl<'a> State<'a> {
     /// Executes a token, which its frame no longer has.
+    #[inline(always)]
     pub fn token_step(
         &mut self,
         style: &PreparedStyle<'a>,
@@ -50,6 +51,7 @@ impl<'a> State<'a> {
     }
 
     /// Calls a name.
+    #[inline(always)]
     fn call_step(
         &mut self,
         style: &PreparedStyle<'a>,
@@ -80,6 +82,7 @@ impl<'a> State<'a> {
     }
 
     /// Calls a built-in function.
+    #[inline(always)]
     fn built_in_step(
         &mut self,
         style: &PreparedStyle<'a>,
@@ -105,6 +108,7 @@ impl<'a> State<'a> {
     }
 
     /// Pushes a field of the visited entry.
+    #[inline(always)]
     fn push_field(&mut self, name: NameId, place: Place) -> Result<(), NoMemory>
         ensures moved { OnOk result (config_of self.new ≡ with_field name place (config_of self.old)) }
         ensures entries { OnErr result (self.new.values.entries ≡ self.old.values.entries) }
@@ -158,6 +162,7 @@ impl<'a> State<'a> {
 
     /// Pushes a variable of the whole style.
     #[tactic(auto, using(crate::proofs::FoundSteps::found_pushed, crate::proofs::FoundSteps::found_stopped))]
+    #[inline(always)]
     fn push_global(&mut self, name: NameId, place: Place) -> Result<(), NoMemory>
         ensures moved { OnOk result (config_of self.new ≡ with_global name place (config_of self.old)) }
         ensures entries { OnErr result (self.new.values.entries ≡ self.old.values.entries) }

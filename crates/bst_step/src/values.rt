@@ -1,6 +1,6 @@
 //! The values that the machine holds: those of the literal stack, and those of all variables.
 
-ghost use Rattle.std.specs.Prelude.{◌≡◌, ◌+◌, ◌<◌, ◌≤◌, ◌∷◌, [], drop, is_some, length, map, option_map, slice_get, slice_index_or, Some, IfOk, IfSome, IsOk, MatchOption, OnErr, OnOk};
+ghost use Rattle.std.specs.Prelude.{◌≡◌, ◌+◌, ◌<◌, ◌≤◌, ◌∷◌, ◌++◌, [], drop, is_some, length, map, option_map, slice_get, slice_index_or, Some, IfOk, IfSome, IsOk, MatchOption, OnErr, OnOk};
 ghost use Rattle.std.specs.Option.{option_and_then};
 ghost use Rattle.bst_meaning.specs.declared.value.Value.TheVariants.{Int, Str};
 ghost use Rattle.bst_meaning.specs.Machine as rule;
@@ -10,11 +10,12 @@ ghost use Rattle.bst_step.specs.Held.{value_of};
 ghost use Rattle.bst_step.specs.Machine.{key_at};
 ghost use Rattle.bst_step.specs.Marks as mark;
 ghost use Rattle.bst_step.specs.Marks.{lent_at, lent_mark, mark_at, marks_in, sorted_marks};
+ghost use Rattle.bst_step.specs.Settled.{entries_bytes, variables_bytes};
 ghost use Rattle.bst_step.specs.Stack.{doubled, swapped};
 ghost use Rattle.bst_step.specs.Values.{cut, given_globally, given_in_entry, joined, with_pushed};
 ghost use Rattle.bst_step.specs.Variables.{VariablesWithin, held_at, variable_in};
 
-use crate::entry_states::{EntryState, entries_renewed, key_in, set_in_entry};
+use crate::entry_states::{EntryState, gather_entries, key_in, set_in_entry, settle_entries};
 use crate::held::{Held, Operand, joined_in, made_in};
 use crate::order::sort_entries;
 use crate::stack::Stack;
@@ -27,10 +28,10 @@ use std::alloc::Global;
 use std::marker::Model;
 
 /// The most bytes of a pool that isn't worth to be made anew.
-const LEAST_LIMIT: usize = 1024;
+const LEAST_LIMIT: usize = 65536;
 
 /// About as many bytes are written anew for each entry when a pool is made anew.
-const ENTRY_BYTES: usize = 128;
+const ENTRY_BYTES: usize = 64;
 
 /// The literal stack, the variables of the whole style, and the entries with theirs. What strings were made stand in a
 /// pool, and contracts see the values alone.
@@ -131,6 +132,17 @@ impl<'a> Values<'a> {
         }
     }
 
+    /// The integer so far below the top. Nothing else is looked at.
+    #[inline(always)]
+    pub fn integer_below(&self, depth: usize) -> Option<i32>
+        ensures { IfSome result (λ n. slice_get self.now.stack depth ≡ Some (Int n)) }
+    {
+        match self.below(depth) {
+            Some(Operand::Int(n)) => Some(n),
+            _ => None,
+        }
+    }
+
     /// The value so far below the top.
     pub fn below(&self, depth: usize) -> Option<Operand<'_>>
         ensures { option_map value_of result ≡ slice_get self.now.stack depth }
@@ -205,7 +217,7 @@ impl<'a> Values<'a> {
         ensures fits { 1 ≤ self.old.room → IsOk result }
         ensures room { self.old.room ≤ self.new.room + 1 }
     {
-        self.stack.push(value.held())?;
+        self.stack.push(&value.held())?;
         Ok(())
     }
 
@@ -249,7 +261,7 @@ impl<'a> Values<'a> {
     {
         match self.stack.top() {
             Some(top) => {
-                self.stack.push(top)?;
+                self.stack.push(&top)?;
                 Ok(())
             }
             None => Ok(()),
@@ -317,7 +329,7 @@ impl<'a> Values<'a> {
     {
         match self.globals.value(name) {
             Some(held) => {
-                self.stack.push(held)?;
+                self.stack.push(&held)?;
                 Ok(true)
             }
             None => Ok(false),
@@ -339,7 +351,7 @@ impl<'a> Values<'a> {
     {
         match held_in_entry(self.entries.as_slice(), at, name) {
             Some(held) => {
-                self.stack.push(held)?;
+                self.stack.push(&held)?;
                 Ok(true)
             }
             None => Ok(false),
@@ -458,24 +470,41 @@ impl<'a> Values<'a> {
         if self.kept <= self.limit {
             return Ok(());
         }
-        let mut fresh = Vec::new(*self.pool.allocator());
-        let pool = self.pool.as_slice();
-        let mut globals = self.globals.renewed(pool, &mut fresh)?;
-        let entries = entries_renewed(self.entries.as_slice(), pool, &mut fresh)?;
+        let fresh = gathered(
+            self.pool.as_slice(),
+            &self.globals,
+            self.entries.as_slice(),
+            *self.pool.allocator(),
+        )?;
         self.kept = fresh.as_slice().len();
-        self.limit = limit_of(self.kept, entries.as_slice().len());
+        let end = self.globals.settle(0);
+        settle_entries(self.entries.as_mut_slice(), end);
+        self.limit = limit_of(self.kept, self.entries.len());
         self.pool = fresh;
-        std::mem::swap(&mut self.globals, &mut globals);
-        self.entries = entries;
         Ok(())
     }
 }
 
-/// From how many bytes on a pool is made anew that had so many, for so many entries: so that to make it anew costs no more
-/// than what was written since.
+/// The bytes of all strings that variables hold and that were made, one after the other.
+fn gathered(
+    pool: &[u8],
+    globals: &Variables<'_>,
+    entries: &[EntryState<'_>],
+    alloc: Global,
+) -> Result<Vec<u8>, NoMemory>
+    ensures { IfOk result (λ fresh. fresh.items ≡ variables_bytes pool.now globals.now ++ entries_bytes pool.now entries.now) }
+{
+    let mut fresh = Vec::new(alloc);
+    globals.gather(pool, &mut fresh)?;
+    gather_entries(entries, pool, &mut fresh)?;
+    Ok(fresh)
+}
+
+/// From how many bytes on a pool is made anew that had so many, for so many entries: so that to make it anew costs a few times
+/// what was written since at most.
 fn limit_of(kept: usize, entries: usize) -> usize {
     let rows = entries.saturating_mul(ENTRY_BYTES);
-    kept.saturating_mul(2)
+    kept.saturating_add(kept / 2)
         .saturating_add(rows)
         .saturating_add(LEAST_LIMIT)
 }

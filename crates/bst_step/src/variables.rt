@@ -1,9 +1,9 @@
 //! Variables with their values, each found by its place.
 
-ghost use Rattle.std.specs.Prelude.{◌≡◌, ◌<◌, length, map, take, IfOk, IfSome};
-ghost use Rattle.bst_step.specs.Marks.{marked_of};
+ghost use Rattle.std.specs.Prelude.{◌≡◌, ◌+◌, ◌<◌, ◌≤◌, ◌++◌, length, IfOk, IfSome, OnOk};
 ghost use Rattle.bst_step.specs.Places.{StandAt, place_of};
-ghost use Rattle.bst_step.specs.Variables.{VariablesWithin, held_at, names_in, variable_in, with_held};
+ghost use Rattle.bst_step.specs.Settled.{variables_bytes, variables_count, variables_settled};
+ghost use Rattle.bst_step.specs.Variables.{held_at, names_in, with_held};
 
 use crate::held::Held;
 use bv_base::memory::NoMemory;
@@ -74,16 +74,24 @@ impl<'a> Variables<'a> {
         }
     }
 
-    /// The same variables, with what was made and stands in a pool in a fresh one.
-    pub fn renewed(&self, pool: &[u8], fresh: &mut Vec<u8>) -> Result<Variables<'a>, NoMemory>
-        ensures same { IfOk result (λ renewed. map (variable_in fresh.new.items) renewed ≡ map (variable_in pool.now) self.now) }
-        ensures within { IfOk result (VariablesWithin (length fresh.new.items)) }
-        ensures grown { take (length fresh.old.items) fresh.new.items ≡ fresh.old.items }
-        ensures marks { IfOk result (λ renewed. map marked_of renewed ≡ map marked_of self.now) }
+    /// Appends the bytes of all strings that were made and stand in a pool to a fresh one.
+    pub fn gather(&self, pool: &[u8], fresh: &mut Vec<u8>) -> Result<(), NoMemory>
+        ensures { OnOk result (fresh.new.items ≡ fresh.old.items ++ variables_bytes pool.now self.now) }
     {
-        let places = self.places.clone()?;
-        let items = items_renewed(self.items.as_slice(), pool, fresh)?;
-        Ok(Variables { places, items })
+        let items = self.items.as_slice();
+        for variable in items {
+            variable.value.gather(pool, fresh)?;
+        }
+        Ok(())
+    }
+
+    /// Puts the strings that were made one after the other from a place on, and gives where they end.
+    pub fn settle(&mut self, at: usize) -> usize
+        requires { at + variables_count self.old ≤ 18446744073709551615 }
+        ensures settled { self.new ≡ variables_settled at self.old }
+        ensures end { result ≡ at + variables_count self.old }
+    {
+        settle_items(self.items.as_mut_slice(), at)
     }
 
     /// The same variables once more.
@@ -96,27 +104,19 @@ impl<'a> Variables<'a> {
     }
 }
 
-/// Variables, with what was made and stands in a pool in a fresh one.
-fn items_renewed<'a>(
-    items: &[Variable<'a>],
-    pool: &[u8],
-    fresh: &mut Vec<u8>,
-) -> Result<Vec<Variable<'a>>, NoMemory>
-    ensures same { IfOk result (λ renewed. map (variable_in fresh.new.items) renewed.items ≡ map (variable_in pool.now) items.now) }
-    ensures names { IfOk result (λ renewed. names_in renewed.items ≡ names_in items.now) }
-    ensures within { IfOk result (λ renewed. VariablesWithin (length fresh.new.items) renewed.items) }
-    ensures grown { take (length fresh.old.items) fresh.new.items ≡ fresh.old.items }
-    ensures marks { IfOk result (λ renewed. map marked_of renewed.items ≡ map marked_of items.now) }
+/// Puts the strings that were made one after the other from a place on, and gives where they end.
+fn settle_items(items: &mut [Variable<'_>], at: usize) -> usize
+    requires { at + variables_count items.old ≤ 18446744073709551615 }
+    ensures settled { items.new ≡ variables_settled at items.old }
+    ensures end { result ≡ at + variables_count items.old }
 {
-    let mut renewed = Vec::with_capacity(*fresh.allocator(), items.len())?;
-    for variable in items {
-        let value = variable.value.renewed(pool, fresh)?;
-        renewed.push(Variable {
-            name: variable.name,
-            value,
-        })?;
+    let mut end = at;
+    for i in 0..items.len() {
+        let value = items[i].value;
+        items[i].value = value.settled(end);
+        end += value.made_count();
     }
-    Ok(renewed)
+    end
 }
 
 /// The place of the variable with this name, by a table that has the place of each.

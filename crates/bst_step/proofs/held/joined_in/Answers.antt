@@ -1,12 +1,12 @@
 -- The first string stands at the end of the pool, and the second is appended.
 use Rattle.std.proofs.Common.{◌-◌, List, ℕ, ap, arith, length}
-use Rattle.bst_step.proofs.RenewSteps.{grown_twice, not_shorter}
+use Rattle.bst_step.proofs.HeldSteps.{grown_twice, longer}
 use Rattle.bst_step.proofs.ViewSteps.{front_stays, joined_string}
 use Rattle.bst_step.proofs.held.joined_in.Goals as goal
 
 pub append_to-requires : goal.append_to-requires
 append_to-requires c =
-    omega (arith, c.requires.b, not_shorter c.args.pool.now.items c.brought_to_end.new.pool.items c.in_ok-start.ensures.grown)
+    omega (arith, c.requires.b, longer c.args.pool.now.items c.brought_to_end.new.pool.items c.in_ok-start.ensures.grown)
 
 pub returns-clause-value : goal.returns-clause-value
 returns-clause-value c =
@@ -20,7 +20,7 @@ returns-clause-within c =
       arith,
       c.in_ok-start.ensures.within,
       ap (λ (l : List ℕ). length l) c.as_slice.ensures.value,
-      not_shorter c.brought_to_end.new.pool.items c.append_to.new.pool.items
+      longer c.brought_to_end.new.pool.items c.append_to.new.pool.items
           (front_stays c.brought_to_end.new.pool.items c.append_to.new.pool.items _ c.in_ok-append_to.ensures.appended),
     )
 

@@ -4,8 +4,8 @@ use Rattle.bst_meaning.specs.declared.value.Value.{Value}
 use Rattle.bst_step.specs.Variables.{VariablesWithin, variable_in}
 use Rattle.bst_step.specs.Marks.{lent_mark}
 use Rattle.bst_step.proofs.MarkSteps.{lent_more}
+use Rattle.bst_step.proofs.HeldSteps.{one_within}
 use Rattle.bst_step.proofs.OpenedSteps.{variable_opened}
-use Rattle.bst_step.proofs.RenewSteps.{one_within}
 use Rattle.bst_step.proofs.opening.push_variable.Goals as goal
 
 pub returns-clause-within : goal.returns-clause-within

@@ -1,12 +1,12 @@
-use Rattle.std.proofs.Common.{◌≡◌, ◌≤◌, drop, length}
+use Rattle.std.proofs.Common.{◌≡◌, ◌≤◌, [], drop, length}
 use Rattle.bst_meaning.specs.Lines as rule
-use Rattle.bst_step.specs.Lines.{page_in}
+use Rattle.bst_step.specs.Lines.{page_in, spelt}
 use Rattle.bst_step.proofs.lines.Page.break_buffer.Given as goal
 
 -- breaking what is left comes to breaking the whole
 abbrev pub invariant-loop-most : goal.invariant-loop-most
 invariant-loop-most l = record {
-  broken : rule.broken l.most l.self.lines.items (drop l.start l.self.buffer.items) ≡ page_in l.fn.self;
+  broken : spelt l.self.text.items (rule.broken l.most [] (drop l.start l.self.buffer.items)) ≡ page_in l.fn.self;
   within : l.start ≤ length l.self.buffer.items;
 }
 

@@ -1,37 +1,69 @@
--- What variables hold is copied into a fresh pool.
-use Rattle.std.proofs.Common.{◌∙◌, List, ℕ, ap, arith, length, map, subst, sym}
+-- What variables hold stands in the fresh pool.
+use Rattle.std.proofs.Common.{◌∙◌, List, ap, arith, length}
 use Rattle.bst_step.specs.declared.entry_states.EntryState.{EntryState}
-use Rattle.bst_step.specs.EntryStates.{state_in}
-use Rattle.bst_step.specs.Variables.{variable_in}
-use Rattle.bst_step.specs.declared.variables.Variable.{Variable}
-use Rattle.bst_step.specs.Values.{Holding, IsHeld}
-use Rattle.bst_step.proofs.RenewSteps.{globals_renewed, held_renewed, none_renewed}
+use Rattle.bst_step.specs.Settled.{entries_count}
+use Rattle.bst_step.specs.Values.{Holding}
+use Rattle.bst_step.proofs.SettledSteps.{entries_written, gathered_bytes, globals_settled, held_settled, marks_kept, rows_settled, settled_end}
 use Rattle.bst_step.proofs.values.Values.renew.Goals as goal
+
+pub settle-end-requires : goal.settle-end-requires
+settle-end-requires c =
+    omega (
+      arith,
+      ap length c.as_slice-3.ensures.value,
+      settled_end c.self.inside.pool.items c.in_ok-fresh.fresh.items c.self.inside.kept c.self.inside.stack.items c.self.inside.globals
+          c.self.inside.entries.items c.self.invariant
+          (gathered_bytes c.self.inside.pool.items c.as_slice.result.now c.in_ok-fresh.fresh.items c.self.inside.globals c.self.inside.entries.items
+          c.as_slice-2.result.now c.as_slice.ensures.value c.as_slice-2.ensures.value c.in_ok-fresh.ensures),
+    )
+
+pub settle_entries-requires : goal.settle_entries-requires
+settle_entries-requires c =
+    omega (
+      arith,
+      c.settle-end.ensures.end,
+      ap (λ (es : List EntryState). entries_count es) c.as_mut_slice.ensures.value,
+      ap length c.as_slice-3.ensures.value,
+      settled_end c.self.inside.pool.items c.in_ok-fresh.fresh.items c.self.inside.kept c.self.inside.stack.items c.self.inside.globals
+          c.self.inside.entries.items c.self.invariant
+          (gathered_bytes c.self.inside.pool.items c.as_slice.result.now c.in_ok-fresh.fresh.items c.self.inside.globals c.self.inside.entries.items
+          c.as_slice-2.result.now c.as_slice.ensures.value c.as_slice-2.ensures.value c.in_ok-fresh.ensures),
+    )
 
 pub invariant_of-self : goal.invariant_of-self
 invariant_of-self c =
-    subst (λ (gs : List Variable). IsHeld c.entries_renewed.new.fresh.items (length c.as_slice-2.result.now) c.self.inside.stack.items gs
-    c.in_ok-entries.entries.items) (sym c.swap.ensures.x_after)
-    (held_renewed c.renewed.new.fresh.items c.entries_renewed.new.fresh.items _ c.self.inside.stack.items c.in_ok-globals.globals
-    c.in_ok-entries.entries.items (omega arith) c.entries_renewed.ensures.grown c.in_ok-globals.ensures.within c.in_ok-entries.ensures.within
-    (ap length c.as_slice-2.ensures.value))
-
-pub returns-clause-stack : goal.returns-clause-stack
-returns-clause-stack c =
-    none_renewed c.self.inside.pool.items c.entries_renewed.new.fresh.items c.self.inside.stack.items (omega arith)
-    ∙ ap (λ (h : Holding). h.stack) c.self.view_is
+    held_settled c.self.inside.pool.items c.in_ok-fresh.fresh.items c.self.inside.kept (length c.as_slice-3.result.now) c.settle-end.result
+    c.self.inside.stack.items c.self.inside.globals c.settle-end.new.self c.self.inside.entries.items _ c.self.invariant
+    (gathered_bytes c.self.inside.pool.items c.as_slice.result.now c.in_ok-fresh.fresh.items c.self.inside.globals c.self.inside.entries.items
+    c.as_slice-2.result.now c.as_slice.ensures.value c.as_slice-2.ensures.value c.in_ok-fresh.ensures)
+    (omega arith) (ap length c.as_slice-3.ensures.value) c.settle-end.ensures.settled c.settle-end.ensures.end
+    (entries_written c.settle-end.result c.as_mut_slice.result.now c.self.inside.entries.items c.settle_entries.new.entries
+    c.self.inside.entries.len c.as_mut_slice.ensures.value c.as_mut_slice.ensures.len c.settle_entries.ensures)
 
 pub returns-clause-globals : goal.returns-clause-globals
 returns-clause-globals c =
-    ap (λ (gs : List Variable). map (variable_in c.entries_renewed.new.fresh.items) gs) c.swap.ensures.x_after
-    ∙ globals_renewed c.self.inside.pool.items c.renewed.new.fresh.items c.entries_renewed.new.fresh.items c.self.inside.globals c.in_ok-globals.globals
-    c.entries_renewed.ensures.grown c.in_ok-globals.ensures.within
-    (c.in_ok-globals.ensures.same ∙ ap (λ (pool : List ℕ). map (variable_in pool) c.self.inside.globals) c.as_slice-pool.ensures.value)
+    globals_settled c.self.inside.pool.items c.in_ok-fresh.fresh.items c.self.inside.kept c.self.inside.stack.items c.self.inside.globals
+    c.settle-end.new.self c.self.inside.entries.items c.self.invariant
+    (gathered_bytes c.self.inside.pool.items c.as_slice.result.now c.in_ok-fresh.fresh.items c.self.inside.globals c.self.inside.entries.items
+    c.as_slice-2.result.now c.as_slice.ensures.value c.as_slice-2.ensures.value c.in_ok-fresh.ensures)
+    c.settle-end.ensures.settled
     ∙ ap (λ (h : Holding). h.globals) c.self.view_is
 
 pub returns-clause-entries : goal.returns-clause-entries
 returns-clause-entries c =
-    c.in_ok-entries.ensures.same
-    ∙ ap (λ (pool : List ℕ). map (state_in pool) c.as_slice.result.now) c.as_slice-pool.ensures.value
-    ∙ ap (λ (es : List EntryState). map (state_in c.self.inside.pool.items) es) c.as_slice.ensures.value
+    rows_settled c.self.inside.pool.items c.in_ok-fresh.fresh.items c.self.inside.kept c.settle-end.result c.self.inside.stack.items
+    c.self.inside.globals c.self.inside.entries.items _ c.self.invariant
+    (gathered_bytes c.self.inside.pool.items c.as_slice.result.now c.in_ok-fresh.fresh.items c.self.inside.globals c.self.inside.entries.items
+    c.as_slice-2.result.now c.as_slice.ensures.value c.as_slice-2.ensures.value c.in_ok-fresh.ensures)
+    c.settle-end.ensures.end
+    (entries_written c.settle-end.result c.as_mut_slice.result.now c.self.inside.entries.items c.settle_entries.new.entries
+    c.self.inside.entries.len c.as_mut_slice.ensures.value c.as_mut_slice.ensures.len c.settle_entries.ensures)
     ∙ ap (λ (h : Holding). h.entries) c.self.view_is
+
+pub returns-clause-marks : goal.returns-clause-marks
+returns-clause-marks c =
+    marks_kept c.self.inside.stack.items c.settle-end.result c.self.inside.globals c.settle-end.new.self c.self.inside.entries.items _
+    c.settle-end.ensures.settled
+    (entries_written c.settle-end.result c.as_mut_slice.result.now c.self.inside.entries.items c.settle_entries.new.entries
+    c.self.inside.entries.len c.as_mut_slice.ensures.value c.as_mut_slice.ensures.len c.settle_entries.ensures)
+    ∙ ap (λ (h : Holding). h.marks) c.self.view_is

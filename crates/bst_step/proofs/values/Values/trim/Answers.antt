@@ -1,7 +1,6 @@
 -- What variables hold stays in the pool.
 use Rattle.std.proofs.Common.{◌∙◌, arith}
-use Rattle.bst_step.proofs.HeldSteps.{held_trimmed}
-use Rattle.bst_step.proofs.RenewSteps.{same_holding}
+use Rattle.bst_step.proofs.HeldSteps.{held_trimmed, same_holding}
 use Rattle.bst_step.proofs.values.Values.trim.Goals as goal
 
 pub invariant_of-self : goal.invariant_of-self

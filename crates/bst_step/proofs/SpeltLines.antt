@@ -1,0 +1,106 @@
+-- The lines of a page that are spelt behind a text.
+use Rattle.std.proofs.Common.{◌≡◌, ℕ, zero, suc, ◌+◌, ◌<◌, Bool, true, false, cond, if◌then◌else◌, List, [], ◌∷◌, ◌++◌, Option, None, Some, length, drop, get_or, map, ◌∙◌, refl, sym, ap, append-nil}
+use Rattle.std.specs.List.{flat_map}
+use Rattle.std.proofs.lemmas.List.{at_drop_more, flat_map_more}
+use Rattle.bst_meaning.specs.Config.{Event, Wrote, EndedLine}
+use Rattle.bst_meaning.specs.Lines.{Cut, Page, after_event, after_events, broken, cut_of, is_only_white, page_of, trimmed_end}
+use Rattle.bst_step.specs.State.{event_of}
+use Rattle.bst_step.specs.Lines.{Spelt, spelt}
+
+-- a line with its line end, and lines with theirs
+abbrev end_of : List ℕ → List ℕ
+end_of line = line ++ 10 ∷ []
+
+abbrev ends_of : List (List ℕ) → List ℕ
+ends_of lines = flat_map (λ line. line ++ 10 ∷ []) lines
+
+-- lines that were there before are spelt as a part of the text
+same_page : (text : List ℕ) (lines : List (List ℕ)) (buffer : List ℕ)
+    → spelt text (record { lines = lines; buffer = buffer }) ≡ spelt (text ++ ends_of lines) (record { lines = []; buffer = buffer })
+same_page text lines buffer =
+    ap (λ (t : List ℕ). record { text = t; buffer = buffer }) (sym (append-nil (text ++ ends_of lines)))
+
+-- no line adds nothing, and one line itself
+same_text : (text buffer : List ℕ) → spelt text (record { lines = []; buffer = buffer }) ≡ record { text = text; buffer = buffer }
+same_text text buffer = ap (λ (t : List ℕ). record { text = t; buffer = buffer }) (append-nil text)
+
+one_line : (text line : List ℕ) (page : Page) → spelt (text ++ ends_of (line ∷ [])) page ≡ spelt (text ++ end_of line) page
+one_line text line page = ap (λ (t : List ℕ). spelt (text ++ t) page) (append-nil (end_of line))
+
+-- the lines that a buffer finishes are spelt behind those before
+broken_behind : (n : ℕ) (text : List ℕ) (lines : List (List ℕ)) (buffer : List ℕ)
+    → spelt text (broken n lines buffer) ≡ spelt (text ++ ends_of lines) (broken n [] buffer)
+broken_behind zero text lines buffer = same_page text lines buffer
+broken_behind (suc n) text lines buffer = by (cut_of buffer) (λ text lines buffer. broken_behind n text lines buffer)
+  where
+    by : (o : Option Cut)
+        → ((text : List ℕ) (lines : List (List ℕ)) (buffer : List ℕ)
+        → spelt text (broken n lines buffer) ≡ spelt (text ++ ends_of lines) (broken n [] buffer))
+        → spelt text (page_of (broken n) lines buffer o) ≡ spelt (text ++ ends_of lines) (page_of (broken n) [] buffer o)
+    by None behind = same_page text lines buffer
+    by (Some cut) behind =
+        behind text (lines ++ cut.line ∷ []) cut.rest
+        ∙ ap (λ (t : List ℕ). spelt t (broken n [] cut.rest)) (sym (flat_map_more end_of text lines cut.line))
+        ∙ sym (one_line (text ++ ends_of lines) cut.line (broken n [] cut.rest))
+        ∙ sym (behind (text ++ ends_of lines) (cut.line ∷ []) cut.rest)
+
+-- a line that was finished is spelt behind the text
+pub line_behind : (n : ℕ) (text line buffer : List ℕ)
+    → spelt (text ++ end_of line) (broken n [] buffer) ≡ spelt text (broken n (line ∷ []) buffer)
+line_behind n text line buffer =
+    sym (one_line text line (broken n [] buffer)) ∙ sym (broken_behind n text (line ∷ []) buffer)
+
+-- what an event makes of a text and a buffer
+abbrev with_event : Spelt → Event → Spelt
+with_event s (Wrote bytes) = spelt s.text (broken (length (s.buffer ++ bytes)) [] (s.buffer ++ bytes))
+with_event s EndedLine = record { text = cond (is_only_white s.buffer) s.text (s.text ++ end_of (trimmed_end s.buffer)); buffer = [] }
+
+abbrev with_events : Spelt → List Event → Spelt
+with_events s [] = s
+with_events s (event ∷ events) = with_events (with_event s event) events
+
+event_spelt : (text : List ℕ) (page : Page) (event : Event) → spelt text (after_event page event) ≡ with_event (spelt text page) event
+event_spelt text page (Wrote bytes) = broken_behind (length (page.buffer ++ bytes)) text page.lines (page.buffer ++ bytes)
+event_spelt text page EndedLine = by (is_only_white page.buffer)
+  where
+    by : (t : Bool) → spelt text (record { lines = cond t page.lines (page.lines ++ trimmed_end page.buffer ∷ []); buffer = [] })
+        ≡ record { text = cond t (text ++ ends_of page.lines) ((text ++ ends_of page.lines) ++ end_of (trimmed_end page.buffer)); buffer = [] }
+    by true = refl
+    by false = ap (λ (t : List ℕ). record { text = t; buffer = [] }) (sym (flat_map_more end_of text page.lines (trimmed_end page.buffer)))
+
+events_spelt : (text : List ℕ) (events : List Event) (page : Page) → spelt text (after_events page events) ≡ with_events (spelt text page) events
+events_spelt text [] page = refl
+events_spelt text (event ∷ events) page =
+    events_spelt text events (after_event page event)
+    ∙ ap (λ (s : Spelt). with_events s events) (event_spelt text page event)
+
+-- what is spelt goes on with the events that are left
+pub goes_on : (at : ℕ) (events : List (Option (List ℕ))) (found : Option (List ℕ)) (text before : List ℕ) (page old : Page) (whole : Spelt)
+    → found ≡ get_or events at None → at < length events → spelt text page ≡ spelt before (after_event old (event_of found))
+    → spelt before (after_events old (map event_of (drop at events))) ≡ whole
+    → spelt text (after_events page (map event_of (drop (at + 1) events))) ≡ whole
+goes_on at events found text before page old whole found_is within is all =
+    let left : List Event = map event_of (drop (at + 1) events) in
+    events_spelt text left page
+    ∙ ap (λ (s : Spelt). with_events s left) is
+    ∙ sym (events_spelt before left (after_event old (event_of found)))
+    ∙ ap (λ (event : Option (List ℕ)). spelt before (after_events old (event_of event ∷ left))) found_is
+    ∙ sym (at_drop_more (λ (es : List (Option (List ℕ))). spelt before (after_events old (map event_of es))) events at None within)
+    ∙ all
+
+-- the last line of a buffer is spelt behind those before
+pub last_behind : (old text new left : List ℕ) (page : Page)
+    → record { text = text; buffer = left } ≡ spelt old page
+    → new ≡ (if is_only_white left then text else text ++ end_of (trimmed_end left))
+    → spelt new (record { lines = []; buffer = [] }) ≡ spelt old (after_event page EndedLine)
+last_behind old text new left page is last =
+    ap (λ (t : List ℕ). record { text = t; buffer = [] }) (append-nil new ∙ last)
+    ∙ ap (λ (s : Spelt). with_event s EndedLine) is
+    ∙ sym (event_spelt old page EndedLine)
+
+-- a buffer that isn't cut stays
+pub none_behind : (most : ℕ) (text buffer : List ℕ) (whole : Spelt) → cut_of buffer ≡ None → spelt text (broken most [] buffer) ≡ whole
+    → record { text = text; buffer = buffer } ≡ whole
+none_behind zero text buffer whole none is = sym (same_text text buffer) ∙ is
+none_behind (suc most) text buffer whole none is =
+    sym (same_text text buffer) ∙ ap (λ (o : Option Cut). spelt text (page_of (broken most) [] buffer o)) (sym none) ∙ is
