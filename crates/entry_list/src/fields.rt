@@ -200,7 +200,11 @@ struct Buffers<'a> {
 
 impl<'a> Buffers<'a> {
     /// No field and no value.
-    fn new(alloc: Global) -> Buffers<'a> {
+    fn new(alloc: Global) -> Buffers<'a>
+        ensures own { result.sources.own.items ≡ [] }
+        ensures lent { result.sources.lent.items ≡ [] }
+        ensures values { result.values.items ≡ [] }
+    {
         Buffers {
             sources: Sources::new(alloc),
             values: Vec::new(alloc),

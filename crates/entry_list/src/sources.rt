@@ -1,6 +1,6 @@
 //! The fields that an entry takes its values from.
 
-ghost use Rattle.std.specs.Prelude.{◌≡◌, if◌then◌else◌, None, codes, OnOk};
+ghost use Rattle.std.specs.Prelude.{◌≡◌, [], if◌then◌else◌, None, codes, OnOk};
 ghost use Rattle.std.specs.Option.{option_map};
 ghost use Rattle.bib_read.specs.Names.{text_of};
 ghost use Rattle.entry_list.specs.Sources as sources;
@@ -21,7 +21,10 @@ pub(crate) struct Sources<'a> {
 
 impl<'a> Sources<'a> {
     /// No field.
-    pub(crate) fn new(alloc: Global) -> Sources<'a> {
+    pub(crate) fn new(alloc: Global) -> Sources<'a>
+        ensures own { result.own.items ≡ [] }
+        ensures lent { result.lent.items ≡ [] }
+    {
         Sources {
             own: Vec::new(alloc),
             lent: Vec::new(alloc),
