@@ -3,6 +3,7 @@ use Rattle.std.proofs.Common.{◌≡◌, ℕ, suc, ◌+◌, ◌≤◌, refl, sym
 use Rattle.std.proofs.Math.Seq.{drop-append_seam, take-append_seam}
 use Rattle.std.proofs.lemmas.List.{append-nil, append_assoc, drop-drop, length-append, length-drop, length-take}
 use Rattle.std.proofs.lemmas.List.Sums.{sum_by-cons}
+use Rattle.std.specs.List.{flat_map, sum_by}
 use Rattle.name_table.specs.declared.names.NameId.{NameId}
 use Rattle.bst_meaning.specs.Config as config
 use Rattle.bst_meaning.specs.declared.value.Value.{Value}
@@ -99,27 +100,22 @@ bytes_counted pool (Missing name) within = refl
 bytes_counted pool (Func target) within = refl
 bytes_counted pool (Made start count) within = omega (arith, within, length-take count (drop start pool), length-drop start pool)
 
+-- where the bytes of an item and of those behind it are as many as is counted, all are
+both_counted : {A : Type 0} (bytes : A → List ℕ) (count : A → ℕ) (x : A) (xs : List A) → length (bytes x) ≡ count x
+    → length (flat_map bytes xs) ≡ sum_by count xs → length (flat_map bytes (x ∷ xs)) ≡ sum_by count (x ∷ xs)
+both_counted bytes count x xs first later = omega (arith, length-append (bytes x) (flat_map bytes xs), first, later, sum_by-cons count x xs)
+
 pub variables_counted : (pool : List ℕ) (vs : List Variable) → VariablesWithin (length pool) vs → length (variables_bytes pool vs) ≡ variables_count vs
 variables_counted pool [] within = refl
 variables_counted pool (v ∷ vs) within =
-    omega (
-      arith,
-      length-append (made_bytes pool v.value) (variables_bytes pool vs),
-      bytes_counted pool v.value within.0,
-      variables_counted pool vs within.1,
-      sum_by-cons (λ (w : Variable). made_count w.value) v vs,
-    )
+    both_counted (λ (w : Variable). made_bytes pool w.value) (λ (w : Variable). made_count w.value) v vs
+    (bytes_counted pool v.value within.0) (variables_counted pool vs within.1)
 
 pub entries_counted : (pool : List ℕ) (es : List EntryState) → EntriesWithin (length pool) es → length (entries_bytes pool es) ≡ entries_count es
 entries_counted pool [] within = refl
 entries_counted pool (e ∷ es) within =
-    omega (
-      arith,
-      length-append (variables_bytes pool e.variables) (entries_bytes pool es),
-      variables_counted pool e.variables within.0,
-      entries_counted pool es within.1,
-      sum_by-cons (λ (w : EntryState). variables_count w.variables) e es,
-    )
+    both_counted (λ (w : EntryState). variables_bytes pool w.variables) (λ (w : EntryState). variables_count w.variables) e es
+    (variables_counted pool e.variables within.0) (entries_counted pool es within.1)
 
 -- what stands behind the first bytes from a place on
 next_bytes : (fresh first rest back : List ℕ) (at n : ℕ) → length first ≡ n → drop at fresh ≡ (first ++ rest) ++ back → drop (at + n) fresh ≡ rest ++ back
@@ -187,7 +183,7 @@ rows_bytes : (pool : List ℕ) (kept : ℕ) (hs : List Held) (gs : List Variable
     → EntriesWithin (length pool) es
 rows_bytes pool kept hs gs es held = entries_later kept (length pool) held.in_front es held.in_entries
 
-pub settled_end : (pool fresh : List ℕ) (kept : ℕ) (hs : List Held) (gs : List Variable) (es : List EntryState) → IsHeld pool kept hs gs es
+settled_end : (pool fresh : List ℕ) (kept : ℕ) (hs : List Held) (gs : List Variable) (es : List EntryState) → IsHeld pool kept hs gs es
     → fresh ≡ variables_bytes pool gs ++ entries_bytes pool es → variables_count gs + entries_count es ≡ length fresh
 settled_end pool fresh kept hs gs es held is =
     omega (
@@ -197,6 +193,12 @@ settled_end pool fresh kept hs gs es held is =
       variables_counted pool gs (globals_bytes pool kept hs gs es held),
       entries_counted pool es (rows_bytes pool kept hs gs es held),
     )
+
+-- the same of bytes that were gathered from lent ones
+pub gathered_end : (pool lent fresh : List ℕ) (kept : ℕ) (hs : List Held) (gs : List Variable) (es rows : List EntryState) → IsHeld pool kept hs gs es
+    → lent ≡ pool → rows ≡ es → fresh ≡ variables_bytes lent gs ++ entries_bytes lent rows → variables_count gs + entries_count es ≡ length fresh
+gathered_end pool lent fresh kept hs gs es rows held same all is =
+    settled_end pool fresh kept hs gs es held (gathered_bytes pool lent fresh gs es rows same all is)
 
 pub held_settled : (pool fresh : List ℕ) (kept end at : ℕ) (hs : List Held) (gs later : List Variable) (es more : List EntryState)
     → IsHeld pool kept hs gs es → fresh ≡ variables_bytes pool gs ++ entries_bytes pool es → length hs ≤ 0 → end ≡ length fresh

@@ -3,7 +3,7 @@ use Rattle.std.proofs.Common.{◌∙◌, List, ap, arith, length}
 use Rattle.bst_step.specs.declared.entry_states.EntryState.{EntryState}
 use Rattle.bst_step.specs.Settled.{entries_count}
 use Rattle.bst_step.specs.Values.{Holding}
-use Rattle.bst_step.proofs.SettledSteps.{entries_written, gathered_bytes, globals_settled, held_settled, marks_kept, rows_settled, settled_end}
+use Rattle.bst_step.proofs.SettledSteps.{entries_written, gathered_bytes, gathered_end, globals_settled, held_settled, marks_kept, rows_settled}
 use Rattle.bst_step.proofs.values.Values.renew.Goals as goal
 
 pub settle-end-requires : goal.settle-end-requires
@@ -11,10 +11,9 @@ settle-end-requires c =
     omega (
       arith,
       ap length c.as_slice-3.ensures.value,
-      settled_end c.self.inside.pool.items c.in_ok-fresh.fresh.items c.self.inside.kept c.self.inside.stack.items c.self.inside.globals
-          c.self.inside.entries.items c.self.invariant
-          (gathered_bytes c.self.inside.pool.items c.as_slice.result.now c.in_ok-fresh.fresh.items c.self.inside.globals c.self.inside.entries.items
-          c.as_slice-2.result.now c.as_slice.ensures.value c.as_slice-2.ensures.value c.in_ok-fresh.ensures),
+      gathered_end c.self.inside.pool.items c.as_slice.result.now c.in_ok-fresh.fresh.items c.self.inside.kept c.self.inside.stack.items
+          c.self.inside.globals c.self.inside.entries.items c.as_slice-2.result.now c.self.invariant c.as_slice.ensures.value
+          c.as_slice-2.ensures.value c.in_ok-fresh.ensures,
     )
 
 pub settle_entries-requires : goal.settle_entries-requires
@@ -24,10 +23,9 @@ settle_entries-requires c =
       c.settle-end.ensures.end,
       ap (λ (es : List EntryState). entries_count es) c.as_mut_slice.ensures.value,
       ap length c.as_slice-3.ensures.value,
-      settled_end c.self.inside.pool.items c.in_ok-fresh.fresh.items c.self.inside.kept c.self.inside.stack.items c.self.inside.globals
-          c.self.inside.entries.items c.self.invariant
-          (gathered_bytes c.self.inside.pool.items c.as_slice.result.now c.in_ok-fresh.fresh.items c.self.inside.globals c.self.inside.entries.items
-          c.as_slice-2.result.now c.as_slice.ensures.value c.as_slice-2.ensures.value c.in_ok-fresh.ensures),
+      gathered_end c.self.inside.pool.items c.as_slice.result.now c.in_ok-fresh.fresh.items c.self.inside.kept c.self.inside.stack.items
+          c.self.inside.globals c.self.inside.entries.items c.as_slice-2.result.now c.self.invariant c.as_slice.ensures.value
+          c.as_slice-2.ensures.value c.in_ok-fresh.ensures,
     )
 
 pub invariant_of-self : goal.invariant_of-self
