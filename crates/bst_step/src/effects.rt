@@ -199,6 +199,7 @@ impl<'a> State<'a> {
     }
 
     /// Takes the top off, and gives it to a variable.
+    #[inline(always)]
     pub fn assign_top(&mut self, style: &Style, name: NameId)
         ensures moved { config_of self.new ≡ with_top_assigned (parts.kind_of style.now name) name self.old.values.stack (config_of self.old) }
         ensures marks { self.new.values.marks ≡ rules.given (parts.kind_of style.now name) name (visited_index (config_of self.old)) self.old.values.marks }

@@ -1,6 +1,6 @@
 //! The built-in functions on integers.
 
-ghost use Rattle.std.specs.Prelude.{◌≡◌, ◌≤◌, ◌+ℤ◌, ◌-ℤ◌, length, pos, drop};
+ghost use Rattle.std.specs.Prelude.{◌≡◌, ◌≤◌, ◌+ℤ◌, ◌-ℤ◌, Err, MatchResult, OnOk, length, pos, drop};
 ghost use Rattle.text_ops.specs.IntToStr.{numeral};
 ghost use Rattle.bst_meaning.specs.declared.value.Value.TheVariants.{Str};
 ghost use Rattle.bst_meaning.specs.Operands.{is_positive};
@@ -10,7 +10,9 @@ ghost use Rattle.bst_step.specs.Marks as mark;
 ghost use Rattle.bst_step.specs.Subjects.{Fits, Leaves, integer, integers, pushed, ranged, string, truth, two_operands};
 
 use crate::held::Operand;
-use crate::operands::{one_integer, one_string, top_integers, truth, two, two_integers};
+use crate::operands::{
+    one_integer, one_string, top_integers, top_strings, truth, two, two_integers,
+};
 use crate::stop::Stop;
 use crate::values::Values;
 use bst_meaning::fault::Fault;
@@ -23,17 +25,30 @@ pub fn equal(values: &mut Values<'_>) -> Result<(), Stop>
     ensures left { Leaves result values.old values.new (two_operands values.old.stack rule.equal) (mark.resulting 2 mark.NoString) }
     ensures fits { Fits result }
 {
-    if let Some((a, b)) = top_integers(values) {
-        values.put(2, truth(a == b));
-        return Ok(());
-    }
-    let holds = match two(values)? {
-        (Operand::Int(a), Operand::Int(b)) => a == b,
-        (Operand::Str(a), Operand::Str(b)) => a == b,
-        _ => return Err(Stop::Fault(Fault::WrongKind)),
-    };
+    let holds = are_equal(values)?;
     values.put(2, truth(holds));
     Ok(())
+}
+
+/// Whether the two topmost values, two integers or two strings, are equal.
+#[inline(always)]
+fn are_equal(values: &Values<'_>) -> Result<bool, Fault>
+    ensures enough { OnOk result (2 ≤ length values.now.stack) }
+    ensures taken { MatchResult result
+        (λ holds. two_operands values.now.stack rule.equal ≡ pushed (truth holds) (drop 2 values.now.stack))
+        (λ fault. two_operands values.now.stack rule.equal ≡ Err fault) }
+{
+    if let Some((a, b)) = top_integers(values) {
+        return Ok(a == b);
+    }
+    if let Some((a, b)) = top_strings(values) {
+        return Ok(a == b);
+    }
+    match two(values)? {
+        (Operand::Int(a), Operand::Int(b)) => Ok(a == b),
+        (Operand::Str(a), Operand::Str(b)) => Ok(a == b),
+        _ => Err(Fault::WrongKind),
+    }
 }
 
 /// `>`

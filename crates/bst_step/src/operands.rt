@@ -132,6 +132,17 @@ pub fn two_integers(values: &Values<'_>) -> Result<(i32, i32), Fault>
     }
 }
 
+/// The two topmost values, the lower one first, where both are strings. They are told without a look at other kinds.
+#[inline(always)]
+pub fn top_strings<'b>(values: &'b Values<'_>) -> Option<(&'b [u8], &'b [u8])>
+    ensures { IfSome result (λ p. values.now.stack ≡ Str p.1.now ∷ Str p.0.now ∷ drop 2 values.now.stack) }
+{
+    match (values.string_below(1), values.string_below(0)) {
+        (Some(a), Some(b)) => Some((a, b)),
+        _ => None,
+    }
+}
+
 /// Two strings, the lower one first.
 #[inline(always)]
 pub fn two_strings<'b>(values: &'b Values<'_>) -> Result<(&'b [u8], &'b [u8]), Fault>
@@ -141,6 +152,9 @@ pub fn two_strings<'b>(values: &'b Values<'_>) -> Result<(&'b [u8], &'b [u8]), F
         (λ p. (rule : List ℕ → List ℕ → List Value → Result Effect Fault) → strings rule values.now.stack ≡ rule p.0.now p.1.now (drop 2 values.now.stack))
         (λ fault. (rule : List ℕ → List ℕ → List Value → Result Effect Fault) → strings rule values.now.stack ≡ Err fault) }
 {
+    if let Some(both) = top_strings(values) {
+        return Ok(both);
+    }
     match two(values)? {
         (Operand::Str(a), Operand::Str(b)) => Ok((a, b)),
         _ => Err(Fault::WrongKind),

@@ -112,6 +112,7 @@ impl<'a> Values<'a> {
     }
 
     /// The top. `None` comes exactly where the stack is empty.
+    #[inline(always)]
     pub fn top(&self) -> Option<Operand<'_>>
         ensures { MatchOption result (self.now.stack ≡ []) (λ a. self.now.stack ≡ value_of a ∷ drop 1 self.now.stack) }
     {
@@ -139,6 +140,17 @@ impl<'a> Values<'a> {
     {
         match self.below(depth) {
             Some(Operand::Int(n)) => Some(n),
+            _ => None,
+        }
+    }
+
+    /// The bytes of the string so far below the top. Nothing else is looked at.
+    #[inline(always)]
+    pub fn string_below(&self, depth: usize) -> Option<&[u8]>
+        ensures { IfSome result (λ bytes. slice_get self.now.stack depth ≡ Some (Str bytes.now)) }
+    {
+        match self.below(depth) {
+            Some(Operand::Str(bytes)) => Some(bytes),
             _ => None,
         }
     }
@@ -359,6 +371,7 @@ impl<'a> Values<'a> {
     }
 
     /// Takes the top off, and gives it to a variable of the whole style.
+    #[inline(always)]
     pub fn give_globally(&mut self, name: NameId)
         ensures stack { self.new.stack ≡ drop 1 self.old.stack }
         ensures globals { self.new.globals ≡ given_globally name self.old.stack self.old.globals }
