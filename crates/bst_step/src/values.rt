@@ -22,7 +22,7 @@ use crate::stack::Stack;
 use crate::variables::{Variable, Variables};
 use bst_meaning::entry::Entry;
 use bv_base::memory::NoMemory;
-use name_format::known_pattern::KnownPattern;
+use name_format::known_patterns::KnownPatterns;
 use name_table::names::NameId;
 use std::alloc::Global;
 use std::marker::Model;
@@ -45,8 +45,8 @@ pub struct Values<'a> {
     stack: Stack<Held<'a>>,
     globals: Variables<'a>,
     entries: Vec<EntryState<'a>>,
-    /// The pattern by which a name was written last.
-    known: KnownPattern,
+    /// The patterns by which names were written.
+    known: KnownPatterns,
 }
 
 impl<'a> Model for Values<'a> {
@@ -77,20 +77,20 @@ impl<'a> Values<'a> {
             stack: Stack::new(alloc),
             globals,
             entries,
-            known: KnownPattern::new(alloc),
+            known: KnownPatterns::new(alloc),
         }
     }
 
-    /// Takes the pattern out by which a name was written last.
-    pub fn take_known(&mut self) -> KnownPattern
+    /// Takes the patterns out by which names were written.
+    pub fn take_known(&mut self) -> KnownPatterns
         ensures { self.new ≡ self.old }
     {
-        let none = KnownPattern::new(*self.pool.allocator());
+        let none = KnownPatterns::new(*self.pool.allocator());
         std::mem::replace(&mut self.known, none)
     }
 
-    /// Keeps the pattern by which a name was written last.
-    pub fn keep_known(&mut self, known: KnownPattern)
+    /// Keeps the patterns by which names were written.
+    pub fn keep_known(&mut self, known: KnownPatterns)
         ensures { self.new ≡ self.old }
     {
         self.known = known;

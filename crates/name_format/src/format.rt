@@ -8,7 +8,7 @@ ghost use Rattle.name_split.specs.Names.{names_of};
 ghost use Rattle.name_split.specs.Spans.{slice};
 ghost use Rattle.name_split.specs.declared.spans.Span.{Span};
 
-use crate::known_pattern::KnownPattern;
+use crate::known_patterns::KnownPatterns;
 use crate::pattern::pattern_written;
 use bv_base::memory::NoMemory;
 use name_split::names::names;
@@ -29,10 +29,10 @@ pub enum FormatFault {
 }
 
 /// The name of a text with a number, counted from 1, by a pattern. A byte outside the pattern's groups stands for
-/// itself, and a group for its text, or for a part of the name. The pattern that was asked for last is known to be well formed.
+/// itself, and a group for its text, or for a part of the name. A pattern that is known isn't looked through again.
 pub fn format(
     alloc: Global,
-    known: &mut KnownPattern,
+    known: &mut KnownPatterns,
     text: &[u8],
     index: i32,
     pattern: &[u8],

@@ -4,7 +4,7 @@
 pub mod format;
 mod group;
 mod initial;
-pub mod known_pattern;
+pub mod known_patterns;
 mod pattern;
 mod tie;
 mod tokens;
