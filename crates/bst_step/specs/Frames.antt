@@ -1,8 +1,11 @@
 -- The frames as the machine holds them, the innermost one apart, and its step once it has moved on (docs/MACHINE.md, "How it is run").
-use Rattle.std.specs.Prelude.{Bool, true, false, List, [], ◌∷◌, if◌then◌else◌}
+use Rattle.std.specs.Prelude.{◌≡◌, ◌++◌, Bool, true, false, List, [], ◌∷◌, Option, None, Some, is_some, if◌then◌else◌}
+use Rattle.bv_base.specs.declared.place.Place.{Place}
+use Rattle.name_table.specs.declared.names.NameId.{NameId}
 use Rattle.name_table.specs.declared.style.Style.{Style}
 use Rattle.name_table.specs.declared.style.Token.TheVariants.{Call as CallToken}
 use Rattle.name_table.specs.declared.style.TokenAt.{TokenAt}
+use Rattle.name_table.specs.Sound.{Each}
 use Rattle.bst_meaning.specs.Config as config
 use Rattle.bst_meaning.specs.Config.{Config}
 use Rattle.bst_meaning.specs.Machine.{outer_step, return_step, token_step}
@@ -32,14 +35,28 @@ part_of Whole = config.Whole
 part_of (Testing test body) = config.Testing test body
 part_of (Turning test body) = config.Turning test body
 
--- the tokens left
+-- the tokens of what is entered
 abbrev pub tokens_left : Rest → List TokenAt
 tokens_left (Call name place) = record { token = CallToken name; place = place } ∷ []
 tokens_left (Tokens tokens) = tokens.now
 
+-- the call that is left, as a token
+abbrev pub call_left : Option (NameId × Place) → List TokenAt
+call_left (Some call) = record { token = CallToken call.0; place = call.1 } ∷ []
+call_left None = []
+
 -- a frame
 abbrev pub frame_of : Frame → config.Frame
-frame_of f = record { tokens = tokens_left f.rest; place = f.place; part = part_of f.part }
+frame_of f = record { tokens = f.tokens.now ++ call_left f.call; place = f.place; part = part_of f.part }
+
+-- where a frame has a call left, it has no other token
+abbrev pub StandsAlone : Frame → Type 0
+StandsAlone f = is_some f.call ≡ true → f.tokens.now ≡ []
+
+-- a call that is left stands alone, and where no frame is entered, no token and no frame is kept
+abbrev pub AreKept : Bool → Frame → List Frame → Type 0
+AreKept entered innermost outer =
+    StandsAlone innermost × Each StandsAlone outer × (entered ≡ false → (innermost.tokens.now ≡ []) × (outer ≡ []))
 
 -- what is left of a step, where the innermost frame has lost its first token, or is gone since it had none
 abbrev pub with_next : Style → Next → Config → Config

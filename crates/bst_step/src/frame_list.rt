@@ -1,17 +1,17 @@
 //! The frames that are entered, the innermost one apart from the others.
 
-ghost use Rattle.std.specs.Prelude.{◌≡◌, ◌+◌, ◌≤◌, ◌∷◌, [], drop, map, IsOk, OnErr, OnOk};
+ghost use Rattle.std.specs.Prelude.{◌≡◌, ◌+◌, ◌≤◌, ◌∷◌, [], drop, false, map, IsOk, OnErr, OnOk};
 ghost use Rattle.name_table.specs.declared.style.Style.{Style};
 ghost use Rattle.bst_meaning.specs.Config.{Config};
 ghost use Rattle.bst_meaning.specs.Machine as rule;
 ghost use Rattle.bst_step.specs.AtOnce.{AreAhead, with_tokens};
-ghost use Rattle.bst_step.specs.Frames.{has_none, marks_after_next, next_takes_room, with_next, frame_of};
+ghost use Rattle.bst_step.specs.Frames.{has_none, marks_after_next, next_takes_room, with_next, frame_of, StandsAlone};
 ghost use Rattle.bst_step.specs.MarkRules as rules;
 ghost use Rattle.bst_step.specs.Marks.{Marks};
 ghost use Rattle.bst_step.specs.Room.{frames_take_room};
 
 use crate::stack::Stack;
-use crate::state::{Frame, Part, Rest};
+use crate::state::{Frame, Part};
 use bv_base::memory::NoMemory;
 use bv_base::place::Place;
 use name_table::style::{Token, TokenAt};
@@ -34,15 +34,15 @@ pub enum Next {
 pub struct Frames<'a> {
     /// The innermost frame, where one is entered. It moves on here, so that a token costs no push and no pop.
     innermost: Frame<'a>,
-    /// Whether a frame is entered.
+    /// Whether a frame is entered. Where none is, no token is left in `innermost`, so that a step looks here only once it has
+    /// found none.
     entered: bool,
     /// Those to which it returns.
     outer: Stack<Frame<'a>>,
 }
 
 impl<'a> Model for Frames<'a> {
-    ghost use Rattle.std.specs.Prelude.{◌≡◌, false, []};
-    ghost use Rattle.bst_step.specs.Frames.{frames_in};
+    ghost use Rattle.bst_step.specs.Frames.{frames_in, AreKept};
     ghost use Rattle.bst_step.specs.Stack.{Pile};
     ghost use Rattle.bst_step.specs.declared.state.Frame.{Frame};
 
@@ -50,7 +50,7 @@ impl<'a> Model for Frames<'a> {
 
     ghost view = { λ f. record { items = frames_in f.entered f.innermost f.outer.items; room = f.outer.room } };
 
-    ghost invariant = { λ f. f.entered ≡ false → f.outer.items ≡ [] };
+    ghost invariant = { λ f. AreKept f.entered f.innermost f.outer.items };
 }
 
 impl<'a> Frames<'a> {
@@ -82,9 +82,11 @@ impl<'a> Frames<'a> {
         self.outer.reserve(count)
     }
 
-    /// Enters a frame. It is refused only where there is no room, and then nothing changes.
+    /// Enters a frame, in which a call has no token beside it. It is refused only where there is no room, and then nothing
+    /// changes.
     #[inline(always)]
     pub fn push(&mut self, frame: Frame<'a>) -> Result<(), NoMemory>
+        requires { StandsAlone frame }
         ensures moved { OnOk result (self.new.items ≡ frame.entry ∷ self.old.items) }
         ensures refused { OnErr result (self.new ≡ self.old) }
         ensures fits { 1 ≤ self.old.room → IsOk result }
@@ -109,22 +111,22 @@ impl<'a> Frames<'a> {
             frames_take_room style (map frame_of self.old.items) (record c { frames = map frame_of self.old.items }) }
         ensures room { self.old.room ≤ self.new.room }
     {
+        if let [first, tokens @ ..] = self.innermost.tokens {
+            self.innermost.tokens = tokens;
+            return Next::Token(first.token, first.place);
+        }
         if !self.entered {
             return Next::Outer;
         }
-        match self.innermost.rest {
-            Rest::Tokens([first, tokens @ ..]) => {
-                self.innermost.rest = Rest::Tokens(tokens);
-                Next::Token(first.token, first.place)
+        match self.innermost.call {
+            Some((name, at)) => {
+                self.innermost.call = None;
+                Next::Token(Token::Call(name), at)
             }
-            Rest::Tokens([]) => {
+            None => {
                 let Frame { place, part, .. } = self.innermost;
                 self.leave();
                 Next::Return(part, place)
-            }
-            Rest::Call(name, at) => {
-                self.innermost.rest = Rest::Tokens(&[]);
-                Next::Token(Token::Call(name), at)
             }
         }
     }
@@ -134,22 +136,18 @@ impl<'a> Frames<'a> {
     pub fn tokens(&self) -> &'a [TokenAt]
         ensures { AreAhead result.now (map frame_of self.now.items) }
     {
-        if !self.entered {
-            return &[];
-        }
-        match self.innermost.rest {
-            Rest::Tokens(tokens) => tokens,
-            Rest::Call(_, _) => &[],
-        }
+        self.innermost.tokens
     }
 
-    /// Leaves these tokens to the innermost frame.
+    /// Leaves these tokens to the innermost frame, where one is entered.
     #[inline(always)]
     pub fn go_to(&mut self, tokens: &'a [TokenAt])
+        requires { has_none self.old.items ≡ false }
         ensures moved { map frame_of self.new.items ≡ with_tokens tokens.now (map frame_of self.old.items) }
         ensures room { self.new.room ≡ self.old.room }
     {
-        self.innermost.rest = Rest::Tokens(tokens);
+        self.innermost.tokens = tokens;
+        self.innermost.call = None;
     }
 
     /// Leaves the innermost frame, where one is entered.
@@ -163,7 +161,10 @@ impl<'a> Frames<'a> {
                 self.innermost = frame;
                 self.outer.drop_top(1);
             }
-            None => self.entered = false,
+            None => {
+                self.innermost.tokens = &[];
+                self.entered = false;
+            }
         }
     }
 }

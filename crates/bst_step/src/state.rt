@@ -35,7 +35,7 @@ pub enum Part {
     Turning(Target, Target),
 }
 
-/// What is left of a body that was entered: a name to call at a place, or the rest of a slice of the style.
+/// What is entered: a name to call at a place, or a slice of the style.
 #[derive(Clone, Copy)]
 pub enum Rest<'a> {
     Call(NameId, Place),
@@ -45,7 +45,10 @@ pub enum Rest<'a> {
 /// What is left of a body, and where it was entered.
 #[derive(Clone, Copy)]
 pub struct Frame<'a> {
-    pub rest: Rest<'a>,
+    /// The rest of a slice of the style.
+    pub tokens: &'a [TokenAt],
+    /// The name that is left to call, and where. No token is left beside it.
+    pub call: Option<(NameId, Place)>,
     pub place: Place,
     pub part: Part,
 }
@@ -91,9 +94,12 @@ pub struct State<'a> {
 }
 
 impl<'a> Default for Frame<'a> {
-    fn default() -> Frame<'a> {
+    fn default() -> Frame<'a>
+        ensures { result.tokens.now ≡ [] }
+    {
         Frame {
-            rest: Rest::Tokens(&[]),
+            tokens: &[],
+            call: None,
             place: Place::START,
             part: Part::Whole,
         }
@@ -203,7 +209,21 @@ impl<'a> State<'a> {
         ensures fits { 1 ≤ self.old.frames.room → IsOk result }
         ensures room { LeavesRoom 1 self.old self.new }
     {
-        self.frames.push(Frame { rest, place, part })
+        let frame = match rest {
+            Rest::Call(name, at) => Frame {
+                tokens: &[],
+                call: Some((name, at)),
+                place,
+                part,
+            },
+            Rest::Tokens(tokens) => Frame {
+                tokens,
+                call: None,
+                place,
+                part,
+            },
+        };
+        self.frames.push(frame)
     }
 }
 
