@@ -66,6 +66,7 @@ impl<'a> Variables<'a> {
     }
 
     /// Gives the variable of this name, where there is one, its new value.
+    #[inline(always)]
     pub fn set(&mut self, new: Variable<'a>)
         ensures { self.new ≡ with_held new.entry self.old }
     {
