@@ -11,6 +11,7 @@ use crate::state::State;
 use crate::stop::Stop;
 use bst_meaning::fault::Fault;
 use name_table::builtin::Builtin;
+use name_table::names::NameId;
 use name_table::style::TypeTarget;
 
 impl<'a> State<'a> {
@@ -36,9 +37,10 @@ impl<'a> State<'a> {
         ensures fits { 1 ≤ self.old.values.room → Fits result }
         ensures entries { OnErr result (self.new.values.entries ≡ self.old.values.entries) }
     {
-        match self.visited_entry() {
-            Some(entry) => {
-                let name = defined_type(style, entry.entry_type.as_slice());
+        match self.visited_placed() {
+            Some(placed) => {
+                let entry_type = placed.entry().entry_type.as_slice();
+                let name = defined_type(style, placed.type_id(), entry_type);
                 self.push_lent(Operand::Str(name))
             }
             None => Err(Stop::Fault(Fault::NoEntry)),
@@ -47,10 +49,10 @@ impl<'a> State<'a> {
 }
 
 /// The type, where the style defines it, and else no bytes.
-fn defined_type<'a>(style: &PreparedStyle<'_>, entry_type: &'a [u8]) -> &'a [u8]
+fn defined_type<'a>(style: &PreparedStyle<'_>, id: Option<NameId>, entry_type: &'a [u8]) -> &'a [u8]
     ensures { result.now ≡ type_name style.now entry_type.now }
 {
-    match style.type_target(entry_type) {
+    match style.type_target_by(id, entry_type) {
         TypeTarget::Function(_) => entry_type,
         _ => &[],
     }

@@ -18,6 +18,8 @@ pub struct PlacedEntry<'a> {
     entry: &'a Entry,
     /// By the id of its name, the place of each field, where the entry's fields stand so. All entries share this table.
     places: Option<Rc<Vec<usize>>>,
+    /// The id of the name that its type is, where the style has one when the run opens; a hint, which is tested where it is used.
+    type_id: Option<NameId>,
 }
 
 impl<'a> Model for PlacedEntry<'a> {
@@ -34,7 +36,11 @@ impl<'a> Model for PlacedEntry<'a> {
 
 impl<'a> PlacedEntry<'a> {
     /// An entry, with a table of places where its fields stand so.
-    pub fn new(places: &Rc<Vec<usize>>, entry: &'a Entry) -> Result<PlacedEntry<'a>, NoMemory>
+    pub fn new(
+        places: &Rc<Vec<usize>>,
+        entry: &'a Entry,
+        type_id: Option<NameId>,
+    ) -> Result<PlacedEntry<'a>, NoMemory>
         ensures { IfOk result (λ placed. placed ≡ entry.now) }
     {
         if stand(places.as_slice(), entry.fields.names()) {
@@ -42,11 +48,13 @@ impl<'a> PlacedEntry<'a> {
             return Ok(PlacedEntry {
                 entry,
                 places: Some(places),
+                type_id,
             });
         }
         Ok(PlacedEntry {
             entry,
             places: None,
+            type_id,
         })
     }
 
@@ -55,6 +63,11 @@ impl<'a> PlacedEntry<'a> {
         ensures { result.now ≡ self.now }
     {
         self.entry
+    }
+
+    /// The id that was given for its type, which is tested where it is used.
+    pub fn type_id(&self) -> Option<NameId> {
+        self.type_id
     }
 
     /// The value of a field: its bytes, or that the entry doesn't have it.

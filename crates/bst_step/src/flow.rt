@@ -55,10 +55,11 @@ impl<'a> State<'a> {
             (built_in Builtin.CallType (context_of style.now (config_of self.old)) self.old.values.stack) (λ m. m) }
         ensures entries { OnErr result (self.new.values.entries ≡ self.old.values.entries) }
     {
-        let Some(entry) = self.visited_entry() else {
+        let Some(placed) = self.visited_placed() else {
             return Err(Stop::Fault(Fault::NoEntry));
         };
-        let name = match style.type_target(entry.entry_type.as_slice()) {
+        let entry_type = placed.entry().entry_type.as_slice();
+        let name = match style.type_target_by(placed.type_id(), entry_type) {
             TypeTarget::Function(name) => name,
             TypeTarget::Default(name) => name,
             TypeTarget::Skip => SKIP,

@@ -49,7 +49,7 @@ pub fn opening<'a>(
     let own = variables(alloc, Owner::Entry, &style.names)?;
     let places = field_places(alloc, &style.names)?;
     let globals = variables(alloc, Owner::Style, &style.names)?;
-    let entries = entry_states(alloc, &places, &own, list.entries.as_slice())?;
+    let entries = entry_states(alloc, &style.names, &places, &own, list.entries.as_slice())?;
     Ok(State {
         alloc,
         preamble: list.preamble.as_slice(),
@@ -156,9 +156,10 @@ fn count_of_fields(kind: Kind) -> usize
     }
 }
 
-/// The entries, each with its variables and its position.
+/// The entries, each with its variables, its position and the id of its type's name.
 fn entry_states<'a>(
     alloc: Global,
+    names: &Names,
     places: &Rc<Vec<usize>>,
     variables: &Variables<'a>,
     entries: &'a [Entry],
@@ -173,7 +174,8 @@ fn entry_states<'a>(
     for entry in entries {
         let position = states.as_slice().len() as u64;
         let variables = variables.copied(alloc)?;
-        let entry = PlacedEntry::new(places, entry)?;
+        let type_id = names.find(entry.entry_type.as_slice());
+        let entry = PlacedEntry::new(places, entry, type_id)?;
         states.push(EntryState {
             entry,
             variables,

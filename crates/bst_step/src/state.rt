@@ -9,6 +9,7 @@ ghost use Rattle.bst_step.specs.State.{config_of, visit_in, LeavesRoom};
 ghost use Rattle.bst_step.specs.Frames.{part_of, tokens_left};
 ghost use Rattle.bst_step.specs.Surroundings.{context_in};
 
+use crate::fields::PlacedEntry;
 use crate::frame_list::Frames;
 use crate::held::Operand;
 use crate::surroundings::Surroundings;
@@ -122,6 +123,16 @@ impl<'a> State<'a> {
 
     /// The visited entry.
     pub fn visited_entry(&self) -> Option<&'a Entry>
+        ensures { option_map (λ e. e.now) result ≡ option_map (λ e. e.entry) (rule.visited_entry (config_of self.now)) }
+    {
+        match self.visited_placed() {
+            Some(placed) => Some(placed.entry()),
+            None => None,
+        }
+    }
+
+    /// The visited entry, with the places of its fields and the hint to its type.
+    pub fn visited_placed(&self) -> Option<&PlacedEntry<'a>>
         ensures { option_map (λ e. e.now) result ≡ option_map (λ e. e.entry) (rule.visited_entry (config_of self.now)) }
     {
         match self.visited_index() {

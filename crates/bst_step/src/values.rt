@@ -16,11 +16,11 @@ ghost use Rattle.bst_step.specs.Values.{cut, given_globally, given_in_entry, joi
 ghost use Rattle.bst_step.specs.Variables.{VariablesWithin, held_at, variable_in};
 
 use crate::entry_states::{EntryState, gather_entries, key_in, set_in_entry, settle_entries};
+use crate::fields::PlacedEntry;
 use crate::held::{Held, Operand, joined_in, made_in};
 use crate::order::sort_entries;
 use crate::stack::Stack;
 use crate::variables::{Variable, Variables};
-use bst_meaning::entry::Entry;
 use bv_base::memory::NoMemory;
 use name_format::known_patterns::KnownPatterns;
 use name_table::names::NameId;
@@ -409,11 +409,11 @@ impl<'a> Values<'a> {
     }
 
     /// The entry at a place.
-    pub fn entry(&self, at: usize) -> Option<&'a Entry>
+    pub fn entry(&self, at: usize) -> Option<&PlacedEntry<'a>>
         ensures { option_map (λ e. e.now) result ≡ option_map (λ e. e.entry) (slice_get self.now.entries at) }
     {
         match self.entries.as_slice().get(at) {
-            Some(state) => Some(state.entry.entry()),
+            Some(state) => Some(&state.entry),
             None => None,
         }
     }

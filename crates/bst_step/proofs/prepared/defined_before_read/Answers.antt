@@ -18,7 +18,7 @@ loop-at-preserved-then-read c =
           ∙ read_before (is_read first.command) (has_read (drop c.loop-at.at commands)) (sym c.loop-at.invariant.read ∙ c.if-read.true)
           ∙ ap (λ (l : List CommandAt). has_read l) (sym earlier);
       defined =
-          subst (λ (l : List CommandAt). AreDefined c.note.new.table.items l) (sym earlier)
+          subst (λ (l : List CommandAt). AreDefined c.note.new.table.items c.args.style.now.names l) (sym earlier)
           (c.note.ensures.noted (drop c.loop-at.at commands) first.place (sym c.loop-at.invariant.read ∙ c.if-read.true) c.loop-at.invariant.defined);
       all = c.note.ensures.length ∙ c.loop-at.invariant.all;
       within = omega (arith, c.loop-at.invariant.within);
@@ -37,8 +37,8 @@ loop-at-preserved c =
           ∙ read_here (is_read first.command) (has_read (drop c.loop-at.at commands)) (sym c.loop-at.invariant.read ∙ c.if-read.false)
           ∙ ap (λ (l : List CommandAt). has_read l) (sym earlier);
       defined =
-          subst (λ (l : List CommandAt). AreDefined c.loop-at.table.items l) (sym earlier)
-          (nothing_noted c.loop-at.table.items first (drop c.loop-at.at commands) (sym c.loop-at.invariant.read ∙ c.if-read.false) c.loop-at.invariant.defined);
+          subst (λ (l : List CommandAt). AreDefined c.loop-at.table.items c.args.style.now.names l) (sym earlier)
+          (nothing_noted c.loop-at.table.items c.args.style.now.names first (drop c.loop-at.at commands) (sym c.loop-at.invariant.read ∙ c.if-read.false) c.loop-at.invariant.defined);
       all = c.loop-at.invariant.all;
       within = omega (arith, c.loop-at.invariant.within);
       commands = c.loop-at.invariant.commands;

@@ -7,7 +7,7 @@ use Rattle.bst_step.proofs.prepared.defined_before_read.Given as goal
 abbrev pub invariant-loop-at : goal.invariant-loop-at
 invariant-loop-at l = record {
   read : l.read ≡ has_read (drop l.at l.commands);
-  defined : AreDefined l.table.items (drop l.at l.commands);
+  defined : AreDefined l.table.items l.style.names (drop l.at l.commands);
   all : length l.table.items ≡ length l.style.names;
   within : l.at ≤ length l.commands;
   commands : l.commands ≡ l.style.commands;

@@ -1,12 +1,10 @@
 -- The entry is that of the state at the place.
-use Rattle.std.proofs.Common.{◌∙◌, Some, ap}
 use Rattle.bst_step.proofs.ViewSteps.{none_seen, read_seen}
 use Rattle.bst_step.proofs.values.Values.entry.Goals as goal
 
 pub returns-in-Some : goal.returns-in-Some
 returns-in-Some c =
-    ap Some c.entry.ensures
-    ∙ read_seen _ _ _ _ _ _ _ c.args.at c.in-Some.state.now (λ e. e.entry) c.self.view_is c.as_slice.ensures.value c.in-Some.ensures.lookup.3.0
+    read_seen _ _ _ _ _ _ _ c.args.at c.in-Some.state.now (λ e. e.entry) c.self.view_is c.as_slice.ensures.value c.in-Some.ensures.lookup.3.0
     c.in-Some.ensures.lookup.1
 
 pub returns-in-None : goal.returns-in-None
