@@ -4,6 +4,7 @@ ghost use Rattle.std.specs.Prelude.{◌≡◌, drop, take};
 ghost use Rattle.bv_base.specs.Bytes as bytes;
 
 /// Whether a byte is white space: byte 9, 10, 13 or 32.
+#[inline(always)]
 pub fn is_white(b: u8) -> bool
     ensures { result ≡ bytes.is_white b }
 {
@@ -11,6 +12,7 @@ pub fn is_white(b: u8) -> bool
 }
 
 /// Whether a byte may stand in a declared name: 33 to 126 without `" # % ' ( ) , = { }`, and 128 to 255.
+#[inline(always)]
 pub fn is_name_byte(b: u8) -> bool
     ensures { result ≡ bytes.is_name_byte b }
 {

@@ -7,6 +7,7 @@ ghost use Rattle.bv_base.specs.Levels as levels;
 use crate::bytes::is_white;
 
 /// The level directly after a byte of this level.
+#[inline(always)]
 pub fn next_level(level: usize, b: u8) -> usize
     requires { level < usize.MAX }
     ensures next { result ≡ levels.next_level level b }
@@ -20,6 +21,7 @@ pub fn next_level(level: usize, b: u8) -> usize
 }
 
 /// Whether a special character begins with the first byte of the text, which has this level.
+#[inline(always)]
 pub fn begins_special(level: usize, text: &[u8]) -> bool
     ensures { result ≡ levels.begins_special level text.now }
 {

@@ -101,6 +101,7 @@ fn read_into<'a>(found: &mut Vec<RawField<'a>>, fields: &'a RawFields) -> Result
 }
 
 /// The value of the first field of this name.
+#[inline(always)]
 fn text_in<'a>(fields: &[RawField<'a>], name: &[u8]) -> Option<&'a [u8]>
     ensures { option_map (λ text. text.now) result ≡ text_of name.now fields.now }
 {
