@@ -15,7 +15,7 @@ use crate::stop::Stop;
 use crate::values::Values;
 use bst_meaning::fault::Fault;
 use name_format::format::{FormatFault, format};
-use name_format::known_patterns::KnownPatterns;
+use name_format::known::Known;
 use std::alloc::Global;
 
 /// `num.names$`
@@ -44,7 +44,7 @@ pub fn format_name(alloc: Global, values: &mut Values<'_>) -> Result<(), Stop>
 }
 
 /// The name that `format.name$` writes.
-fn formatted(alloc: Global, known: &mut KnownPatterns, values: &Values<'_>) -> Result<Vec<u8>, Stop>
+fn formatted(alloc: Global, known: &mut Known, values: &Values<'_>) -> Result<Vec<u8>, Stop>
     ensures enough { OnOk result (3 ≤ length values.now.stack) }
     ensures written { IfOk result (λ name. rule.format_name values.now.stack ≡ pushed (Str name.items) (drop 3 values.now.stack)) }
     ensures fault { IfErr result (λ stop. IsStopOf stop (rule.format_name values.now.stack)) }

@@ -22,7 +22,7 @@ use crate::order::sort_entries;
 use crate::stack::Stack;
 use crate::variables::{Variable, Variables};
 use bv_base::memory::NoMemory;
-use name_format::known_patterns::KnownPatterns;
+use name_format::known::Known;
 use name_table::names::NameId;
 use std::alloc::Global;
 use std::marker::Model;
@@ -46,7 +46,7 @@ pub struct Values<'a> {
     globals: Variables<'a>,
     entries: Vec<EntryState<'a>>,
     /// The patterns by which names were written.
-    known: KnownPatterns,
+    known: Known,
 }
 
 impl<'a> Model for Values<'a> {
@@ -77,20 +77,20 @@ impl<'a> Values<'a> {
             stack: Stack::new(alloc),
             globals,
             entries,
-            known: KnownPatterns::new(alloc),
+            known: Known::new(alloc),
         }
     }
 
     /// Takes the patterns out by which names were written.
-    pub fn take_known(&mut self) -> KnownPatterns
+    pub fn take_known(&mut self) -> Known
         ensures { self.new ≡ self.old }
     {
-        let none = KnownPatterns::new(*self.pool.allocator());
+        let none = Known::new(*self.pool.allocator());
         std::mem::replace(&mut self.known, none)
     }
 
     /// Keeps the patterns by which names were written.
-    pub fn keep_known(&mut self, known: KnownPatterns)
+    pub fn keep_known(&mut self, known: Known)
         ensures { self.new ≡ self.old }
     {
         self.known = known;

@@ -8,11 +8,13 @@ ghost use Rattle.name_split.specs.Names.{names_of};
 ghost use Rattle.name_split.specs.Spans.{slice};
 ghost use Rattle.name_split.specs.declared.spans.Span.{Span};
 
+use crate::known::Known;
 use crate::known_patterns::KnownPatterns;
 use crate::pattern::pattern_written;
 use bv_base::memory::NoMemory;
 use name_split::names::names;
 use name_split::parts::part_spans;
+use name_split::spans::Parts;
 use std::alloc::Global;
 
 /// Why a name isn't written. Where several reasons hold, the first of them is given.
@@ -29,10 +31,11 @@ pub enum FormatFault {
 }
 
 /// The name of a text with a number, counted from 1, by a pattern. A byte outside the pattern's groups stands for
-/// itself, and a group for its text, or for a part of the name. A pattern that is known isn't looked through again.
+/// itself, and a group for its text, or for a part of the name. A name that was taken apart last isn't taken apart again, and a
+/// pattern that is known isn't looked through again.
 pub fn format(
     alloc: Global,
-    known: &mut KnownPatterns,
+    known: &mut Known,
     text: &[u8],
     index: i32,
     pattern: &[u8],
@@ -40,13 +43,31 @@ pub fn format(
     ensures written { IfOk result (λ v. specs.formatted text.now index pattern.now ≡ Ok v.items) }
     ensures fault { IfErr result (λ fault. IsFaultOf fault (specs.formatted text.now index pattern.now)) }
 {
+    if let Some((name, parts)) = known.name.find(text, index) {
+        return by_pattern(alloc, &mut known.patterns, name, parts, pattern);
+    }
     let Some(name) = name_at(text, index) else {
         return Err(FormatFault::BadNameIndex);
     };
     let Ok(parts) = part_spans(name) else {
         return Err(FormatFault::BadName);
     };
-    if !known.is_well_formed(pattern) {
+    known.name.keep(text, index, name, parts);
+    by_pattern(alloc, &mut known.patterns, name, parts, pattern)
+}
+
+/// A name with these parts by a pattern.
+fn by_pattern(
+    alloc: Global,
+    patterns: &mut KnownPatterns,
+    name: &[u8],
+    parts: Parts,
+    pattern: &[u8],
+) -> Result<Vec<u8>, FormatFault>
+    ensures written { IfOk result (λ v. specs.name_written name.now (Ok parts) pattern.now ≡ Ok v.items) }
+    ensures fault { IfErr result (λ fault. IsFaultOf fault (specs.name_written name.now (Ok parts) pattern.now)) }
+{
+    if !patterns.is_well_formed(pattern) {
         return Err(FormatFault::BadPattern);
     }
     match pattern_written(alloc, name, parts, pattern) {

@@ -4,7 +4,9 @@
 pub mod format;
 mod group;
 mod initial;
-pub mod known_patterns;
+pub mod known;
+mod known_name;
+mod known_patterns;
 mod pattern;
 mod tie;
 mod tokens;

@@ -1,7 +1,7 @@
 //! Names by patterns, worked out by hand.
 
 use name_format::format::{FormatFault, format};
-use name_format::known_patterns::KnownPatterns;
+use name_format::known::Known;
 use std::alloc::Global;
 use std::process::Abort;
 use std::test::Fail;
@@ -88,7 +88,7 @@ fn names_by_patterns(rt: HostRuntime) {
 }
 
 fn are_written(rt: &impl Abort, alloc: Global, rows: &[(&[u8], &[u8], &[u8])]) {
-    let mut known = KnownPatterns::new(alloc);
+    let mut known = Known::new(alloc);
     for (name, pattern, text) in rows {
         match format(alloc, &mut known, name, 1, pattern) {
             Ok(found) => assert_eq!(rt; found.as_slice(), *text),
@@ -99,7 +99,7 @@ fn are_written(rt: &impl Abort, alloc: Global, rows: &[(&[u8], &[u8], &[u8])]) {
 
 #[test]
 fn the_name_with_a_number(rt: HostRuntime) -> Result<(), Fail> {
-    let mut known = KnownPatterns::new(rt.alloc());
+    let mut known = Known::new(rt.alloc());
     let second = format(
         rt.alloc(),
         &mut known,
@@ -138,7 +138,7 @@ fn the_first_fault_is_given(rt: HostRuntime) {
 }
 
 fn are_refused(rt: &impl Abort, alloc: Global, rows: &[Faulty]) {
-    let mut known = KnownPatterns::new(alloc);
+    let mut known = Known::new(alloc);
     for (names, index, pattern, fault) in rows {
         match format(alloc, &mut known, names, *index, pattern) {
             Ok(_) => panic!(rt; "a fault is missing"),
