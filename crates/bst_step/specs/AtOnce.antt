@@ -1,7 +1,8 @@
--- Steps that are taken at once (docs/MACHINE.md, "How it is run"): a function is pushed, and `if$` or `:=` takes it off again.
-use Rattle.std.specs.Prelude.{◌≡◌, ℕ, ◌+◌, ◌≤◌, Bool, true, false, length, nat_le, List, [], ◌∷◌, Option, None, Some, is_some, option_map}
+-- Steps that are taken at once (docs/MACHINE.md, "How it is run"): what is pushed is taken off again by the function that is called behind it.
+use Rattle.std.specs.Prelude.{◌≡◌, ℕ, ℤ, ◌+◌, ◌≤◌, Bool, true, false, length, nat_le, List, [], ◌∷◌, Option, None, Some, is_some, option_map}
 use Rattle.bv_base.specs.declared.place.Place.{Place}
-use Rattle.name_table.specs.declared.builtin.Builtin.TheVariants.{Assign, IfElse}
+use Rattle.name_table.specs.declared.builtin.Builtin.{Builtin}
+use Rattle.name_table.specs.declared.builtin.Builtin.TheVariants.{IfElse, Skip}
 use Rattle.name_table.specs.declared.names.Kind.{Kind}
 use Rattle.name_table.specs.declared.names.Kind.TheVariants.{Builtin as BuiltinKind, IntEntry, StrEntry, IntGlobal, StrGlobal}
 use Rattle.name_table.specs.declared.style.Style.{Style}
@@ -13,12 +14,14 @@ use Rattle.bst_meaning.specs.declared.value.Target.{Target}
 use Rattle.bst_meaning.specs.declared.value.Target.TheVariants.{Named, Block}
 use Rattle.bst_meaning.specs.declared.value.Value.{Value}
 use Rattle.bst_meaning.specs.declared.value.Value.TheVariants.{Int, Str}
+use Rattle.bst_meaning.specs.Builtins.{Context, built_in}
 use Rattle.bst_meaning.specs.Config.{Config, Frame}
+use Rattle.bst_meaning.specs.Effect.{pushed}
 use Rattle.bst_meaning.specs.Machine.{steps, visited_entry}
 use Rattle.bst_meaning.specs.StyleParts.{kind_of}
 use Rattle.bst_step.specs.declared.state.State.{State}
-use Rattle.bst_step.specs.MarkRules.{marks_after_steps}
-use Rattle.bst_step.specs.Marks.{Marks}
+use Rattle.bst_step.specs.MarkRules.{built_in_marks, marks_after_steps}
+use Rattle.bst_step.specs.Marks.{Marks, NoString, resulting}
 use Rattle.bst_step.specs.State.{config_of, LeavesRoom}
 
 -- the function that a token pushes
@@ -38,10 +41,26 @@ Branches style (t ∷ u ∷ tokens) other place later =
     (function_of t.token ≡ Some other) × (kind_called style u.token ≡ Some (BuiltinKind IfElse)) × (u.place ≡ place) × (tokens ≡ later)
 Branches style _ other place later = ⊥
 
--- the first of these tokens calls `:=`, and these are left then
-abbrev pub Assigns : Style → List TokenAt → List TokenAt → Type 0
-Assigns style (t ∷ tokens) later = (kind_called style t.token ≡ Some (BuiltinKind Assign)) × (tokens ≡ later)
-Assigns style _ later = ⊥
+-- the first of these tokens calls a built-in function, and these are left then
+abbrev pub Calls : Style → List TokenAt → Builtin → List TokenAt → Type 0
+Calls style (t ∷ tokens) function later = (kind_called style t.token ≡ Some (BuiltinKind function)) × (tokens ≡ later)
+Calls style _ function later = ⊥
+
+-- a name of this kind is `skip$`
+abbrev pub is_skip_kind : Option Kind → Bool
+is_skip_kind (Some (BuiltinKind Skip)) = true
+is_skip_kind _ = false
+
+-- a target is `skip$`
+abbrev pub is_skip : Style → Target → Bool
+is_skip style (Named name) = is_skip_kind (kind_of style name)
+is_skip style (Block body) = false
+
+-- a built-in function makes this one of two integers, the lower one first
+abbrev pub Computes : Builtin → ℤ → ℤ → ℤ → Type 0
+Computes function a b n =
+    ((context : Context) (stack : List Value) → built_in function context (Int b ∷ Int a ∷ stack) ≡ pushed (Int n) stack) ×
+    ((style : Style) (c : Config) (m : Marks) → built_in_marks function style c m ≡ resulting 2 NoString m)
 
 -- the tokens that the innermost frame has left
 abbrev pub front_tokens : List Frame → List TokenAt
@@ -70,11 +89,11 @@ takes_whole _ _ _ = false
 abbrev pub visits : Config → Bool
 visits c = is_some (option_map (λ e. e.entry) (visited_entry c))
 
--- so many steps of a configuration have been taken, or nothing has changed
-abbrev pub Took : Style → ℕ → Bool → Config → Marks → State → State → Type 0
-Took style n true c m old new =
-    (config_of new ≡ steps style n c) × (new.values.marks ≡ marks_after_steps style n c m) × LeavesRoom (n + 1) old new
-Took style n false c m old new = new ≡ old
+-- so many steps of a configuration have been taken beside one of those that are left, or nothing has changed
+abbrev pub Took : Style → ℕ → Option ℕ → Config → Marks → State → State → Type 0
+Took style left (Some more) c m old new = (config_of new ≡ steps style more c) ×
+    (new.values.marks ≡ marks_after_steps style more c m) × LeavesRoom (more + 1) old new × (more + 1 ≤ left)
+Took style left None c m old new = new ≡ old
 
 -- one step and so many more are no more than those that are left, where one is
 abbrev pub IsWithin : ℕ → ℕ → Type 0

@@ -10,7 +10,7 @@ use Rattle.bst_meaning.specs.Config as config
 use Rattle.bst_meaning.specs.Config.{Config}
 use Rattle.bst_meaning.specs.Machine.{outer_step, return_step, token_step}
 use Rattle.bst_step.specs.declared.frame_list.Next.{Next}
-use Rattle.bst_step.specs.declared.frame_list.Next.TheVariants.{Token, Return, Outer}
+use Rattle.bst_step.specs.declared.frame_list.Next.TheVariants.{Token, Left, Return, Outer}
 use Rattle.bst_step.specs.declared.state.Frame.{Frame}
 use Rattle.bst_step.specs.declared.state.Part.{Part}
 use Rattle.bst_step.specs.declared.state.Part.TheVariants.{Whole, Testing, Turning}
@@ -61,17 +61,20 @@ AreKept entered innermost outer =
 -- what is left of a step, where the innermost frame has lost its first token, or is gone since it had none
 abbrev pub with_next : Style → Next → Config → Config
 with_next style (Token token place) c = token_step style token place c
+with_next style Left c = c
 with_next style (Return part place) c = return_step style (part_of part) place c
 with_next style Outer c = outer_step c.running c.commands c
 
 -- what becomes of marks in what is left of a step
 abbrev pub marks_after_next : Style → Next → Config → Marks → Marks
 marks_after_next style (Token token place) c m = token_marks style token c m
+marks_after_next style Left c m = m
 marks_after_next style (Return part place) c m = return_marks (part_of part) c m
 marks_after_next style Outer c m = outer_marks c.running c.commands c m
 
 -- what is left of a step takes room, and no other memory
 abbrev pub next_takes_room : Style → Next → Config → Bool
 next_takes_room style (Token token place) c = token_takes_room style token c
+next_takes_room style Left c = true
 next_takes_room style (Return part place) c = true
 next_takes_room style Outer c = false

@@ -1,12 +1,12 @@
-//! Steps that are taken at once: a function is pushed, and `if$` or `:=` takes it off again.
+//! Steps that are taken at once: what is pushed is taken off again by the function that is called behind it.
 
 ghost use Rattle.std.specs.Prelude.{◌≡◌, ◌+◌, ◌≤◌, true, None, IfOk, IfSome, IsOk, OnErr};
 ghost use Rattle.bst_meaning.specs.declared.value.Target.TheVariants.{Named};
-ghost use Rattle.bst_meaning.specs.declared.value.Value.TheVariants.{Func};
+ghost use Rattle.bst_meaning.specs.declared.value.Value.TheVariants.{Func, Int};
 ghost use Rattle.bst_meaning.specs.Machine.{steps, with_value};
 ghost use Rattle.bst_meaning.specs.StyleParts as parts;
 ghost use Rattle.bst_step.specs.AtOnce as rule;
-ghost use Rattle.bst_step.specs.AtOnce.{Assigns, Branches, IsWithin, Took};
+ghost use Rattle.bst_step.specs.AtOnce.{Branches, Calls, Computes, IsWithin, Took};
 ghost use Rattle.bst_step.specs.MarkRules.{marks_after_steps};
 ghost use Rattle.bst_step.specs.Marks.{NoString, pushed};
 ghost use Rattle.bst_step.specs.State.{config_of, HasRoom, LeavesRoom};
@@ -23,8 +23,7 @@ use name_table::names::{Kind, NameId};
 use name_table::style::{Style, Token, TokenAt};
 
 impl<'a> State<'a> {
-    /// Pushes a function. Where three steps may be taken, and the tokens behind it take it off again, up to two steps more are
-    /// taken, and their number is given.
+    /// Pushes a function, and takes the steps that are taken with it, whose number is given.
     #[inline(always)]
     pub fn function_steps(
         &mut self,
@@ -41,56 +40,110 @@ impl<'a> State<'a> {
         ensures room { IfOk result (λ more. LeavesRoom (more + 1) self.old self.new) }
         ensures few { IfOk result (λ more. IsWithin more left) }
     {
-        if left > 2 && self.branches(style, target)? {
-            return Ok(2);
+        if let Some(more) = self.branches(style, target, left)? {
+            return Ok(more);
         }
-        if left > 2 && self.assigns(style, target) {
-            return Ok(1);
+        if let Some(more) = self.assigns(style, target, left) {
+            return Ok(more);
         }
         self.push(Operand::Func(target))?;
         Ok(0)
     }
 
-    /// Enters a function or another one that would be pushed behind it, where `if$` is called then and an integer is on top.
+    /// Pushes an integer, and takes the steps that are taken with it, whose number is given.
     #[inline(always)]
-    fn branches(&mut self, style: &'a Style, target: Target) -> Result<bool, NoMemory>
+    pub fn integer_steps(&mut self, style: &Style, n: i32, left: u64) -> Result<u64, NoMemory>
         requires { (config_of self.old).stopped ≡ None }
-        ensures took { IfOk result (λ took. Took style.now 2 took (with_value (Func target) (config_of self.old))
+        ensures moved { IfOk result (λ more. config_of self.new ≡ steps style.now more (with_value (Int n) (config_of self.old))) }
+        ensures entries { OnErr result (self.new.values.entries ≡ self.old.values.entries) }
+        ensures marks { IfOk result (λ more. self.new.values.marks ≡
+            marks_after_steps style.now more (with_value (Int n) (config_of self.old)) (pushed NoString self.old.values.marks)) }
+        ensures fits { HasRoom self.old → IsOk result }
+        ensures room { IfOk result (λ more. LeavesRoom (more + 1) self.old self.new) }
+        ensures few { IfOk result (λ more. IsWithin more left) }
+    {
+        if let Some(more) = self.computes(style, n, left) {
+            return Ok(more);
+        }
+        self.push(Operand::Int(n))?;
+        Ok(0)
+    }
+
+    /// Enters a function or another one that would be pushed behind it, where `if$` is called then and an integer is on top. One
+    /// that is `skip$` is left again.
+    #[inline(always)]
+    fn branches(
+        &mut self,
+        style: &'a Style,
+        target: Target,
+        left: u64,
+    ) -> Result<Option<u64>, NoMemory>
+        requires { (config_of self.old).stopped ≡ None }
+        ensures took { IfOk result (λ more. Took style.now left more (with_value (Func target) (config_of self.old))
             (pushed NoString self.old.values.marks) self.old self.new) }
         ensures entries { OnErr result (self.new.values.entries ≡ self.old.values.entries) }
         ensures fits { HasRoom self.old → IsOk result }
     {
+        if left <= 2 {
+            return Ok(None);
+        }
         let Some((other, place, later)) = branch_ahead(style, self.frames.tokens()) else {
-            return Ok(false);
+            return Ok(None);
         };
         let Some(n) = self.values.top_integer() else {
-            return Ok(false);
+            return Ok(None);
         };
         self.values.drop_top(1);
         self.frames.go_to(later);
         let chosen = if n > 0 { target } else { other };
+        if left > 4 && is_skip(style, chosen) {
+            return Ok(Some(4));
+        }
         self.enter(entered_at(style, chosen, place), place, Part::Whole)?;
-        Ok(true)
+        Ok(Some(2))
     }
 
     /// Assigns the top to the variable that a function names, where `:=` would be called then and assigns it as it is.
     #[inline(always)]
-    fn assigns(&mut self, style: &'a Style, target: Target) -> bool
+    fn assigns(&mut self, style: &'a Style, target: Target, left: u64) -> Option<u64>
         requires { (config_of self.old).stopped ≡ None }
-        ensures { Took style.now 1 result (with_value (Func target) (config_of self.old)) (pushed NoString self.old.values.marks) self.old self.new }
+        ensures { Took style.now left result (with_value (Func target) (config_of self.old)) (pushed NoString self.old.values.marks) self.old self.new }
     {
         let Target::Named(name) = target else {
-            return false;
+            return None;
         };
-        let Some(later) = assignment_ahead(style, self.frames.tokens()) else {
-            return false;
+        let Some((Builtin::Assign, later)) = call_ahead(style, self.frames.tokens()) else {
+            return None;
         };
-        if !self.takes_whole(style, name) {
-            return false;
+        if left < 2 || !self.takes_whole(style, name) {
+            return None;
         }
         self.frames.go_to(later);
         self.assign_top(style, name);
-        true
+        Some(1)
+    }
+
+    /// Computes with the integer on top and one that would be pushed, where a function on two integers is called then and gives one.
+    #[inline(always)]
+    fn computes(&mut self, style: &Style, n: i32, left: u64) -> Option<u64>
+        requires { (config_of self.old).stopped ≡ None }
+        ensures { Took style.now left result (with_value (Int n) (config_of self.old)) (pushed NoString self.old.values.marks) self.old self.new }
+    {
+        if left < 2 {
+            return None;
+        }
+        let Some((function, later)) = call_ahead(style, self.frames.tokens()) else {
+            return None;
+        };
+        let Some(m) = self.values.top_integer() else {
+            return None;
+        };
+        let Some(value) = computed(function, m, n) else {
+            return None;
+        };
+        self.frames.go_to(later);
+        self.values.put(1, Operand::Int(value));
+        Some(1)
     }
 
     /// Whether a variable takes the value on top as it is.
@@ -98,14 +151,13 @@ impl<'a> State<'a> {
     fn takes_whole(&self, style: &Style, name: NameId) -> bool
         ensures { result ≡ true → rule.takes_whole (parts.kind_of style.now name) (rule.visits (config_of self.now)) self.now.values.stack ≡ true }
     {
-        let visits = self.visits();
         match (kind_of(style, name), self.values.top()) {
             (Some(Kind::IntGlobal), Some(Operand::Int(_))) => true,
             (Some(Kind::StrGlobal), Some(Operand::Str(bytes))) => bytes.len()
                 <= GLOBAL_SIZE as usize,
-            (Some(Kind::IntEntry), Some(Operand::Int(_))) => visits,
+            (Some(Kind::IntEntry), Some(Operand::Int(_))) => self.visits(),
             (Some(Kind::StrEntry), Some(Operand::Str(bytes))) => {
-                visits && bytes.len() <= ENTRY_SIZE as usize
+                bytes.len() <= ENTRY_SIZE as usize && self.visits()
             }
             _ => false,
         }
@@ -159,16 +211,42 @@ fn branch_ahead<'a>(style: &Style, tokens: &'a [TokenAt]) -> Option<(Target, Pla
     }
 }
 
-/// The tokens that are left behind a call of `:=`.
+/// The built-in function that the first of these tokens calls, and the tokens that are left then.
 #[inline(always)]
-fn assignment_ahead<'a>(style: &Style, tokens: &'a [TokenAt]) -> Option<&'a [TokenAt]>
-    ensures { IfSome result (λ later. Assigns style.now tokens.now later.now) }
+fn call_ahead<'a>(style: &Style, tokens: &'a [TokenAt]) -> Option<(Builtin, &'a [TokenAt])>
+    ensures { IfSome result (λ call. Calls style.now tokens.now call.0 call.1.now) }
 {
     let [first, later @ ..] = tokens else {
         return None;
     };
     match kind_called(style, first.token) {
-        Some(Kind::Builtin(Builtin::Assign)) => Some(later),
+        Some(Kind::Builtin(function)) => Some((function, later)),
+        _ => None,
+    }
+}
+
+/// Whether a function is `skip$`.
+#[inline(always)]
+fn is_skip(style: &Style, target: Target) -> bool
+    ensures { result ≡ true → rule.is_skip style.now target ≡ true }
+{
+    match target {
+        Target::Named(name) => matches!(kind_of(style, name), Some(Kind::Builtin(Builtin::Skip))),
+        Target::Block(_) => false,
+    }
+}
+
+/// What a built-in function makes of two integers, the lower one first.
+#[inline(always)]
+fn computed(function: Builtin, a: i32, b: i32) -> Option<i32>
+    ensures { IfSome result (λ n. Computes function a b n) }
+{
+    match function {
+        Builtin::Equal => Some(i32::from(a == b)),
+        Builtin::Greater => Some(i32::from(a > b)),
+        Builtin::Less => Some(i32::from(a < b)),
+        Builtin::Plus => i32::try_from(i64::from(a) + i64::from(b)).ok(),
+        Builtin::Minus => i32::try_from(i64::from(a) - i64::from(b)).ok(),
         _ => None,
     }
 }

@@ -44,7 +44,7 @@ impl<'a> State<'a> {
         if self.stopped.is_some() {
             return true;
         }
-        if !self.frames.is_empty() {
+        if self.frames.has_token() || !self.frames.is_empty() {
             return false;
         }
         first_step(self.commands).is_none()

@@ -52,7 +52,12 @@ impl<'a> State<'a> {
 fn defined_type<'a>(style: &PreparedStyle<'_>, id: Option<NameId>, entry_type: &'a [u8]) -> &'a [u8]
     ensures { result.now ≡ type_name style.now entry_type.now }
 {
-    match style.type_target_by(id, entry_type) {
+    if let Some(id) = id {
+        if style.is_type_function(id, entry_type) {
+            return entry_type;
+        }
+    }
+    match style.type_target(entry_type) {
         TypeTarget::Function(_) => entry_type,
         _ => &[],
     }

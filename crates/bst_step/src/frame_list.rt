@@ -1,6 +1,6 @@
 //! The frames that are entered, the innermost one apart from the others.
 
-ghost use Rattle.std.specs.Prelude.{◌≡◌, ◌+◌, ◌≤◌, ◌∷◌, [], drop, false, map, IsOk, OnErr, OnOk};
+ghost use Rattle.std.specs.Prelude.{◌≡◌, ◌+◌, ◌≤◌, ◌∷◌, [], drop, false, map, true, IsOk, OnErr, OnOk};
 ghost use Rattle.name_table.specs.declared.style.Style.{Style};
 ghost use Rattle.bst_meaning.specs.Config.{Config};
 ghost use Rattle.bst_meaning.specs.Machine as rule;
@@ -22,6 +22,8 @@ use std::marker::Model;
 pub enum Next {
     /// Executes a token, which its frame no longer has.
     Token(Token, Place),
+    /// Returns from a frame, which is gone, and is no part of a `while$`.
+    Left,
     /// Returns from a frame, which is gone.
     Return(Part, Place),
     /// Goes on with the first command, since no frame is left.
@@ -71,6 +73,14 @@ impl<'a> Frames<'a> {
         ensures { result ≡ has_none self.now.items }
     {
         !self.entered
+    }
+
+    /// Whether the innermost frame has a token left.
+    #[inline(always)]
+    pub fn has_token(&self) -> bool
+        ensures { result ≡ true → has_none self.now.items ≡ false }
+    {
+        !self.innermost.tokens.is_empty()
     }
 
     /// Makes room for so many frames more. Where it is refused, the frames stay.
@@ -124,6 +134,10 @@ impl<'a> Frames<'a> {
                 Next::Token(Token::Call(name), at)
             }
             None => {
+                if let Part::Whole = self.innermost.part {
+                    self.leave();
+                    return Next::Left;
+                }
                 let Frame { place, part, .. } = self.innermost;
                 self.leave();
                 Next::Return(part, place)

@@ -21,8 +21,8 @@ use bv_base::place::Place;
 use name_table::style::{Style, Token};
 
 impl<'a> State<'a> {
-    /// A step of the innermost frame, or of the first command where no frame is left. Where three steps may be taken, up to two
-    /// more are taken with it, and their number is given.
+    /// A step of the innermost frame, or of the first command where no frame is left, and the steps that are taken with it, whose
+    /// number is given.
     #[inline(always)]
     pub fn going_steps(&mut self, style: &PreparedStyle<'a>, left: u64) -> Result<u64, NoMemory>
         requires { (config_of self.old).stopped ≡ None }
@@ -59,6 +59,7 @@ impl<'a> State<'a> {
     {
         match next {
             Next::Token(token, place) => self.token_steps(style, token, place, left),
+            Next::Left => Ok(0),
             Next::Return(part, place) => {
                 self.return_step(style.base, part, place)?;
                 Ok(0)
@@ -91,6 +92,7 @@ impl<'a> State<'a> {
         match token {
             Token::Quote(name) => self.function_steps(style.base, Target::Named(name), left),
             Token::Block(body) => self.function_steps(style.base, Target::Block(body), left),
+            Token::Int(n) => self.integer_steps(style.base, n, left),
             token => {
                 self.token_step(style, token, place)?;
                 Ok(0)

@@ -44,6 +44,18 @@ fn are_equal(values: &Values<'_>) -> Result<bool, Fault>
     if let Some((a, b)) = top_strings(values) {
         return Ok(a == b);
     }
+    compared(values)
+}
+
+/// The same, with a look at all kinds.
+#[cold]
+#[inline(never)]
+fn compared(values: &Values<'_>) -> Result<bool, Fault>
+    ensures enough { OnOk result (2 ≤ length values.now.stack) }
+    ensures taken { MatchResult result
+        (λ holds. two_operands values.now.stack rule.equal ≡ pushed (truth holds) (drop 2 values.now.stack))
+        (λ fault. two_operands values.now.stack rule.equal ≡ Err fault) }
+{
     match two(values)? {
         (Operand::Int(a), Operand::Int(b)) => Ok(a == b),
         (Operand::Str(a), Operand::Str(b)) => Ok(a == b),

@@ -123,9 +123,21 @@ pub fn two_integers(values: &Values<'_>) -> Result<(i32, i32), Fault>
         (λ p. (rule : ℤ → ℤ → List Value → Result Effect Fault) → integers rule values.now.stack ≡ rule p.0 p.1 (drop 2 values.now.stack))
         (λ fault. (rule : ℤ → ℤ → List Value → Result Effect Fault) → integers rule values.now.stack ≡ Err fault) }
 {
-    if let Some(both) = top_integers(values) {
-        return Ok(both);
+    match top_integers(values) {
+        Some(both) => Ok(both),
+        None => integers_of_two(values),
     }
+}
+
+/// Two integers of two values, the lower one first.
+#[cold]
+#[inline(never)]
+fn integers_of_two(values: &Values<'_>) -> Result<(i32, i32), Fault>
+    ensures enough { OnOk result (2 ≤ length values.now.stack) }
+    ensures taken { MatchResult result
+        (λ p. (rule : ℤ → ℤ → List Value → Result Effect Fault) → integers rule values.now.stack ≡ rule p.0 p.1 (drop 2 values.now.stack))
+        (λ fault. (rule : ℤ → ℤ → List Value → Result Effect Fault) → integers rule values.now.stack ≡ Err fault) }
+{
     match two(values)? {
         (Operand::Int(a), Operand::Int(b)) => Ok((a, b)),
         _ => Err(Fault::WrongKind),
@@ -152,12 +164,41 @@ pub fn two_strings<'b>(values: &'b Values<'_>) -> Result<(&'b [u8], &'b [u8]), F
         (λ p. (rule : List ℕ → List ℕ → List Value → Result Effect Fault) → strings rule values.now.stack ≡ rule p.0.now p.1.now (drop 2 values.now.stack))
         (λ fault. (rule : List ℕ → List ℕ → List Value → Result Effect Fault) → strings rule values.now.stack ≡ Err fault) }
 {
-    if let Some(both) = top_strings(values) {
-        return Ok(both);
+    match top_strings(values) {
+        Some(both) => Ok(both),
+        None => strings_of_two(values),
     }
+}
+
+/// Two strings of two values, the lower one first.
+#[cold]
+#[inline(never)]
+fn strings_of_two<'b>(values: &'b Values<'_>) -> Result<(&'b [u8], &'b [u8]), Fault>
+    ensures enough { OnOk result (2 ≤ length values.now.stack) }
+    ensures both { IfOk result (λ p. values.now.stack ≡ Str p.1.now ∷ Str p.0.now ∷ drop 2 values.now.stack) }
+    ensures taken { MatchResult result
+        (λ p. (rule : List ℕ → List ℕ → List Value → Result Effect Fault) → strings rule values.now.stack ≡ rule p.0.now p.1.now (drop 2 values.now.stack))
+        (λ fault. (rule : List ℕ → List ℕ → List Value → Result Effect Fault) → strings rule values.now.stack ≡ Err fault) }
+{
     match two(values)? {
         (Operand::Str(a), Operand::Str(b)) => Ok((a, b)),
         _ => Err(Fault::WrongKind),
+    }
+}
+
+/// A string, and on it two integers, the lower one first, where these three are on top. They are told without a look at other
+/// kinds.
+#[inline(always)]
+pub fn top_range<'b>(values: &'b Values<'_>) -> Option<(&'b [u8], i32, i32)>
+    ensures { IfSome result (λ r. values.now.stack ≡ Int r.2 ∷ Int r.1 ∷ Str r.0.now ∷ drop 3 values.now.stack) }
+{
+    match (
+        values.string_below(2),
+        values.integer_below(1),
+        values.integer_below(0),
+    ) {
+        (Some(text), Some(start), Some(length)) => Some((text, start, length)),
+        _ => None,
     }
 }
 

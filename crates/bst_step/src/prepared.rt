@@ -55,7 +55,7 @@ impl<'a> PreparedStyle<'a> {
     }
 
     /// What `call.type$` enters for a lowered type.
-    fn type_target(&self, entry_type: &[u8]) -> TypeTarget
+    pub fn type_target(&self, entry_type: &[u8]) -> TypeTarget
         ensures { result ≡ target_of entry_type.now self.now }
     {
         if let Some(id) = self.type_function(entry_type) {
@@ -68,7 +68,7 @@ impl<'a> PreparedStyle<'a> {
     }
 
     /// Whether the function with this id has this name and stands before READ.
-    fn is_type_function(&self, id: NameId, name: &[u8]) -> bool
+    pub fn is_type_function(&self, id: NameId, name: &[u8]) -> bool
         ensures { result ≡ true → type_function name.now self.now ≡ Some id }
     {
         let at = id.0 as usize;

@@ -14,7 +14,7 @@ ghost use Rattle.bst_step.specs.Subjects.{Fits, Leaves, field, pushed, ranged, s
 
 use crate::held::Operand;
 use crate::numbers::count;
-use crate::operands::{one_field, one_string, three, truth, two, two_strings};
+use crate::operands::{one_field, one_string, three, top_range, truth, two, two_strings};
 use crate::stop::Stop;
 use crate::values::Values;
 use bst_meaning::fault::Fault;
@@ -136,11 +136,14 @@ pub fn substring(values: &mut Values<'_>) -> Result<(), Stop>
     ensures left { Leaves result values.old values.new (rule.substring values.old.stack) (mark.taken 2) }
     ensures fits { Fits result }
 {
-    let (from, count) = match three(values)? {
-        (Operand::Str(text), Operand::Int(start), Operand::Int(length)) => {
-            substring_place(text, start, length)
-        }
-        _ => return Err(Stop::Fault(Fault::WrongKind)),
+    let (from, count) = match top_range(values) {
+        Some((text, start, length)) => substring_place(text, start, length),
+        None => match three(values)? {
+            (Operand::Str(text), Operand::Int(start), Operand::Int(length)) => {
+                substring_place(text, start, length)
+            }
+            _ => return Err(Stop::Fault(Fault::WrongKind)),
+        },
     };
     values.drop_top(2);
     values.cut_top(from, count);
