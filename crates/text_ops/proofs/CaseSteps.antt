@@ -8,7 +8,7 @@ use Rattle.text_ops.specs.ChangeCase.{changed_plain, changed_piece, whole_specia
 use Rattle.text_ops.specs.declared.change_case.Case.{Case}
 use Rattle.text_ops.proofs.PieceSteps.{tail, special_piece, plain_piece}
 
-first_plain : (mode : Case) (before : List ℕ) (level b : ℕ) (ps : List Piece)
+pub first_plain : (mode : Case) (before : List ℕ) (level b : ℕ) (ps : List Piece)
     → changed_pieces mode before (Plain level b ∷ ps) ≡ (if leaves mode (begins_title before) then b else changed_plain mode level b) ∷ changed_pieces mode (b ∷ before) ps
 first_plain mode before level b ps =
     let M : Bool → Type 0 = λ v. (if v then b ∷ [] else changed_piece mode (Plain level b)) ++ changed_pieces mode (b ∷ before) ps ≡ (if v then b else changed_plain mode level b) ∷ changed_pieces mode (b ∷ before) ps in

@@ -8,6 +8,8 @@ pub mod LevelSteps
 pub mod LowerTwice
 pub mod PartSteps
 pub mod PieceSteps
+pub mod PlainPurified
 pub mod PrefixSteps
 pub mod PrintedSteps
+pub mod SimpleCase
 pub mod WidthBounds

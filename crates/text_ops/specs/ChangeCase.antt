@@ -1,7 +1,7 @@
 -- The case of letters (docs/TEXTS.md, "change.case$").
-use Rattle.std.specs.Prelude.{ℕ, Bool, true, false, ◌-◌, ◌&&◌, nat_eq, nat_le, if◌then◌else◌, List, [], ◌∷◌, ◌++◌, map, reverse, flat_map, codes}
+use Rattle.std.specs.Prelude.{ℕ, Bool, true, false, ◌-◌, ◌&&◌, ◌||◌, not, nat_eq, nat_le, if◌then◌else◌, List, [], ◌∷◌, ◌++◌, map, reverse, flat_map, codes}
 use Rattle.bv_base.specs.Bytes.{is_white, lower}
-use Rattle.bv_base.specs.Levels.{is_one_of, is_foreign, Piece, Plain, Special, SpecialPart, ControlWord, Other, pieces, special_parts, spelling, inside, closing}
+use Rattle.bv_base.specs.Levels.{is_brace, is_one_of, is_foreign, Piece, Plain, Special, SpecialPart, ControlWord, Other, pieces, special_parts, spelling, inside, closing}
 use Rattle.text_ops.specs.declared.change_case.Case.{Case}
 use Rattle.text_ops.specs.declared.change_case.Case.TheVariants.{Title, Lower, Upper}
 
@@ -92,3 +92,12 @@ changed_pieces mode before (p ∷ ps) =
 -- a text in another case
 abbrev pub case_changed : Case → List ℕ → List ℕ
 case_changed mode text = changed_pieces mode [] (pieces text)
+
+-- neither a brace nor a `:`
+abbrev pub is_simple_byte : ℕ → Bool
+is_simple_byte b = not (is_brace b || nat_eq b 58)
+
+-- a text of such bytes in another case: it has no special character, and no title begins but at its front
+abbrev pub simply_changed : Case → List ℕ → List ℕ
+simply_changed Title (b ∷ bs) = b ∷ changed_letters Title bs
+simply_changed mode text = changed_letters mode text

@@ -1,5 +1,5 @@
 -- The letters, digits and spaces of a text (docs/TEXTS.md, "purify$").
-use Rattle.std.specs.Prelude.{ℕ, Bool, ◌||◌, if◌then◌else◌, List, [], ◌∷◌, take, flat_map, codes}
+use Rattle.std.specs.Prelude.{ℕ, Bool, ◌||◌, not, nat_eq, if◌then◌else◌, List, [], ◌∷◌, take, flat_map, codes}
 use Rattle.bv_base.specs.Bytes.{is_among, is_white}
 use Rattle.bv_base.specs.Levels.{is_letter, is_one_of, Piece, Plain, Special, SpecialPart, ControlWord, Other, pieces, special_parts}
 use Rattle.bv_base.specs.Runs.{is_digit}
@@ -41,3 +41,7 @@ purified_piece (Special inner close) = flat_map purified_part (special_parts inn
 -- the text of what the pieces give
 abbrev pub purified : List ℕ → List ℕ
 purified text = flat_map purified_piece (pieces text)
+
+-- no byte that a special character begins with
+abbrev pub is_plain_byte : ℕ → Bool
+is_plain_byte b = not (nat_eq b 123)

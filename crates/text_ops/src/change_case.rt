@@ -1,6 +1,7 @@
 //! The case of letters.
 
 ghost use Rattle.std.specs.Prelude.{◌≡◌, ◌++◌, ◌&&◌, nat_eq, if◌then◌else◌, IfOk, OnOk, flat_map};
+ghost use Rattle.std.specs.List.{list_all};
 ghost use Rattle.bv_base.specs.Bytes as bytes;
 ghost use Rattle.bv_base.specs.Levels.{inside, closing, beyond, special_parts};
 ghost use Rattle.text_ops.specs.ChangeCase as specs;
@@ -32,6 +33,9 @@ const SMALL_WORDS: [&[u8]; 5] = [b"oe", b"ae", b"aa", b"o", b"l"];
 pub fn change_case(alloc: Global, s: &[u8], mode: Case) -> Result<Vec<u8>, NoMemory>
     ensures { IfOk result (λ v. v.items ≡ specs.case_changed mode s.now) }
 {
+    if is_simple(s) {
+        return simply_changed(alloc, s, mode);
+    }
     let mut out = Vec::with_capacity(alloc, s.len())?;
     let mut before = Before {
         title: true,
@@ -57,6 +61,35 @@ pub fn change_case(alloc: Global, s: &[u8], mode: Case) -> Result<Vec<u8>, NoMem
             level = next_level(level, *first);
             rest = after;
         }
+    }
+    Ok(out)
+}
+
+/// Whether a text has neither braces nor a `:`.
+fn is_simple(s: &[u8]) -> bool
+    ensures { result ≡ list_all specs.is_simple_byte s.now }
+{
+    s.iter().all(|b| is_simple_byte(*b))
+}
+
+/// Whether a byte is neither a brace nor a `:`.
+fn is_simple_byte(b: u8) -> bool
+    ensures { result ≡ specs.is_simple_byte b }
+{
+    !matches!(b, b'{' | b'}' | b':')
+}
+
+/// A text of such bytes in another case: it has no special character, and no title begins but at its front.
+fn simply_changed(alloc: Global, s: &[u8], mode: Case) -> Result<Vec<u8>, NoMemory>
+    ensures { IfOk result (λ v. v.items ≡ specs.simply_changed mode s.now) }
+{
+    let mut out = Vec::with_capacity(alloc, s.len())?;
+    match (mode, s) {
+        (Case::Title, [first, later @ ..]) => {
+            out.push(*first)?;
+            push_changed(&mut out, mode, later)?;
+        }
+        _ => push_changed(&mut out, mode, s)?,
     }
     Ok(out)
 }

@@ -1,6 +1,7 @@
 //! The letters, digits and spaces of a text.
 
 ghost use Rattle.std.specs.Prelude.{◌≡◌, ◌++◌, IfOk, OnOk, flat_map};
+ghost use Rattle.std.specs.List.{list_all};
 ghost use Rattle.std.specs.Option.{option_to_list};
 ghost use Rattle.bv_base.specs.Levels.{inside, beyond, special_parts};
 ghost use Rattle.text_ops.specs.Purify as specs;
@@ -25,6 +26,10 @@ pub fn purify(alloc: Global, s: &[u8]) -> Result<Vec<u8>, NoMemory>
     ensures { IfOk result (λ v. v.items ≡ specs.purified s.now) }
 {
     let mut out = Vec::with_capacity(alloc, s.len())?;
+    if is_plain(s) {
+        push_purified(&mut out, s)?;
+        return Ok(out);
+    }
     let mut level = 0;
     let mut rest = s;
     while let [first, after @ ..] = rest {
@@ -37,6 +42,30 @@ pub fn purify(alloc: Global, s: &[u8]) -> Result<Vec<u8>, NoMemory>
         }
     }
     Ok(out)
+}
+
+/// Whether a text has no `{`, and so no special character.
+fn is_plain(s: &[u8]) -> bool
+    ensures { result ≡ list_all specs.is_plain_byte s.now }
+{
+    s.iter().all(|b| is_plain_byte(*b))
+}
+
+/// Whether a byte isn't `{`.
+fn is_plain_byte(b: u8) -> bool
+    ensures { result ≡ specs.is_plain_byte b }
+{
+    b != b'{'
+}
+
+/// Puts out what bytes outside special characters give.
+fn push_purified(out: &mut Vec<u8>, s: &[u8]) -> Result<(), NoMemory>
+    ensures { OnOk result (out.new.items ≡ out.old.items ++ flat_map specs.purified_byte s.now) }
+{
+    for b in s {
+        push_some(out, purified_byte(*b))?;
+    }
+    Ok(())
 }
 
 /// Puts out what a special character gives whose first brace stands directly before the text, and gives what

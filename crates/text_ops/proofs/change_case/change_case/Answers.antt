@@ -1,9 +1,17 @@
 use Rattle.std.proofs.Common.{◌≡◌, ◌∙◌, ◌<◌, ◌++◌, ◌∷◌, [], arith, ap, sym, true, false, length, get_or, rules, refl}
+use Rattle.std.specs.List.{list_all}
 use Rattle.bv_base.specs.Levels.{begins_special, pieces_after}
-use Rattle.text_ops.specs.ChangeCase.{begins_title, leaves, changed_pieces, whole_special, changed_special}
+use Rattle.text_ops.specs.ChangeCase.{begins_title, leaves, changed_pieces, whole_special, changed_special, is_simple_byte}
 use Rattle.text_ops.proofs.PieceSteps.{put_bytes, put_byte, special_bound, tail, tail_length}
 use Rattle.text_ops.proofs.CaseSteps.{special_case, plain_case, behind_special}
+use Rattle.text_ops.proofs.SimpleCase.{simple_case}
 use Rattle.text_ops.proofs.change_case.change_case.Goals as goal
+
+-- a text without braces and colons
+pub returns-then-is_simple : goal.returns-then-is_simple
+returns-then-is_simple c =
+    let simple : list_all is_simple_byte c.args.s.now ≡ true = sym c.is_simple.ensures ∙ c.if-is_simple.true in
+    rw (← simple_case c.args.mode c.args.s.now simple) c.simply_changed.ensures
 
 -- a special character that stays whole
 pub loop-rest-preserved-in_ok-rest : goal.loop-rest-preserved-in_ok-rest

@@ -1,9 +1,16 @@
-use Rattle.std.proofs.Common.{◌≡◌, ◌∙◌, ◌++◌, arith, ap, sym, true}
-use Rattle.std.specs.List.{flat_map}
+use Rattle.std.proofs.Common.{◌≡◌, ◌∙◌, ◌++◌, arith, ap, sym, true, rules}
+use Rattle.std.specs.List.{flat_map, list_all}
 use Rattle.bv_base.specs.Levels.{inside, special_parts, begins_special, pieces_after}
-use Rattle.text_ops.specs.Purify.{purified_part, purified_piece}
+use Rattle.text_ops.specs.Purify.{is_plain_byte, purified_part, purified_piece}
+use Rattle.text_ops.proofs.PlainPurified.{plain_purified}
 use Rattle.text_ops.proofs.PieceSteps.{put_bytes, special_piece, special_bound, tail}
 use Rattle.text_ops.proofs.purify.purify.Goals as goal
+
+-- a text without `{`
+pub returns-then-is_plain : goal.returns-then-is_plain
+returns-then-is_plain c =
+    let plain : list_all is_plain_byte c.args.s.now ≡ true = sym c.is_plain.ensures ∙ c.if-is_plain.true in
+    rw (← plain_purified 0 c.args.s.now plain) (search rules)
 
 -- a special character
 pub loop-rest-preserved-then-begins_special : goal.loop-rest-preserved-then-begins_special
