@@ -1,6 +1,7 @@
-pub mod GoodNames
 pub mod Counting
 pub mod Cutting
+pub mod Ending
+pub mod GoodNames
 pub mod Grouping
 pub mod Here
 pub mod Leaving

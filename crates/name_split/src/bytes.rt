@@ -1,6 +1,6 @@
 //! How many bytes stand before one that is looked for.
 
-ghost use Rattle.std.specs.Prelude.{◌≡◌, ◌≤◌, ℕ, Bool, length};
+ghost use Rattle.std.specs.Prelude.{◌≡◌, ◌≤◌, ℕ, Bool, length, true};
 ghost use Rattle.bv_base.specs.Bytes.{is_white as white};
 ghost use Rattle.name_split.specs.Spans.{kept, leveled_before};
 
@@ -12,6 +12,9 @@ pub(crate) fn kept_length(bytes: &[u8]) -> usize
     ensures kept { result ≡ kept white bytes.now }
     ensures within { result ≤ length bytes.now }
 {
+    if is_last_black(bytes) {
+        return bytes.len();
+    }
     let mut kept = 0;
     for (i, b) in bytes.iter().enumerate() {
         if !is_white(*b) {
@@ -19,6 +22,16 @@ pub(crate) fn kept_length(bytes: &[u8]) -> usize
         }
     }
     kept
+}
+
+/// Whether the last byte is no white space.
+fn is_last_black(bytes: &[u8]) -> bool
+    ensures { result ≡ true → kept white bytes.now ≡ length bytes.now }
+{
+    match bytes {
+        [.., last] => !is_white(*last),
+        [] => false,
+    }
 }
 
 /// How many bytes stand before the first that passes a test with its level, which is pure, where the first has this

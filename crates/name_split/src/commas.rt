@@ -57,8 +57,20 @@ fn one_more(seen: Commas, at: usize) -> Commas
     }
 }
 
+/// Whether the last byte other than white space, `~` and `-` of a name with these commas is one of them. A name without commas
+/// isn't looked through again.
+pub(crate) fn is_comma_last(found: Commas, name: &[u8]) -> bool
+    requires { commas.CommasAre found (parts.commas 0 0 name.now) }
+    ensures { result ≡ parts.ends_in_comma 0 name.now }
+{
+    match found {
+        Commas::Zero => false,
+        _ => ends_in_comma(name),
+    }
+}
+
 /// Whether the last byte other than white space, `~` and `-` is a comma at level 0.
-pub(crate) fn ends_in_comma(name: &[u8]) -> bool
+fn ends_in_comma(name: &[u8]) -> bool
     ensures { result ≡ parts.ends_in_comma 0 name.now }
 {
     let mut ends = false;

@@ -4,7 +4,7 @@ ghost use Rattle.std.specs.Prelude.{◌≡◌, Ok, Err, MatchResult, is_ok};
 ghost use Rattle.name_split.specs.Parts as parts;
 ghost use Rattle.name_split.specs.declared.spans.Parts.{Parts as PartSpans};
 
-use crate::commas::{Commas, commas_of, ends_in_comma};
+use crate::commas::{Commas, commas_of, is_comma_last};
 use crate::spans::{Parts, Span, slice};
 use crate::survey::{EMPTY, surveyed};
 use crate::tokens::{Tokens, tokens_of};
@@ -52,7 +52,7 @@ pub fn part_spans(name: &[u8]) -> Result<Parts, NameFault>
     if let Commas::Many = commas {
         return Err(NameFault::TooManyCommas);
     }
-    if ends_in_comma(name) {
+    if is_comma_last(commas, name) {
         return Err(NameFault::CommaAtEnd);
     }
     let end = name.len();
