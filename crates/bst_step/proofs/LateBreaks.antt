@@ -5,7 +5,6 @@ use Rattle.std.proofs.lemmas.List.{take-append-le, drop-append-le}
 use Rattle.bv_base.specs.Bytes.{is_white}
 use Rattle.bst_meaning.specs.Config.{Wrote}
 use Rattle.bst_meaning.specs.Lines.{Cut, Page, after_event, after_white, break_among, broken, cut_at, cut_of, cut_with, page_of, trimmed_end, white_places}
-use Rattle.bst_step.specs.Lines.{spelt}
 use Rattle.bst_step.proofs.BrokenLines.{enough, shorter}
 
 -- a place that was found stays, whatever stands behind place 79
@@ -141,7 +140,7 @@ late_breaks : (lines : List (List ℕ)) (buffer more : List ℕ)
     → all_broken lines (buffer ++ more) ≡ more_on more (all_broken lines buffer)
 late_breaks lines buffer more = late (length buffer) lines buffer more (le_refl (length buffer))
 
--- a text that is written behind a buffer, which is still to be broken, and that stands behind the text of the lines before
-pub written_behind : (text buffer more : List ℕ)
-    → spelt text (broken (length (buffer ++ more)) [] (buffer ++ more)) ≡ spelt text (after_event (broken (length buffer) [] buffer) (Wrote more))
-written_behind text buffer more = ap (spelt text) (late_breaks [] buffer more)
+-- a text that is written behind a buffer, which is still to be broken
+pub late_written : (buffer more : List ℕ)
+    → broken (length (buffer ++ more)) [] (buffer ++ more) ≡ after_event (broken (length buffer) [] buffer) (Wrote more)
+late_written buffer more = late_breaks [] buffer more

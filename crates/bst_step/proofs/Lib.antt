@@ -22,6 +22,8 @@ pub mod RestSteps
 pub mod BrokenLines
 pub mod LateBreaks
 pub mod SpeltLines
+pub mod AddedPages
+pub mod WrittenSteps
 pub mod CutSteps
 pub mod KeySteps
 pub mod PlaceSteps

@@ -50,53 +50,18 @@ pub line_behind : (n : ℕ) (text line buffer : List ℕ)
 line_behind n text line buffer =
     sym (one_line text line (broken n [] buffer)) ∙ sym (broken_behind n text (line ∷ []) buffer)
 
--- what an event makes of a text and a buffer
-abbrev with_event : Spelt → Event → Spelt
-with_event s (Wrote bytes) = spelt s.text (broken (length (s.buffer ++ bytes)) [] (s.buffer ++ bytes))
-with_event s EndedLine = record { text = cond (is_only_white s.buffer) s.text (s.text ++ end_of (trimmed_end s.buffer)); buffer = [] }
-
-abbrev with_events : Spelt → List Event → Spelt
-with_events s [] = s
-with_events s (event ∷ events) = with_events (with_event s event) events
-
-event_spelt : (text : List ℕ) (page : Page) (event : Event) → spelt text (after_event page event) ≡ with_event (spelt text page) event
+-- what an event makes of a page is spelt behind the lines before
+pub event_spelt : (text : List ℕ) (page : Page) (event : Event)
+    → spelt text (after_event page event) ≡ spelt (text ++ ends_of page.lines) (after_event (record { lines = []; buffer = page.buffer }) event)
 event_spelt text page (Wrote bytes) = broken_behind (length (page.buffer ++ bytes)) text page.lines (page.buffer ++ bytes)
 event_spelt text page EndedLine = by (is_only_white page.buffer)
   where
     by : (t : Bool) → spelt text (record { lines = cond t page.lines (page.lines ++ trimmed_end page.buffer ∷ []); buffer = [] })
-        ≡ record { text = cond t (text ++ ends_of page.lines) ((text ++ ends_of page.lines) ++ end_of (trimmed_end page.buffer)); buffer = [] }
-    by true = refl
-    by false = ap (λ (t : List ℕ). record { text = t; buffer = [] }) (sym (flat_map_more end_of text page.lines (trimmed_end page.buffer)))
-
-events_spelt : (text : List ℕ) (events : List Event) (page : Page) → spelt text (after_events page events) ≡ with_events (spelt text page) events
-events_spelt text [] page = refl
-events_spelt text (event ∷ events) page =
-    events_spelt text events (after_event page event)
-    ∙ ap (λ (s : Spelt). with_events s events) (event_spelt text page event)
-
--- what is spelt goes on with the events that are left
-pub goes_on : (at : ℕ) (events : List (Option (List ℕ))) (found : Option (List ℕ)) (text before : List ℕ) (page old : Page) (whole : Spelt)
-    → found ≡ get_or events at None → at < length events → spelt text page ≡ spelt before (after_event old (event_of found))
-    → spelt before (after_events old (map event_of (drop at events))) ≡ whole
-    → spelt text (after_events page (map event_of (drop (at + 1) events))) ≡ whole
-goes_on at events found text before page old whole found_is within is all =
-    let left : List Event = map event_of (drop (at + 1) events) in
-    events_spelt text left page
-    ∙ ap (λ (s : Spelt). with_events s left) is
-    ∙ sym (events_spelt before left (after_event old (event_of found)))
-    ∙ ap (λ (event : Option (List ℕ)). spelt before (after_events old (event_of event ∷ left))) found_is
-    ∙ sym (at_drop_more (λ (es : List (Option (List ℕ))). spelt before (after_events old (map event_of es))) events at None within)
-    ∙ all
-
--- the last line of a buffer is spelt behind those before
-pub last_behind : (old text new left : List ℕ) (page : Page)
-    → record { text = text; buffer = left } ≡ spelt old page
-    → new ≡ (if is_only_white left then text else text ++ end_of (trimmed_end left))
-    → spelt new (record { lines = []; buffer = [] }) ≡ spelt old (after_event page EndedLine)
-last_behind old text new left page is last =
-    ap (λ (t : List ℕ). record { text = t; buffer = [] }) (append-nil new ∙ last)
-    ∙ ap (λ (s : Spelt). with_event s EndedLine) is
-    ∙ sym (event_spelt old page EndedLine)
+        ≡ spelt (text ++ ends_of page.lines) (record { lines = cond t [] (trimmed_end page.buffer ∷ []); buffer = [] })
+    by true = same_page text page.lines []
+    by false =
+        ap (λ (t : List ℕ). record { text = t; buffer = [] }) (sym (flat_map_more end_of text page.lines (trimmed_end page.buffer)))
+        ∙ sym (one_line (text ++ ends_of page.lines) (trimmed_end page.buffer) (record { lines = []; buffer = [] }))
 
 -- a buffer that isn't cut stays
 pub none_behind : (most : ℕ) (text buffer : List ℕ) (whole : Spelt) → cut_of buffer ≡ None → spelt text (broken most [] buffer) ≡ whole

@@ -6,7 +6,7 @@ use Rattle.std.specs.List.{flat_map}
 use Rattle.name_table.specs.declared.style.CommandAt.{CommandAt}
 use Rattle.name_table.specs.declared.style.Style.{Style}
 use Rattle.bst_meaning.specs.declared.entry.EntryList.{EntryList}
-use Rattle.bst_meaning.specs.Config.{Config, Frame, EntryState, Stopped}
+use Rattle.bst_meaning.specs.Config.{Config, Event, Frame, EntryState, Stopped}
 use Rattle.bst_meaning.specs.Keeping.{placed}
 use Rattle.bst_step.specs.declared.machine.Turn.{Turn}
 use Rattle.bst_step.specs.declared.machine.Turn.TheVariants.{Went, Ended, Faulted}
@@ -46,6 +46,14 @@ is_broken m = m.broken
 -- for so many steps there is room
 abbrev pub spare_of : Standing → ℕ
 spare_of m = m.spare
+
+-- the same with its events taken out
+abbrev pub without_events : Standing → Standing
+without_events m = record m { config = record m.config { events = [] } }
+
+-- a configuration with these events before its own
+abbrev pub behind : List Event → Config → Config
+behind events c = record c { events = events ++ c.events }
 
 -- what a configuration comes to: an execution error, the end where no command is left, or more steps
 abbrev pub turn_by : Option Stopped → List CommandAt → Turn

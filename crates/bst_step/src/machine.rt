@@ -4,18 +4,20 @@ ghost use Rattle.std.specs.Prelude.{◌≡◌, ◌-◌, ◌≤◌, true, false, 
 ghost use Rattle.bst_meaning.specs.Config as config;
 ghost use Rattle.bst_meaning.specs.Lines as rule;
 ghost use Rattle.bst_meaning.specs.Machine.{step, steps};
-ghost use Rattle.bst_step.specs.Machine.{HasEntriesOf, configuration, marks_of, style_of, is_broken, spare_of, turn_of, log_of, key_at, lent_in};
+ghost use Rattle.bst_step.specs.Lines.{added, page_in};
+ghost use Rattle.bst_step.specs.Machine.{HasEntriesOf, configuration, marks_of, style_of, is_broken, spare_of, turn_of, log_of, key_at, lent_in, without_events};
 ghost use Rattle.bst_step.specs.Marks.{lent_marks};
 ghost use Rattle.bst_step.specs.MarkRules.{marks_after, marks_after_steps};
 ghost use Rattle.bst_step.specs.Room.{TakeRoom, step_takes_room};
 
 use crate::commands::first_step;
-use crate::lines::{lines_of, with_ends};
+use crate::lines::with_ends;
 use crate::opening::opening;
+pub use crate::page::Page;
+use crate::page::lines_of;
 use crate::prepared::PreparedStyle;
 pub use crate::state::Site;
 use crate::state::State;
-use crate::written::Written;
 use bst_meaning::entry::EntryList;
 use bst_meaning::fault::Fault;
 use bv_base::memory::NoMemory;
@@ -171,17 +173,25 @@ impl<'a> Machine<'a> {
         lines_of(self.state.alloc, &self.state.events)
     }
 
-    /// What was written, without all else of the machine, which is let go.
-    pub fn into_written(self) -> Result<Written, NoMemory>
-        ensures events { IfOk result (λ written. written ≡ (configuration self.entry).events) }
-        ensures whole { OnOk result (is_broken self.entry ≡ false) }
+    /// Takes what was written out of the machine, which goes on without it, and adds it to a page. Where it is refused, the
+    /// machine is as it was, and the first of what was written may stand on the page.
+    pub fn write_to(&mut self, page: &mut Page) -> Result<(), NoMemory>
+        ensures taken { OnOk result (configuration self.new ≡ configuration (without_events self.old)) }
+        ensures page { OnOk result (page_in page.new ≡ added (page_in page.old) (configuration self.old).events) }
+        ensures marks { marks_of self.new ≡ marks_of self.old }
+        ensures spare { spare_of self.new ≡ spare_of self.old }
+        ensures style { style_of self.new ≡ style_of self.old }
+        ensures kept { is_broken self.new ≡ is_broken self.old }
+        ensures whole { OnOk result (is_broken self.old ≡ false) }
+        ensures places { HasEntriesOf (configuration self.old) (configuration self.new) }
+        ensures refused { OnErr result (self.new ≡ self.old) }
     {
-        let Machine { state, broken, .. } = self;
-        if broken {
+        if self.broken {
             return Err(NoMemory);
         }
-        let State { alloc, events, .. } = state;
-        Ok(Written::new(alloc, events))
+        page.add_all(&self.state.events)?;
+        self.state.events.clear();
+        Ok(())
     }
 
     /// The lines of the log, each with its line end.

@@ -1,7 +1,7 @@
 use Rattle.std.proofs.Common.{◌≡◌, ◌≤◌, [], drop, length}
 use Rattle.bst_meaning.specs.Lines as rule
 use Rattle.bst_step.specs.Lines.{page_in, spelt}
-use Rattle.bst_step.proofs.lines.Page.break_buffer.Given as goal
+use Rattle.bst_step.proofs.page.Page.break_buffer.Given as goal
 
 -- breaking what is left comes to breaking the whole
 abbrev pub invariant-loop-most : goal.invariant-loop-most

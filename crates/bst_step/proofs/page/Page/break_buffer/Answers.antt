@@ -4,7 +4,7 @@ use Rattle.bst_step.specs.declared.lines.Cut.{Cut}
 use Rattle.bst_step.specs.Lines.{cut_in, page_in}
 use Rattle.bst_step.proofs.CutSteps.{one_more, still_within}
 use Rattle.bst_step.proofs.SpeltLines.{none_behind}
-use Rattle.bst_step.proofs.lines.Page.break_buffer.Goals as goal
+use Rattle.bst_step.proofs.page.Page.break_buffer.Goals as goal
 
 pub loop-most-preserved : goal.loop-most-preserved
 loop-most-preserved c =
