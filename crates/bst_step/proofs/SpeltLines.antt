@@ -61,7 +61,7 @@ event_spelt text page EndedLine = by (is_only_white page.buffer)
     by true = same_page text page.lines []
     by false =
         ap (λ (t : List ℕ). record { text = t; buffer = [] }) (sym (flat_map_more end_of text page.lines (trimmed_end page.buffer)))
-        ∙ sym (one_line (text ++ ends_of page.lines) (trimmed_end page.buffer) (record { lines = []; buffer = [] }))
+        ∙ ap (λ (t : List ℕ). record { text = (text ++ ends_of page.lines) ++ t; buffer = [] }) (sym (append-nil (end_of (trimmed_end page.buffer))))
 
 -- a buffer that isn't cut stays
 pub none_behind : (most : ℕ) (text buffer : List ℕ) (whole : Spelt) → cut_of buffer ≡ None → spelt text (broken most [] buffer) ≡ whole

@@ -6,7 +6,7 @@ use crate::tests::marks::add_lent;
 use crate::tests::operands::add_kinds;
 use crate::tests::program::{add_words, empty_style};
 use crate::tests::runs::{add_state, reserved_steps, step_by_step};
-use crate::tests::writing::add_lengths;
+use crate::tests::writing::{add_lengths, add_parts};
 use bst_meaning::entry::EntryList;
 use bst_meaning::fault::Fault;
 use bst_step::machine::{Machine, Site, Turn};
@@ -39,6 +39,8 @@ pub enum Telling {
     Lines,
     /// The same with each run of equal bytes as its length and the byte.
     Lengths,
+    /// The same where they are taken out of the machine every few steps.
+    InParts,
     /// The fault of the last token, for the first entry.
     Fault,
     /// The same where no entry is visited.
@@ -180,6 +182,9 @@ fn add_steps(
     machine: &mut Machine<'_>,
     last: Place,
 ) -> Result<(), NoMemory> {
+    if telling == Telling::InParts {
+        return add_parts(told, n, machine);
+    }
     let turn = turn_after(telling, n, machine)?;
     add_outcome(told, telling, machine, turn, last)
 }

@@ -1,6 +1,7 @@
 //! Strings that are cut, and lines that are broken.
 
 use crate::tests::rows::{FIRST, FIRST_END, Table, Telling, expect};
+use bst_step::machine::{Machine, Page, Turn};
 use bv_base::memory::NoMemory;
 use std::test::Fail;
 
@@ -88,6 +89,30 @@ const CALLS_ROWS: &str = r#"
 #[test]
 fn strings_stay_from_call_to_call(rt: HostRuntime) -> Result<(), Fail> {
     told!(rt, BEFORE, "", "", Lengths, CALLS_ROWS)
+}
+
+#[test]
+fn lines_that_are_taken_out_in_parts_are_the_same(rt: HostRuntime) -> Result<(), Fail> {
+    told!(rt, BEFORE, "", "} READ EXECUTE f", InParts, LINES_ROWS)?;
+    told!(rt, BEFORE, "", "", InParts, CALLS_ROWS)
+}
+
+/// Adds the runs of equal bytes of lines that are taken out of a machine after every three steps of so many.
+pub fn add_parts(told: &mut String, n: u64, machine: &mut Machine<'_>) -> Result<(), NoMemory> {
+    let alloc = *told.allocator();
+    let mut lines = Vec::new(alloc);
+    let mut page = Page::new(alloc);
+    for _ in 0..n {
+        let turn = machine.run(3)?;
+        machine.write_to(&mut page)?;
+        lines.extend_from_slice(page.text())?;
+        page.clear_text();
+        if turn != Turn::Went {
+            break;
+        }
+    }
+    lines.extend_from_slice(page.finish()?.as_slice())?;
+    add_lengths(told, lines.as_slice())
 }
 
 /// Adds the runs of equal bytes of lines.
