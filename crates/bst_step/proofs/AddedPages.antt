@@ -1,5 +1,5 @@
 -- What becomes of a page as events are added to it.
-use Rattle.std.proofs.Common.{◌≡◌, ℕ, ◌+◌, ◌<◌, Bool, true, false, if◌then◌else◌, List, [], ◌∷◌, ◌++◌, Option, None, Some, length, drop, get_or, map, ◌∙◌, refl, sym, ap, append-nil}
+use Rattle.std.proofs.Common.{◌≡◌, ℕ, ◌+◌, ◌<◌, Bool, true, false, if◌then◌else◌, List, [], ◌∷◌, ◌++◌, Option, None, length, drop, get_or, map, ◌∙◌, refl, sym, ap, append-nil}
 use Rattle.std.specs.List.{flat_map}
 use Rattle.std.proofs.lemmas.List.{append_assoc, at_drop_more}
 use Rattle.bst_meaning.specs.Config.{Event, Wrote, EndedLine}

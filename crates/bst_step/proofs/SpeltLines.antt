@@ -1,10 +1,9 @@
 -- The lines of a page that are spelt behind a text.
-use Rattle.std.proofs.Common.{◌≡◌, ℕ, zero, suc, ◌+◌, ◌<◌, Bool, true, false, cond, if◌then◌else◌, List, [], ◌∷◌, ◌++◌, Option, None, Some, length, drop, get_or, map, ◌∙◌, refl, sym, ap, append-nil}
+use Rattle.std.proofs.Common.{◌≡◌, ℕ, zero, suc, Bool, true, false, cond, List, [], ◌∷◌, ◌++◌, Option, None, Some, length, ◌∙◌, sym, ap, append-nil}
 use Rattle.std.specs.List.{flat_map}
-use Rattle.std.proofs.lemmas.List.{at_drop_more, flat_map_more}
+use Rattle.std.proofs.lemmas.List.{flat_map_more}
 use Rattle.bst_meaning.specs.Config.{Event, Wrote, EndedLine}
-use Rattle.bst_meaning.specs.Lines.{Cut, Page, after_event, after_events, broken, cut_of, is_only_white, page_of, trimmed_end}
-use Rattle.bst_step.specs.State.{event_of}
+use Rattle.bst_meaning.specs.Lines.{Cut, Page, after_event, broken, cut_of, is_only_white, page_of, trimmed_end}
 use Rattle.bst_step.specs.Lines.{Spelt, spelt}
 
 -- a line with its line end, and lines with theirs

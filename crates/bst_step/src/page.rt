@@ -59,7 +59,7 @@ impl Page {
     /// The lines that are finished, each with its line end. What is still in the buffer belongs to no line, but for those
     /// into which it is broken.
     pub fn finish(self) -> Result<Vec<u8>, NoMemory>
-        ensures { IfOk result (λ v. v.items ≡ (page_in self.entry).text) }
+        ensures { IfOk result (λ v. v.items ≡ (page_in self).text) }
     {
         let mut page = self;
         page.break_buffer()?;
