@@ -2,20 +2,19 @@
 use Rattle.std.proofs.Common.{◌≡◌, ℕ, zero, suc, ◌+◌, ◌<◌, ◌≤◌, le_refl, refl, sym, ap, subst, ◌∙◌, List, [], ◌∷◌, ◌++◌, drop, get_or, length, map, slice_get, take, max, Option, Some, None, nat_eq, Bool, true, false, cond, arith}
 use Rattle.std.specs.Option.{option_and_then, option_map_or}
 use Rattle.std.proofs.Math.Seq.{take-append_seam}
-use Rattle.std.proofs.lemmas.List.{drop-take, length-set, length-take, take-take, take_all}
+use Rattle.std.proofs.lemmas.List.{drop-take, length-take, take-take, take_all}
 use Rattle.name_table.specs.declared.names.NameId.{NameId}
 use Rattle.std.proofs.Math.ListN.{set}
 use Rattle.bst_meaning.specs.Config as config
 use Rattle.bst_meaning.specs.declared.value.Value.{Value}
 use Rattle.bst_meaning.specs.declared.value.Value.TheVariants.{Str}
-use Rattle.bst_step.specs.declared.entry_states.EntryState.{EntryState}
 use Rattle.bst_step.specs.declared.held.Held.{Held}
 use Rattle.bst_step.specs.declared.held.Held.TheVariants.{Int, Str as LentStr, Missing, Func, Made}
 use Rattle.bst_step.specs.declared.variables.Variable.{Variable}
-use Rattle.bst_step.specs.EntryStates.{EntriesWithin, state_in, with_held_in}
-use Rattle.bst_step.specs.Held.{end_of, value_in}
+use Rattle.bst_step.specs.EntryStates.{EntriesWithin, EntryState, state_in, with_held_in}
+use Rattle.bst_step.specs.Held.{ValuesWithin, end_of, value_in}
 use Rattle.bst_step.specs.Marks.{marks_in}
-use Rattle.bst_step.specs.Values.{Holding, IsHeld, StackWithin, holding_in}
+use Rattle.bst_step.specs.Values.{Holding, IsHeld, holding_in}
 use Rattle.bst_step.specs.Variables.{VariablesWithin, held_at, variable_in, with_held}
 
 -- two pools that have the same bytes before a place
@@ -29,7 +28,7 @@ same_value end a b same (Made start count) within =
     sym (take-take (start + count) end a within) ∙ ap (λ (l : List ℕ). take (start + count) l) same ∙ take-take (start + count) end b within in
     ap Str (sym (drop-take start count a) ∙ ap (λ (l : List ℕ). drop start l) front ∙ drop-take start count b)
 
-pub same_stack : (end : ℕ) (a b : List ℕ) → take end a ≡ take end b → (hs : List Held) → StackWithin end hs
+pub same_stack : (end : ℕ) (a b : List ℕ) → take end a ≡ take end b → (hs : List Held) → ValuesWithin end hs
     → map (value_in a) hs ≡ map (value_in b) hs
 same_stack end a b same [] within = refl
 same_stack end a b same (h ∷ hs) within =
@@ -51,7 +50,7 @@ same_entries end a b same (e ∷ es) within =
     ∙ ap (λ l. state_in b e ∷ l) (same_entries end a b same es within.1)
 
 -- what ends before a place ends before a later one
-pub stack_later : (m n : ℕ) → m ≤ n → (hs : List Held) → StackWithin m hs → StackWithin n hs
+pub stack_later : (m n : ℕ) → m ≤ n → (hs : List Held) → ValuesWithin m hs → ValuesWithin n hs
 stack_later m n later [] within = tt
 stack_later m n later (h ∷ hs) within = (omega (arith, later, within.0), stack_later m n later hs within.1)
 
@@ -64,13 +63,13 @@ entries_later m n later [] within = tt
 entries_later m n later (e ∷ es) within = (variables_later m n later e.variables within.0, entries_later m n later es within.1)
 
 -- what is below the topmost values, and one of them
-pub stack_dropped : (end : ℕ) (hs : List Held) (n : ℕ) → StackWithin end hs → StackWithin end (drop n hs)
-stack_dropped end [] zero within = within
-stack_dropped end [] (suc n) within = within
-stack_dropped end (h ∷ hs) zero within = within
-stack_dropped end (h ∷ hs) (suc n) within = stack_dropped end hs n within.1
+pub values_dropped : (end : ℕ) (hs : List Held) (n : ℕ) → ValuesWithin end hs → ValuesWithin end (drop n hs)
+values_dropped end [] zero within = within
+values_dropped end [] (suc n) within = within
+values_dropped end (h ∷ hs) zero within = within
+values_dropped end (h ∷ hs) (suc n) within = values_dropped end hs n within.1
 
-pub below_within : (end : ℕ) (hs : List Held) (n : ℕ) (h : Held) → StackWithin end hs → slice_get hs n ≡ Some h → end_of h ≤ end
+pub below_within : (end : ℕ) (hs : List Held) (n : ℕ) (h : Held) → ValuesWithin end hs → slice_get hs n ≡ Some h → end_of h ≤ end
 below_within end [] n h within is = absurd (cc)
 below_within end (first ∷ hs) zero h within is = let same : first ≡ h = cc in omega (arith, within.0, ap (λ (k : Held). end_of k) same)
 below_within end (first ∷ hs) (suc n) h within is = below_within end hs n h within.1 is
@@ -99,7 +98,7 @@ one_within end [] v within here = (here, tt)
 one_within end (first ∷ vs) v within here = (within.0, one_within end vs v within.1 here)
 
 -- one of the values is another
-stack_set : (end : ℕ) (hs : List Held) (n : ℕ) (h : Held) → end_of h ≤ end → StackWithin end hs → StackWithin end (set hs n h)
+stack_set : (end : ℕ) (hs : List Held) (n : ℕ) (h : Held) → end_of h ≤ end → ValuesWithin end hs → ValuesWithin end (set hs n h)
 stack_set end [] n h here within = within
 stack_set end (first ∷ hs) zero h here within = (here, within.1)
 stack_set end (first ∷ hs) (suc n) h here within = (within.0, stack_set end hs n h here within.1)
@@ -108,7 +107,7 @@ stack_set end (first ∷ hs) (suc n) h here within = (within.0, stack_set end hs
 pub held_new : (pool : List ℕ) (hs : List Held) (gs : List Variable) (es : List EntryState) → hs ≡ [] → VariablesWithin 0 gs → EntriesWithin 0 es
     → IsHeld pool 0 hs gs es
 held_new pool hs gs es none globals entries = record {
-  on_stack = subst (StackWithin (length pool)) (sym none) tt;
+  on_stack = subst (ValuesWithin (length pool)) (sym none) tt;
   in_globals = globals;
   in_entries = entries;
   in_front = omega arith;
@@ -167,7 +166,7 @@ entries_seen pool later kept hs room gs es seen front held is =
 pub held_pushed : (pool : List ℕ) (kept : ℕ) (h : Held) (hs more : List Held) (gs : List Variable) (es : List EntryState) → more ≡ h ∷ hs
     → end_of h ≤ length pool → IsHeld pool kept hs gs es → IsHeld pool kept more gs es
 held_pushed pool kept h hs more gs es is within held = record {
-  on_stack = subst (StackWithin (length pool)) (sym is) (within, held.on_stack);
+  on_stack = subst (ValuesWithin (length pool)) (sym is) (within, held.on_stack);
   in_globals = held.in_globals;
   in_entries = held.in_entries;
   in_front = held.in_front;
@@ -180,7 +179,7 @@ lent_pushed pool kept h hs more gs es is lent held = held_pushed pool kept h hs 
 pub held_dropped : (pool : List ℕ) (kept n : ℕ) (hs fewer : List Held) (gs : List Variable) (es : List EntryState) → fewer ≡ drop n hs
     → IsHeld pool kept hs gs es → IsHeld pool kept fewer gs es
 held_dropped pool kept n hs fewer gs es is held = record {
-  on_stack = subst (StackWithin (length pool)) (sym is) (stack_dropped (length pool) hs n held.on_stack);
+  on_stack = subst (ValuesWithin (length pool)) (sym is) (values_dropped (length pool) hs n held.on_stack);
   in_globals = held.in_globals;
   in_entries = held.in_entries;
   in_front = held.in_front;
@@ -202,7 +201,7 @@ top_end pool kept (first ∷ hs) gs es h some is held = omega (arith, held.on_st
 pub held_set : (pool : List ℕ) (kept n : ℕ) (h : Held) (hs more : List Held) (gs : List Variable) (es : List EntryState) → more ≡ set hs n h
     → end_of h ≤ length pool → IsHeld pool kept hs gs es → IsHeld pool kept more gs es
 held_set pool kept n h hs more gs es is within held = record {
-  on_stack = subst (StackWithin (length pool)) (sym is) (stack_set (length pool) hs n h within held.on_stack);
+  on_stack = subst (ValuesWithin (length pool)) (sym is) (stack_set (length pool) hs n h within held.on_stack);
   in_globals = held.in_globals;
   in_entries = held.in_entries;
   in_front = held.in_front;
@@ -280,14 +279,6 @@ written_back {A} written lent xs later more n as_many is count same =
     ∙ same
     ∙ ap written is
 
-pub as_many : (new : Variable) (at : ℕ) (es : List EntryState) → length (with_held_in new at es) ≡ length es
-as_many new at es = by (slice_get es at)
-  where
-    by : (o : Option EntryState)
-        → length (option_map_or (λ (e : EntryState). set es at (record e { variables = with_held new e.variables })) o es) ≡ length es
-    by None = refl
-    by (Some e) = length-set es at (record e { variables = with_held new e.variables })
-
 pub held_given : (pool : List ℕ) (kept more : ℕ) (h : Held) (name : NameId) (hs fewer : List Held) (gs later : List Variable) (es : List EntryState)
     → hs ≡ h ∷ drop 1 hs → fewer ≡ drop 1 hs → more ≡ max kept (end_of h) → later ≡ with_held (record { name = name; value = h }) gs
     → IsHeld pool kept hs gs es → IsHeld pool more fewer later es
@@ -296,7 +287,7 @@ held_given pool kept more h name hs fewer gs later es top is end given held =
     let last : end_of h ≤ more = omega (arith, end) in
     let first : kept ≤ more = omega (arith, end) in
     record {
-      on_stack = subst (StackWithin (length pool)) (sym is) (stack_dropped (length pool) hs 1 held.on_stack);
+      on_stack = subst (ValuesWithin (length pool)) (sym is) (values_dropped (length pool) hs 1 held.on_stack);
       in_globals =
           subst (VariablesWithin more) (sym given)
           (with_held_within more (record { name = name; value = h }) gs last (variables_later kept more first gs held.in_globals));
@@ -312,7 +303,7 @@ held_given_in pool kept more at h name hs fewer gs es later top is end given hel
     let last : end_of h ≤ more = omega (arith, end) in
     let first : kept ≤ more = omega (arith, end) in
     record {
-      on_stack = subst (StackWithin (length pool)) (sym is) (stack_dropped (length pool) hs 1 held.on_stack);
+      on_stack = subst (ValuesWithin (length pool)) (sym is) (values_dropped (length pool) hs 1 held.on_stack);
       in_globals = variables_later kept more first gs held.in_globals;
       in_entries =
           subst (EntriesWithin more) (sym given)
@@ -321,7 +312,7 @@ held_given_in pool kept more at h name hs fewer gs es later top is end given hel
     }
 
 -- an empty stack holds nothing
-pub none_within : (end : ℕ) (hs : List Held) → length hs ≤ 0 → StackWithin end hs
+pub none_within : (end : ℕ) (hs : List Held) → length hs ≤ 0 → ValuesWithin end hs
 none_within end [] none = tt
 none_within end (h ∷ hs) none = absurd (omega (arith, none))
 
@@ -361,3 +352,9 @@ same_holding pool front kept room hs gs es is none held =
     (globals_trimmed pool front kept hs gs es is held)
     ∙ ap (λ (entries : List config.EntryState). let h : Holding = record { stack = map (value_in pool) hs; room = room; globals = map (variable_in pool) gs; entries = entries; marks = marks_in hs gs es } in h)
     (entries_trimmed pool front kept hs gs es is held)
+
+-- what entries hold stands in the pool as it was lent
+pub entries_in_lent : (pool lent : List ℕ) (kept : ℕ) (hs : List Held) (gs : List Variable) (es : List EntryState) → IsHeld pool kept hs gs es
+    → lent ≡ pool → EntriesWithin (length lent) es
+entries_in_lent pool lent kept hs gs es held is =
+    entries_later kept (length lent) (omega (arith, held.in_front, ap (λ (l : List ℕ). length l) is)) es held.in_entries

@@ -4,7 +4,8 @@ pub mod VariableSteps
 pub mod PlaceLookups
 pub mod PlacesMade
 pub mod FieldSteps
-pub mod EntrySteps
+pub mod TableSteps
+pub mod RenewedSteps
 pub mod CutValues
 pub mod HeldSteps
 pub mod ValueSteps

@@ -1,17 +1,17 @@
 -- The marks of values as they are held.
-use Rattle.std.proofs.Common.{◌≡◌, ℕ, zero, suc, nat_eq, ◌≤◌, arith, refl, sym, ap, ◌∙◌, subst, cond, Bool, true, false, List, [], ◌∷◌, ◌++◌, drop, get_or, length, map, slice_get, Option, None, Some}
+use Rattle.std.proofs.Common.{◌≡◌, ℕ, zero, suc, nat_eq, ◌+◌, ◌≤◌, arith, refl, sym, ap, ◌∙◌, subst, cond, Bool, true, false, List, [], ◌∷◌, ◌++◌, drop, get_or, length, map, slice_get, Option, None, Some}
 use Rattle.std.specs.Option.{option_and_then, option_map, option_map_or}
 use Rattle.std.proofs.Math.ListN.{set}
 use Rattle.std.proofs.lemmas.List.{drop-map, map-set, map_push}
 use Rattle.std.proofs.lemmas.Option.{slice_get-map}
 use Rattle.name_table.specs.declared.names.NameId.{NameId}
-use Rattle.bst_step.specs.declared.entry_states.EntryState.{EntryState}
 use Rattle.bst_step.specs.declared.held.Held.{Held}
 use Rattle.bst_step.specs.declared.held.Held.TheVariants as held
 use Rattle.bst_step.specs.declared.held.Held.TheVariants.{Int, Str, Missing, Func}
 use Rattle.bst_step.specs.declared.variables.Variable.{Variable}
 use Rattle.bst_meaning.specs.Config as config
-use Rattle.bst_step.specs.EntryStates.{state_in, with_held_in}
+use Rattle.bst_meaning.specs.declared.entry.Entry.{Entry}
+use Rattle.bst_step.specs.EntryStates.{EntryState, state_in, states_from, with_held_in}
 use Rattle.bst_step.specs.Held.{lent_of, value_in}
 use Rattle.bst_step.specs.Marks.{AreLent, AreLentIn, Made, Mark, Marked, Marks, found, given_globally, given_in_entry, lent_at, lent_mark, lent_marked, lent_marked_in, mark_at, mark_of, marked_in, marked_of, marks_in, with_entry_marked, with_marked}
 use Rattle.bst_step.specs.Marks as marks
@@ -202,15 +202,12 @@ lent_more vs more v is own lent =
     ∙ sym (map_push lent_marked (map (variable_in []) vs) (variable_in [] v))
     ∙ sym (ap (λ (l : List config.Variable). map lent_marked l) (map_push (variable_in []) vs v)))
 
--- one entry more none of whose bytes was made
-pub entry_lent_more : (es more : List EntryState) (e : EntryState) → more ≡ es ++ e ∷ [] → AreLent e.variables → AreLentIn es → AreLentIn more
-entry_lent_more es more e is own lent =
-    subst AreLentIn (sym is)
-    (map_push marked_in es e
-    ∙ ap (λ (l : List (List Marked)). l ++ marked_in e ∷ []) lent
-    ∙ ap (λ (l : List Marked). map lent_marked_in (map (state_in []) es) ++ l ∷ []) own
-    ∙ sym (map_push lent_marked_in (map (state_in []) es) (state_in [] e))
-    ∙ sym (ap (λ (l : List config.EntryState). map lent_marked_in l) (map_push (state_in []) es e)))
+-- entries with the same variables, none of whose bytes was made
+pub entries_lent : (vs : List Variable) (at : ℕ) (entries : List Entry) → AreLent vs → AreLentIn (states_from vs at entries)
+entries_lent vs at [] lent = refl
+entries_lent vs at (entry ∷ entries) lent =
+    ap (λ (l : List Marked). l ∷ map marked_in (states_from vs (at + 1) entries)) lent
+    ∙ ap (λ (l : List (List Marked)). map lent_marked (map (variable_in []) vs) ∷ l) (entries_lent vs (at + 1) entries lent)
 
 -- the marks in which a run opens
 pub opened_marks : (gs : List Variable) (es : List EntryState) (globals : List config.Variable) (entries : List config.EntryState)

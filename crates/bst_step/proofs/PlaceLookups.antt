@@ -1,16 +1,13 @@
 -- What stands at its place is found there.
 use Rattle.std.proofs.Common.{◌≡◌, ℕ, zero, suc, refl, sym, ap, ◌∙◌, Bool, true, false, cond, nat_eq, List, [], ◌∷◌, map, slice_get, Option, None, Some}
 use Rattle.std.specs.Option.{option_map}
-use Rattle.std.proofs.Math.ListN.{set}
 use Rattle.std.proofs.lemmas.Bool.{eqb-true, eq-eqb}
 use Rattle.std.proofs.lemmas.Option.{slice_get-map}
 use Rattle.name_table.specs.declared.names.NameId.{NameId}
 use Rattle.bst_meaning.specs.FieldValues.{FieldValue}
 use Rattle.bst_meaning.specs.declared.value.Value.TheVariants.{Missing}
 use Rattle.bst_meaning.specs.Machine.{field_in, field_value}
-use Rattle.bst_step.specs.declared.variables.Variable.{Variable}
 use Rattle.bst_step.specs.Places.{StandAt, place_of}
-use Rattle.bst_step.specs.Variables.{held_at, names_in, with_held}
 
 -- the first with an id stands at the place of the id
 record Stands (id at : ℕ) (names : List NameId) : Type 0 where
@@ -86,7 +83,7 @@ at_place places names at name stand here = by (place_of name.0 names) refl
         cc
 
 -- where another name stands at the place, or none, the id isn't there
-another_there : (places : List ℕ) (names : List NameId) (id at : ℕ) → StandAt places names → slice_get places id ≡ Some at
+pub another_there : (places : List ℕ) (names : List NameId) (id at : ℕ) → StandAt places names → slice_get places id ≡ Some at
     → ((name : NameId) → slice_get names at ≡ Some name → name.0 ≡ id → ⊥) → place_of id names ≡ None
 another_there places names id at stand has other = by (place_of id names) refl
   where
@@ -108,73 +105,6 @@ another_stands_there {X} named places things id at o stand has is other =
     by : (it : NameId) (o : Option X) → ((x : X) → o ≡ Some x → (named x).0 ≡ id → ⊥) → option_map named o ≡ Some it → it.0 ≡ id → ⊥
     by it None other e called = absurd (cc)
     by it (Some x) other e called = let same : named x ≡ it = cc in other x refl (ap (λ (n : NameId). n.0) same ∙ called)
-
--- what the variable at a place holds
-pub value_there : (id : ℕ) (variables : List Variable) (at : ℕ) → place_of id (names_in variables) ≡ Some at
-    → held_at id variables ≡ option_map (λ v. v.value) (slice_get variables at)
-value_there id [] at e = absurd (cc)
-value_there id (v ∷ vs) at e = by (nat_eq v.name.0 id) (place_of id (names_in vs)) refl (λ k. value_there id vs k) e
-  where
-    by : (t : Bool) (o : Option ℕ) → place_of id (names_in vs) ≡ o
-        → ((k : ℕ) → place_of id (names_in vs) ≡ Some k → held_at id vs ≡ option_map (λ v. v.value) (slice_get vs k))
-        → cond t (Some 0) (option_map suc o) ≡ Some at
-        → cond t (Some v.value) (held_at id vs) ≡ option_map (λ v. v.value) (slice_get (v ∷ vs) at)
-    by true o is later e =
-        let same : 0 ≡ at = cc in ap (λ (k : ℕ). option_map (λ v. v.value) (slice_get (v ∷ vs) k)) same
-    by false None is later e = absurd (cc)
-    by false (Some k) is later e =
-        let same : suc k ≡ at = cc in
-        later k is ∙ ap (λ (n : ℕ). option_map (λ v. v.value) (slice_get (v ∷ vs) n)) same
-
-pub value_nowhere : (id : ℕ) (variables : List Variable) → place_of id (names_in variables) ≡ None → held_at id variables ≡ None
-value_nowhere id [] e = refl
-value_nowhere id (v ∷ vs) e = by (nat_eq v.name.0 id) (place_of id (names_in vs)) refl (value_nowhere id vs) e
-  where
-    by : (t : Bool) (o : Option ℕ) → place_of id (names_in vs) ≡ o
-        → (place_of id (names_in vs) ≡ None → held_at id vs ≡ None) → cond t (Some 0) (option_map suc o) ≡ None
-        → cond t (Some v.value) (held_at id vs) ≡ None
-    by true o is later e = absurd (cc)
-    by false None is later e = later is
-    by false (Some k) is later e = absurd (cc)
-
--- a variable gets its new value at its place
-pub set_there : (new : Variable) (variables : List Variable) (at : ℕ) → place_of new.name.0 (names_in variables) ≡ Some at
-    → set variables at new ≡ with_held new variables
-set_there new [] at e = absurd (cc)
-set_there new (v ∷ vs) at e = by (nat_eq v.name.0 new.name.0) (place_of new.name.0 (names_in vs)) refl (λ k. set_there new vs k) e
-  where
-    by : (t : Bool) (o : Option ℕ) → place_of new.name.0 (names_in vs) ≡ o
-        → ((k : ℕ) → place_of new.name.0 (names_in vs) ≡ Some k → set vs k new ≡ with_held new vs)
-        → cond t (Some 0) (option_map suc o) ≡ Some at → set (v ∷ vs) at new ≡ cond t (new ∷ vs) (v ∷ with_held new vs)
-    by true o is later e = let same : 0 ≡ at = cc in ap (λ (k : ℕ). set (v ∷ vs) k new) (sym same)
-    by false None is later e = absurd (cc)
-    by false (Some k) is later e =
-        let same : suc k ≡ at = cc in
-        ap (λ (n : ℕ). set (v ∷ vs) n new) (sym same) ∙ ap (λ (l : List Variable). v ∷ l) (later k is)
-
-pub set_nowhere : (new : Variable) (variables : List Variable) → place_of new.name.0 (names_in variables) ≡ None
-    → variables ≡ with_held new variables
-set_nowhere new [] e = refl
-set_nowhere new (v ∷ vs) e = by (nat_eq v.name.0 new.name.0) (place_of new.name.0 (names_in vs)) refl (set_nowhere new vs) e
-  where
-    by : (t : Bool) (o : Option ℕ) → place_of new.name.0 (names_in vs) ≡ o
-        → (place_of new.name.0 (names_in vs) ≡ None → vs ≡ with_held new vs) → cond t (Some 0) (option_map suc o) ≡ None
-        → v ∷ vs ≡ cond t (new ∷ vs) (v ∷ with_held new vs)
-    by true o is later e = absurd (cc)
-    by false None is later e = ap (λ (l : List Variable). v ∷ l) (later is)
-    by false (Some k) is later e = absurd (cc)
-
--- a new value leaves the names
-pub same_names : (new : Variable) (variables : List Variable) → names_in (with_held new variables) ≡ names_in variables
-same_names new [] = refl
-same_names new (v ∷ vs) = by (nat_eq v.name.0 new.name.0) refl (same_names new vs)
-  where
-    by : (t : Bool) → nat_eq v.name.0 new.name.0 ≡ t → names_in (with_held new vs) ≡ names_in vs
-        → names_in (cond t (new ∷ vs) (v ∷ with_held new vs)) ≡ v.name ∷ names_in vs
-    by true is later =
-        let same : new.name.0 ≡ v.name.0 = sym (eqb-true v.name.0 new.name.0 is) in
-        ap (λ (n : ℕ). record { 0 = n } ∷ names_in vs) same
-    by false other later = ap (λ (l : List NameId). v.name ∷ l) later
 
 -- the names of the fields of an entry
 abbrev pub field_names : List FieldValue → List NameId

@@ -8,9 +8,8 @@ use Rattle.name_table.specs.declared.names.NameId.{NameId}
 use Rattle.bst_meaning.specs.Config as config
 use Rattle.bst_meaning.specs.Invariant.{names_of}
 use Rattle.bst_meaning.specs.Machine.{value_at, with_entry_variable, with_variable}
-use Rattle.bst_step.specs.declared.entry_states.EntryState.{EntryState}
 use Rattle.bst_step.specs.declared.variables.Variable.{Variable}
-use Rattle.bst_step.specs.EntryStates.{state_in, with_held_in}
+use Rattle.bst_step.specs.EntryStates.{EntryState, state_in, with_held_in}
 use Rattle.bst_step.specs.Held.{value_in}
 use Rattle.bst_step.specs.Variables.{held_at, names_in, variable_in, with_held}
 

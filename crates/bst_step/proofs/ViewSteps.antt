@@ -3,20 +3,20 @@ use Rattle.std.proofs.Common.{◌≡◌, ℕ, zero, suc, ◌-◌, ◌<◌, ◌�
 use Rattle.std.specs.Borrow.{Bor}
 use Rattle.std.specs.Option.{option_map, IfSome}
 use Rattle.std.proofs.Math.ListN.{get_or-map, set}
-use Rattle.std.proofs.lemmas.Option.{slice_get-map, slice_get_past, slice_get_read}
+use Rattle.std.proofs.lemmas.Option.{slice_get-map}
 use Rattle.std.proofs.Math.Seq.{drop-append_seam, take-append_seam}
 use Rattle.std.proofs.lemmas.List.{drop-append-le, take_all, take_rest}
 use Rattle.name_table.specs.declared.names.NameId.{NameId}
 use Rattle.bst_meaning.specs.declared.value.Value.{Value}
 use Rattle.bst_meaning.specs.declared.value.Value.TheVariants.{Str}
 use Rattle.bst_meaning.specs.Config as config
-use Rattle.bst_meaning.specs.Machine.{with_entry_variable, with_variable}
+use Rattle.bst_meaning.specs.declared.entry.Entry.{Entry}
+use Rattle.bst_meaning.specs.Machine.{field_in, with_entry_variable, with_variable}
 use Rattle.bst_meaning.specs.Sorting.{string_of}
-use Rattle.bst_step.specs.declared.entry_states.EntryState.{EntryState}
 use Rattle.bst_step.specs.declared.held.Held.{Held}
 use Rattle.bst_step.specs.declared.held.Held.TheVariants.{Int, Str as LentStr, Missing, Func, Made}
 use Rattle.bst_step.specs.declared.variables.Variable.{Variable}
-use Rattle.bst_step.specs.EntryStates.{state_in, with_held_in}
+use Rattle.bst_step.specs.EntryStates.{EntryState, state_in, with_held_in}
 use Rattle.bst_step.specs.Held.{end_of, lent_of, part_from, value_in}
 use Rattle.bst_step.specs.Stack.{doubled, swapped}
 use Rattle.bst_step.specs.Values.{Holding, cut, given_globally, given_in_entry, holding_in, joined}
@@ -91,27 +91,33 @@ second_left [] fewer h is left = absurd (cc)
 second_left (x ∷ []) fewer h is left = absurd (cc)
 second_left (x ∷ y ∷ hs) fewer h is left = omega (arith, ap (λ (l : List Held). length l) left)
 
--- what is seen at a place is what stands there in the entries that were lent
-seen_where : {A : Type 0} (pool : List ℕ) (hs : List Held) (room : ℕ) (gs : List Variable) (es lent : List EntryState) (seen : Holding) (at : ℕ)
-    (o : Option EntryState) (f : config.EntryState → A) → holding_in pool hs room gs es ≡ seen → lent ≡ es → slice_get lent at ≡ o
-    → option_map f (option_map (state_in pool) o) ≡ option_map f (slice_get seen.entries at)
-seen_where {A} pool hs room gs es lent seen at o f is all here =
-    ap (λ (l : Option EntryState). option_map f (option_map (state_in pool) l)) (sym here ∙ ap (λ (l : List EntryState). slice_get l at) all)
-    ∙ ap (λ (l : Option config.EntryState). option_map f l) (sym (slice_get-map (state_in pool) es at))
+-- what is seen at a place is what stands there
+pub seen_at : {A : Type 0} (pool : List ℕ) (hs : List Held) (room : ℕ) (gs : List Variable) (es : List EntryState) (seen : Holding) (at : ℕ)
+    (f : config.EntryState → A) → holding_in pool hs room gs es ≡ seen
+    → option_map (λ (e : EntryState). f (state_in pool e)) (slice_get es at) ≡ option_map f (slice_get seen.entries at)
+seen_at {A} pool hs room gs es seen at f is =
+    by (slice_get es at)
+    ∙ ap (λ (o : Option config.EntryState). option_map f o) (sym (slice_get-map (state_in pool) es at))
     ∙ ap (λ (h : Holding). option_map f (slice_get h.entries at)) is
+  where
+    by : (o : Option EntryState) → option_map (λ (e : EntryState). f (state_in pool e)) o ≡ option_map f (option_map (state_in pool) o)
+    by None = refl
+    by (Some e) = refl
 
--- an entry that was read is seen, and where none was, none is
-pub read_seen : {A : Type 0} (pool : List ℕ) (hs : List Held) (room : ℕ) (gs : List Variable) (es lent : List EntryState) (seen : Holding) (at : ℕ)
-    (e : EntryState) (f : config.EntryState → A) → holding_in pool hs room gs es ≡ seen → lent ≡ es → at < length lent → e ≡ get_or lent at e
-    → Some (f (state_in pool e)) ≡ option_map f (slice_get seen.entries at)
-read_seen {A} pool hs room gs es lent seen at e f is all within here =
-    seen_where pool hs room gs es lent seen at (Some e) f is all (slice_get_read lent (length lent) at e refl within here)
-
-pub none_seen : {A : Type 0} (pool : List ℕ) (hs : List Held) (room : ℕ) (gs : List Variable) (es lent : List EntryState) (seen : Holding) (at : ℕ)
-    (f : config.EntryState → A) → holding_in pool hs room gs es ≡ seen → lent ≡ es → length lent ≤ at
-    → None ≡ option_map f (slice_get seen.entries at)
-none_seen {A} pool hs room gs es lent seen at f is all past =
-    seen_where pool hs room gs es lent seen at None f is all (slice_get_past lent at past)
+-- the field of an entry that is seen at a place
+pub field_seen : (pool : List ℕ) (hs : List Held) (room : ℕ) (gs : List Variable) (es : List EntryState) (seen : Holding) (at : ℕ) (name : NameId)
+    (o : Option Entry) → holding_in pool hs room gs es ≡ seen → o ≡ option_map (λ (e : EntryState). e.entry) (slice_get es at)
+    → option_map (λ (e : Entry). field_in name e.fields) o ≡ option_map (λ (e : config.EntryState). field_in name e.entry.fields) (slice_get seen.entries at)
+field_seen pool hs room gs es seen at name o is here =
+    ap (λ (p : Option Entry). option_map (λ (e : Entry). field_in name e.fields) p) here
+    ∙ by (slice_get es at)
+    ∙ seen_at pool hs room gs es seen at (λ e. field_in name e.entry.fields) is
+  where
+    by : (p : Option EntryState)
+        → option_map (λ (e : Entry). field_in name e.fields) (option_map (λ (e : EntryState). e.entry) p)
+        ≡ option_map (λ (e : EntryState). field_in name e.entry.fields) p
+    by None = refl
+    by (Some e) = refl
 
 -- the top once more
 pub doubled_view : (pool : List ℕ) (hs : List Held) (h : Held) → hs ≡ h ∷ drop 1 hs

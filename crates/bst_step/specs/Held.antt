@@ -1,5 +1,5 @@
 -- Values as the machine holds them (docs/MACHINE.md, "How it is run").
-use Rattle.std.specs.Prelude.{ℕ, ◌+◌, List, Option, None, Some, drop, take}
+use Rattle.std.specs.Prelude.{ℕ, ◌+◌, ◌≤◌, List, [], ◌∷◌, Option, None, Some, drop, take}
 use Rattle.bst_meaning.specs.declared.value.Value.{Value}
 use Rattle.bst_meaning.specs.declared.value.Value.TheVariants.{Int, Str, Missing, Func}
 use Rattle.bst_step.specs.declared.held.Operand.{Operand}
@@ -31,6 +31,11 @@ lent_of _ = None
 abbrev pub end_of : Held → ℕ
 end_of (held.Made start count) = start + count
 end_of _ = 0
+
+-- the bytes of values end there at the latest
+abbrev pub ValuesWithin : ℕ → List Held → Type 0
+ValuesWithin end [] = Unit {0}
+ValuesWithin end (value ∷ values) = (end_of value ≤ end) × ValuesWithin end values
 
 -- of a string so many bytes from a place on
 abbrev pub part_from : ℕ → ℕ → Value → Value

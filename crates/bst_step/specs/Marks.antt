@@ -9,11 +9,10 @@ use Rattle.bst_meaning.specs.declared.value.Value.TheVariants.{Str}
 use Rattle.bst_meaning.specs.Config.{Config, EntryState, Variable}
 use Rattle.bst_meaning.specs.Sorting.{sort_key, sorted}
 use Rattle.bst_step.specs.ById.{replaced_by_id, seen_by_id}
-use Rattle.bst_step.specs.declared.entry_states.EntryState.{EntryState as HeldState}
 use Rattle.bst_step.specs.declared.held.Held.{Held}
 use Rattle.bst_step.specs.declared.held.Held.TheVariants as held
 use Rattle.bst_step.specs.declared.variables.Variable.{Variable as HeldVariable}
-use Rattle.bst_step.specs.EntryStates.{state_in}
+use Rattle.bst_step.specs.EntryStates.{EntryState as HeldState, state_in}
 use Rattle.bst_step.specs.Stack as pile
 use Rattle.bst_step.specs.Variables.{variable_in}
 

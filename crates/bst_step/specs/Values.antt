@@ -7,12 +7,11 @@ use Rattle.bst_meaning.specs.declared.value.Value.TheVariants.{Str}
 use Rattle.bst_meaning.specs.Config as config
 use Rattle.bst_meaning.specs.Machine.{with_entry_variable, with_variable}
 use Rattle.bst_meaning.specs.Sorting.{string_of}
-use Rattle.bst_step.specs.declared.entry_states.EntryState.{EntryState}
 use Rattle.bst_step.specs.declared.held.Held.{Held}
 use Rattle.bst_step.specs.declared.variables.Variable.{Variable}
 use Rattle.bst_step.specs.Marks.{Marks, marks_in}
-use Rattle.bst_step.specs.EntryStates.{EntriesWithin, state_in}
-use Rattle.bst_step.specs.Held.{end_of, part_from, value_in}
+use Rattle.bst_step.specs.EntryStates.{EntriesWithin, EntryState, state_in}
+use Rattle.bst_step.specs.Held.{ValuesWithin, part_from, value_in}
 use Rattle.bst_step.specs.Variables.{VariablesWithin, variable_in}
 
 -- the literal stack, its top first, with the room that it has, the variables of the whole style, and the entries with theirs; and the
@@ -34,14 +33,9 @@ holding_in pool stack room globals entries = record {
   marks = marks_in stack globals entries;
 }
 
--- the bytes of values end there at the latest
-abbrev pub StackWithin : ℕ → List Held → Type 0
-StackWithin end [] = Unit {0}
-StackWithin end (held ∷ stack) = (end_of held ≤ end) × StackWithin end stack
-
 -- what is held stands in the pool, and what variables hold in its front
 pub record IsHeld (pool : List ℕ) (kept : ℕ) (stack : List Held) (globals : List Variable) (entries : List EntryState) : Type 0 where
-  pub on_stack : StackWithin (length pool) stack
+  pub on_stack : ValuesWithin (length pool) stack
   pub in_globals : VariablesWithin kept globals
   pub in_entries : EntriesWithin kept entries
   pub in_front : kept ≤ length pool

@@ -1,12 +1,12 @@
 //! Values as the machine holds them: the bytes of a string are lent, or were made and stand in a pool.
 
-ghost use Rattle.std.specs.Prelude.{◌≡◌, ◌≤◌, ℕ, List, ◌++◌, drop, length, option_map, take, IfOk, OnErr, OnOk};
+ghost use Rattle.std.specs.Prelude.{◌≡◌, ◌+◌, ◌≤◌, ℕ, List, ◌++◌, drop, length, option_map, slice_get, take, IfOk, OnErr, OnOk};
 ghost use Rattle.bst_meaning.specs.declared.value.Value.TheVariants.{Str};
 ghost use Rattle.bst_meaning.specs.Sorting.{string_of};
 ghost use Rattle.bst_step.specs.Held.{end_of, lent_of, part_from, value_in, value_of};
 ghost use Rattle.bst_step.specs.Marks as mark;
 ghost use Rattle.bst_step.specs.Marks.{lent_mark, mark_of};
-ghost use Rattle.bst_step.specs.Settled.{made_bytes, made_count, settled};
+ghost use Rattle.bst_step.specs.Settled.{made_bytes, made_count, settled, values_bytes, values_count, values_settled};
 
 use bst_meaning::value::Target;
 use bv_base::bytes::part_of;
@@ -205,4 +205,39 @@ fn brought_to_end(a: Held<'_>, pool: &mut Vec<u8>) -> Result<usize, NoMemory>
     }
     a.append_to(pool)?;
     Ok(end)
+}
+
+/// Appends the bytes of all strings that were made and stand in a pool to a fresh one.
+pub fn gather_values(values: &[Held<'_>], pool: &[u8], fresh: &mut Vec<u8>) -> Result<(), NoMemory>
+    ensures { OnOk result (fresh.new.items ≡ fresh.old.items ++ values_bytes pool.now values.now) }
+{
+    for value in values {
+        value.gather(pool, fresh)?;
+    }
+    Ok(())
+}
+
+/// Puts the strings that were made one after the other from a place on.
+pub fn settle_values(values: &mut [Held<'_>], at: usize)
+    requires { at + values_count values.old ≤ 18446744073709551615 }
+    ensures { values.new ≡ values_settled at values.old }
+{
+    let mut end = at;
+    for i in 0..values.len() {
+        let value = values[i];
+        values[i] = value.settled(end);
+        end += value.made_count();
+    }
+}
+
+/// The value so far behind a place.
+pub fn value_from<'a>(values: &[Held<'a>], first: usize, place: usize) -> Option<Held<'a>>
+    ensures { result ≡ slice_get (drop first values.now) place }
+{
+    let index = first.saturating_add(place);
+    if index < values.len() {
+        Some(values[index])
+    } else {
+        None
+    }
 }

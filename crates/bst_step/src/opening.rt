@@ -3,22 +3,20 @@
 ghost use Rattle.std.specs.Prelude.{◌≡◌, ◌≤◌, ℕ, List, [], ◌∷◌, ◌++◌, length, map, OnOk, IfOk};
 ghost use Rattle.bst_meaning.specs.Config as config;
 ghost use Rattle.bst_meaning.specs.Entries.{field_ids_at, field_ids_from};
-ghost use Rattle.bst_step.specs.EntryStates.{EntriesWithin, state_in};
 ghost use Rattle.bst_step.specs.Held.{value_of};
-ghost use Rattle.bst_step.specs.Marks.{AreLent, AreLentIn, lent_marks};
+ghost use Rattle.bst_step.specs.Marks.{AreLent, lent_marks};
 ghost use Rattle.bst_step.specs.Opening.{opening_of};
 ghost use Rattle.bst_step.specs.Places.{StandAt};
 ghost use Rattle.bst_step.specs.State.{config_of};
 ghost use Rattle.bst_step.specs.Variables.{VariablesWithin, variable_in};
 
-use crate::entry_states::EntryState;
-use crate::fields::PlacedEntry;
+use crate::entry_states::EntryTable;
 use crate::frame_list::Frames;
 use crate::held::Operand;
 use crate::state::State;
 use crate::values::Values;
 use crate::variables::{Variable, Variables};
-use bst_meaning::entry::{Entry, EntryList};
+use bst_meaning::entry::EntryList;
 use bst_meaning::value::{ENTRY_SIZE, GLOBAL_SIZE};
 use bv_base::memory::NoMemory;
 use bv_base::packed_texts::PackedTexts;
@@ -49,7 +47,7 @@ pub fn opening<'a>(
     let own = variables(alloc, Owner::Entry, &style.names)?;
     let places = field_places(alloc, &style.names)?;
     let globals = variables(alloc, Owner::Style, &style.names)?;
-    let entries = entry_states(alloc, &style.names, &places, &own, list.entries.as_slice())?;
+    let entries = EntryTable::new(alloc, own, list.entries.as_slice(), &style.names, &places)?;
     Ok(State {
         alloc,
         preamble: list.preamble.as_slice(),
@@ -89,7 +87,7 @@ fn variables<'a>(alloc: Global, owner: Owner, names: &Names) -> Result<Variables
         places.push(variables.as_slice().len())?;
         push_declared(&mut variables, owner, NameId(id), names.kind(NameId(id)))?;
     }
-    Variables::new(alloc, places, variables)
+    Variables::new(alloc, places, variables.as_slice())
 }
 
 /// Appends the variable that a name of a kind is, if it is one of this owner.
@@ -154,33 +152,4 @@ fn count_of_fields(kind: Kind) -> usize
         Kind::Field => 1,
         _ => 0,
     }
-}
-
-/// The entries, each with its variables, its position and the id of its type's name.
-fn entry_states<'a>(
-    alloc: Global,
-    names: &Names,
-    places: &Rc<Vec<usize>>,
-    variables: &Variables<'a>,
-    entries: &'a [Entry],
-) -> Result<Vec<EntryState<'a>>, NoMemory>
-    requires within { VariablesWithin 0 variables.now }
-    requires marks { AreLent variables.now }
-    ensures within { IfOk result (λ states. EntriesWithin 0 states.items) }
-    ensures marks { IfOk result (λ states. AreLentIn states.items) }
-    ensures opened { IfOk result (λ states. map (state_in []) states.items ≡ config.opening_entries (map (variable_in []) variables.now) 0 entries.now) }
-{
-    let mut states = Vec::with_capacity(alloc, entries.len())?;
-    for entry in entries {
-        let position = states.as_slice().len() as u64;
-        let variables = variables.copied(alloc)?;
-        let type_id = names.find(entry.entry_type.as_slice());
-        let entry = PlacedEntry::new(places, entry, type_id)?;
-        states.push(EntryState {
-            entry,
-            variables,
-            position,
-        })?;
-    }
-    Ok(states)
 }

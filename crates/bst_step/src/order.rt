@@ -1,32 +1,46 @@
 //! SORT: the entries in the order of `sort.key$`.
 
-ghost use Rattle.std.specs.Prelude.{◌≡◌, ℕ, map, OnErr, OnOk};
+ghost use Rattle.std.specs.Prelude.{◌≡◌, ℕ, List, map, OnErr, OnOk};
+ghost use Rattle.std.specs.List.Sorted.{IsPermutation};
 ghost use Rattle.bst_meaning.specs.Sorting as rule;
-ghost use Rattle.bst_step.specs.EntryStates.{EntriesWithin, state_in};
+ghost use Rattle.bst_step.specs.EntryStates.{state_at, state_in, states_at};
 ghost use Rattle.bst_step.specs.Held.{value_of};
 ghost use Rattle.bst_step.specs.Marks.{marked_in, sorted_marks};
+ghost use Rattle.bst_step.specs.Variables.{names_in};
 
-use crate::entry_states::EntryState;
-use crate::held::Operand;
+use crate::entry_states::Row;
+use crate::held::{Held, Operand, value_from};
+use crate::variables::Variables;
 use bv_base::memory::NoMemory;
 use name_table::opening::SORT_KEY;
 
-/// Orders the entries by their sort keys, whose bytes may stand in a pool. Equal keys keep their order.
-pub fn sort_entries(pool: &[u8], entries: &mut Vec<EntryState<'_>>) -> Result<(), NoMemory>
-    ensures sorted { OnOk result (map (state_in pool.now) entries.new.items ≡ rule.sorted (map (state_in pool.now) entries.old.items)) }
-    ensures within { (end : ℕ) → EntriesWithin end entries.old.items → EntriesWithin end entries.new.items }
-    ensures marks { OnOk result (map marked_in entries.new.items ≡ sorted_marks (map (state_in pool.now) entries.old.items) (map marked_in entries.old.items)) }
-    ensures kept { OnErr result (entries.new.items ≡ entries.old.items) }
+/// Orders entries by their sort keys, whose bytes may stand in a pool. Equal keys keep their order.
+pub fn sort_rows(
+    pool: &[u8],
+    own: &Variables<'_>,
+    values: &[Held<'_>],
+    rows: &mut Vec<Row<'_>>,
+) -> Result<(), NoMemory>
+    ensures sorted { OnOk result (map (state_in pool.now) (states_at (names_in own.now) values.now rows.new.items)
+        ≡ rule.sorted (map (state_in pool.now) (states_at (names_in own.now) values.now rows.old.items))) }
+    ensures marks { OnOk result (map marked_in (states_at (names_in own.now) values.now rows.new.items)
+        ≡ sorted_marks (map (state_in pool.now) (states_at (names_in own.now) values.now rows.old.items))
+        (map marked_in (states_at (names_in own.now) values.now rows.old.items))) }
+    ensures permuted { IsPermutation rows.old.items rows.new.items }
+    ensures kept { OnErr result (rows.new.items ≡ rows.old.items) }
 {
-    entries.sort_by(|a, b| sort_key(pool, a).cmp(sort_key(pool, b)))?;
+    rows.sort_by(|a, b| sort_key(pool, own, values, a).cmp(sort_key(pool, own, values, b)))?;
     Ok(())
 }
 
 /// The bytes of `sort.key$`.
-fn sort_key<'b>(pool: &'b [u8], entry: &EntryState<'b>) -> &'b [u8]
-    ensures { result.now ≡ rule.sort_key (state_in pool.now entry.now) }
+fn sort_key<'b>(pool: &'b [u8], own: &Variables<'_>, values: &[Held<'b>], row: &Row<'_>) -> &'b [u8]
+    ensures { result.now ≡ rule.sort_key (state_in pool.now (state_at (names_in own.now) values.now row.now)) }
 {
-    match entry.variables.value(SORT_KEY) {
+    let Some(place) = own.place(SORT_KEY) else {
+        return &[];
+    };
+    match value_from(values, row.first, place) {
         Some(held) => string_of(held.operand(pool)),
         None => &[],
     }

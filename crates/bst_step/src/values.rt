@@ -1,6 +1,6 @@
 //! The values that the machine holds: those of the literal stack, and those of all variables.
 
-ghost use Rattle.std.specs.Prelude.{◌≡◌, ◌+◌, ◌<◌, ◌≤◌, ◌∷◌, ◌++◌, [], drop, is_some, length, map, option_map, slice_get, slice_index_or, Some, IfOk, IfSome, IsOk, MatchOption, OnErr, OnOk};
+ghost use Rattle.std.specs.Prelude.{◌≡◌, ◌+◌, ◌<◌, ◌≤◌, ◌∷◌, [], drop, is_some, length, map, option_map, slice_get, slice_index_or, Some, IfOk, IfSome, IsOk, MatchOption, OnErr, OnOk};
 ghost use Rattle.std.specs.Option.{option_and_then};
 ghost use Rattle.bst_meaning.specs.declared.value.Value.TheVariants.{Int, Str};
 ghost use Rattle.bst_meaning.specs.Machine as rule;
@@ -10,15 +10,13 @@ ghost use Rattle.bst_step.specs.Held.{value_of};
 ghost use Rattle.bst_step.specs.Machine.{key_at};
 ghost use Rattle.bst_step.specs.Marks as mark;
 ghost use Rattle.bst_step.specs.Marks.{lent_at, lent_mark, mark_at, marks_in, sorted_marks};
-ghost use Rattle.bst_step.specs.Settled.{entries_bytes, variables_bytes};
 ghost use Rattle.bst_step.specs.Stack.{doubled, swapped};
 ghost use Rattle.bst_step.specs.Values.{cut, given_globally, given_in_entry, joined, with_pushed};
-ghost use Rattle.bst_step.specs.Variables.{VariablesWithin, held_at, variable_in};
+ghost use Rattle.bst_step.specs.Variables.{VariablesWithin, variable_in};
 
-use crate::entry_states::{EntryState, gather_entries, key_in, set_in_entry, settle_entries};
+use crate::entry_states::EntryTable;
 use crate::fields::PlacedEntry;
 use crate::held::{Held, Operand, joined_in, made_in};
-use crate::order::sort_entries;
 use crate::stack::Stack;
 use crate::variables::{Variable, Variables};
 use bv_base::memory::NoMemory;
@@ -44,7 +42,7 @@ pub struct Values<'a> {
     limit: usize,
     stack: Stack<Held<'a>>,
     globals: Variables<'a>,
-    entries: Vec<EntryState<'a>>,
+    entries: EntryTable<'a>,
     /// The patterns by which names were written.
     known: Known,
 }
@@ -54,20 +52,20 @@ impl<'a> Model for Values<'a> {
 
     ghost Value = { Holding };
 
-    ghost view = { λ v. holding_in v.pool.items v.stack.items v.stack.room v.globals v.entries.items };
+    ghost view = { λ v. holding_in v.pool.items v.stack.items v.stack.room v.globals v.entries };
 
-    ghost invariant = { λ v. IsHeld v.pool.items v.kept v.stack.items v.globals v.entries.items };
+    ghost invariant = { λ v. IsHeld v.pool.items v.kept v.stack.items v.globals v.entries };
 }
 
 impl<'a> Values<'a> {
     /// An empty stack, and variables none of whose strings was made.
-    pub fn new(alloc: Global, globals: Variables<'a>, entries: Vec<EntryState<'a>>) -> Values<'a>
+    pub fn new(alloc: Global, globals: Variables<'a>, entries: EntryTable<'a>) -> Values<'a>
         requires globals { VariablesWithin 0 globals }
-        requires entries { EntriesWithin 0 entries.items }
+        requires entries { EntriesWithin 0 entries }
         ensures stack { result.stack ≡ [] }
         ensures globals { result.globals ≡ map (variable_in []) globals.entry }
-        ensures entries { result.entries ≡ map (state_in []) entries.entry.items }
-        ensures marks { result.marks ≡ marks_in [] globals.entry entries.entry.items }
+        ensures entries { result.entries ≡ map (state_in []) entries.entry }
+        ensures marks { result.marks ≡ marks_in [] globals.entry entries.entry }
     {
         let limit = limit_of(0, entries.len());
         Values {
@@ -361,7 +359,7 @@ impl<'a> Values<'a> {
         ensures fits { 1 ≤ self.old.room → IsOk result }
         ensures room { self.old.room ≤ self.new.room + 1 }
     {
-        match held_in_entry(self.entries.as_slice(), at, name) {
+        match self.entries.value(at, name) {
             Some(held) => {
                 self.stack.push(&held)?;
                 Ok(true)
@@ -397,7 +395,7 @@ impl<'a> Values<'a> {
         if let Some(value) = self.stack.top() {
             self.stack.drop_top(1);
             self.kept = self.kept.max(value.end(self.pool.as_slice()));
-            set_in_entry(self.entries.as_mut_slice(), at, Variable { name, value });
+            self.entries.set(at, Variable { name, value });
         }
     }
 
@@ -405,35 +403,29 @@ impl<'a> Values<'a> {
     pub fn entries(&self) -> usize
         ensures { result ≡ length self.now.entries }
     {
-        self.entries.as_slice().len()
+        self.entries.len()
     }
 
     /// The entry at a place.
     pub fn entry(&self, at: usize) -> Option<&PlacedEntry<'a>>
         ensures { option_map (λ e. e.now) result ≡ option_map (λ e. e.entry) (slice_get self.now.entries at) }
     {
-        match self.entries.as_slice().get(at) {
-            Some(state) => Some(&state.entry),
-            None => None,
-        }
+        self.entries.entry(at)
     }
 
     /// The position of the entry at a place in the list with which the run opened.
     pub fn position(&self, at: usize) -> Option<u64>
         ensures { result ≡ option_map (λ e. e.position) (slice_get self.now.entries at) }
     {
-        match self.entries.as_slice().get(at) {
-            Some(state) => Some(state.position),
-            None => None,
-        }
+        self.entries.position(at)
     }
 
     /// The value of a field of the entry at a place.
     pub fn field(&self, at: usize, name: NameId) -> Option<Operand<'a>>
         ensures { option_map value_of result ≡ option_map (λ e. rule.field_in name e.entry.fields) (slice_get self.now.entries at) }
     {
-        match self.entries.as_slice().get(at) {
-            Some(state) => Some(state.entry.field(name)),
+        match self.entries.entry(at) {
+            Some(entry) => Some(entry.field(name)),
             None => None,
         }
     }
@@ -442,7 +434,7 @@ impl<'a> Values<'a> {
     pub fn key(&self, position: u64) -> &'a [u8]
         ensures { result.now ≡ key_at position self.now.entries }
     {
-        key_in(self.entries.as_slice(), position)
+        self.entries.key(position)
     }
 
     /// Orders the entries by their sort keys. Equal keys keep their order.
@@ -454,8 +446,7 @@ impl<'a> Values<'a> {
         ensures marks { OnOk result (self.new.marks ≡ record self.old.marks { entries = sorted_marks self.old.entries self.old.marks.entries }) }
         ensures room { self.old.room ≤ self.new.room }
     {
-        sort_entries(self.pool.as_slice(), &mut self.entries)?;
-        Ok(())
+        self.entries.sort(self.pool.as_slice())
     }
 
     /// Lets go of the bytes that no variable may hold, where the stack is empty.
@@ -483,34 +474,15 @@ impl<'a> Values<'a> {
         if self.kept <= self.limit {
             return Ok(());
         }
-        let fresh = gathered(
-            self.pool.as_slice(),
-            &self.globals,
-            self.entries.as_slice(),
-            *self.pool.allocator(),
-        )?;
+        let mut fresh = Vec::with_capacity(*self.pool.allocator(), self.kept)?;
+        self.globals.gather(self.pool.as_slice(), &mut fresh)?;
+        self.entries.renew(self.pool.as_slice(), &mut fresh)?;
+        self.globals.settle(0);
         self.kept = fresh.as_slice().len();
-        let end = self.globals.settle(0);
-        settle_entries(self.entries.as_mut_slice(), end);
         self.limit = limit_of(self.kept, self.entries.len());
         self.pool = fresh;
         Ok(())
     }
-}
-
-/// The bytes of all strings that variables hold and that were made, one after the other.
-fn gathered(
-    pool: &[u8],
-    globals: &Variables<'_>,
-    entries: &[EntryState<'_>],
-    alloc: Global,
-) -> Result<Vec<u8>, NoMemory>
-    ensures { IfOk result (λ fresh. fresh.items ≡ variables_bytes pool.now globals.now ++ entries_bytes pool.now entries.now) }
-{
-    let mut fresh = Vec::new(alloc);
-    globals.gather(pool, &mut fresh)?;
-    gather_entries(entries, pool, &mut fresh)?;
-    Ok(fresh)
 }
 
 /// From how many bytes on a pool is made anew that had so many, for so many entries: so that to make it anew costs a few times
@@ -520,14 +492,4 @@ fn limit_of(kept: usize, entries: usize) -> usize {
     kept.saturating_add(kept / 2)
         .saturating_add(rows)
         .saturating_add(LEAST_LIMIT)
-}
-
-/// What a variable of the entry at a place holds.
-fn held_in_entry<'a>(entries: &[EntryState<'a>], at: usize, name: NameId) -> Option<Held<'a>>
-    ensures { result ≡ option_and_then (λ e. held_at name.0 e.variables) (slice_get entries.now at) }
-{
-    match entries.get(at) {
-        Some(state) => state.variables.value(name),
-        None => None,
-    }
 }

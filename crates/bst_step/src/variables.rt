@@ -2,15 +2,14 @@
 
 ghost use Rattle.std.specs.Prelude.{◌≡◌, ◌+◌, ◌<◌, ◌≤◌, ◌++◌, length, IfOk, IfSome, OnOk};
 ghost use Rattle.bst_step.specs.Places.{StandAt, place_of};
-ghost use Rattle.bst_step.specs.Settled.{variables_bytes, variables_count, variables_settled};
-ghost use Rattle.bst_step.specs.Variables.{held_at, names_in, with_held};
+ghost use Rattle.bst_step.specs.Settled.{values_bytes, values_count, variables_settled};
+ghost use Rattle.bst_step.specs.Variables.{held_at, names_in, values_in, with_held};
 
-use crate::held::Held;
+use crate::held::{Held, gather_values, settle_values};
 use bv_base::memory::NoMemory;
 use name_table::names::NameId;
 use std::alloc::Global;
 use std::marker::Model;
-use std::rc::Rc;
 
 /// A variable with its value.
 #[derive(Clone, Copy)]
@@ -22,22 +21,22 @@ pub struct Variable<'a> {
 /// Variables with their values, in the order of their ids. Contracts see the list of them.
 #[derive(Drop)]
 pub struct Variables<'a> {
-    /// By the id of its name, the place of each variable. The variables of all entries share this table.
-    places: Rc<Vec<usize>>,
-    items: Vec<Variable<'a>>,
+    /// By the id of its name, the place of each variable.
+    places: Vec<usize>,
+    names: Vec<NameId>,
+    values: Vec<Held<'a>>,
 }
 
 impl<'a> Model for Variables<'a> {
     ghost use Rattle.std.specs.Prelude.{List};
     ghost use Rattle.bst_step.specs.declared.variables.Variable.{Variable};
-    ghost use Rattle.bst_step.specs.Places.{StandAt};
-    ghost use Rattle.bst_step.specs.Variables.{names_in};
+    ghost use Rattle.bst_step.specs.Variables.{AreNamed, named};
 
     ghost Value = { List Variable };
 
-    ghost view = { λ v. v.items.items };
+    ghost view = { λ v. named v.names.items v.values.items };
 
-    ghost invariant = { λ v. StandAt v.places.value.items (names_in v.items.items) };
+    ghost invariant = { λ v. AreNamed v.places.items v.names.items v.values.items };
 }
 
 impl<'a> Variables<'a> {
@@ -45,22 +44,45 @@ impl<'a> Variables<'a> {
     pub fn new(
         alloc: Global,
         places: Vec<usize>,
-        items: Vec<Variable<'a>>,
+        items: &[Variable<'a>],
     ) -> Result<Variables<'a>, NoMemory>
-        requires { StandAt places.items (names_in items.items) }
-        ensures { IfOk result (λ variables. variables ≡ items.entry.items) }
+        requires { StandAt places.items (names_in items.now) }
+        ensures { IfOk result (λ variables. variables ≡ items.now) }
     {
-        let places = Rc::new(alloc, places)?;
-        Ok(Variables { places, items })
+        let mut names = Vec::with_capacity(alloc, items.len())?;
+        let mut values = Vec::with_capacity(alloc, items.len())?;
+        for variable in items {
+            names.push(variable.name)?;
+            values.push(variable.value)?;
+        }
+        Ok(Variables {
+            places,
+            names,
+            values,
+        })
+    }
+
+    /// The place of the variable with this name.
+    pub fn place(&self, name: NameId) -> Option<usize>
+        ensures { result ≡ place_of name.0 (names_in self.now) }
+    {
+        place_in(self.places.as_slice(), self.names.as_slice(), name)
+    }
+
+    /// What the variables hold, in their order.
+    pub fn values(&self) -> &[Held<'a>]
+        ensures { result.now ≡ values_in self.now }
+    {
+        self.values.as_slice()
     }
 
     /// What the variable with this name holds.
     pub fn value(&self, name: NameId) -> Option<Held<'a>>
         ensures { result ≡ held_at name.0 self.now }
     {
-        let items = self.items.as_slice();
-        match place_in(self.places.as_slice(), items, name) {
-            Some(at) => Some(items[at].value),
+        let values = self.values.as_slice();
+        match place_in(self.places.as_slice(), self.names.as_slice(), name) {
+            Some(at) => Some(values[at]),
             None => None,
         }
     }
@@ -70,71 +92,38 @@ impl<'a> Variables<'a> {
     pub fn set(&mut self, new: Variable<'a>)
         ensures { self.new ≡ with_held new.entry self.old }
     {
-        if let Some(at) = place_in(self.places.as_slice(), self.items.as_slice(), new.name) {
-            self.items[at] = new;
+        if let Some(at) = place_in(self.places.as_slice(), self.names.as_slice(), new.name) {
+            self.values[at] = new.value;
         }
     }
 
     /// Appends the bytes of all strings that were made and stand in a pool to a fresh one.
     pub fn gather(&self, pool: &[u8], fresh: &mut Vec<u8>) -> Result<(), NoMemory>
-        ensures { OnOk result (fresh.new.items ≡ fresh.old.items ++ variables_bytes pool.now self.now) }
+        ensures { OnOk result (fresh.new.items ≡ fresh.old.items ++ values_bytes pool.now (values_in self.now)) }
     {
-        let items = self.items.as_slice();
-        for variable in items {
-            variable.value.gather(pool, fresh)?;
-        }
-        Ok(())
+        gather_values(self.values.as_slice(), pool, fresh)
     }
 
-    /// Puts the strings that were made one after the other from a place on, and gives where they end.
-    pub fn settle(&mut self, at: usize) -> usize
-        requires { at + variables_count self.old ≤ 18446744073709551615 }
-        ensures settled { self.new ≡ variables_settled at self.old }
-        ensures end { result ≡ at + variables_count self.old }
+    /// Puts the strings that were made one after the other from a place on.
+    pub fn settle(&mut self, at: usize)
+        requires { at + values_count (values_in self.old) ≤ 18446744073709551615 }
+        ensures { self.new ≡ variables_settled at self.old }
     {
-        settle_items(self.items.as_mut_slice(), at)
+        settle_values(self.values.as_mut_slice(), at);
     }
-
-    /// The same variables once more.
-    pub fn copied(&self, alloc: Global) -> Result<Variables<'a>, NoMemory>
-        ensures { IfOk result (λ copy. copy ≡ self.now) }
-    {
-        let places = self.places.clone()?;
-        let items = self.items.as_slice().to_vec(alloc)?;
-        Ok(Variables { places, items })
-    }
-}
-
-/// Puts the strings that were made one after the other from a place on, and gives where they end.
-fn settle_items(items: &mut [Variable<'_>], at: usize) -> usize
-    requires { at + variables_count items.old ≤ 18446744073709551615 }
-    ensures settled { items.new ≡ variables_settled at items.old }
-    ensures end { result ≡ at + variables_count items.old }
-{
-    let mut end = at;
-    for i in 0..items.len() {
-        let value = items[i].value;
-        items[i].value = value.settled(end);
-        end += value.made_count();
-    }
-    end
 }
 
 /// The place of the variable with this name, by a table that has the place of each.
-fn place_in(places: &[usize], variables: &[Variable<'_>], name: NameId) -> Option<usize>
-    requires { StandAt places.now (names_in variables.now) }
-    ensures place { result ≡ place_of name.0 (names_in variables.now) }
-    ensures within { IfSome result (λ at. at < length variables.now) }
+fn place_in(places: &[usize], names: &[NameId], name: NameId) -> Option<usize>
+    requires { StandAt places.now names.now }
+    ensures place { result ≡ place_of name.0 names.now }
+    ensures within { IfSome result (λ at. at < length names.now) }
 {
     let Some(at) = places.get(name.0 as usize) else {
         return None;
     };
-    let Some(variable) = variables.get(*at) else {
+    let Some(found) = names.get(*at) else {
         return None;
     };
-    if variable.name.0 == name.0 {
-        Some(*at)
-    } else {
-        None
-    }
+    if found.0 == name.0 { Some(*at) } else { None }
 }

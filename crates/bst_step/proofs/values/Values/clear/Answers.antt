@@ -21,7 +21,7 @@ returns-clause-stack c =
 
 pub returns-clause-marks : goal.returns-clause-marks
 returns-clause-marks c =
-    stack_marked c.self.inside.stack.items c.drop_top.new.self.items c.self.inside.globals c.self.inside.entries.items []
+    stack_marked c.self.inside.stack.items c.drop_top.new.self.items c.self.inside.globals c.self.inside.entries []
     (ap (λ (hs : List Held). map mark_of hs)
     (c.drop_top.ensures.moved
     ∙ ap (λ (n : ℕ). drop n c.self.inside.stack.items) c.len.ensures

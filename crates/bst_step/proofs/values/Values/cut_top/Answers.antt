@@ -18,10 +18,10 @@ replace_top-requires c = omega (arith, ap (λ (l : List Held). length l) c.in-So
 pub invariant_of-self : goal.invariant_of-self
 invariant_of-self c =
     let within : end_of c.in-Some.top ≤ length c.self.inside.pool.items =
-    top_within c.self.inside.pool.items c.self.inside.kept c.self.inside.stack.items c.self.inside.globals c.self.inside.entries.items c.in-Some.top
+    top_within c.self.inside.pool.items c.self.inside.kept c.self.inside.stack.items c.self.inside.globals c.self.inside.entries c.in-Some.top
     c.self.invariant c.in-Some.ensures in
     held_replaced c.self.inside.pool.items c.self.inside.kept 1 c.part.result c.self.inside.stack.items c.replace_top.new.self.items
-    c.self.inside.globals c.self.inside.entries.items c.replace_top.ensures.moved (omega (arith, within, c.part.ensures.within)) c.self.invariant
+    c.self.inside.globals c.self.inside.entries c.replace_top.ensures.moved (omega (arith, within, c.part.ensures.within)) c.self.invariant
 
 pub returns-clause-stack : goal.returns-clause-stack
 returns-clause-stack c =
@@ -33,7 +33,7 @@ returns-clause-stack c =
 
 pub returns-clause-marks : goal.returns-clause-marks
 returns-clause-marks c =
-    stack_marked c.self.inside.stack.items c.replace_top.new.self.items c.self.inside.globals c.self.inside.entries.items (map mark_of c.self.inside.stack.items)
+    stack_marked c.self.inside.stack.items c.replace_top.new.self.items c.self.inside.globals c.self.inside.entries (map mark_of c.self.inside.stack.items)
     (cut_marks c.self.inside.stack.items c.replace_top.new.self.items c.in-Some.top c.part.result c.in-Some.ensures
     c.replace_top.ensures.moved c.part.ensures.mark)
     ∙ ap (λ (h : Holding). h.marks) c.self.view_is

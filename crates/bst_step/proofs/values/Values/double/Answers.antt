@@ -15,8 +15,8 @@ use Rattle.bst_step.proofs.values.Values.double.Goals as goal
 pub invariant_of-self-in-Some : goal.invariant_of-self-in-Some
 invariant_of-self-in-Some c =
     held_pushed c.self.inside.pool.items c.self.inside.kept c.in-Some.top c.self.inside.stack.items c.push.new.self.items
-    c.self.inside.globals c.self.inside.entries.items c.in_ok-push-in-Some.ensures.moved
-    (top_within c.self.inside.pool.items c.self.inside.kept c.self.inside.stack.items c.self.inside.globals c.self.inside.entries.items c.in-Some.top
+    c.self.inside.globals c.self.inside.entries c.in_ok-push-in-Some.ensures.moved
+    (top_within c.self.inside.pool.items c.self.inside.kept c.self.inside.stack.items c.self.inside.globals c.self.inside.entries c.in-Some.top
     c.self.invariant c.in-Some.ensures)
     c.self.invariant
 
@@ -34,12 +34,12 @@ returns-in-None-clause-stack c =
 
 pub returns-in_ok-push-in-Some-clause-marks : goal.returns-in_ok-push-in-Some-clause-marks
 returns-in_ok-push-in-Some-clause-marks c =
-    stack_marked c.self.inside.stack.items c.push.new.self.items c.self.inside.globals c.self.inside.entries.items (doubled (map mark_of c.self.inside.stack.items))
+    stack_marked c.self.inside.stack.items c.push.new.self.items c.self.inside.globals c.self.inside.entries (doubled (map mark_of c.self.inside.stack.items))
     (doubled_marks c.self.inside.stack.items c.push.new.self.items c.in-Some.top c.in-Some.ensures c.in_ok-push-in-Some.ensures.moved)
     ∙ ap (λ (h : Holding). marks.doubled h.marks) c.self.view_is
 
 pub returns-in-None-clause-marks : goal.returns-in-None-clause-marks
 returns-in-None-clause-marks c =
     sym (ap (λ (h : Holding). h.marks) c.self.view_is)
-    ∙ none_doubled c.self.inside.stack.items c.self.inside.globals c.self.inside.entries.items c.in-None.ensures
+    ∙ none_doubled c.self.inside.stack.items c.self.inside.globals c.self.inside.entries c.in-None.ensures
     ∙ ap (λ (h : Holding). marks.doubled h.marks) c.self.view_is

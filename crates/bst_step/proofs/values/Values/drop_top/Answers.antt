@@ -21,6 +21,6 @@ returns-clause-stack c =
 
 pub returns-clause-marks : goal.returns-clause-marks
 returns-clause-marks c =
-    stack_marked c.self.inside.stack.items c.drop_top.new.self.items c.self.inside.globals c.self.inside.entries.items (drop c.args.count (map mark_of c.self.inside.stack.items))
+    stack_marked c.self.inside.stack.items c.drop_top.new.self.items c.self.inside.globals c.self.inside.entries (drop c.args.count (map mark_of c.self.inside.stack.items))
     (ap (λ (hs : List Held). map mark_of hs) c.drop_top.ensures.moved ∙ sym (drop-map mark_of c.args.count c.self.inside.stack.items))
     ∙ ap (λ (h : Holding). taken c.args.count h.marks) c.self.view_is

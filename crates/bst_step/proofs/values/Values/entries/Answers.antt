@@ -7,6 +7,6 @@ use Rattle.bst_step.proofs.values.Values.entries.Goals as goal
 
 pub returns : goal.returns
 returns c =
-    ap length c.as_slice.ensures.value
-    ∙ sym (length-map c.self.inside.entries.items (state_in c.self.inside.pool.items))
+    c.len.ensures
+    ∙ sym (length-map c.self.inside.entries (state_in c.self.inside.pool.items))
     ∙ ap (λ (h : Holding). length h.entries) c.self.view_is

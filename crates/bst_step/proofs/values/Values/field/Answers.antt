@@ -1,15 +1,12 @@
 -- The field is that of the entry of the state at the place.
-use Rattle.std.proofs.Common.{◌∙◌, Some, ap}
-use Rattle.bst_meaning.specs.Machine.{field_in}
-use Rattle.bst_step.proofs.ViewSteps.{none_seen, read_seen}
+use Rattle.std.proofs.Common.{◌∙◌, None, Some, ap}
+use Rattle.bst_step.proofs.ViewSteps.{field_seen}
 use Rattle.bst_step.proofs.values.Values.field.Goals as goal
 
 pub returns-in-Some : goal.returns-in-Some
 returns-in-Some c =
     ap Some c.field.ensures
-    ∙ read_seen _ _ _ _ _ _ _ c.args.at c.in-Some.state.now (λ e. field_in c.args.name e.entry.fields) c.self.view_is c.as_slice.ensures.value
-    c.in-Some.ensures.lookup.3.0 c.in-Some.ensures.lookup.1
+    ∙ field_seen _ _ _ _ _ _ c.args.at c.args.name (Some c.in-Some.entry.now) c.self.view_is c.in-Some.ensures
 
 pub returns-in-None : goal.returns-in-None
-returns-in-None c =
-    none_seen _ _ _ _ _ _ _ c.args.at (λ e. field_in c.args.name e.entry.fields) c.self.view_is c.as_slice.ensures.value c.in-None.ensures.lookup.3
+returns-in-None c = field_seen _ _ _ _ _ _ c.args.at c.args.name None c.self.view_is c.in-None.ensures

@@ -15,7 +15,7 @@ end-requires c = top_in_lent _ _ _ _ _ _ _ c.self.invariant c.in-Some.ensures c.
 pub invariant_of-self : goal.invariant_of-self
 invariant_of-self c =
     held_given c.self.inside.pool.items c.self.inside.kept c.max-self-inside.result c.in-Some.value c.args.name c.self.inside.stack.items
-    c.drop_top.new.self.items c.self.inside.globals c.set.new.self c.self.inside.entries.items
+    c.drop_top.new.self.items c.self.inside.globals c.set.new.self c.self.inside.entries
     c.in-Some.ensures c.drop_top.ensures.moved
     (c.max-self-inside.ensures ∙ ap (λ n. max c.self.inside.kept n) c.end.ensures) c.set.ensures c.self.invariant
 
@@ -28,12 +28,12 @@ returns-in-Some-clause-globals c =
 
 pub returns-in-Some-clause-marks : goal.returns-in-Some-clause-marks
 returns-in-Some-clause-marks c =
-    given_marks c.args.name c.self.inside.stack.items c.drop_top.new.self.items c.self.inside.globals c.set.new.self c.self.inside.entries.items c.in-Some.value
+    given_marks c.args.name c.self.inside.stack.items c.drop_top.new.self.items c.self.inside.globals c.set.new.self c.self.inside.entries c.in-Some.value
     c.in-Some.ensures c.drop_top.ensures.moved c.set.ensures
     ∙ ap (λ (h : Holding). marks.given_globally c.args.name h.marks.stack h.marks) c.self.view_is
 
 pub returns-in_default-clause-marks : goal.returns-in_default-clause-marks
 returns-in_default-clause-marks c =
     sym (ap (λ (h : Holding). h.marks) c.self.view_is)
-    ∙ none_given c.args.name c.self.inside.stack.items c.self.inside.globals c.self.inside.entries.items c.in_default.ensures
+    ∙ none_given c.args.name c.self.inside.stack.items c.self.inside.globals c.self.inside.entries c.in_default.ensures
     ∙ ap (λ (h : Holding). marks.given_globally c.args.name h.marks.stack h.marks) c.self.view_is

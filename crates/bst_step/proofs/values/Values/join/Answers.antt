@@ -19,17 +19,17 @@ joined_in-requires c =
     let some : 0 < length c.self.inside.stack.items = omega (arith, is_there c.self.inside.stack.items 1 c.in-Some.a (sym c.in-Some.ensures)) in
     record {
       a =
-          stack_end c.self.inside.pool.items c.self.inside.kept c.self.inside.stack.items c.self.inside.globals c.self.inside.entries.items 1
+          stack_end c.self.inside.pool.items c.self.inside.kept c.self.inside.stack.items c.self.inside.globals c.self.inside.entries 1
           c.in-Some.a c.self.invariant (sym c.in-Some.ensures);
       b =
-          top_end c.self.inside.pool.items c.self.inside.kept c.self.inside.stack.items c.self.inside.globals c.self.inside.entries.items
+          top_end c.self.inside.pool.items c.self.inside.kept c.self.inside.stack.items c.self.inside.globals c.self.inside.entries
           c.at.result some c.at.ensures c.self.invariant;
     }
 
 pub invariant_of-self : goal.invariant_of-self
 invariant_of-self c =
     held_grown c.self.inside.pool.items c.joined_in.new.pool.items c.self.inside.kept c.self.inside.stack.items c.self.inside.globals
-    c.self.inside.entries.items c.joined_in.ensures.grown c.self.invariant
+    c.self.inside.entries c.joined_in.ensures.grown c.self.invariant
 
 pub returns-in_err-joined-in-Some-clause-globals : goal.returns-in_err-joined-in-Some-clause-globals
 returns-in_err-joined-in-Some-clause-globals c = globals_seen _ _ _ _ _ _ _ _ c.joined_in.ensures.grown c.self.invariant c.self.view_is
@@ -44,11 +44,11 @@ replace_top-requires c =
 pub invariant_of-self-in-Some : goal.invariant_of-self-in-Some
 invariant_of-self-in-Some c =
     held_replaced c.joined_in.new.pool.items c.self.inside.kept 1 c.in_ok-joined-in-Some.joined c.drop_top.new.self.items c.replace_top.new.self.items
-    c.self.inside.globals c.self.inside.entries.items c.replace_top.ensures.moved c.in_ok-joined-in-Some.ensures.within
+    c.self.inside.globals c.self.inside.entries c.replace_top.ensures.moved c.in_ok-joined-in-Some.ensures.within
     (held_dropped c.joined_in.new.pool.items c.self.inside.kept 1 c.self.inside.stack.items c.drop_top.new.self.items c.self.inside.globals
-    c.self.inside.entries.items c.drop_top.ensures.moved
+    c.self.inside.entries c.drop_top.ensures.moved
     (held_grown c.self.inside.pool.items c.joined_in.new.pool.items c.self.inside.kept c.self.inside.stack.items c.self.inside.globals
-    c.self.inside.entries.items c.joined_in.ensures.grown c.self.invariant))
+    c.self.inside.entries c.joined_in.ensures.grown c.self.invariant))
 
 pub returns-in_ok-joined-in-Some-clause-stack : goal.returns-in_ok-joined-in-Some-clause-stack
 returns-in_ok-joined-in-Some-clause-stack c =
@@ -56,7 +56,7 @@ returns-in_ok-joined-in-Some-clause-stack c =
     c.in-Some.a c.in_ok-joined-in-Some.joined c.at.ensures (sym c.in-Some.ensures)
     (c.replace_top.ensures.moved ∙ ap (λ (l : List Held). c.in_ok-joined-in-Some.joined ∷ drop 1 l) c.drop_top.ensures.moved)
     (stack_grown c.self.inside.pool.items c.joined_in.new.pool.items c.self.inside.kept c.self.inside.stack.items c.self.inside.globals
-    c.self.inside.entries.items c.joined_in.ensures.grown c.self.invariant)
+    c.self.inside.entries c.joined_in.ensures.grown c.self.invariant)
     c.in_ok-joined-in-Some.ensures.value
     ∙ ap (λ (h : Holding). joined h.stack) c.self.view_is
 
@@ -73,7 +73,7 @@ returns-in-None-clause-stack c =
 
 pub returns-in_ok-joined-in-Some-clause-marks : goal.returns-in_ok-joined-in-Some-clause-marks
 returns-in_ok-joined-in-Some-clause-marks c = λ two.
-    stack_marked c.self.inside.stack.items c.replace_top.new.self.items c.self.inside.globals c.self.inside.entries.items (Made ∷ drop 2 (map mark_of c.self.inside.stack.items))
+    stack_marked c.self.inside.stack.items c.replace_top.new.self.items c.self.inside.globals c.self.inside.entries (Made ∷ drop 2 (map mark_of c.self.inside.stack.items))
     (joined_marks c.self.inside.stack.items c.replace_top.new.self.items c.in_ok-joined-in-Some.joined
     (c.replace_top.ensures.moved ∙ ap (λ (l : List Held). c.in_ok-joined-in-Some.joined ∷ drop 1 l) c.drop_top.ensures.moved)
     c.in_ok-joined-in-Some.ensures.mark)

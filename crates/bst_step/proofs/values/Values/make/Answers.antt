@@ -15,7 +15,7 @@ use Rattle.bst_step.proofs.values.Values.make.Goals as goal
 pub invariant_of-self : goal.invariant_of-self
 invariant_of-self c =
     held_grown c.self.inside.pool.items c.made_in.new.pool.items c.self.inside.kept c.self.inside.stack.items c.self.inside.globals
-    c.self.inside.entries.items c.made_in.ensures.grown c.self.invariant
+    c.self.inside.entries c.made_in.ensures.grown c.self.invariant
 
 pub returns-in_err-made-clause-globals : goal.returns-in_err-made-clause-globals
 returns-in_err-made-clause-globals c = globals_seen _ _ _ _ _ _ _ _ c.made_in.ensures.grown c.self.invariant c.self.view_is
@@ -35,9 +35,9 @@ put-requires c = (
 pub invariant_of-self-2 : goal.invariant_of-self-2
 invariant_of-self-2 c =
     held_replaced c.made_in.new.pool.items c.self.inside.kept c.args.taken c.in_ok-made.made c.self.inside.stack.items c.put.new.self.items
-    c.self.inside.globals c.self.inside.entries.items c.put.ensures.moved c.in_ok-made.ensures.within
+    c.self.inside.globals c.self.inside.entries c.put.ensures.moved c.in_ok-made.ensures.within
     (held_grown c.self.inside.pool.items c.made_in.new.pool.items c.self.inside.kept c.self.inside.stack.items c.self.inside.globals
-    c.self.inside.entries.items c.made_in.ensures.grown c.self.invariant)
+    c.self.inside.entries c.made_in.ensures.grown c.self.invariant)
 
 pub returns-clause-stack : goal.returns-clause-stack
 returns-clause-stack c =
@@ -47,7 +47,7 @@ returns-clause-stack c =
     (dropped_view c.made_in.new.pool.items c.args.taken c.self.inside.stack.items
     ∙ ap (λ (l : List Value). drop c.args.taken l)
     (stack_grown c.self.inside.pool.items c.made_in.new.pool.items c.self.inside.kept c.self.inside.stack.items c.self.inside.globals
-    c.self.inside.entries.items c.made_in.ensures.grown c.self.invariant
+    c.self.inside.entries c.made_in.ensures.grown c.self.invariant
     ∙ ap (λ (h : Holding). h.stack) c.self.view_is))
 
 pub returns-clause-globals : goal.returns-clause-globals
@@ -58,6 +58,6 @@ returns-clause-entries c = entries_seen _ _ _ _ _ _ _ _ c.made_in.ensures.grown 
 
 pub returns-clause-marks : goal.returns-clause-marks
 returns-clause-marks c =
-    stack_marked c.self.inside.stack.items c.put.new.self.items c.self.inside.globals c.self.inside.entries.items (Made ∷ drop c.args.taken (map mark_of c.self.inside.stack.items))
+    stack_marked c.self.inside.stack.items c.put.new.self.items c.self.inside.globals c.self.inside.entries (Made ∷ drop c.args.taken (map mark_of c.self.inside.stack.items))
     (put_marks c.args.taken c.self.inside.stack.items c.put.new.self.items c.in_ok-made.made Made c.put.ensures.moved c.in_ok-made.ensures.mark)
     ∙ ap (λ (h : Holding). resulting c.args.taken Made h.marks) c.self.view_is

@@ -10,7 +10,7 @@ use Rattle.bst_step.proofs.values.Values.new.Goals as goal
 
 pub invariant_of-result : goal.invariant_of-result
 invariant_of-result c =
-    held_new c.new.result.items c.new-2.result.items c.args.globals c.args.entries.items c.new-2.ensures c.requires.globals c.requires.entries
+    held_new c.new.result.items c.new-2.result.items c.args.globals c.args.entries c.new-2.ensures c.requires.globals c.requires.entries
 
 pub returns-clause-stack : goal.returns-clause-stack
 returns-clause-stack c = ap (λ (hs : List Held). map (value_in c.new.result.items) hs) c.new-2.ensures
@@ -19,7 +19,7 @@ pub returns-clause-globals : goal.returns-clause-globals
 returns-clause-globals c = ap (λ (pool : List ℕ). map (variable_in pool) c.args.globals) c.new.ensures.items
 
 pub returns-clause-entries : goal.returns-clause-entries
-returns-clause-entries c = ap (λ (pool : List ℕ). map (state_in pool) c.args.entries.items) c.new.ensures.items
+returns-clause-entries c = ap (λ (pool : List ℕ). map (state_in pool) c.args.entries) c.new.ensures.items
 
 pub returns-clause-marks : goal.returns-clause-marks
-returns-clause-marks c = ap (λ (hs : List Held). marks_in hs c.args.globals c.args.entries.items) c.new-2.ensures
+returns-clause-marks c = ap (λ (hs : List Held). marks_in hs c.args.globals c.args.entries) c.new-2.ensures

@@ -1,11 +1,7 @@
 -- The position is that of the state at the place.
-use Rattle.bst_step.proofs.ViewSteps.{none_seen, read_seen}
+use Rattle.std.proofs.Common.{◌∙◌}
+use Rattle.bst_step.proofs.ViewSteps.{seen_at}
 use Rattle.bst_step.proofs.values.Values.position.Goals as goal
 
-pub returns-in-Some : goal.returns-in-Some
-returns-in-Some c =
-    read_seen _ _ _ _ _ _ _ c.args.at c.in-Some.state.now (λ e. e.position) c.self.view_is c.as_slice.ensures.value c.in-Some.ensures.lookup.3.0
-    c.in-Some.ensures.lookup.1
-
-pub returns-in-None : goal.returns-in-None
-returns-in-None c = none_seen _ _ _ _ _ _ _ c.args.at (λ e. e.position) c.self.view_is c.as_slice.ensures.value c.in-None.ensures.lookup.3
+pub returns : goal.returns
+returns c = c.position.ensures ∙ seen_at _ _ _ _ _ _ c.args.at (λ e. e.position) c.self.view_is

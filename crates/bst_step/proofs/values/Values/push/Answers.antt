@@ -12,7 +12,7 @@ use Rattle.bst_step.proofs.values.Values.push.Goals as goal
 pub invariant_of-self-2 : goal.invariant_of-self-2
 invariant_of-self-2 c =
     lent_pushed c.self.inside.pool.items c.self.inside.kept c.held.result c.self.inside.stack.items c.push.new.self.items
-    c.self.inside.globals c.self.inside.entries.items c.in_ok-push.ensures.moved c.held.ensures.within c.self.invariant
+    c.self.inside.globals c.self.inside.entries c.in_ok-push.ensures.moved c.held.ensures.within c.self.invariant
 
 pub returns-clause-stack : goal.returns-clause-stack
 returns-clause-stack c =
@@ -22,6 +22,6 @@ returns-clause-stack c =
 
 pub returns-clause-marks : goal.returns-clause-marks
 returns-clause-marks c =
-    stack_marked c.self.inside.stack.items c.push.new.self.items c.self.inside.globals c.self.inside.entries.items (lent_mark (value_of c.args.value) ∷ map mark_of c.self.inside.stack.items)
+    stack_marked c.self.inside.stack.items c.push.new.self.items c.self.inside.globals c.self.inside.entries (lent_mark (value_of c.args.value) ∷ map mark_of c.self.inside.stack.items)
     (put_marks 0 c.self.inside.stack.items c.push.new.self.items c.held.result (lent_mark (value_of c.args.value)) c.in_ok-push.ensures.moved c.held.ensures.mark)
     ∙ ap (λ (h : Holding). pushed (lent_mark (value_of c.args.value)) h.marks) c.self.view_is

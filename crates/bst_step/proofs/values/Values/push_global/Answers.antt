@@ -15,8 +15,8 @@ use Rattle.bst_step.proofs.values.Values.push_global.Goals as goal
 pub invariant_of-self-in-Some : goal.invariant_of-self-in-Some
 invariant_of-self-in-Some c =
     held_pushed c.self.inside.pool.items c.self.inside.kept c.in-Some.held c.self.inside.stack.items c.push.new.self.items c.self.inside.globals
-    c.self.inside.entries.items c.in_ok-push-in-Some.ensures.moved
-    (global_end c.self.inside.pool.items c.self.inside.kept c.self.inside.stack.items c.self.inside.globals c.self.inside.entries.items
+    c.self.inside.entries c.in_ok-push-in-Some.ensures.moved
+    (global_end c.self.inside.pool.items c.self.inside.kept c.self.inside.stack.items c.self.inside.globals c.self.inside.entries
     c.args.name.0 c.in-Some.held c.self.invariant (sym c.in-Some.ensures))
     c.self.invariant
 
@@ -51,7 +51,7 @@ returns-in-None-clause-found c =
 
 pub returns-in_ok-push-in-Some-clause-marks : goal.returns-in_ok-push-in-Some-clause-marks
 returns-in_ok-push-in-Some-clause-marks c =
-    found_marks c.self.inside.stack.items c.push.new.self.items c.self.inside.globals c.self.inside.entries.items c.in-Some.held (mark_at c.args.name.0 (map marked_of c.self.inside.globals)) c.in_ok-push-in-Some.ensures.moved
+    found_marks c.self.inside.stack.items c.push.new.self.items c.self.inside.globals c.self.inside.entries c.in-Some.held (mark_at c.args.name.0 (map marked_of c.self.inside.globals)) c.in_ok-push-in-Some.ensures.moved
     (mark_held c.args.name.0 c.self.inside.globals ∙ ap (λ (o : Option Held). option_map mark_of o) (sym c.in-Some.ensures))
     ∙ ap (λ (h : Holding). found (mark_at c.args.name.0 h.marks.globals) h.marks) c.self.view_is
 

@@ -23,7 +23,7 @@ put-requires c = (
 pub invariant_of-self : goal.invariant_of-self
 invariant_of-self c =
     held_replaced c.self.inside.pool.items c.self.inside.kept c.args.taken c.held.result c.self.inside.stack.items c.put.new.self.items
-    c.self.inside.globals c.self.inside.entries.items c.put.ensures.moved (omega (arith, c.held.ensures.within)) c.self.invariant
+    c.self.inside.globals c.self.inside.entries c.put.ensures.moved (omega (arith, c.held.ensures.within)) c.self.invariant
 
 pub returns-clause-stack : goal.returns-clause-stack
 returns-clause-stack c =
@@ -34,6 +34,6 @@ returns-clause-stack c =
 
 pub returns-clause-marks : goal.returns-clause-marks
 returns-clause-marks c =
-    stack_marked c.self.inside.stack.items c.put.new.self.items c.self.inside.globals c.self.inside.entries.items (lent_mark (value_of c.args.value) ∷ drop c.args.taken (map mark_of c.self.inside.stack.items))
+    stack_marked c.self.inside.stack.items c.put.new.self.items c.self.inside.globals c.self.inside.entries (lent_mark (value_of c.args.value) ∷ drop c.args.taken (map mark_of c.self.inside.stack.items))
     (put_marks c.args.taken c.self.inside.stack.items c.put.new.self.items c.held.result (lent_mark (value_of c.args.value)) c.put.ensures.moved c.held.ensures.mark)
     ∙ ap (λ (h : Holding). resulting c.args.taken (lent_mark (value_of c.args.value)) h.marks) c.self.view_is

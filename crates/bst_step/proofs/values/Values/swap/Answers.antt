@@ -31,12 +31,12 @@ pub invariant_of-self : goal.invariant_of-self
 invariant_of-self c =
     let some : 0 < length c.self.inside.stack.items = omega (arith, is_there c.self.inside.stack.items 1 c.in-Some.a (sym c.in-Some.ensures)) in
     held_replaced c.self.inside.pool.items c.self.inside.kept 1 c.in-Some.a c.replace.new.self.items c.replace_top.new.self.items
-    c.self.inside.globals c.self.inside.entries.items c.replace_top.ensures.moved
-    (stack_end c.self.inside.pool.items c.self.inside.kept c.self.inside.stack.items c.self.inside.globals c.self.inside.entries.items 1 c.in-Some.a
+    c.self.inside.globals c.self.inside.entries c.replace_top.ensures.moved
+    (stack_end c.self.inside.pool.items c.self.inside.kept c.self.inside.stack.items c.self.inside.globals c.self.inside.entries 1 c.in-Some.a
     c.self.invariant (sym c.in-Some.ensures))
     (held_set c.self.inside.pool.items c.self.inside.kept 1 c.at.result c.self.inside.stack.items c.replace.new.self.items
-    c.self.inside.globals c.self.inside.entries.items c.replace.ensures.moved
-    (top_end c.self.inside.pool.items c.self.inside.kept c.self.inside.stack.items c.self.inside.globals c.self.inside.entries.items c.at.result
+    c.self.inside.globals c.self.inside.entries c.replace.ensures.moved
+    (top_end c.self.inside.pool.items c.self.inside.kept c.self.inside.stack.items c.self.inside.globals c.self.inside.entries c.at.result
     some c.at.ensures c.self.invariant)
     c.self.invariant)
 
@@ -53,7 +53,7 @@ returns-in_default-clause-stack c =
 
 pub returns-clause-marks : goal.returns-clause-marks
 returns-clause-marks c =
-    stack_marked c.self.inside.stack.items c.replace_top.new.self.items c.self.inside.globals c.self.inside.entries.items (swapped (map mark_of c.self.inside.stack.items))
+    stack_marked c.self.inside.stack.items c.replace_top.new.self.items c.self.inside.globals c.self.inside.entries (swapped (map mark_of c.self.inside.stack.items))
     (swapped_marks c.self.inside.stack.items c.replace.new.self.items c.replace_top.new.self.items c.at.result c.in-Some.a c.at.ensures (sym c.in-Some.ensures)
     c.replace.ensures.moved c.replace_top.ensures.moved)
     ∙ ap (λ (h : Holding). marks.swapped h.marks) c.self.view_is
@@ -61,5 +61,5 @@ returns-clause-marks c =
 pub returns-in_default-clause-marks : goal.returns-in_default-clause-marks
 returns-in_default-clause-marks c =
     sym (ap (λ (h : Holding). h.marks) c.self.view_is)
-    ∙ stack_marked c.self.inside.stack.items c.self.inside.stack.items c.self.inside.globals c.self.inside.entries.items (swapped (map mark_of c.self.inside.stack.items)) (sym (none_swapped c.self.inside.stack.items (sym c.in_default.ensures)))
+    ∙ stack_marked c.self.inside.stack.items c.self.inside.stack.items c.self.inside.globals c.self.inside.entries (swapped (map mark_of c.self.inside.stack.items)) (sym (none_swapped c.self.inside.stack.items (sym c.in_default.ensures)))
     ∙ ap (λ (h : Holding). marks.swapped h.marks) c.self.view_is
