@@ -147,3 +147,8 @@ fields_kept (suc n) s close key p same =
     (λ q kept. cond_kept Any (stands close q) s (Ok (passed close q)) _ kept
     (then_holds (Same s) (Same s) (take_field key (passed close q)) (take_fields n close key) (field_kept s key (passed close q) kept)
     (λ r more. fields_kept n s close key r more))))
+
+-- fields leave the entries as they are
+pub entries_stay : (n close : ℕ) (key : List ℕ) (p q : Progress) → take_fields n close key p ≡ Ok q → q.entries ≡ p.entries
+entries_stay n close key p q taken =
+    (subst (Kept Any p) taken (fields_kept n p close key p (refl, refl, refl, ([], sym (append-nil p.warnings)), tt))).1

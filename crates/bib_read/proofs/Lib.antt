@@ -7,6 +7,7 @@ pub mod Insides
 pub mod ItemsSpelled
 pub mod Kept
 pub mod Pieces
+pub mod Places
 pub mod Rounds
 pub mod Shorter
 pub mod Squeezing

@@ -1,5 +1,5 @@
--- Names and keys that are there already, and macros by their names (docs/DATA.md, "The .bib file").
-use Rattle.std.specs.Prelude.{ℕ, Bool, if◌then◌else◌, List, [], ◌∷◌, Option, None, Some}
+-- Names and keys that are there already, and macros and entries by theirs (docs/DATA.md, "The .bib file").
+use Rattle.std.specs.Prelude.{ℕ, Bool, if◌then◌else◌, List, [], ◌∷◌, map, Option, None, Some}
 use Rattle.std.specs.List.{list_any}
 use Rattle.bv_base.specs.KeySets.{has_item}
 use Rattle.name_table.specs.Names.{lowered, same_name}
@@ -19,6 +19,15 @@ text_of name (first ∷ rest) = if same_name name first.name then Some first.val
 -- an entry with this lowered key is among these
 abbrev pub has_entry : List ℕ → List RawEntry → Bool
 has_entry key entries = has_item (λ entry. lowered entry.key) key entries
+
+-- the lowered keys of entries
+abbrev pub lowered_keys : List RawEntry → List (List ℕ)
+lowered_keys entries = map (λ entry. lowered entry.key) entries
+
+-- the entry with this lowered key
+abbrev pub entry_under : List ℕ → List RawEntry → Option RawEntry
+entry_under key [] = None
+entry_under key (first ∷ rest) = if same_name key (lowered first.key) then Some first else entry_under key rest
 
 -- the value of the macro of this name
 abbrev pub value_of : List ℕ → List Macro → Option (List ℕ)

@@ -1,34 +1,35 @@
 //! The entries of databases in order, and their keys.
 
-ghost use Rattle.std.specs.Prelude.{◌≡◌, [], ◌∷◌, ◌++◌, OnOk};
+ghost use Rattle.std.specs.Prelude.{◌≡◌, false, [], ◌∷◌, ◌++◌, slice_get, OnOk};
+ghost use Rattle.std.specs.Option.{option_map};
 ghost use Rattle.name_table.specs.Names.{lowered};
-ghost use Rattle.bib_read.specs.Names.{has_entry};
+ghost use Rattle.bib_read.specs.Names.{entry_under, has_entry};
 
 use crate::database::RawEntry;
-use bv_base::key_set::KeySet;
+use crate::key_places::KeyPlaces;
 use bv_base::memory::NoMemory;
 use bv_base::seq::Seq;
 use std::alloc::Global;
 use std::marker::Model;
 
-/// Entries in order, with the set of their lowered keys, which stays from one text to the next. Contracts see their list.
+/// Entries in order, with the places of their lowered keys, which stay from one text to the next and are the table by which
+/// entries are joined. Contracts see their list.
 #[derive(Drop)]
 pub struct Entries {
     list: Seq<RawEntry>,
-    keys: KeySet,
+    places: KeyPlaces,
 }
 
 impl Model for Entries {
-    ghost use Rattle.std.specs.Prelude.{◌≡◌, ℕ, List};
-    ghost use Rattle.bv_base.specs.KeySets.{has_key};
-    ghost use Rattle.bib_read.specs.Names.{has_entry};
+    ghost use Rattle.std.specs.Prelude.{◌≡◌, List};
+    ghost use Rattle.bib_read.specs.Names.{lowered_keys};
     ghost use Rattle.bib_read.specs.declared.database.RawEntry.{RawEntry};
 
     ghost Value = { List RawEntry };
 
     ghost view = { λ e. e.list };
 
-    ghost invariant = { λ e. (key : List ℕ) → has_entry key e.list ≡ has_key key e.keys };
+    ghost invariant = { λ e. e.places ≡ lowered_keys e.list };
 }
 
 impl Entries {
@@ -38,7 +39,7 @@ impl Entries {
     {
         Entries {
             list: Seq::new(alloc),
-            keys: KeySet::new(alloc),
+            places: KeyPlaces::new(alloc),
         }
     }
 
@@ -46,16 +47,34 @@ impl Entries {
     pub(crate) fn has(&self, key: &[u8]) -> bool
         ensures { result ≡ has_entry key.now self.now }
     {
-        self.keys.has(key)
+        self.places.has(key)
     }
 
-    /// Adds an entry, of which the lowered key is given.
+    /// The entry with this lowered key, by one look-up in a hash table.
+    pub fn find(&self, key: &[u8]) -> Option<&RawEntry>
+        ensures { option_map (λ e. e.now) result ≡ entry_under key.now self.now }
+    {
+        match self.places.place(key) {
+            Some(at) => self.entry_at(at),
+            None => None,
+        }
+    }
+
+    /// The entry at a place.
+    fn entry_at(&self, at: usize) -> Option<&RawEntry>
+        ensures { option_map (λ e. e.now) result ≡ slice_get self.now at }
+    {
+        self.list.as_slice().get(at)
+    }
+
+    /// Adds an entry, of which the lowered key is given, where no entry has it.
     pub(crate) fn add(&mut self, key: Vec<u8>, entry: RawEntry) -> Result<(), NoMemory>
-        requires { key.items ≡ lowered entry.key }
+        requires lowered { key.items ≡ lowered entry.key }
+        requires fresh { has_entry key.items self.old ≡ false }
         ensures { OnOk result (self.new ≡ self.old ++ entry ∷ []) }
     {
         self.list.push(entry)?;
-        let Ok(_) = self.keys.add(key) else {
+        let Ok(()) = self.places.add(key) else {
             let _ = self.list.pop();
             return Err(NoMemory);
         };

@@ -5,6 +5,7 @@ pub mod database;
 pub mod entries;
 pub mod fault;
 mod fields;
+mod key_places;
 pub mod laws;
 mod macros;
 mod opening;

@@ -1,11 +1,11 @@
 //! What has been read of a database, and the parts of it that come next.
 
-ghost use Rattle.std.specs.Prelude.{◌≡◌, ◌++◌, Ok, length, IfOk, OnOk};
+ghost use Rattle.std.specs.Prelude.{◌≡◌, false, ◌++◌, Ok, length, IfOk, OnOk};
 ghost use Rattle.std.specs.Result.{MatchResult};
 ghost use Rattle.bv_base.specs.Answers.{GivesAndLeaves, Leaves, Refuses};
 ghost use Rattle.name_table.specs.Names as names;
 ghost use Rattle.bib_read.specs.Entering as entering;
-ghost use Rattle.bib_read.specs.Names.{has_field};
+ghost use Rattle.bib_read.specs.Names.{has_entry, has_field};
 ghost use Rattle.bib_read.specs.Parts as parts;
 ghost use Rattle.bib_read.specs.Progressing.{progress_of};
 ghost use Rattle.bib_read.specs.Reading as reading;
@@ -143,14 +143,15 @@ impl<'a> Reader<'a> {
         Ok(())
     }
 
-    /// Adds an entry with the fields that have been read. Its key is given lowered, too.
+    /// Adds an entry with the fields that have been read, where no entry has its key, which is given lowered, too.
     fn add_entry(
         &mut self,
         lowered_key: Vec<u8>,
         key: &[u8],
         entry_type: Text,
     ) -> Result<(), NoMemory>
-        requires { lowered_key.items ≡ names.lowered key.now }
+        requires lowered { lowered_key.items ≡ names.lowered key.now }
+        requires fresh { has_entry lowered_key.items self.old.entries ≡ false }
         ensures { OnOk result
             (progress_of self.new ≡ entering.with_entry key.now entry_type (progress_of self.old)) }
     {

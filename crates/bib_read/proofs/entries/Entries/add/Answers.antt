@@ -1,9 +1,14 @@
-use Rattle.name_table.specs.Names.{lowered}
-use Rattle.bib_read.specs.declared.database.RawEntry.{RawEntry}
-use Rattle.bv_base.proofs.KeyLists.{item_added}
+use Rattle.std.proofs.Common.{◌∙◌, ap}
+use Rattle.bv_base.specs.KeySets.{has_key}
+use Rattle.bib_read.specs.Names.{has_entry}
+use Rattle.bib_read.proofs.Places.{has_keyed}
 use Rattle.bib_read.proofs.entries.Entries.add.Goals as goal
 
-pub invariant_of-self-in-Ok : goal.invariant_of-self-in-Ok
-invariant_of-self-in-Ok c =
-    λ key. item_added (λ (e : RawEntry). lowered e.key) c.self.inside.list _ c.args.entry c.self.inside.keys _ c.args.key.items key
-    c.in_ok-push.ensures.ok (c.self.invariant key) c.requires (c.in-Ok.ensures.members key)
+-- no entry has the key, so it isn't among theirs
+pub add-requires : goal.add-requires
+add-requires c =
+    let key = c.args.key.items in
+    ap (has_key key) c.self.invariant
+    ∙ has_keyed key c.self.inside.list
+    ∙ ap (has_entry key) c.self.view_is
+    ∙ c.requires.fresh

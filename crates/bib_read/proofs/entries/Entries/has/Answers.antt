@@ -1,7 +1,13 @@
-use Rattle.std.proofs.Common.{◌∙◌, sym, ap}
+use Rattle.std.proofs.Common.{◌∙◌, ap}
+use Rattle.bv_base.specs.KeySets.{has_key}
 use Rattle.bib_read.specs.Names.{has_entry}
+use Rattle.bib_read.proofs.Places.{has_keyed}
 use Rattle.bib_read.proofs.entries.Entries.has.Goals as goal
 
 pub returns : goal.returns
 returns c =
-    c.has.ensures ∙ sym (c.self.invariant c.args.key.now) ∙ ap (has_entry c.args.key.now) c.self.view_is
+    let key = c.args.key.now in
+    c.has.ensures
+    ∙ ap (has_key key) c.self.invariant
+    ∙ has_keyed key c.self.inside.list
+    ∙ ap (has_entry key) c.self.view_is

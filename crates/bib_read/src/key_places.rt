@@ -1,0 +1,62 @@
+//! Keys, and at which place each stands.
+
+ghost use Rattle.std.specs.Prelude.{◌≡◌, false, nat_eq, is_some, [], ◌∷◌, ◌++◌, position, OnOk, OnErr};
+ghost use Rattle.std.specs.Cmp.Lexicographic.{pointwise};
+ghost use Rattle.bv_base.specs.KeySets.{has_key};
+
+use bv_base::memory::NoMemory;
+use indexmap::IndexSet;
+use std::alloc::Global;
+use std::marker::Model;
+
+/// Lowered keys in order, none twice, in a hash table that tells their places. Contracts see their list.
+#[derive(Drop)]
+pub(crate) struct KeyPlaces {
+    table: IndexSet<Vec<u8>>,
+}
+
+impl Model for KeyPlaces {
+    ghost use Rattle.std.specs.Prelude.{List, ℕ, map};
+
+    ghost Value = { List (List ℕ) };
+
+    ghost view = { λ p. map (λ key. key.items) p.table.keys };
+}
+
+impl KeyPlaces {
+    /// No key.
+    pub(crate) fn new(alloc: Global) -> KeyPlaces
+        ensures { result ≡ [] }
+    {
+        KeyPlaces {
+            table: IndexSet::new(alloc),
+        }
+    }
+
+    /// Whether a key is there, by one look-up.
+    pub(crate) fn has(&self, key: &[u8]) -> bool
+        ensures { result ≡ has_key key.now self.now }
+    {
+        self.table.contains(key)
+    }
+
+    /// The place of a key, counted from 0, by one look-up.
+    pub(crate) fn place(&self, key: &[u8]) -> Option<usize>
+        ensures place { result ≡ position (pointwise nat_eq key.now) self.now }
+        ensures found { is_some result ≡ has_key key.now self.now }
+    {
+        self.table.get_index_of(key)
+    }
+
+    /// Puts a new key behind those that are there. Where memory is wanting the keys stay.
+    pub(crate) fn add(&mut self, key: Vec<u8>) -> Result<(), NoMemory>
+        requires { has_key key.items self.old ≡ false }
+        ensures added { OnOk result (self.new ≡ self.old ++ key.items ∷ []) }
+        ensures unchanged { OnErr result (self.new ≡ self.old) }
+    {
+        let Ok(_) = self.table.insert(key) else {
+            return Err(NoMemory);
+        };
+        Ok(())
+    }
+}
