@@ -1,11 +1,12 @@
 -- Keys as they are compared, and entries by their keys (docs/DATA.md, "The list of entries").
-use Rattle.std.specs.Prelude.{ℕ, Bool, true, false, not, if◌then◌else◌, List, [], ◌∷◌, Option, None, Some, filter}
+use Rattle.std.specs.Prelude.{ℕ, Bool, true, false, not, List, [], ◌∷◌, Option, filter}
 use Rattle.std.specs.List.{list_any, AllByRecursion}
 use Rattle.bv_base.specs.Keys.{IsKey}
 use Rattle.name_table.specs.Names.{same_name, lowered}
 use Rattle.aux_read.specs.declared.aux.AuxItem.{AuxItem}
 use Rattle.aux_read.specs.declared.aux.AuxItem.TheVariants.{Cite, All, Input}
 use Rattle.bib_read.specs.declared.database.RawEntry.{RawEntry}
+use Rattle.bib_read.specs.Names.{entry_under}
 
 -- two keys are equal once both are lowered
 abbrev pub same_key : List ℕ → List ℕ → Bool
@@ -13,8 +14,7 @@ same_key a b = same_name (lowered a) (lowered b)
 
 -- the entry with this key
 abbrev pub entry_of : List ℕ → List RawEntry → Option RawEntry
-entry_of key [] = None
-entry_of key (first ∷ rest) = if same_key key first.key then Some first else entry_of key rest
+entry_of key entries = entry_under (lowered key) entries
 
 -- an entry of the list: its key there, and the entry of the databases
 pub record Listed : Type 0 where

@@ -1,13 +1,9 @@
 //! Entries of the list before their fields are joined.
 
-ghost use Rattle.std.specs.Prelude.{◌≡◌, ℕ, ◌||◌, List, IfOk, OnOk};
-ghost use Rattle.bv_base.specs.KeySets.{has_lowered};
+ghost use Rattle.std.specs.Prelude.{◌≡◌};
 ghost use Rattle.entry_list.specs.Keys as keys;
 
 use bib_read::database::RawEntry;
-use bv_base::key_set::KeySet;
-use bv_base::memory::NoMemory;
-use std::alloc::Global;
 use std::marker::Model;
 
 /// An entry of the list: its key there, and the entry of the databases.
@@ -45,24 +41,4 @@ impl<'a> Chosen<'a> {
             entry: self.entry,
         }
     }
-}
-
-/// The keys of a list.
-pub(crate) fn listed_keys(alloc: Global, list: &[Chosen<'_>]) -> Result<KeySet, NoMemory>
-    ensures { IfOk result (λ set. (key : List ℕ) → has_lowered key set ≡ keys.is_listed key list.now) }
-{
-    let mut set = KeySet::new(alloc);
-    add_keys(&mut set, list)?;
-    Ok(set)
-}
-
-/// Adds the keys of a list.
-pub(crate) fn add_keys(set: &mut KeySet, list: &[Chosen<'_>]) -> Result<(), NoMemory>
-    ensures { OnOk result ((key : List ℕ)
-        → has_lowered key set.new ≡ (has_lowered key set.old || keys.is_listed key list.now)) }
-{
-    for chosen in list {
-        set.add_lowered(chosen.key)?;
-    }
-    Ok(())
 }

@@ -80,7 +80,7 @@ fn take<'a>(
             if std::mem::replace(&mut seen.all, true) {
                 return Ok(());
             }
-            put_uncited(alloc, &mut cited.list, items, table.entries)
+            put_uncited(alloc, &mut cited.list, items, table.as_slice())
         }
         AuxItem::Input(_, _) => Ok(()),
     }

@@ -12,7 +12,7 @@ use crate::citing::{Cited, cited_list};
 use crate::entry_table::EntryTable;
 use crate::fields::{SharedFields, copied, declared_fields, join_entries, warn_of_parents};
 use crate::joined::Joined;
-use crate::parents::append_parents;
+use crate::parents::{append_parents, listed_parents};
 use aux_read::aux::AuxItem;
 use bib_read::database::Database;
 use bst_meaning::entry::{Entry, EntryList};
@@ -31,8 +31,9 @@ use std::alloc::Global;
 /// entry that `crossref` names, and `crossref` stays where that entry is in the list. Fields that the style doesn't
 /// declare are dropped.
 ///
-/// Keys are looked up in hash tables, so the time is linear in the citations and the entries of the databases. Of each
-/// listed entry every field that the style declares is looked for among the entry's fields and its parent's.
+/// Keys are looked up in hash tables, those of the databases' entries in the table that was made as they were read, so the time
+/// is linear in the citations and the entries of the databases. Of each listed entry every field that the style declares is
+/// looked for among the entry's fields and its parent's.
 pub fn join(
     alloc: Global,
     style: &Style,
@@ -44,7 +45,7 @@ pub fn join(
     ensures joined { IfOk result (λ found. found ≡ joining.joined style.now items.now database.now) }
     ensures fits { IfOk result (λ found. Fits style.now found.list) }
 {
-    let table = EntryTable::new(alloc, database.entries.as_slice())?;
+    let table = EntryTable::new(alloc, &database.entries);
     let cited = cited_list(alloc, items, &table)?;
     let whole = with_parents(alloc, cited, &table)?;
     let entries = entries_of(alloc, style, &table, whole.list.as_slice(), &whole.listed)?;
@@ -76,8 +77,9 @@ fn with_parents<'a>(
 {
     let mut list = cited.list;
     let mut warnings = cited.warnings;
-    let listed = append_parents(alloc, &mut list, table)?;
+    append_parents(alloc, &mut list, table)?;
     warn_of_parents(alloc, &mut warnings, table, list.as_slice())?;
+    let listed = listed_parents(alloc, list.as_slice(), table)?;
     Ok(Whole {
         list,
         listed,

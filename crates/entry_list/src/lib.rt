@@ -8,6 +8,7 @@ mod fields;
 pub mod join;
 pub mod joined;
 pub mod laws;
+mod listed;
 mod parents;
 mod sources;
 mod warnings;

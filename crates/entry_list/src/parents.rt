@@ -4,48 +4,40 @@ ghost use Rattle.std.specs.Prelude.{◌≡◌, ℕ, ◌&&◌, ◌||◌, ◌++◌
 ghost use Rattle.std.specs.Option.{option_map, option_to_list};
 ghost use Rattle.bv_base.specs.KeySets.{has_lowered};
 ghost use Rattle.entry_list.specs.Keys as keys;
-ghost use Rattle.entry_list.specs.Keys.{Listed};
 ghost use Rattle.entry_list.specs.Parents as naming;
 ghost use Rattle.entry_list.specs.Tables.{TellsParents};
 
-use crate::chosen::{Chosen, add_keys, listed_keys};
+use crate::chosen::Chosen;
 use crate::entry_table::EntryTable;
+use crate::listed::listed_of;
 use bib_read::database::RawEntry;
 use bv_base::key_set::{KeySet, lowered};
 use bv_base::memory::NoMemory;
 use std::alloc::Global;
 
-/// Appends the parents that at least two entries of a list name and that aren't in it. Keys are given that say of each parent
-/// whether it is in the whole list: where no entry has a parent, there are none.
+/// Appends the parents that at least two entries of a list name and that aren't in it.
 pub(crate) fn append_parents<'a>(
     alloc: Global,
     list: &mut Vec<Chosen<'a>>,
     table: &EntryTable<'a>,
-) -> Result<KeySet, NoMemory>
-    ensures list { OnOk result (list.new.items ≡ list.old.items ++ naming.appended table.now list.old.items) }
-    ensures listed { IfOk result (λ listed. TellsParents listed table.now list.new.items) }
+) -> Result<(), NoMemory>
+    ensures { OnOk result (list.new.items ≡ list.old.items ++ naming.appended table.now list.old.items) }
 {
     let parents = parents_of(alloc, list.as_slice(), table)?;
-    match parents.as_slice() {
-        [] => Ok(KeySet::new(alloc)),
-        named => append_wanted(alloc, list, named),
-    }
+    let wanted = wanted(alloc, parents.as_slice(), list.as_slice())?;
+    append(list, wanted.as_slice())
 }
 
-/// Appends the wanted ones of these parents to a list. The keys of the whole list are given.
-fn append_wanted<'a>(
+/// Keys that say of the parent of each entry of a list whether it is in the list.
+pub(crate) fn listed_parents<'a>(
     alloc: Global,
-    list: &mut Vec<Chosen<'a>>,
-    parents: &[Chosen<'a>],
+    list: &[Chosen<'a>],
+    table: &EntryTable<'a>,
 ) -> Result<KeySet, NoMemory>
-    ensures list { OnOk result (list.new.items ≡ list.old.items ++ naming.wanted parents.now list.old.items) }
-    ensures listed { IfOk result (λ listed. (key : List ℕ) → has_lowered key listed ≡ keys.is_listed key list.new.items) }
+    ensures { IfOk result (λ listed. TellsParents listed table.now list.now) }
 {
-    let mut listed = listed_keys(alloc, list.as_slice())?;
-    let wanted = wanted(alloc, parents, &listed)?;
-    add_keys(&mut listed, wanted.as_slice())?;
-    append(list, wanted.as_slice())?;
-    Ok(listed)
+    let parents = parents_of(alloc, list, table)?;
+    listed_of(alloc, parents.as_slice(), list)
 }
 
 /// The entries that a list names by `crossref`, one for each naming.
@@ -107,17 +99,17 @@ pub(crate) fn crossref_of(entry: &RawEntry) -> Option<&[u8]>
     entry.fields.find(b"crossref")
 }
 
-/// The wanted ones of these parents, in the order in which they are first named. The keys of a list say what is in it.
+/// The wanted ones of these parents, in the order in which they are first named.
 fn wanted<'a>(
     alloc: Global,
     parents: &[Chosen<'a>],
-    listed: &KeySet,
+    list: &[Chosen<'_>],
 ) -> Result<Vec<Chosen<'a>>, NoMemory>
-    ensures { (list : List Listed) → ((key : List ℕ) → has_lowered key listed.now ≡ keys.is_listed key list)
-        → IfOk result (λ found. found.items ≡ naming.wanted parents.now list) }
+    ensures { IfOk result (λ found. found.items ≡ naming.wanted parents.now list.now) }
 {
     let twice = named_twice(alloc, parents)?;
-    wanted_of(alloc, parents, &twice, listed)
+    let listed = listed_of(alloc, parents, list)?;
+    wanted_of(alloc, parents, &twice, &listed)
 }
 
 /// Those of these parents that are named twice and not listed, in the order in which they are first named.

@@ -6,22 +6,22 @@ use Rattle.entry_list.proofs.join.join.Goals as goal
 pub returns-clause-joined : goal.returns-clause-joined
 returns-clause-joined c =
     let items = c.args.items.now in
-    let table : c.in_ok-table.table ≡ c.args.database.now.entries = c.in_ok-table.ensures ∙ c.as_slice.ensures in
-    let whole : c.in_ok-whole.whole.list.items ≡ whole_list items c.in_ok-table.table =
+    let table : c.new-table.result ≡ c.args.database.now.entries = c.new-table.ensures in
+    let whole : c.in_ok-whole.whole.list.items ≡ whole_list items c.new-table.result =
     whole_is items _ _ _ c.in_ok-cited.ensures.list c.in_ok-whole.ensures.list in
     joined_is c.args.style.now items c.args.database.now _ _ _ _ table
-    (entries_are c.args.style.now items _ _ c.as_slice-2.result.now c.in_ok-entries.entries table
-    (c.as_slice-2.ensures.value ∙ whole) c.in_ok-entries.ensures.joined)
-    (c.in_ok-preamble.ensures.copied ∙ c.as_slice-3.ensures)
+    (entries_are c.args.style.now items _ _ c.as_slice.result.now c.in_ok-entries.entries table
+    (c.as_slice.ensures.value ∙ whole) c.in_ok-entries.ensures.joined)
+    (c.in_ok-preamble.ensures.copied ∙ c.as_slice-2.ensures)
     (warnings_are items _ _ _ _ whole c.in_ok-cited.ensures.warnings c.in_ok-whole.ensures.warnings)
 
 pub returns-clause-fits : goal.returns-clause-fits
 returns-clause-fits c =
     let items = c.args.items.now in
-    let table : c.in_ok-table.table ≡ c.args.database.now.entries = c.in_ok-table.ensures ∙ c.as_slice.ensures in
+    let table : c.new-table.result ≡ c.args.database.now.entries = c.new-table.ensures in
     list_fits c.args.style.now items c.args.database.now.entries c.in_ok-entries.entries _
     c.requires.items c.requires.keys
-    (entries_are c.args.style.now items _ _ c.as_slice-2.result.now c.in_ok-entries.entries table
-    (c.as_slice-2.ensures.value ∙ whole_is items _ _ _ c.in_ok-cited.ensures.list c.in_ok-whole.ensures.list)
+    (entries_are c.args.style.now items _ _ c.as_slice.result.now c.in_ok-entries.entries table
+    (c.as_slice.ensures.value ∙ whole_is items _ _ _ c.in_ok-cited.ensures.list c.in_ok-whole.ensures.list)
     c.in_ok-entries.ensures.joined)
     c.in_ok-entries.ensures.bytes c.in_ok-preamble.ensures.bytes
