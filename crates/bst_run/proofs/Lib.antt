@@ -14,3 +14,4 @@ pub mod RefusalPlaces
 pub mod SitePlaces
 pub mod TreeLemmas
 pub mod UnderLemmas
+pub mod PutLemmas

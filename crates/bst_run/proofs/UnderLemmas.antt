@@ -1,12 +1,11 @@
 -- What a run under a certificate tells, and the lengths of conditions that were read.
-use Rattle.std.proofs.Common.{◌≡◌, ℕ, suc, ◌+◌, ◌<◌, ◌≤◌, List, [], ◌∷◌, ◌++◌, length, length-append, map, Option, None, Some, Result, Ok, Err, refl, sym, ◌∙◌, ap, subst, arith}
+use Rattle.std.proofs.Common.{◌≡◌, ℕ, suc, ◌+◌, ◌<◌, ◌≤◌, List, [], ◌∷◌, ◌++◌, length, length-append, map, Option, None, Some, refl, ◌∙◌, ap, arith}
 use Rattle.std.proofs.lemmas.List.{length-map}
-use Rattle.std.specs.Prelude.{codes, IfOk}
+use Rattle.std.specs.Prelude.{codes}
 use Rattle.name_table.specs.declared.names.Kind.{Kind}
 use Rattle.name_table.specs.declared.style.CommandAt.{CommandAt}
 use Rattle.name_table.specs.declared.style.Style.{Style}
 use Rattle.bv_base.specs.declared.limits.TheConstants.{STYLE_BYTES}
-use Rattle.bv_base.specs.declared.memory.NoMemory.{NoMemory}
 use Rattle.bv_base.specs.declared.status.Status.TheVariants as status
 use Rattle.bst_meaning.specs.Condition.{Meets}
 use Rattle.bst_meaning.specs.Config.{Config, Stopped}
@@ -26,10 +25,9 @@ use Rattle.cond_eval.specs.declared.unmet.Unmet.{Unmet}
 use Rattle.entry_list.specs.declared.joined.Joined.{Joined}
 use Rattle.entry_list.specs.Joining.{joined}
 use Rattle.bst_run.specs.declared.files.sources.Sources.{Sources}
-use Rattle.bst_run.specs.declared.outcome.Outcome.{Outcome}
-use Rattle.bst_run.specs.Ran.{answered, run_joined}
+use Rattle.bst_run.specs.Ran.{answered, logged, run_joined}
 use Rattle.bst_run.specs.Stops.{IsDecided}
-use Rattle.bst_run.specs.Under.{FaultsOutside, IsBegunBy, joined_under, logged, meeting_text, run_under}
+use Rattle.bst_run.specs.Under.{FaultsOutside, IsBegunBy, joined_under, meeting_text, run_under}
 
 -- each line has a byte
 line_byte : (line : List (List ℕ)) → 1 ≤ length (line_text line)
@@ -108,24 +106,18 @@ under_decided steps cond sources =
     run_decided steps _ (turn_of c) c
 
 -- what is told of the condition, and then the run's own log
-pub under_is : (result : Result Outcome NoMemory) (steps : ℕ) (style : Style) (cond : Cond) (reading : List (List ℕ)) (found : Joined) (front : List ℕ) (outcome : Outcome)
-    → IfOk result (λ o. o ≡ logged front outcome) → front ≡ meeting_text style cond found.list (first_unmet style cond found.list)
-    → outcome ≡ run_joined steps style reading found → IfOk result (λ o. o ≡ joined_under steps style cond reading found)
-under_is (Ok o) steps style cond reading found front outcome is told ran =
-    is ∙ ap (λ (text : List ℕ). logged text outcome) told
-    ∙ ap (λ (x : Outcome). logged (meeting_text style cond found.list (first_unmet style cond found.list)) x) ran
-under_is (Err refused) steps style cond reading found front outcome is told ran = tt
+pub told_front : (steps : ℕ) (style : Style) (cond : Cond) (reading : List (List ℕ)) (found : Joined) (front : List ℕ)
+    → front ≡ meeting_text style cond found.list (first_unmet style cond found.list)
+    → logged front (run_joined steps style reading found) ≡ joined_under steps style cond reading found
+told_front steps style cond reading found front told = ap (λ (f : List ℕ). logged f (run_joined steps style reading found)) told
 
 -- the joined entries are those of the sources
-pub sources_under : (result : Result Outcome NoMemory) (steps : ℕ) (cond : Cond) (sources : Sources) (style : Style) (reading : List (List ℕ)) (found : Joined)
+pub asked_under : (steps : ℕ) (cond : Cond) (sources : Sources) (style : Style) (reading : List (List ℕ)) (found : Joined) (front : List ℕ)
     → style ≡ sources.style → found ≡ joined sources.style sources.items sources.database → reading ≡ sources.database.warnings
-    → IfOk result (λ o. o ≡ joined_under steps style cond reading found) → IfOk result (λ o. o ≡ run_under steps cond sources)
-sources_under result steps cond sources style reading found own is warned h =
-    subst (λ (j : Joined). IfOk result (λ o. o ≡ joined_under steps sources.style cond sources.database.warnings j)) is
-    (subst (λ (r : List (List ℕ)). IfOk result (λ o. o ≡ joined_under steps sources.style cond r found)) warned
-    (subst (λ (s : Style). IfOk result (λ o. o ≡ joined_under steps s cond reading found)) own h))
-
--- what holds of the outcome that is given
-pub outcome_holds : (P : Outcome → Type 0) (result : Result Outcome NoMemory) (outcome : Outcome) → IfOk result (λ o. o ≡ outcome) → P outcome → IfOk result P
-outcome_holds P (Ok o) outcome is holds = subst P (sym is) holds
-outcome_holds P (Err refused) outcome is holds = tt
+    → front ≡ meeting_text style cond found.list (first_unmet style cond found.list)
+    → logged front (run_joined steps style reading found) ≡ run_under steps cond sources
+asked_under steps cond sources style reading found front own is warned told =
+    told_front steps style cond reading found front told
+    ∙ ap (λ (s : Style). joined_under steps s cond reading found) own
+    ∙ ap (λ (r : List (List ℕ)). joined_under steps sources.style cond r found) warned
+    ∙ ap (λ (j : Joined). joined_under steps sources.style cond sources.database.warnings j) is

@@ -15,8 +15,10 @@ pub mod InputTrees
 pub mod Sources
 pub mod Ran
 pub mod Under
+pub mod Answers
 pub mod FilesBegun
 pub mod Delivery
+pub mod Putting
 pub mod Inferred
 pub mod Generated
 pub mod Top

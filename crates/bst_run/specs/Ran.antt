@@ -35,9 +35,16 @@ answered steps log (Faulted fault site) c =
     record { status = status.Fault; out = lines_of c; err = log ++ fault_line fault site.place (key_text site.entry c) }
 
 -- the log has the warnings of the databases, those of the joining and then the lines that the run logged
+abbrev pub log_at : List (List ℕ) → List (List ℕ) → Config → List ℕ
+log_at reading joining c = ended_lines reading ++ (ended_lines joining ++ ended_lines c.log)
+
+-- what a configuration answers after so many steps, with the whole log
 abbrev pub answer_at : ℕ → List (List ℕ) → List (List ℕ) → Config → Outcome
-answer_at steps reading joining c =
-    answered steps (ended_lines reading ++ (ended_lines joining ++ ended_lines c.log)) (turn_of c) c
+answer_at steps reading joining c = answered steps (log_at reading joining c) (turn_of c) c
+
+-- an outcome with this before its log
+abbrev pub logged : List ℕ → Outcome → Outcome
+logged text outcome = record { status = outcome.status; out = outcome.out; err = text ++ outcome.err }
 
 -- the first steps of a style over the joined entries
 abbrev pub run_joined : ℕ → Style → List (List ℕ) → Joined → Outcome

@@ -5,15 +5,17 @@ pub use Rattle.bst_meaning.specs.declared.entry.EntryList.{EntryList}
 pub use Rattle.cert_format.specs.declared.cert.Cert.{Cert}
 pub use Rattle.cert_check.specs.declared.refusal.Refusal.{Refusal}
 pub use Rattle.aux_read.specs.FileNames.{AreFileNames, GivesFileNames, IsFileName}
-pub use Rattle.bst_step.specs.Machine.{configuration, key_of}
+pub use Rattle.bst_step.specs.Lines.{added, first, page_in}
+pub use Rattle.bst_step.specs.Machine.{configuration, key_of, turn_of}
 pub use Rattle.cert_format.specs.Texts.{cert_of, cond_of}
 pub use Rattle.aux_read.specs.Keys.{HaveKeys}
 pub use Rattle.bib_read.specs.Additions.{AreKeyed}
 pub use Rattle.bib_read.specs.Reading.{database_of}
 pub use Rattle.bst_meaning.specs.Condition.{Meets}
-pub use Rattle.bst_meaning.specs.Config.{Stopped}
+pub use Rattle.bst_meaning.specs.Config.{Config, Stopped}
 pub use Rattle.bst_meaning.specs.Entries.{Fits}
-pub use Rattle.bst_meaning.specs.Lines.{lines_after}
+pub use Rattle.bst_meaning.specs.Lines.{lines_of}
+pub use Rattle.bst_meaning.specs.Machine.{steps}
 pub use Rattle.bst_meaning.specs.Safe.{Safe}
 pub use Rattle.bst_parse.specs.PlacesStand.{IsOfByte}
 pub use Rattle.bst_parse.specs.Reading.{style_of}

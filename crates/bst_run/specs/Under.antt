@@ -19,7 +19,7 @@ use Rattle.entry_list.specs.Joining.{joined}
 use Rattle.bst_run.specs.declared.files.sources.Sources.{Sources}
 use Rattle.bst_run.specs.declared.outcome.Outcome.{Outcome}
 use Rattle.bst_run.specs.Files.{file_in}
-use Rattle.bst_run.specs.Ran.{run_joined}
+use Rattle.bst_run.specs.Ran.{logged, run_joined}
 use Rattle.bst_run.specs.Report.{holding}
 use Rattle.bst_run.specs.Sources.{read_cert, sources_of}
 
@@ -64,10 +64,6 @@ unmet_text style cond list unmet =
 abbrev pub meeting_text : Style → Cond → EntryList → Option Unmet → List ℕ
 meeting_text style cond list None = codes "inside\n"
 meeting_text style cond list (Some unmet) = unmet_text style cond list unmet
-
--- an outcome with this before its log
-abbrev pub logged : List ℕ → Outcome → Outcome
-logged text outcome = record { status = outcome.status; out = outcome.out; err = text ++ outcome.err }
 
 -- the first steps of a style over the joined entries, behind what is told of the condition
 abbrev pub joined_under : ℕ → Style → Cond → List (List ℕ) → Joined → Outcome

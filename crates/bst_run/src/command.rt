@@ -9,6 +9,7 @@ ghost use Rattle.bst_run.specs.Report as report;
 ghost use Rattle.bst_run.specs.Stops.{told_of};
 ghost use Rattle.bst_run.specs.Top as top;
 
+use crate::answer::Answer;
 use crate::check::check;
 use crate::deliver::deliver;
 use crate::generating::make_and_show;
@@ -16,6 +17,7 @@ use crate::inferring::infer;
 use crate::outcome::Outcome;
 use crate::report::{absent, too_long, unread, usage};
 use crate::run::run;
+use crate::running::deliver_answer;
 use crate::stop::Stop;
 use crate::under::run_under;
 use crate::words::{Form, MOST_FUNCTIONS, form_of};
@@ -118,11 +120,11 @@ fn carry_out<F: Files, O: Sink, E: Sink>(
     ensures made_unread { forms.IsGen (forms.form_in form.entry) → F.begun files.new ≡ F.begun files.old }
 {
     let outcome = answer(alloc, form, files);
-    deliver(outcome, out, err)
+    deliver_answer(alloc, outcome, out, err)
 }
 
 /// What the words of a form come to.
-fn answer<F: Files>(alloc: Global, form: Form<'_>, files: &mut F) -> Result<Outcome, NoMemory>
+fn answer<F: Files>(alloc: Global, form: Form<'_>, files: &mut F) -> Result<Answer, NoMemory>
     requires within { forms.IsWithin (forms.form_in form) }
     ensures answer { IfOk result (λ outcome. top.IsAnswer ⟦<F as Files>⟧ files.old files.new (forms.form_in form.entry) outcome) }
     ensures begun { IfSome (F.told files.old) (λ told. HasBegun ⟦<F as Files>⟧ files.old files.new (files_begun told (forms.form_in form.entry)) (given_of result)) }
@@ -143,11 +145,11 @@ fn answer_check<F: Files>(
     style: &str,
     cert: &str,
     files: &mut F,
-) -> Result<Outcome, NoMemory>
+) -> Result<Answer, NoMemory>
     ensures answer { IfOk result (λ outcome. top.IsAnswer ⟦<F as Files>⟧ files.old files.new (forms.Check style.now cert.now) outcome) }
     ensures begun { IfSome (F.told files.old) (λ told. HasBegun ⟦<F as Files>⟧ files.old files.new (files_begun told (forms.Check style.now cert.now)) (given_of result)) }
 {
-    told(alloc, check(alloc, files, style, cert))
+    told(alloc, made(check(alloc, files, style, cert)))
 }
 
 /// What the words `infer STYLE` and `infer STYLE COND` come to.
@@ -156,12 +158,12 @@ fn answer_infer<F: Files>(
     style: &str,
     cond: Option<&str>,
     files: &mut F,
-) -> Result<Outcome, NoMemory>
+) -> Result<Answer, NoMemory>
     ensures answer { IfOk result (λ outcome. top.IsAnswer ⟦<F as Files>⟧ files.old files.new (forms.Infer style.now (forms.name_in cond.entry)) outcome) }
     ensures begun { IfSome (F.told files.old) (λ told.
         HasBegun ⟦<F as Files>⟧ files.old files.new (files_begun told (forms.Infer style.now (forms.name_in cond.entry))) (given_of result)) }
 {
-    told(alloc, infer(alloc, files, style, cond))
+    told(alloc, made(infer(alloc, files, style, cond)))
 }
 
 /// What the words `run AUX N` come to.
@@ -170,7 +172,7 @@ fn answer_run<F: Files>(
     aux: &str,
     steps: u32,
     files: &mut F,
-) -> Result<Outcome, NoMemory>
+) -> Result<Answer, NoMemory>
     ensures answer { IfOk result (λ outcome. top.IsAnswer ⟦<F as Files>⟧ files.old files.new (forms.Run aux.now steps) outcome) }
     ensures begun { IfSome (F.told files.old) (λ told. HasBegun ⟦<F as Files>⟧ files.old files.new (files_begun told (forms.Run aux.now steps)) (given_of result)) }
 {
@@ -184,7 +186,7 @@ fn answer_run_under<F: Files>(
     steps: u32,
     cert: &str,
     files: &mut F,
-) -> Result<Outcome, NoMemory>
+) -> Result<Answer, NoMemory>
     ensures answer { IfOk result (λ outcome. top.IsAnswer ⟦<F as Files>⟧ files.old files.new (forms.RunUnder aux.now steps cert.now) outcome) }
     ensures begun { IfSome (F.told files.old) (λ told.
         HasBegun ⟦<F as Files>⟧ files.old files.new (files_begun told (forms.RunUnder aux.now steps cert.now)) (given_of result)) }
@@ -193,23 +195,35 @@ fn answer_run_under<F: Files>(
 }
 
 /// What the words `gen SEED COUNT` come to.
-fn answer_gen(alloc: Global, seed: u32, count: u32) -> Result<Outcome, NoMemory>
+fn answer_gen(alloc: Global, seed: u32, count: u32) -> Result<Answer, NoMemory>
     requires some { 1 ≤ count }
     requires few { count ≤ MOST_FUNCTIONS }
     ensures answer { IfOk result (top.IsMadeOf seed count) }
 {
-    told(alloc, make_and_show(alloc, seed, count))
+    told(alloc, made(make_and_show(alloc, seed, count)))
+}
+
+/// A command's result, where its texts are made.
+fn made(found: Result<Outcome, Stop>) -> Result<Answer, Stop>
+    ensures { result ≡ found }
+{
+    match found {
+        Ok(outcome) => Ok(Answer::made(outcome)),
+        Err(stop) => Err(stop),
+    }
 }
 
 /// The outcome that a command's result comes to.
-fn told(alloc: Global, found: Result<Outcome, Stop>) -> Result<Outcome, NoMemory>
+fn told(alloc: Global, found: Result<Answer, Stop>) -> Result<Answer, NoMemory>
     ensures { IfOk result (λ outcome. told_of found ≡ Some outcome) }
 {
-    match found {
-        Ok(outcome) | Err(Stop::Told(outcome)) => Ok(outcome),
-        Err(Stop::Absent(name)) => absent(alloc, &name),
-        Err(Stop::Failed(name)) => unread(alloc, &name),
-        Err(Stop::TooLong(name)) => too_long(alloc, &name),
-        Err(Stop::NoMemory) => Err(NoMemory),
-    }
+    let outcome = match found {
+        Ok(answer) => return Ok(answer),
+        Err(Stop::Told(outcome)) => outcome,
+        Err(Stop::Absent(name)) => absent(alloc, &name)?,
+        Err(Stop::Failed(name)) => unread(alloc, &name)?,
+        Err(Stop::TooLong(name)) => too_long(alloc, &name)?,
+        Err(Stop::NoMemory) => return Err(NoMemory),
+    };
+    Ok(Answer::made(outcome))
 }

@@ -40,7 +40,7 @@ fn put_texts<O: Sink, E: Sink>(outcome: &Outcome, out: &mut O, err: &mut E) -> S
 }
 
 /// Puts a text. One without bytes leaves the sink alone, so that it can't fail there.
-fn put<S: Sink>(sink: &mut S, text: &[u8]) -> Result<(), PutAnswer>
+pub fn put<S: Sink>(sink: &mut S, text: &[u8]) -> Result<(), PutAnswer>
     ensures done { OnOk result (IsPut text.now (sunk ⟦<S as Sink>⟧ sink.old sink.new)) }
     ensures failed { IsErrOf result PutAnswer.Failed → IsCut text.now (sunk ⟦<S as Sink>⟧ sink.old sink.new) }
     ensures wanting { IsErrOf result PutAnswer.NoMemory → IsHeld text.now (sunk ⟦<S as Sink>⟧ sink.old sink.new) }

@@ -1,6 +1,7 @@
 //! The program: it reads the words, decides or runs, and ends with the answer's number.
 #![tactic(auto)]
 
+mod answer;
 mod check;
 mod command;
 mod data_fault;
@@ -13,6 +14,7 @@ mod outcome;
 mod refusal;
 mod report;
 mod run;
+mod running;
 mod stop;
 #[cfg(test)]
 mod tests;

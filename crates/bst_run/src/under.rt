@@ -7,11 +7,11 @@ ghost use Rattle.bst_run.specs.Stops.{Decides, IsDecided, IsInside};
 ghost use Rattle.bst_run.specs.Subjects.{AreCitations, AreKeyed, IsSound, Meets, Safe, first_unmet, key_of};
 ghost use Rattle.bst_run.specs.Under as rule;
 
+use crate::answer::{Answer, Run};
 use crate::check::{cert_from, holds};
 use crate::files::sources::{Sources, sources_of};
 use crate::files::whole::style_file;
-use crate::outcome::Outcome;
-use crate::run::{join_all, run_joined};
+use crate::run::join_all;
 use crate::stop::Stop;
 use bst_meaning::condition::Cond;
 use bst_meaning::entry::EntryList;
@@ -29,14 +29,14 @@ use name_table::style::Style;
 use std::alloc::Global;
 
 /// Reads what the `.aux` file of this name asks for, checks the certificate for the style, tells whether the entries meet its
-/// condition, and takes the first steps of the style over them.
+/// condition, and asks for the first steps of the style over them.
 pub fn run_under<F: Files>(
     alloc: Global,
     files: &mut F,
     aux: &str,
     steps: u32,
     cert: &str,
-) -> Result<Outcome, Stop>
+) -> Result<Answer, Stop>
     ensures reads { Reads ⟦<F as Files>⟧ files.old files.new (λ told. rule.under_outcome told aux.now steps cert.now) result }
     ensures begun { Begins (F.told files.old) (λ told. under_begun told aux.now cert.now) (F.begun files.old) (F.begun files.new) result }
     ensures decided { IfOk result (λ outcome. IsDecided outcome.status) }
@@ -47,8 +47,8 @@ pub fn run_under<F: Files>(
     text_under(alloc, sources, text.as_slice(), steps)
 }
 
-/// Reads a certificate's text for the style, checks it, and runs the style.
-fn text_under(alloc: Global, sources: Sources, text: &[u8], steps: u32) -> Result<Outcome, Stop>
+/// Reads a certificate's text for the style, checks it, and asks for a run of the style.
+fn text_under(alloc: Global, sources: Sources, text: &[u8], steps: u32) -> Result<Answer, Stop>
     requires short { length text.now ≤ STYLE_BYTES }
     requires sound { IsSound sources.style }
     requires cited { AreCitations sources.items }
@@ -65,8 +65,9 @@ fn text_under(alloc: Global, sources: Sources, text: &[u8], steps: u32) -> Resul
     Ok(under(alloc, sources, &cert.cond, steps)?)
 }
 
-/// Joins the citations and the databases, tells whether they meet a condition, and takes the first steps of the style over them.
-fn under(alloc: Global, sources: Sources, cond: &Cond, steps: u32) -> Result<Outcome, NoMemory>
+/// Joins the citations and the databases, tells whether they meet a condition, and asks for the first steps of the style over
+/// them.
+fn under(alloc: Global, sources: Sources, cond: &Cond, steps: u32) -> Result<Answer, NoMemory>
     requires lines { length cond.now.names + length cond.now.nonblank + length cond.now.types < 4294967291 }
     requires cited { AreCitations sources.items }
     requires keyed { AreKeyed sources.database.entries }
@@ -76,8 +77,13 @@ fn under(alloc: Global, sources: Sources, cond: &Cond, steps: u32) -> Result<Out
 {
     let (style, found, reading) = join_all(alloc, sources)?;
     let front = meeting_text(alloc, &style, cond, &found.list)?;
-    let outcome = run_joined(alloc, &style, reading.as_slice(), steps, found)?;
-    logged(front, outcome)
+    Ok(Answer::asked(Run {
+        style,
+        found,
+        reading,
+        front: Text::from_vec(front),
+        steps,
+    }))
 }
 
 /// Whether a list meets a condition, as a log tells it.
@@ -163,17 +169,4 @@ fn after_line(text: &[u8]) -> &[u8]
         [_, rest @ ..] => rest,
         [] => b"",
     }
-}
-
-/// An outcome with this before its log.
-fn logged(text: Vec<u8>, outcome: Outcome) -> Result<Outcome, NoMemory>
-    ensures { IfOk result (λ logged. logged ≡ rule.logged text.items outcome) }
-{
-    let mut err = text;
-    err.extend_from_slice(outcome.err.as_slice())?;
-    Ok(Outcome {
-        status: outcome.status,
-        out: outcome.out,
-        err: Text::from_vec(err),
-    })
 }

@@ -15,7 +15,7 @@ parts_added page [] after = refl
 parts_added page (event ∷ before) after = parts_added (added page (event ∷ [])) before after
 
 -- a text in front of what a page has
-abbrev in_front : List ℕ → Spelt → Spelt
+abbrev pub in_front : List ℕ → Spelt → Spelt
 in_front text page = record { text = text ++ page.text; buffer = page.buffer }
 
 -- it stays in front

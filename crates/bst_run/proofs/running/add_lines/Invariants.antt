@@ -1,6 +1,6 @@
 use Rattle.std.proofs.Common.{◌≡◌, ◌++◌, drop}
 use Rattle.bst_run.specs.Ran.{ended_lines}
-use Rattle.bst_run.proofs.run.add_lines.Given as goal
+use Rattle.bst_run.proofs.running.add_lines.Given as goal
 
 -- what is added so far, and what is left to add
 abbrev pub invariant-loop-line : goal.invariant-loop-line
