@@ -7,7 +7,7 @@ use Rattle.bv_base.specs.Runs.{after_white, length_before}
 use Rattle.name_table.specs.Names.{lowered, same_name}
 use Rattle.name_table.specs.declared.style.Macro.{Macro}
 use Rattle.bib_read.specs.declared.database.Database.{Database}
-use Rattle.bib_read.specs.declared.database.RawEntry.{RawEntry}
+use Rattle.bib_read.specs.RawEntries.{RawEntry}
 use Rattle.bib_read.specs.declared.stop.Stop.{Stop}
 use Rattle.bib_read.specs.declared.stop.Stop.TheVariants.{RepeatedKey}
 use Rattle.bib_read.specs.Additions.{AreKeyed, AreNew, HasAdded, HasDefined, HasGrown, IsLonger}

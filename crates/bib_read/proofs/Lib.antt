@@ -6,6 +6,8 @@ pub mod Growing
 pub mod Insides
 pub mod ItemsSpelled
 pub mod Kept
+pub mod PackedEntries
+pub mod PackedFields
 pub mod Pieces
 pub mod Places
 pub mod Rounds

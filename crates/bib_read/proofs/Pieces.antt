@@ -9,10 +9,11 @@ use Rattle.name_table.specs.Names.{lowered}
 use Rattle.bib_read.specs.declared.stop.Stop.{Stop}
 use Rattle.bib_read.specs.declared.stop.Stop.TheVariants.{Unbalanced}
 use Rattle.bib_read.specs.Grammar.{Piece, Braced, Quoted, Digits, Named, Gap, Identifier, IsPiece, IsValue, Mark, Run, is_inside}
-use Rattle.bib_read.specs.Meaning.{or_nothing, piece_text, piece_warnings, value_text, value_warnings, warned}
+use Rattle.bib_read.specs.Meaning.{piece_text, piece_warnings, value_text, value_warnings, warned}
 use Rattle.bib_read.specs.Names.{value_of}
 use Rattle.bib_read.specs.Parts.{identifier_at, is_first, passed, stands, take_identifier, take_mark}
 use Rattle.bib_read.specs.Progress.{Progress}
+use Rattle.bib_read.specs.RawFields.{or_nothing}
 use Rattle.bib_read.specs.Runs.{begins_name, ends_name, inside_length, level_after}
 use Rattle.bib_read.specs.Stops.{unexpected}
 use Rattle.bib_read.specs.Values.{closed, joined, macro_joined, piece_at, take_closed, take_digits, take_equals, take_macro, take_piece, take_pieces, take_value, with_macro}

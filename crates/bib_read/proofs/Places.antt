@@ -1,12 +1,14 @@
 -- The places of keys tell the entries that have them.
-use Rattle.std.proofs.Common.{arith, ◌≡◌, ℕ, zero, suc, ◌+◌, ◌<◌, Bool, true, false, cond, ◌||◌, nat_lt, List, [], ◌∷◌, Some, None, not, length, map, get_or, position, slice_get, refl, sym, ap, ◌∙◌}
+use Rattle.std.proofs.Common.{arith, ◌≡◌, ℕ, zero, suc, ◌+◌, ◌<◌, Bool, true, false, cond, ◌||◌, nat_eq, nat_lt, List, [], ◌∷◌, ◌++◌, Some, None, not, length, map, get_or, position, slice_get, refl, sym, ap, ◌∙◌}
 use Rattle.std.proofs.lemmas.Bool.{or_parts}
 use Rattle.std.proofs.lemmas.List.{length-map}
 use Rattle.std.proofs.lemmas.List.Quantifiers.{position-Some}
+use Rattle.std.proofs.lemmas.Option.{slice_get-get_or}
+use Rattle.std.specs.Cmp.Lexicographic.{pointwise, same_text}
 use Rattle.std.specs.List.{position_or_len}
 use Rattle.bv_base.specs.KeySets.{has_key}
 use Rattle.name_table.specs.Names.{lowered, same_name}
-use Rattle.bib_read.specs.declared.database.RawEntry.{RawEntry}
+use Rattle.bib_read.specs.RawEntries.{RawEntry}
 use Rattle.bib_read.specs.Names.{entry_under, has_entry, lowered_keys}
 
 length_before : {X Y : Type 0} (f : X → Y) (p : Y → Bool) (xs : List X)
@@ -50,3 +52,22 @@ none_under key [] none = refl
 none_under key (e ∷ entries) none =
     let apart = or_parts (same_name key (lowered e.key)) (has_entry key entries) none in
     ap (λ b. cond b (Some e) (entry_under key entries)) apart.0 ∙ none_under key entries apart.1
+
+-- a key stands at its place
+pub key_placed : (key : List ℕ) (keys : List (List ℕ)) (at : ℕ) → position (pointwise nat_eq key) keys ≡ Some at → slice_get keys at ≡ Some key
+key_placed key keys at is =
+    let there = position-Some (pointwise nat_eq key) keys at [] is in
+    slice_get-get_or keys at [] there.0 ∙ ap Some (sym (same_text key (get_or keys at []) (sym there.1)))
+
+-- a key that is put behind others stands there
+pub key_behind : (keys later : List (List ℕ)) (copy key : List ℕ) (count : ℕ) → count ≡ length keys → later ≡ keys ++ copy ∷ [] → copy ≡ key
+    → slice_get later count ≡ Some key
+key_behind keys later copy key count long added same =
+    ap (λ (n : ℕ). slice_get later n) long
+    ∙ ap (λ (l : List (List ℕ)). slice_get l (length keys)) added
+    ∙ last keys
+    ∙ ap Some same
+  where
+    last : (keys : List (List ℕ)) → slice_get (keys ++ copy ∷ []) (length keys) ≡ Some copy
+    last [] = refl
+    last (first ∷ keys) = last keys

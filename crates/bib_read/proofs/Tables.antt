@@ -44,11 +44,11 @@ defined_inserted name value (e ∷ es) = by (pointwise nat_eq name.items e.0.ite
     by true rest = refl
     by false rest = ap (λ l. macro_of e ∷ l) rest
 
+-- one item more of a list
+pub one_more : {X : Type 0} (xs : List X) (i : ℕ) (x : X) → slice_get xs i ≡ Some x → take (i + 1) xs ≡ take i xs ++ x ∷ []
+one_more xs i x here =
+    take_more xs i x (slice_get_within xs i x here) ∙ ap (λ y. take i xs ++ y ∷ []) (get_or_from_slice_get xs i x x here)
+
 pub take_next : (es : List (Vec ℕ × Vec ℕ)) (i : ℕ) (e : Vec ℕ × Vec ℕ) → slice_get es i ≡ Some e
     → take (i + 1) (map macro_of es) ≡ take i (map macro_of es) ++ macro_of e ∷ []
-take_next es i e found =
-    let got : slice_get (map macro_of es) i ≡ Some (macro_of e) =
-    slice_get-map macro_of es i ∙ ap (option_map macro_of) found in
-    take_more (map macro_of es) i (macro_of e) (slice_get_within (map macro_of es) i (macro_of e) got)
-    ∙ ap (λ m. take i (map macro_of es) ++ m ∷ [])
-    (get_or_from_slice_get (map macro_of es) i (macro_of e) (macro_of e) got)
+take_next es i e found = one_more (map macro_of es) i (macro_of e) (slice_get-map macro_of es i ∙ ap (option_map macro_of) found)

@@ -5,7 +5,7 @@ use Rattle.bv_base.specs.Keys.{IsKey}
 use Rattle.name_table.specs.Names.{lowered}
 use Rattle.name_table.specs.declared.style.Macro.{Macro}
 use Rattle.bib_read.specs.declared.database.Database.{Database}
-use Rattle.bib_read.specs.declared.database.RawEntry.{RawEntry}
+use Rattle.bib_read.specs.RawEntries.{RawEntry}
 use Rattle.bib_read.specs.Names.{all_defined, has_entry}
 
 -- each entry has a key

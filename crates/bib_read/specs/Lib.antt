@@ -7,6 +7,7 @@ pub mod Names
 pub mod Parts
 pub mod Progress
 pub mod Progressing
+pub mod RawEntries
 pub mod RawFields
 pub mod Reading
 pub mod Runs

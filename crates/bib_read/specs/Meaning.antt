@@ -3,16 +3,11 @@ use Rattle.std.specs.Prelude.{◌≡◌, ℕ, false, if◌then◌else◌, List, 
 use Rattle.name_table.specs.Names.{lowered}
 use Rattle.name_table.specs.declared.style.Macro.{Macro}
 use Rattle.bib_read.specs.declared.database.Database.{Database}
-use Rattle.bib_read.specs.RawFields.{RawField}
+use Rattle.bib_read.specs.RawFields.{RawField, or_nothing}
 use Rattle.bib_read.specs.Grammar.{Piece, Braced, Quoted, Digits, Named, FieldTree, Item, Comment, Definition, Preamble, Entry, Spells}
 use Rattle.bib_read.specs.Names.{all_defined, defined, has_entry, has_field, value_of}
 use Rattle.bib_read.specs.Squeeze.{squeezed, trimmed}
 use Rattle.bib_read.specs.Warnings.{second_field, undefined_macro}
-
--- a macro's value, and nothing where it isn't defined
-abbrev pub or_nothing : Option (List ℕ) → List ℕ
-or_nothing (Some value) = value
-or_nothing None = []
 
 -- a macro that isn't defined gives a warning
 abbrev pub warned : List ℕ → Option (List ℕ) → List (List ℕ)

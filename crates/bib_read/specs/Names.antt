@@ -4,7 +4,7 @@ use Rattle.std.specs.List.{list_any}
 use Rattle.bv_base.specs.KeySets.{has_item}
 use Rattle.name_table.specs.Names.{lowered, same_name}
 use Rattle.name_table.specs.declared.style.Macro.{Macro}
-use Rattle.bib_read.specs.declared.database.RawEntry.{RawEntry}
+use Rattle.bib_read.specs.RawEntries.{RawEntry}
 use Rattle.bib_read.specs.RawFields.{RawField}
 
 -- a field of this name is among these

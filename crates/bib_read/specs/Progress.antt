@@ -1,7 +1,7 @@
 -- How far a database is read (docs/DATA.md, "The .bib file").
 use Rattle.std.specs.Prelude.{ℕ, List}
 use Rattle.name_table.specs.declared.style.Macro.{Macro}
-use Rattle.bib_read.specs.declared.database.RawEntry.{RawEntry}
+use Rattle.bib_read.specs.RawEntries.{RawEntry}
 use Rattle.bib_read.specs.RawFields.{RawField}
 
 -- the bytes that are left, and what has been read

@@ -1,21 +1,9 @@
 //! What has been read of databases.
 
 use crate::entries::Entries;
-use crate::raw_fields::RawFields;
 use bv_base::seq::Seq;
 use bv_base::text::Text;
 use name_table::style::Macro;
-
-/// An entry as it stands in its database.
-#[derive(Drop)]
-pub struct RawEntry {
-    /// The key, spelled as in the database.
-    pub key: Text,
-    /// The lowered type.
-    pub entry_type: Text,
-    /// The fields in order, none twice.
-    pub fields: RawFields,
-}
 
 /// What has been read of databases.
 #[derive(Drop)]

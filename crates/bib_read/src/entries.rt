@@ -1,14 +1,14 @@
 //! The entries of databases in order, and their keys.
 
-ghost use Rattle.std.specs.Prelude.{◌≡◌, false, [], ◌∷◌, ◌++◌, slice_get, OnOk};
-ghost use Rattle.std.specs.Option.{option_map};
+ghost use Rattle.std.specs.Prelude.{◌≡◌, false, [], ◌∷◌, ◌++◌, length, slice_get, OnOk};
 ghost use Rattle.name_table.specs.Names.{lowered};
 ghost use Rattle.bib_read.specs.Names.{entry_under, has_entry};
 
-use crate::database::RawEntry;
 use crate::key_places::KeyPlaces;
+use crate::packed_entries::PackedEntries;
+use crate::raw_entry::RawEntry;
+use crate::raw_fields::RawFields;
 use bv_base::memory::NoMemory;
-use bv_base::seq::Seq;
 use std::alloc::Global;
 use std::marker::Model;
 
@@ -16,16 +16,16 @@ use std::marker::Model;
 /// entries are joined. Contracts see their list.
 #[derive(Drop)]
 pub struct Entries {
-    list: Seq<RawEntry>,
+    list: PackedEntries,
     places: KeyPlaces,
 }
 
 impl Model for Entries {
     ghost use Rattle.std.specs.Prelude.{◌≡◌, List};
     ghost use Rattle.bib_read.specs.Names.{lowered_keys};
-    ghost use Rattle.bib_read.specs.declared.database.RawEntry.{RawEntry};
+    ghost use Rattle.bib_read.specs.RawEntries as raw;
 
-    ghost Value = { List RawEntry };
+    ghost Value = { List raw.RawEntry };
 
     ghost view = { λ e. e.list };
 
@@ -38,9 +38,23 @@ impl Entries {
         ensures { result ≡ [] }
     {
         Entries {
-            list: Seq::new(alloc),
+            list: PackedEntries::new(alloc),
             places: KeyPlaces::new(alloc),
         }
+    }
+
+    /// How many entries there are.
+    pub fn len(&self) -> usize
+        ensures { result ≡ length self.now }
+    {
+        self.list.len()
+    }
+
+    /// The entry at a place, counted from 0.
+    pub fn get(&self, at: usize) -> Option<RawEntry<'_>>
+        ensures { result ≡ slice_get self.now at }
+    {
+        self.list.get(at)
     }
 
     /// Whether an entry with this lowered key is there, by one look-up in a hash table.
@@ -51,40 +65,33 @@ impl Entries {
     }
 
     /// The entry with this lowered key, by one look-up in a hash table.
-    pub fn find(&self, key: &[u8]) -> Option<&RawEntry>
-        ensures { option_map (λ e. e.now) result ≡ entry_under key.now self.now }
+    pub fn find(&self, key: &[u8]) -> Option<RawEntry<'_>>
+        ensures { result ≡ entry_under key.now self.now }
     {
         match self.places.place(key) {
-            Some(at) => self.entry_at(at),
+            Some(at) => self.get(at),
             None => None,
         }
     }
 
-    /// The entry at a place.
-    fn entry_at(&self, at: usize) -> Option<&RawEntry>
-        ensures { option_map (λ e. e.now) result ≡ slice_get self.now at }
+    /// Adds an entry, of which the lowered key is given, too, where no entry has it.
+    pub(crate) fn add(
+        &mut self,
+        lowered_key: Vec<u8>,
+        key: &[u8],
+        entry_type: &[u8],
+        fields: &RawFields,
+    ) -> Result<(), NoMemory>
+        requires lowered { lowered_key.items ≡ lowered key.now }
+        requires fresh { has_entry lowered_key.items self.old ≡ false }
+        ensures { OnOk result (self.new
+            ≡ self.old ++ record { key = key.now; entry_type = entry_type.now; fields = fields.now } ∷ []) }
     {
-        self.list.as_slice().get(at)
-    }
-
-    /// Adds an entry, of which the lowered key is given, where no entry has it.
-    pub(crate) fn add(&mut self, key: Vec<u8>, entry: RawEntry) -> Result<(), NoMemory>
-        requires lowered { key.items ≡ lowered entry.key }
-        requires fresh { has_entry key.items self.old ≡ false }
-        ensures { OnOk result (self.new ≡ self.old ++ entry ∷ []) }
-    {
-        self.list.push(entry)?;
-        let Ok(()) = self.places.add(key) else {
-            let _ = self.list.pop();
+        self.list.push(key, entry_type, fields)?;
+        let Ok(()) = self.places.add(lowered_key) else {
+            self.list.drop_last();
             return Err(NoMemory);
         };
         Ok(())
-    }
-
-    /// The entries, in order.
-    pub fn as_slice(&self) -> &[RawEntry]
-        ensures { result.now ≡ self.now }
-    {
-        self.list.as_slice()
     }
 }

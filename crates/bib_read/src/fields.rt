@@ -1,6 +1,6 @@
 //! The fields of the entry that is being read.
 
-ghost use Rattle.std.specs.Prelude.{◌≡◌, ◌≤◌, [], ◌∷◌, ◌++◌, length, IfOk, OnOk};
+ghost use Rattle.std.specs.Prelude.{◌≡◌, ◌≤◌, [], ◌∷◌, ◌++◌, length, OnOk};
 ghost use Rattle.bib_read.specs.Names.{has_field};
 ghost use Rattle.bib_read.specs.declared.fields.TheConstants.{FEW};
 
@@ -83,14 +83,11 @@ impl Fields {
         Ok(())
     }
 
-    /// Takes all fields out.
-    pub(crate) fn take(&mut self) -> Result<RawFields, NoMemory>
-        ensures taken { IfOk result (λ list. list ≡ self.old) }
-        ensures empty { OnOk result (self.new ≡ []) }
+    /// The fields, in order.
+    pub(crate) fn list(&self) -> &RawFields
+        ensures { result.now ≡ self.now }
     {
-        let taken = self.fields.copied(self.alloc)?;
-        self.clear();
-        Ok(taken)
+        &self.fields
     }
 
     /// Lets all fields go.

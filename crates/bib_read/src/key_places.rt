@@ -1,6 +1,6 @@
 //! Keys, and at which place each stands.
 
-ghost use Rattle.std.specs.Prelude.{◌≡◌, false, nat_eq, is_some, [], ◌∷◌, ◌++◌, position, OnOk, OnErr};
+ghost use Rattle.std.specs.Prelude.{◌≡◌, false, nat_eq, is_some, [], ◌∷◌, ◌++◌, Some, get_or, length, position, slice_get, take, IfOk, OnOk, OnErr};
 ghost use Rattle.std.specs.Cmp.Lexicographic.{pointwise};
 ghost use Rattle.bv_base.specs.KeySets.{has_key};
 
@@ -46,6 +46,29 @@ impl KeyPlaces {
         ensures found { is_some result ≡ has_key key.now self.now }
     {
         self.table.get_index_of(key)
+    }
+
+    /// The key at a place, and nothing where none stands.
+    pub(crate) fn text(&self, at: usize) -> &[u8]
+        ensures { result.now ≡ get_or self.now at [] }
+    {
+        match self.table.get_index(at) {
+            Some(key) => key.as_slice(),
+            None => &[],
+        }
+    }
+
+    /// The place of a key, which is put behind those that are there where it is new.
+    pub(crate) fn place_or_add(&mut self, alloc: Global, key: &[u8]) -> Result<usize, NoMemory>
+        ensures placed { IfOk result (λ at. slice_get self.new at ≡ Some key.now) }
+        ensures grown { take (length self.old) self.new ≡ self.old }
+    {
+        if let Some(at) = self.place(key) {
+            return Ok(at);
+        }
+        let at = self.table.len();
+        self.add(key.to_vec(alloc)?)?;
+        Ok(at)
     }
 
     /// Puts a new key behind those that are there. Where memory is wanting the keys stay.

@@ -1,6 +1,6 @@
 //! The fields of an entry, in one piece of memory.
 
-ghost use Rattle.std.specs.Prelude.{◌≡◌, [], ◌∷◌, ◌++◌, length, option_map, slice_get, take, IfOk, OnErr, OnOk};
+ghost use Rattle.std.specs.Prelude.{◌≡◌, [], ◌∷◌, ◌++◌, length, option_map, slice_get, take, OnErr, OnOk};
 ghost use Rattle.bib_read.specs.Names.{text_of};
 ghost use Rattle.bib_read.specs.RawFields.{ArePaired, fields_in};
 
@@ -27,7 +27,7 @@ impl<'a> Model for RawField<'a> {
 
 /// Fields in order: their names and values, one after the other. Contracts see the list of fields.
 #[derive(Drop)]
-pub struct RawFields {
+pub(crate) struct RawFields {
     texts: PackedTexts,
 }
 
@@ -53,14 +53,14 @@ impl RawFields {
     }
 
     /// How many fields there are.
-    pub fn len(&self) -> usize
+    pub(crate) fn len(&self) -> usize
         ensures { result ≡ length self.now }
     {
         self.texts.len() / 2
     }
 
     /// The field at a place, counted from 0.
-    pub fn get(&self, at: usize) -> Option<RawField<'_>>
+    pub(crate) fn get(&self, at: usize) -> Option<RawField<'_>>
         ensures { result ≡ slice_get self.now at }
     {
         let count = self.texts.len();
@@ -87,7 +87,7 @@ impl RawFields {
     }
 
     /// The value of the field of this name, where it is among the first so many.
-    pub fn find_among(&self, most: usize, name: &[u8]) -> Option<&[u8]>
+    pub(crate) fn find_among(&self, most: usize, name: &[u8]) -> Option<&[u8]>
         ensures { option_map (λ value. value.now) result ≡ text_of name.now (take most self.now) }
     {
         for at in 0..most {
@@ -104,13 +104,6 @@ impl RawFields {
         None
     }
 
-    /// The value of the field of this name. Fields are passed over one after the other.
-    pub fn find(&self, name: &[u8]) -> Option<&[u8]>
-        ensures { option_map (λ value. value.now) result ≡ text_of name.now self.now }
-    {
-        self.find_among(self.len(), name)
-    }
-
     /// Adds a field. Where there is no memory for it, no field is left.
     pub(crate) fn push(&mut self, name: &[u8], value: &[u8]) -> Result<(), NoMemory>
         ensures ok { OnOk result (self.new ≡ self.old ++ record { name = name.now; value = value.now } ∷ []) }
@@ -124,15 +117,6 @@ impl RawFields {
         ensures { self.new ≡ [] }
     {
         self.texts.clear();
-    }
-
-    /// The same fields again, in as much memory as they need.
-    pub(crate) fn copied(&self, alloc: Global) -> Result<RawFields, NoMemory>
-        ensures { IfOk result (λ copy. copy ≡ self.now) }
-    {
-        Ok(RawFields {
-            texts: self.texts.copied(alloc)?,
-        })
     }
 }
 

@@ -11,7 +11,6 @@ ghost use Rattle.bib_read.specs.Progressing.{progress_of};
 ghost use Rattle.bib_read.specs.Reading as reading;
 ghost use Rattle.bib_read.specs.declared.stop.Stop.TheVariants.{NoMemory as WantOfMemory};
 
-use crate::database::RawEntry;
 use crate::entries::Entries;
 use crate::fields::Fields;
 use crate::macros::Macros;
@@ -155,14 +154,9 @@ impl<'a> Reader<'a> {
         ensures { OnOk result
             (progress_of self.new ≡ entering.with_entry key.now entry_type (progress_of self.old)) }
     {
-        let key = Text::from_slice(self.alloc, key)?;
-        let fields = self.fields.take()?;
-        let entry = RawEntry {
-            key,
-            entry_type,
-            fields,
-        };
-        self.entries.add(lowered_key, entry)
+        self.entries.add(lowered_key, key, entry_type.as_slice(), self.fields.list())?;
+        self.fields.clear();
+        Ok(())
     }
 
     #[tactic(auto, using(crate::proofs::Rounds::fields_round))]

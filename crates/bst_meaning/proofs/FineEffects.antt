@@ -32,7 +32,7 @@ use Rattle.text_ops.specs.TextLength.{text_length_of}
 use Rattle.text_ops.specs.TextPrefix.{text_prefix_of}
 use Rattle.text_ops.specs.Width.{width_of}
 use Rattle.text_ops.specs.declared.change_case.Case.{Case}
-use Rattle.bst_meaning.specs.declared.entry.Entry.{Entry}
+use Rattle.bst_meaning.specs.EntryLists.{Entry}
 use Rattle.bst_meaning.specs.declared.fault.Fault.{Fault}
 use Rattle.bst_meaning.specs.declared.fault.Fault.TheVariants.{IntRange, NotAscii}
 use Rattle.bst_meaning.specs.declared.value.TheConstants.{ENTRY_SIZE, GLOBAL_SIZE}

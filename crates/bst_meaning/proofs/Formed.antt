@@ -24,8 +24,7 @@ use Rattle.name_table.specs.declared.style.TokenAt.{TokenAt}
 use Rattle.name_table.specs.Numbers.{IsByteList}
 use Rattle.name_table.specs.Sound.{Each, IsCommandSound, IsSound, IsTokenSound}
 use Rattle.name_table.proofs.Within.{callable_within, got}
-use Rattle.bst_meaning.specs.declared.entry.Entry.{Entry}
-use Rattle.bst_meaning.specs.declared.entry.EntryList.{EntryList}
+use Rattle.bst_meaning.specs.EntryLists.{Entry, EntryList}
 use Rattle.bst_meaning.specs.FieldValues.{FieldValue}
 use Rattle.bst_meaning.specs.declared.fault.Fault.{Fault}
 use Rattle.bst_meaning.specs.declared.fault.Fault.TheVariants.{NoEntry}

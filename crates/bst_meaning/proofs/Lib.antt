@@ -6,7 +6,6 @@ pub mod FormattedBytes
 mod Giving
 mod Kept
 pub mod NameByName
-pub mod Naming
 mod Opened
 mod Permuted
 pub mod Placed

@@ -12,8 +12,7 @@ use Rattle.name_table.specs.Numbers.{has_32_bits}
 use Rattle.name_table.specs.Opening.{entry_max, global_max}
 use Rattle.name_table.specs.Sound.{IsCommandSound, IsSound}
 use Rattle.name_table.proofs.Within.{each_kept}
-use Rattle.bst_meaning.specs.declared.entry.Entry.{Entry}
-use Rattle.bst_meaning.specs.declared.entry.EntryList.{EntryList}
+use Rattle.bst_meaning.specs.EntryLists.{Entry, EntryList}
 use Rattle.bst_meaning.specs.declared.value.TheConstants.{ENTRY_SIZE, GLOBAL_SIZE}
 use Rattle.bst_meaning.specs.declared.value.Value.{Value}
 use Rattle.bst_meaning.specs.declared.value.Value.TheVariants.{Int, Str}

@@ -30,7 +30,7 @@ use Rattle.text_ops.specs.Substring.{substring_of}
 use Rattle.text_ops.specs.TextLength.{text_length_of}
 use Rattle.text_ops.specs.TextPrefix.{text_prefix_of}
 use Rattle.text_ops.specs.Width.{width_of}
-use Rattle.bst_meaning.specs.declared.entry.Entry.{Entry}
+use Rattle.bst_meaning.specs.EntryLists.{Entry}
 use Rattle.bst_meaning.specs.declared.value.TheConstants.{ENTRY_SIZE, GLOBAL_SIZE}
 use Rattle.bst_meaning.specs.declared.value.Target.{Target}
 use Rattle.bst_meaning.specs.declared.value.Target.TheVariants.{Named, Block}

@@ -7,8 +7,7 @@ use Rattle.name_table.specs.declared.names.NameId.{NameId}
 use Rattle.name_table.specs.declared.style.Style.{Style}
 use Rattle.name_table.specs.TypeTarget.{type_function}
 use Rattle.bst_meaning.specs.FieldValues.{FieldValue}
-use Rattle.bst_meaning.specs.declared.entry.Entry.{Entry}
-use Rattle.bst_meaning.specs.declared.entry.EntryList.{EntryList}
+use Rattle.bst_meaning.specs.EntryLists.{Entry, EntryList}
 use Rattle.bst_meaning.specs.declared.condition.NamesLine.{NamesLine}
 use Rattle.bst_meaning.specs.declared.condition.Cond.{Cond}
 use Rattle.name_split.specs.Names.{names_of}

@@ -8,8 +8,7 @@ use Rattle.name_table.specs.declared.names.Kind.{Kind}
 use Rattle.name_table.specs.declared.names.Kind.TheVariants.{Field}
 use Rattle.name_table.specs.declared.style.Style.{Style}
 pub use Rattle.name_table.specs.Numbers.{IsByteList}
-use Rattle.bst_meaning.specs.declared.entry.Entry.{Entry}
-use Rattle.bst_meaning.specs.declared.entry.EntryList.{EntryList}
+use Rattle.bst_meaning.specs.EntryLists.{Entry, EntryList}
 
 -- the number, where this is a field
 abbrev pub field_ids_at : ℕ → Kind → List NameId → List NameId

@@ -4,7 +4,7 @@ use Rattle.std.specs.List.{AllByRecursion}
 use Rattle.name_table.specs.declared.names.NameId.{NameId}
 use Rattle.name_table.specs.declared.style.Style.{Style}
 use Rattle.name_table.specs.Sound.{Each, IsCommandSound, IsTokenSound}
-use Rattle.bst_meaning.specs.declared.entry.EntryList.{EntryList}
+use Rattle.bst_meaning.specs.EntryLists.{EntryList}
 use Rattle.bst_meaning.specs.Config.{Config, EntryState, Frame, Part, Testing, Turning, Variable, opening, opening_entry_variable, opening_global, opening_variables}
 use Rattle.bst_meaning.specs.Entries.{EntryFits}
 use Rattle.bst_meaning.specs.Keeping.{placed}

@@ -2,6 +2,7 @@ pub mod StyleParts
 pub mod Faults
 pub mod Entries
 pub mod FieldValues
+pub mod EntryLists
 pub mod Values
 pub mod Condition
 pub mod Config

@@ -1,7 +1,7 @@
 -- What it is for a style to be safe under a condition (docs/CHECKER.md, "What accepted means").
 use Rattle.std.specs.Prelude.{◌≡◌, ℕ, true, [], None}
 use Rattle.name_table.specs.declared.style.Style.{Style}
-use Rattle.bst_meaning.specs.declared.entry.EntryList.{EntryList}
+use Rattle.bst_meaning.specs.EntryLists.{EntryList}
 use Rattle.bst_meaning.specs.declared.condition.Cond.{Cond}
 use Rattle.bst_meaning.specs.Entries.{Fits}
 use Rattle.bst_meaning.specs.Condition.{Meets}

@@ -5,7 +5,7 @@ ghost use Rattle.bv_base.specs.declared.place.Place.{Place};
 ghost use Rattle.name_table.specs.declared.builtin.Builtin.{Builtin};
 ghost use Rattle.name_table.specs.declared.style.Style.{Style};
 ghost use Rattle.name_table.specs.Sound.{IsSound};
-ghost use Rattle.bst_meaning.specs.declared.entry.EntryList.{EntryList};
+ghost use Rattle.bst_meaning.specs.EntryLists.{EntryList};
 ghost use Rattle.bst_meaning.specs.declared.value.Value.{Value};
 ghost use Rattle.bst_meaning.specs.Builtins.{Context, built_in};
 ghost use Rattle.bst_meaning.specs.Config.{Config, opening};

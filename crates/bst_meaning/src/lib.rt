@@ -3,7 +3,6 @@
 #![tactic(auto)]
 
 pub mod condition;
-pub mod entry;
 pub mod fault;
 pub mod laws;
 pub mod style_parts;

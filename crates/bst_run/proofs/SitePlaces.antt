@@ -17,7 +17,7 @@ use Rattle.name_table.specs.declared.style.Command.TheVariants.{Execute, Iterate
 use Rattle.name_table.specs.declared.style.CommandAt.{CommandAt}
 use Rattle.name_table.specs.declared.style.Style.{Style}
 use Rattle.bst_parse.specs.PlacesStand.{BodyStands, IsOfByte, PlacesStand}
-use Rattle.bst_meaning.specs.declared.entry.EntryList.{EntryList}
+use Rattle.bst_meaning.specs.EntryLists.{EntryList}
 use Rattle.bst_meaning.specs.declared.value.Target.{Target}
 use Rattle.bst_meaning.specs.declared.value.Target.TheVariants.{Named, Block}
 use Rattle.bst_meaning.specs.declared.value.Value.{Value}

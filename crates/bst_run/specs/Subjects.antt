@@ -1,7 +1,7 @@
 -- What the contracts of the commands speak of beside the commands' own rules: what is known of a style, a condition, a certificate and
 -- the files of a run when it was read, and what reading, checking and searching come to (docs/COMMANDS.md).
 pub use Rattle.name_table.specs.declared.style.Style.{Style}
-pub use Rattle.bst_meaning.specs.declared.entry.EntryList.{EntryList}
+pub use Rattle.bst_meaning.specs.EntryLists.{EntryList}
 pub use Rattle.cert_format.specs.declared.cert.Cert.{Cert}
 pub use Rattle.cert_check.specs.declared.refusal.Refusal.{Refusal}
 pub use Rattle.aux_read.specs.FileNames.{AreFileNames, GivesFileNames, IsFileName}

@@ -7,7 +7,7 @@ use Rattle.bv_base.specs.declared.limits.TheConstants.{STYLE_BYTES}
 use Rattle.bv_base.specs.declared.status.Status.TheVariants as status
 use Rattle.name_table.specs.declared.style.Style.{Style}
 use Rattle.bst_meaning.specs.declared.condition.Cond.{Cond}
-use Rattle.bst_meaning.specs.declared.entry.EntryList.{EntryList}
+use Rattle.bst_meaning.specs.EntryLists.{EntryList}
 use Rattle.bst_step.specs.Machine.{key_of}
 use Rattle.cert_format.specs.Spelling.{cond_items, text_of}
 use Rattle.cert_format.specs.Texts.{cert_of}

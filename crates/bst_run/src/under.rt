@@ -14,7 +14,6 @@ use crate::files::whole::style_file;
 use crate::run::join_all;
 use crate::stop::Stop;
 use bst_meaning::condition::Cond;
-use bst_meaning::entry::EntryList;
 use bv_base::files::Files;
 use bv_base::limits::STYLE_BYTES;
 use bv_base::memory::NoMemory;
@@ -25,6 +24,7 @@ use cert_format::laws::read_as_the_certificate;
 use cert_format::print::print_cond;
 use cond_eval::meets;
 use cond_eval::unmet::Unmet;
+use entry_store::entry::EntryList;
 use name_table::style::Style;
 use std::alloc::Global;
 
@@ -137,8 +137,8 @@ fn entry_text(entry: Option<u64>, list: &EntryList) -> &[u8]
 fn key_of(position: u64, list: &EntryList) -> &[u8]
     ensures { result.now ≡ key_of position list.now }
 {
-    match list.entries.as_slice().get(position as usize) {
-        Some(entry) => entry.key.as_slice(),
+    match list.at(position as usize) {
+        Some(entry) => entry.key(),
         None => b"",
     }
 }

@@ -7,8 +7,7 @@ use Rattle.std.proofs.lemmas.Bool.{eqb-true, eq-eqb}
 use Rattle.std.proofs.lemmas.List.Elements.{All-cons, All-head, All-nil, All-tail}
 use Rattle.std.proofs.lemmas.List.Sorted.{All-permutation, IsPermutation-sym}
 use Rattle.name_table.specs.declared.style.Style.{Style}
-use Rattle.bst_meaning.specs.declared.entry.Entry.{Entry}
-use Rattle.bst_meaning.specs.declared.entry.EntryList.{EntryList}
+use Rattle.bst_meaning.specs.EntryLists.{Entry, EntryList}
 use Rattle.bst_meaning.specs.Config.{Config, EntryState, Variable, opening, opening_entries, opening_entry_variable, opening_variables}
 use Rattle.bst_meaning.specs.Keeping.{placed}
 use Rattle.bst_step.specs.Machine.{HasEntriesOf, key_at, key_of}

@@ -10,7 +10,7 @@ use Rattle.bst_step.specs.declared.held.Held.TheVariants as held
 use Rattle.bst_step.specs.declared.held.Held.TheVariants.{Int, Str, Missing, Func}
 use Rattle.bst_step.specs.declared.variables.Variable.{Variable}
 use Rattle.bst_meaning.specs.Config as config
-use Rattle.bst_meaning.specs.declared.entry.Entry.{Entry}
+use Rattle.bst_meaning.specs.EntryLists.{Entry}
 use Rattle.bst_step.specs.EntryStates.{EntryState, state_in, states_from, with_held_in}
 use Rattle.bst_step.specs.Held.{lent_of, value_in}
 use Rattle.bst_step.specs.Marks.{AreLent, AreLentIn, Made, Mark, Marked, Marks, found, given_globally, given_in_entry, lent_at, lent_mark, lent_marked, lent_marked_in, mark_at, mark_of, marked_in, marked_of, marks_in, with_entry_marked, with_marked}

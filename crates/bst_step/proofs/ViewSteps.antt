@@ -10,7 +10,7 @@ use Rattle.name_table.specs.declared.names.NameId.{NameId}
 use Rattle.bst_meaning.specs.declared.value.Value.{Value}
 use Rattle.bst_meaning.specs.declared.value.Value.TheVariants.{Str}
 use Rattle.bst_meaning.specs.Config as config
-use Rattle.bst_meaning.specs.declared.entry.Entry.{Entry}
+use Rattle.bst_meaning.specs.EntryLists.{Entry}
 use Rattle.bst_meaning.specs.Machine.{field_in, with_entry_variable, with_variable}
 use Rattle.bst_meaning.specs.Sorting.{string_of}
 use Rattle.bst_step.specs.declared.held.Held.{Held}

@@ -4,7 +4,7 @@ use Rattle.std.specs.List.Sorted.{IsPermutation}
 use Rattle.std.specs.Option.{option_map_or}
 use Rattle.name_table.specs.declared.names.NameId.{NameId}
 use Rattle.bst_meaning.specs.Config as config
-use Rattle.bst_meaning.specs.declared.entry.Entry.{Entry}
+use Rattle.bst_meaning.specs.EntryLists.{Entry}
 use Rattle.bst_step.specs.declared.entry_states.Row.{Row}
 use Rattle.bst_step.specs.declared.held.Held.{Held}
 use Rattle.bst_step.specs.declared.variables.Variable.{Variable}

@@ -24,7 +24,7 @@ impl<'a> State<'a> {
         ensures entries { OnErr result (self.new.values.entries ≡ self.old.values.entries) }
     {
         match self.visited_entry() {
-            Some(entry) => self.push_lent(Operand::Str(entry.key.as_slice())),
+            Some(entry) => self.push_lent(Operand::Str(entry.key())),
             None => Err(Stop::Fault(Fault::NoEntry)),
         }
     }
@@ -39,7 +39,7 @@ impl<'a> State<'a> {
     {
         match self.visited_placed() {
             Some(placed) => {
-                let entry_type = placed.entry().entry_type.as_slice();
+                let entry_type = placed.entry().entry_type();
                 let name = defined_type(style, placed.type_id(), entry_type);
                 self.push_lent(Operand::Str(name))
             }

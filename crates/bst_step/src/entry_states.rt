@@ -15,8 +15,8 @@ use crate::fields::PlacedEntry;
 use crate::held::{Held, gather_values, settle_values, value_from};
 use crate::order::sort_rows;
 use crate::variables::{Variable, Variables};
-use bst_meaning::entry::Entry;
 use bv_base::memory::NoMemory;
+use entry_store::entry::EntryList;
 use name_table::names::{NameId, Names};
 use name_table::opening::SORT_KEY;
 use std::alloc::Global;
@@ -59,7 +59,7 @@ impl<'a> EntryTable<'a> {
     pub fn new(
         alloc: Global,
         own: Variables<'a>,
-        entries: &'a [Entry],
+        list: &'a EntryList,
         names: &Names,
         places: &Rc<Vec<usize>>,
     ) -> Result<EntryTable<'a>, NoMemory>
@@ -68,19 +68,23 @@ impl<'a> EntryTable<'a> {
         ensures within { IfOk result (EntriesWithin 0) }
         ensures marks { IfOk result AreLentIn }
         ensures opened { IfOk result (λ table.
-            map (state_in []) table ≡ config.opening_entries (map (variable_in []) own.entry) 0 entries.now) }
+            map (state_in []) table ≡ config.opening_entries (map (variable_in []) own.entry) 0 list.now.entries) }
     {
-        let count = entries.len().saturating_mul(own.values().len());
-        let mut rows = Vec::with_capacity(alloc, entries.len())?;
+        let length = list.len();
+        let count = length.saturating_mul(own.values().len());
+        let mut rows = Vec::with_capacity(alloc, length)?;
         let mut values = Vec::with_capacity(alloc, count)?;
-        for entry in entries {
+        for at in 0..length {
+            let Some(entry) = list.at(at) else {
+                return Err(NoMemory);
+            };
             let position = rows.as_slice().len() as u64;
             let first = values.as_slice().len();
-            let type_id = names.find(entry.entry_type.as_slice());
-            let entry = PlacedEntry::new(places, entry, type_id)?;
+            let type_id = names.find(entry.entry_type());
+            let placed = PlacedEntry::new(places, entry, type_id)?;
             values.extend_from_slice(own.values())?;
             rows.push(Row {
-                entry,
+                entry: placed,
                 position,
                 first,
             })?;
@@ -183,7 +187,7 @@ fn key_in<'a>(rows: &[Row<'a>], position: u64) -> &'a [u8]
 {
     for row in rows {
         if row.position == position {
-            return row.entry.entry().key.as_slice();
+            return row.entry.entry().key();
         }
     }
     &[]

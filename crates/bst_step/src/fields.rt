@@ -6,8 +6,8 @@ ghost use Rattle.bst_step.specs.Held.{value_of};
 ghost use Rattle.bst_step.specs.Places.{StandAt};
 
 use crate::held::Operand;
-use bst_meaning::entry::{Entry, Fields};
 use bv_base::memory::NoMemory;
+use entry_store::entry::Entry;
 use name_table::names::NameId;
 use std::marker::Model;
 use std::rc::Rc;
@@ -15,7 +15,7 @@ use std::rc::Rc;
 /// An entry, whose fields are found by their places. Contracts see the entry.
 #[derive(Drop)]
 pub struct PlacedEntry<'a> {
-    entry: &'a Entry,
+    entry: Entry<'a>,
     /// By the id of its name, the place of each field, where the entry's fields stand so. All entries share this table.
     places: Option<Rc<Vec<usize>>>,
     /// The id of the name that its type is, where the style has one when the run opens; a hint, which is tested where it is used.
@@ -24,26 +24,26 @@ pub struct PlacedEntry<'a> {
 
 impl<'a> Model for PlacedEntry<'a> {
     ghost use Rattle.std.specs.Prelude.{IfSome, map};
-    ghost use Rattle.bst_meaning.specs.declared.entry.Entry.{Entry};
+    ghost use Rattle.bst_meaning.specs.EntryLists.{Entry};
     ghost use Rattle.bst_step.specs.Places.{StandAt};
 
     ghost Value = { Entry };
 
-    ghost view = { λ e. e.entry.now };
+    ghost view = { λ e. e.entry };
 
-    ghost invariant = { λ e. IfSome e.places (λ places. StandAt places.value.items (map (λ f. f.name) e.entry.now.fields)) };
+    ghost invariant = { λ e. IfSome e.places (λ places. StandAt places.value.items (map (λ f. f.name) e.entry.fields)) };
 }
 
 impl<'a> PlacedEntry<'a> {
     /// An entry, with a table of places where its fields stand so.
     pub fn new(
         places: &Rc<Vec<usize>>,
-        entry: &'a Entry,
+        entry: Entry<'a>,
         type_id: Option<NameId>,
     ) -> Result<PlacedEntry<'a>, NoMemory>
-        ensures { IfOk result (λ placed. placed ≡ entry.now) }
+        ensures { IfOk result (λ placed. placed ≡ entry.entry) }
     {
-        if stand(places.as_slice(), entry.fields.names()) {
+        if stand(places.as_slice(), entry.names()) {
             let places = places.clone()?;
             return Ok(PlacedEntry {
                 entry,
@@ -59,10 +59,10 @@ impl<'a> PlacedEntry<'a> {
     }
 
     /// The entry.
-    pub fn entry(&self) -> &'a Entry
+    pub fn entry(&self) -> &Entry<'a>
         ensures { result.now ≡ self.now }
     {
-        self.entry
+        &self.entry
     }
 
     /// The id that was given for its type, which is tested where it is used.
@@ -75,8 +75,8 @@ impl<'a> PlacedEntry<'a> {
         ensures { value_of result ≡ rule.field_in name self.now.fields }
     {
         match &self.places {
-            Some(places) => field_by(places.as_slice(), name, &self.entry.fields),
-            None => field_among(name, &self.entry.fields),
+            Some(places) => field_by(places.as_slice(), name, &self.entry),
+            None => field_among(name, &self.entry),
         }
     }
 }
@@ -97,14 +97,14 @@ fn stand(places: &[usize], names: &[NameId]) -> bool
 }
 
 /// The value of a field, by a table that has the place of each.
-fn field_by<'a>(places: &[usize], name: NameId, fields: &'a Fields) -> Operand<'a>
-    requires { StandAt places.now (map (λ f. f.name) fields.now) }
-    ensures { value_of result ≡ rule.field_in name fields.now }
+fn field_by<'a>(places: &[usize], name: NameId, entry: &Entry<'a>) -> Operand<'a>
+    requires { StandAt places.now (map (λ f. f.name) entry.now.fields) }
+    ensures { value_of result ≡ rule.field_in name entry.now.fields }
 {
     let Some(at) = places.get(name.0 as usize) else {
         return Operand::Missing(name);
     };
-    let Some(field) = fields.get(*at) else {
+    let Some(field) = entry.field(*at) else {
         return Operand::Missing(name);
     };
     if field.name.0 == name.0 {
@@ -115,11 +115,11 @@ fn field_by<'a>(places: &[usize], name: NameId, fields: &'a Fields) -> Operand<'
 }
 
 /// The value of a field where the fields stand in another order: that of the first of its name.
-fn field_among(name: NameId, fields: &Fields) -> Operand<'_>
-    ensures { value_of result ≡ rule.field_in name fields.now }
+fn field_among<'a>(name: NameId, entry: &Entry<'a>) -> Operand<'a>
+    ensures { value_of result ≡ rule.field_in name entry.now.fields }
 {
-    for at in 0..fields.len() {
-        let Some(field) = fields.get(at) else {
+    for at in 0..entry.names().len() {
+        let Some(field) = entry.field(at) else {
             return Operand::Missing(name);
         };
         if field.name.0 == name.0 {

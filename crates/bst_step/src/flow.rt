@@ -58,7 +58,7 @@ impl<'a> State<'a> {
         let Some(placed) = self.visited_placed() else {
             return Err(Stop::Fault(Fault::NoEntry));
         };
-        let entry_type = placed.entry().entry_type.as_slice();
+        let entry_type = placed.entry().entry_type();
         let name = match style.type_target_by(placed.type_id(), entry_type) {
             TypeTarget::Function(name) => name,
             TypeTarget::Default(name) => name,

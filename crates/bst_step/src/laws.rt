@@ -2,7 +2,7 @@
 
 ghost use Rattle.std.specs.Prelude.{◌≡◌, ℕ, ◌+◌, ◌<◌, ◌≤◌, List, [], ◌++◌, None, Some, length};
 ghost use Rattle.name_table.specs.declared.style.Style.{Style};
-ghost use Rattle.bst_meaning.specs.declared.entry.EntryList.{EntryList};
+ghost use Rattle.bst_meaning.specs.EntryLists.{EntryList};
 ghost use Rattle.bst_meaning.specs.Config.{Config, Event, opening};
 ghost use Rattle.bst_meaning.specs.Lines.{Cut, broken, cut_of, lines_after};
 ghost use Rattle.bst_meaning.specs.Machine.{steps};

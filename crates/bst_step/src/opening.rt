@@ -16,10 +16,10 @@ use crate::held::Operand;
 use crate::state::State;
 use crate::values::Values;
 use crate::variables::{Variable, Variables};
-use bst_meaning::entry::EntryList;
 use bst_meaning::value::{ENTRY_SIZE, GLOBAL_SIZE};
 use bv_base::memory::NoMemory;
 use bv_base::packed_texts::PackedTexts;
+use entry_store::entry::EntryList;
 use name_table::names::{Kind, NameId, Names};
 use name_table::opening::{ENTRY_MAX, GLOBAL_MAX};
 use name_table::style::Style;
@@ -47,10 +47,10 @@ pub fn opening<'a>(
     let own = variables(alloc, Owner::Entry, &style.names)?;
     let places = field_places(alloc, &style.names)?;
     let globals = variables(alloc, Owner::Style, &style.names)?;
-    let entries = EntryTable::new(alloc, own, list.entries.as_slice(), &style.names, &places)?;
+    let entries = EntryTable::new(alloc, own, list, &style.names, &places)?;
     Ok(State {
         alloc,
-        preamble: list.preamble.as_slice(),
+        preamble: list.preamble(),
         commands: style.commands.as_slice(),
         running: false,
         frames: Frames::new(alloc),

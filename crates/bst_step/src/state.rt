@@ -14,13 +14,13 @@ use crate::frame_list::Frames;
 use crate::held::Operand;
 use crate::surroundings::Surroundings;
 use crate::values::Values;
-use bst_meaning::entry::Entry;
 use bst_meaning::fault::Fault;
 use bst_meaning::value::Target;
 use bv_base::memory::NoMemory;
 use bv_base::packed_texts::PackedTexts;
 use bv_base::place::Place;
 use bv_base::text::Text;
+use entry_store::entry::Entry;
 use name_table::names::NameId;
 use name_table::style::{CommandAt, Style, TokenAt};
 use std::alloc::Global;
@@ -122,11 +122,11 @@ impl<'a> State<'a> {
     }
 
     /// The visited entry.
-    pub fn visited_entry(&self) -> Option<&'a Entry>
-        ensures { option_map (λ e. e.now) result ≡ option_map (λ e. e.entry) (rule.visited_entry (config_of self.now)) }
+    pub fn visited_entry(&self) -> Option<Entry<'a>>
+        ensures { result ≡ option_map (λ e. e.entry) (rule.visited_entry (config_of self.now)) }
     {
         match self.visited_placed() {
-            Some(placed) => Some(placed.entry()),
+            Some(placed) => Some(placed.entry().copied()),
             None => None,
         }
     }

@@ -7,7 +7,7 @@ use Rattle.name_table.specs.declared.names.Kind.{Kind}
 use Rattle.name_table.specs.declared.names.Kind.TheVariants.{Builtin as BuiltinKind, Wizard, Field, IntEntry, StrEntry, IntGlobal, StrGlobal}
 use Rattle.name_table.specs.declared.names.NameId.{NameId}
 use Rattle.name_table.specs.declared.style.Style.{Style}
-use Rattle.bst_meaning.specs.declared.entry.Entry.{Entry}
+use Rattle.bst_meaning.specs.EntryLists.{Entry}
 use Rattle.bst_meaning.specs.declared.value.Value.{Value}
 use Rattle.bst_meaning.specs.Config.{Config, EntryState, Variable, Visit}
 use Rattle.bst_meaning.specs.Machine.{assigned_by, field_in, next_index, value_at, visited_entry, visited_index, with_entry_variable, with_variable}

@@ -11,7 +11,7 @@ use Rattle.lin_facts.specs.declared.row.Term.TheVariants.{Length as LengthOf}
 use Rattle.name_table.specs.declared.builtin.Builtin.{Builtin}
 use Rattle.name_table.specs.declared.builtin.Builtin.TheVariants as op
 use Rattle.name_table.specs.TypeTarget.{type_function}
-use Rattle.bst_meaning.specs.declared.entry.Entry.{Entry}
+use Rattle.bst_meaning.specs.EntryLists.{Entry}
 use Rattle.bst_meaning.specs.declared.value.Value.{Value}
 use Rattle.bst_meaning.specs.declared.value.Value.TheVariants.{Str as StrValue}
 use Rattle.bst_meaning.specs.Builtins.{at_entry, built_in, type_name}

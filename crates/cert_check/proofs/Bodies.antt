@@ -11,7 +11,7 @@ use Rattle.name_table.specs.declared.style.Style.{Style}
 use Rattle.name_table.specs.declared.style.Token.{Token}
 use Rattle.name_table.specs.declared.style.TokenAt.{TokenAt}
 use Rattle.bst_meaning.specs.StyleParts.{kind_of, tokens_of}
-use Rattle.bst_meaning.specs.declared.entry.EntryList.{EntryList}
+use Rattle.bst_meaning.specs.EntryLists.{EntryList}
 use Rattle.bst_meaning.specs.Config.{Config, Frame, Part, Whole}
 use Rattle.bst_meaning.specs.Entries.{Fits}
 use Rattle.bst_meaning.specs.Invariant.{IsFrameSound, IsWellFormed}

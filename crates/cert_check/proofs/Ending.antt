@@ -7,7 +7,7 @@ use Rattle.bv_base.specs.declared.place.Place.{Place}
 use Rattle.bv_base.proofs.ThenLemmas.{then_ok}
 use Rattle.bst_meaning.specs.Config.{Frame}
 use Rattle.bst_meaning.specs.declared.condition.Cond.{Cond}
-use Rattle.bst_meaning.specs.declared.entry.EntryList.{EntryList}
+use Rattle.bst_meaning.specs.EntryLists.{EntryList}
 use Rattle.sym_state.specs.State.{State}
 use Rattle.sym_state.specs.Showing.{Shown, piece_by}
 use Rattle.sym_state.specs.declared.demand.EffectFault.TheVariants.{NotEntailed}

@@ -8,7 +8,7 @@ use Rattle.name_table.specs.declared.names.NameId.{NameId}
 use Rattle.bst_meaning.specs.Config.{Config, EntryState, Frame}
 use Rattle.bst_meaning.specs.Machine.{visited_entry, visited_index}
 use Rattle.bst_meaning.specs.StyleParts.{kind_of}
-use Rattle.bst_meaning.specs.declared.entry.EntryList.{EntryList}
+use Rattle.bst_meaning.specs.EntryLists.{EntryList}
 use Rattle.sym_state.specs.State.{State}
 use Rattle.sym_state.specs.Changes.{symbol_at}
 use Rattle.sym_state.specs.Stands.{value_by}

@@ -10,7 +10,7 @@ use Rattle.name_table.specs.declared.style.Style.{Style}
 use Rattle.bst_meaning.specs.Config.{Part}
 use Rattle.bst_meaning.specs.Entries.{Fits}
 use Rattle.bst_meaning.specs.Invariant.{IsWellFormed}
-use Rattle.bst_meaning.specs.declared.entry.EntryList.{EntryList}
+use Rattle.bst_meaning.specs.EntryLists.{EntryList}
 use Rattle.bst_meaning.specs.declared.value.Target.{Target}
 use Rattle.bst_meaning.specs.declared.value.Target.TheVariants.{Named, Block}
 use Rattle.cert_format.specs.declared.cert.Cert.{Cert}

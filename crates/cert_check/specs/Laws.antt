@@ -6,7 +6,7 @@ use Rattle.bv_base.specs.declared.place.Place.{Place}
 use Rattle.name_table.specs.declared.style.Style.{Style}
 use Rattle.name_table.specs.Sound.{IsSound}
 use Rattle.bst_meaning.specs.Entries.{Fits}
-use Rattle.bst_meaning.specs.declared.entry.EntryList.{EntryList}
+use Rattle.bst_meaning.specs.EntryLists.{EntryList}
 use Rattle.bst_meaning.specs.declared.value.Target.{Target}
 use Rattle.cert_format.specs.Texts.{cert_of}
 use Rattle.cert_format.specs.declared.cert.Cert.{Cert}

@@ -12,7 +12,7 @@ use Rattle.bst_meaning.specs.Machine.{call_step, step, visited_index, with_frame
 use Rattle.bst_meaning.specs.Safe.{IsFine}
 use Rattle.bst_meaning.specs.StyleParts.{entered_tokens, kind_of, tokens_of}
 use Rattle.bst_meaning.specs.declared.condition.Cond.{Cond}
-use Rattle.bst_meaning.specs.declared.entry.EntryList.{EntryList}
+use Rattle.bst_meaning.specs.EntryLists.{EntryList}
 use Rattle.bst_meaning.specs.declared.value.Target.{Target}
 use Rattle.bst_meaning.specs.declared.value.Target.TheVariants.{Named, Block}
 use Rattle.bst_meaning.specs.declared.value.Value.{Value}

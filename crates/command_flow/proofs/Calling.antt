@@ -12,7 +12,7 @@ use Rattle.bst_meaning.specs.Config.{Config}
 use Rattle.bst_meaning.specs.Entries.{Fits}
 use Rattle.bst_meaning.specs.Invariant.{IsWellFormed}
 use Rattle.bst_meaning.specs.Machine.{call_ended, step, visited_entry, with_call}
-use Rattle.bst_meaning.specs.declared.entry.EntryList.{EntryList}
+use Rattle.bst_meaning.specs.EntryLists.{EntryList}
 use Rattle.bst_meaning.specs.declared.value.Target.{Target}
 use Rattle.bst_meaning.specs.declared.value.Target.TheVariants.{Named}
 use Rattle.cert_format.specs.declared.cert.Cert.{Cert}

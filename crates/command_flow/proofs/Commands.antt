@@ -20,7 +20,7 @@ use Rattle.bst_meaning.specs.Invariant.{IsWellFormed}
 use Rattle.bst_meaning.specs.Machine.{command_step, step, steps, visit_of, visit_step}
 use Rattle.bst_meaning.specs.Safe.{IsFine, Safe}
 use Rattle.bst_meaning.specs.Sorting.{inserted, sort_key, sorted}
-use Rattle.bst_meaning.specs.declared.entry.EntryList.{EntryList}
+use Rattle.bst_meaning.specs.EntryLists.{EntryList}
 use Rattle.cert_format.specs.declared.cert.Cert.{Cert}
 use Rattle.cert_format.specs.declared.cert.CommandPart.{CommandPart}
 use Rattle.cert_format.specs.declared.cert.Loop.{Loop}

@@ -20,8 +20,7 @@ use Rattle.bst_meaning.specs.Machine.{field_in, value_at, visited_entry}
 use Rattle.bst_meaning.specs.StyleParts.{kind_of}
 use Rattle.bst_meaning.specs.Values.{IsOfKind}
 use Rattle.bst_meaning.specs.declared.condition.Cond.{Cond}
-use Rattle.bst_meaning.specs.declared.entry.Entry.{Entry}
-use Rattle.bst_meaning.specs.declared.entry.EntryList.{EntryList}
+use Rattle.bst_meaning.specs.EntryLists.{Entry, EntryList}
 use Rattle.bst_meaning.specs.declared.value.Value.{Value}
 use Rattle.sym_state.specs.Opening.{HasValue, IsOfItsKind}
 use Rattle.sym_state.specs.Stands.{HasList, value_by}

@@ -16,7 +16,7 @@ use Rattle.name_table.specs.declared.names.NameId.{NameId}
 use Rattle.name_table.specs.declared.style.Style.{Style}
 use Rattle.bst_meaning.specs.Config.{EntryState, Variable}
 use Rattle.bst_meaning.specs.StyleParts.{kind_of}
-use Rattle.bst_meaning.specs.declared.entry.EntryList.{EntryList}
+use Rattle.bst_meaning.specs.EntryLists.{EntryList}
 use Rattle.sym_state.specs.Positions.{Position, AtEnd, moved_to, row_moved, visited_at}
 use Rattle.sym_state.specs.Stands.{IsBound, IsMet, value_by}
 use Rattle.sym_state.specs.Starting.{has_kind}

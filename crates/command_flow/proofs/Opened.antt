@@ -7,7 +7,7 @@ use Rattle.name_table.specs.Sound.{IsSound}
 use Rattle.bst_meaning.specs.Config.{Variable, opening, opening_entry_variable, opening_global, opening_variables}
 use Rattle.bst_meaning.specs.Entries.{Fits}
 use Rattle.bst_meaning.specs.Invariant.{IsWellFormed}
-use Rattle.bst_meaning.specs.declared.entry.EntryList.{EntryList}
+use Rattle.bst_meaning.specs.EntryLists.{EntryList}
 use Rattle.bst_meaning.specs.declared.value.Value.{Value}
 use Rattle.bst_meaning.specs.declared.value.Value.TheVariants.{Int, Str}
 use Rattle.sym_state.specs.Starting.{symbol_count}

@@ -9,7 +9,7 @@ use Rattle.bst_meaning.specs.Config.{Config, Frame, Stopped, Visit, Whole}
 use Rattle.bst_meaning.specs.Invariant.{IsWellFormed}
 use Rattle.bst_meaning.specs.Machine.{call_end_step, call_ended, command_step, going_step, outer_step, step, unless_stopped, with_call}
 use Rattle.bst_meaning.specs.Safe.{IsFine}
-use Rattle.bst_meaning.specs.declared.entry.EntryList.{EntryList}
+use Rattle.bst_meaning.specs.EntryLists.{EntryList}
 use Rattle.bst_meaning.specs.declared.value.Target.TheVariants.{Named}
 use Rattle.bst_meaning.specs.declared.value.Value.{Value}
 use Rattle.cert_check.specs.Safely.{SafeFor, target_step}

@@ -16,8 +16,7 @@ use Rattle.name_table.specs.declared.style.Style.{Style}
 use Rattle.bst_meaning.specs.Condition.{EntryMeets, FieldHasNames, FieldIsNonblank, HasInk, Meets, TypeIsAdmitted}
 use Rattle.bst_meaning.specs.declared.condition.Cond.{Cond}
 use Rattle.bst_meaning.specs.declared.condition.NamesLine.{NamesLine}
-use Rattle.bst_meaning.specs.declared.entry.Entry.{Entry}
-use Rattle.bst_meaning.specs.declared.entry.EntryList.{EntryList}
+use Rattle.bst_meaning.specs.EntryLists.{Entry, EntryList}
 use Rattle.bst_meaning.specs.FieldValues.{FieldValue}
 use Rattle.cond_eval.specs.Unmet.{entries_unmet, entry_unmet, first_of, first_unmet, has_ink, has_names, is_admitted, is_other, is_short, keeps_ink, keeps_names, kept_or, last_line, listed_unmet, type_unmet}
 use Rattle.cond_eval.specs.declared.unmet.Unmet.{Unmet}
@@ -249,6 +248,26 @@ entries_kept style admits at [] all = refl
 entries_kept style admits at (entry ∷ entries) all =
     ap (λ (o : Option ℕ). option_map_or (λ line. Some (let found : Unmet = record { entry = Some at; line = line } in found)) o (entries_unmet style admits (at + 1) entries))
     (entry_kept style admits entry all.0) ∙ entries_kept style admits (at + 1) entries all.1
+
+-- the first entry that doesn't keep a line, among those from a place on
+module _ (style : Style) (admits : Cond) (entries : List Entry) (at : ℕ) (entry : Entry)
+    (left : entries_unmet style admits at (drop at entries) ≡ entries_unmet style admits 0 entries) (here : slice_get entries at ≡ Some entry) where
+  from_here : (o : Option ℕ) → o ≡ entry_unmet style admits entry
+      → option_map_or (λ line. Some (let found : Unmet = record { entry = Some at; line = line } in found)) o (entries_unmet style admits (at + 1) (drop (at + 1) entries))
+      ≡ entries_unmet style admits 0 entries
+  from_here o is =
+      ap (λ (p : Option ℕ). option_map_or (λ line. Some (let found : Unmet = record { entry = Some at; line = line } in found)) p
+      (entries_unmet style admits (at + 1) (drop (at + 1) entries))) is
+      ∙ ap (λ l. entries_unmet style admits at l) (sym (drop_read entries at entry here))
+      ∙ left
+
+  pub unmet_here : (line : ℕ) → Some line ≡ entry_unmet style admits entry
+      → Some (let found : Unmet = record { entry = Some at; line = line } in found) ≡ entries_unmet style admits 0 entries
+  unmet_here line is = from_here (Some line) is
+
+  pub unmet_later : None ≡ entry_unmet style admits entry
+      → entries_unmet style admits (at + 1) (drop (at + 1) entries) ≡ entries_unmet style admits 0 entries
+  unmet_later is = from_here None is
 
 -- the whole list
 pub none_unmet : (style : Style) (admits : Cond) (list : EntryList) → first_unmet style admits list ≡ None → Meets style admits list

@@ -12,8 +12,7 @@ use Rattle.name_split.specs.AllParts.{names_ok}
 use Rattle.name_split.specs.Names.{names_of}
 use Rattle.bst_meaning.specs.declared.condition.Cond.{Cond}
 use Rattle.bst_meaning.specs.declared.condition.NamesLine.{NamesLine}
-use Rattle.bst_meaning.specs.declared.entry.Entry.{Entry}
-use Rattle.bst_meaning.specs.declared.entry.EntryList.{EntryList}
+use Rattle.bst_meaning.specs.EntryLists.{Entry, EntryList}
 use Rattle.bst_meaning.specs.FieldValues.{FieldValue}
 use Rattle.cond_eval.specs.declared.eval.Wanted.{Wanted}
 use Rattle.cond_eval.specs.declared.eval.Wanted.TheVariants.{Ink, Length, Names}

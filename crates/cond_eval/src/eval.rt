@@ -10,8 +10,8 @@ ghost use Rattle.cond_eval.specs.declared.eval.Wanted.TheVariants as Wanted;
 
 use crate::unmet::Unmet;
 use bst_meaning::condition::{Cond, NamesLine};
-use bst_meaning::entry::{Entry, EntryList, FieldValue, Fields};
 use bv_base::bytes::is_white;
+use entry_store::entry::{Entry, EntryList, FieldValue};
 use name_split::names::{count, names_ok};
 use name_table::names::NameId;
 use name_table::style::{Style, TypeTarget};
@@ -43,13 +43,13 @@ fn first_unmet(style: &Style, cond: &Cond, list: &EntryList) -> Option<Unmet>
     requires lines { length cond.now.names + length cond.now.nonblank + length cond.now.types < 4294967291 }
     ensures { result ≡ rule.first_unmet style.now cond.now list.now }
 {
-    if list.entries.as_slice().len() > cond.entries as usize {
+    if list.len() > cond.entries as usize {
         return Some(of_list(0));
     }
-    if list.preamble.as_slice().len() > cond.preamble as usize {
+    if list.preamble().len() > cond.preamble as usize {
         return Some(of_list(2));
     }
-    entries_unmet(style, cond, list.entries.as_slice())
+    entries_unmet(style, cond, list)
 }
 
 /// A line about the whole list.
@@ -60,12 +60,15 @@ fn of_list(line: u32) -> Unmet
 }
 
 /// The first entry that doesn't keep a line.
-fn entries_unmet(style: &Style, cond: &Cond, entries: &[Entry]) -> Option<Unmet>
+fn entries_unmet(style: &Style, cond: &Cond, list: &EntryList) -> Option<Unmet>
     requires lines { length cond.now.names + length cond.now.nonblank + length cond.now.types < 4294967291 }
-    ensures { result ≡ rule.entries_unmet style.now cond.now 0 entries.now }
+    ensures { result ≡ rule.entries_unmet style.now cond.now 0 list.now.entries }
 {
-    for (at, entry) in entries.iter().enumerate() {
-        if let Some(line) = entry_unmet(style, cond, entry) {
+    for at in 0..list.len() {
+        let Some(entry) = list.at(at) else {
+            return None;
+        };
+        if let Some(line) = entry_unmet(style, cond, &entry) {
             return Some(Unmet {
                 entry: Some(at as u64),
                 line,
@@ -76,13 +79,13 @@ fn entries_unmet(style: &Style, cond: &Cond, entries: &[Entry]) -> Option<Unmet>
 }
 
 /// The first line that an entry doesn't keep.
-fn entry_unmet(style: &Style, cond: &Cond, entry: &Entry) -> Option<u32>
+fn entry_unmet(style: &Style, cond: &Cond, entry: &Entry<'_>) -> Option<u32>
     requires lines { length cond.now.names + length cond.now.nonblank + length cond.now.types < 4294967291 }
     ensures { result ≡ rule.entry_unmet style.now cond.now entry.now }
 {
-    if entry.key.as_slice().len() > cond.key as usize {
+    if entry.key().len() > cond.key as usize {
         Some(1)
-    } else if are_short(cond, &entry.fields) {
+    } else if are_short(cond, entry) {
         listed_unmet(style, cond, entry)
     } else {
         Some(3)
@@ -90,14 +93,13 @@ fn entry_unmet(style: &Style, cond: &Cond, entry: &Entry) -> Option<u32>
 }
 
 /// The first line on a field's names, on its ink or on types that an entry doesn't keep.
-fn listed_unmet(style: &Style, cond: &Cond, entry: &Entry) -> Option<u32>
+fn listed_unmet(style: &Style, cond: &Cond, entry: &Entry<'_>) -> Option<u32>
     requires lines { length cond.now.names + length cond.now.nonblank + length cond.now.types < 4294967291 }
     ensures { result ≡ rule.listed_unmet style.now cond.now entry.now }
 {
-    let fields = &entry.fields;
     let names = cond.names.as_slice();
-    let first = names_unmet(fields, names);
-    let second = ink_unmet(fields, 4 + names.len() as u32, cond.nonblank.as_slice());
+    let first = names_unmet(entry, names);
+    let second = ink_unmet(entry, 4 + names.len() as u32, cond.nonblank.as_slice());
     first_line(first, first_line(second, type_unmet(style, cond, entry)))
 }
 
@@ -112,11 +114,11 @@ fn first_line(first: Option<u32>, second: Option<u32>) -> Option<u32>
 }
 
 /// The last line, where an entry's type isn't admitted.
-fn type_unmet(style: &Style, cond: &Cond, entry: &Entry) -> Option<u32>
+fn type_unmet(style: &Style, cond: &Cond, entry: &Entry<'_>) -> Option<u32>
     requires lines { length cond.now.names + length cond.now.nonblank + length cond.now.types < 4294967291 }
     ensures { result ≡ rule.type_unmet style.now cond.now entry.now }
 {
-    if is_admitted(style, cond, entry.entry_type.as_slice()) {
+    if is_admitted(style, cond, entry.entry_type()) {
         None
     } else {
         Some(last_line(cond))
@@ -133,59 +135,59 @@ fn last_line(cond: &Cond) -> u32
     4 + names + nonblank + cond.types.as_slice().len() as u32
 }
 
-/// The first of the lines on names that the fields don't keep.
-fn names_unmet(fields: &Fields, lines: &[NamesLine]) -> Option<u32>
+/// The first of the lines on names that the fields of an entry don't keep.
+fn names_unmet(entry: &Entry<'_>, lines: &[NamesLine]) -> Option<u32>
     requires { length lines.now < 4294967291 }
-    ensures { result ≡ rule.first_of rule.keeps_names fields.now 4 lines.now }
+    ensures { result ≡ rule.first_of rule.keeps_names entry.now.fields 4 lines.now }
 {
     for (at, line) in lines.iter().enumerate() {
-        if !keep_names(*line, fields) {
+        if !keep_names(*line, entry) {
             return Some(4 + at as u32);
         }
     }
     None
 }
 
-/// Whether all fields keep a line on names.
-fn keep_names(line: NamesLine, fields: &Fields) -> bool
-    ensures { result ≡ list_all (rule.keeps_names line) fields.now }
+/// Whether all fields of an entry keep a line on names.
+fn keep_names(line: NamesLine, entry: &Entry<'_>) -> bool
+    ensures { result ≡ list_all (rule.keeps_names line) entry.now.fields }
 {
-    all_keep(Wanted::Names(line), fields)
+    all_keep(Wanted::Names(line), entry)
 }
 
-/// The first of the lines on nonblank fields, from this number on, that the fields don't keep.
-fn ink_unmet(fields: &Fields, first: u32, names: &[NameId]) -> Option<u32>
+/// The first of the lines on nonblank fields, from this number on, that the fields of an entry don't keep.
+fn ink_unmet(entry: &Entry<'_>, first: u32, names: &[NameId]) -> Option<u32>
     requires { first + length names.now < 4294967296 }
-    ensures { result ≡ rule.first_of rule.keeps_ink fields.now first names.now }
+    ensures { result ≡ rule.first_of rule.keeps_ink entry.now.fields first names.now }
 {
     for (at, name) in names.iter().enumerate() {
-        if !keep_ink(*name, fields) {
+        if !keep_ink(*name, entry) {
             return Some(first + at as u32);
         }
     }
     None
 }
 
-/// Whether all fields keep the line that wants one nonblank.
-fn keep_ink(name: NameId, fields: &Fields) -> bool
-    ensures { result ≡ list_all (rule.keeps_ink name) fields.now }
+/// Whether all fields of an entry keep the line that wants one nonblank.
+fn keep_ink(name: NameId, entry: &Entry<'_>) -> bool
+    ensures { result ≡ list_all (rule.keeps_ink name) entry.now.fields }
 {
-    all_keep(Wanted::Ink(name), fields)
+    all_keep(Wanted::Ink(name), entry)
 }
 
-/// Whether all fields that are there have at most so many bytes.
-fn are_short(cond: &Cond, fields: &Fields) -> bool
-    ensures { result ≡ list_all (rule.is_short cond.now) fields.now }
+/// Whether all fields of an entry that are there have at most so many bytes.
+fn are_short(cond: &Cond, entry: &Entry<'_>) -> bool
+    ensures { result ≡ list_all (rule.is_short cond.now) entry.now.fields }
 {
-    all_keep(Wanted::Length(cond.length), fields)
+    all_keep(Wanted::Length(cond.length), entry)
 }
 
-/// Whether each of these fields is as it is wanted.
-fn all_keep(wanted: Wanted, fields: &Fields) -> bool
-    ensures { result ≡ list_all (rule.keeps wanted) fields.now }
+/// Whether each field of an entry is as it is wanted.
+fn all_keep(wanted: Wanted, entry: &Entry<'_>) -> bool
+    ensures { result ≡ list_all (rule.keeps wanted) entry.now.fields }
 {
-    for at in 0..fields.len() {
-        let Some(field) = fields.get(at) else {
+    for at in 0..entry.names().len() {
+        let Some(field) = entry.field(at) else {
             return true;
         };
         if !keeps(wanted, &field) {

@@ -9,7 +9,7 @@ use Rattle.aux_read.specs.declared.aux.AuxItem.{AuxItem}
 use Rattle.aux_read.specs.declared.aux.AuxItem.TheVariants.{All, Cite, Input}
 use Rattle.bib_read.specs.Additions.{AreNew}
 use Rattle.bib_read.specs.Names.{has_entry}
-use Rattle.bib_read.specs.declared.database.RawEntry.{RawEntry}
+use Rattle.bib_read.specs.RawEntries.{RawEntry}
 use Rattle.entry_list.specs.Apart.{AreApart}
 use Rattle.entry_list.specs.Citing.{asked_for, asks_same, cited_as, cited_list, cites, is_cited, uncited}
 use Rattle.entry_list.specs.Keys.{Listed, entry_of, firsts, is_listed, own, same_key}

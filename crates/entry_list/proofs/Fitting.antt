@@ -5,9 +5,9 @@ use Rattle.name_table.specs.declared.style.Style.{Style}
 use Rattle.aux_read.specs.declared.aux.AuxItem.{AuxItem}
 use Rattle.bib_read.specs.declared.database.Database.{Database}
 use Rattle.bib_read.specs.Additions.{AreKeyed}
-use Rattle.bib_read.specs.declared.database.RawEntry.{RawEntry}
+use Rattle.bib_read.specs.RawEntries.{RawEntry}
 use Rattle.bst_meaning.specs.Entries.{EntryFits, Fits, IsByteList}
-use Rattle.bst_meaning.specs.declared.entry.Entry.{Entry}
+use Rattle.bst_meaning.specs.EntryLists.{Entry}
 use Rattle.entry_list.specs.declared.joined.Joined.{Joined}
 use Rattle.entry_list.specs.Bytes.{HaveBytes}
 use Rattle.entry_list.specs.Citing.{cited_list, no_entries}

@@ -7,7 +7,7 @@ use Rattle.aux_read.specs.declared.aux.AuxItem.{AuxItem}
 use Rattle.aux_read.specs.declared.aux.AuxItem.TheVariants.{Cite, All, Input}
 use Rattle.aux_read.specs.Keys.{HaveKeys}
 use Rattle.bib_read.specs.Additions.{AreKeyed}
-use Rattle.bib_read.specs.declared.database.RawEntry.{RawEntry}
+use Rattle.bib_read.specs.RawEntries.{RawEntry}
 use Rattle.bv_base.specs.Keys.{IsKey}
 use Rattle.entry_list.specs.Citing.{asks_same, asked_for, cited_as, cited_list, is_cited}
 use Rattle.entry_list.specs.Keys.{AreCitations, IsCitation, Listed, entry_of, firsts, is_no_input, own, same_key}

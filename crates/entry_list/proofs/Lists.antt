@@ -12,6 +12,10 @@ drop_item xs i x within is =
     let one : suc i ≡ i + 1 = omega arith in
     drop-cons xs i x within ∙ ap (λ y. y ∷ drop (suc i) xs) (sym is) ∙ ap (λ n. x ∷ drop n xs) one
 
+-- what is left from an item on that is found
+pub drop_found : {X : Type 0} (xs : List X) (i : ℕ) (x : X) → slice_get xs i ≡ Some x → drop i xs ≡ x ∷ drop (i + 1) xs
+drop_found xs i x got = drop_item xs i x (slice_get_within xs i x got) (sym (get_or_from_slice_get xs i x x got))
+
 -- one item more
 pub take_next : {X : Type 0} (xs : List X) (i : ℕ) (x : X) → slice_get xs i ≡ Some x → take (i + 1) xs ≡ take i xs ++ x ∷ []
 take_next xs i x got =

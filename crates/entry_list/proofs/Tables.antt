@@ -3,7 +3,7 @@ use Rattle.std.proofs.Common.{◌≡◌, ℕ, Bool, true, false, ◌||◌, List,
 use Rattle.std.specs.Option.{option_map, option_to_list}
 use Rattle.std.specs.List.{AllByRecursion}
 use Rattle.bv_base.specs.KeySets.{has_lowered}
-use Rattle.bib_read.specs.declared.database.RawEntry.{RawEntry}
+use Rattle.bib_read.specs.RawEntries.{RawEntry}
 use Rattle.entry_list.specs.Fields.{is_parent_listed}
 use Rattle.entry_list.specs.Keys.{Listed, is_listed, own, same_key}
 use Rattle.entry_list.specs.Parents.{parent_of, parents_of}

@@ -4,7 +4,7 @@ use Rattle.std.specs.Prelude.{filter}
 use Rattle.bv_base.specs.KeySets.{has_lowered}
 use Rattle.aux_read.specs.declared.aux.AuxItem.{AuxItem}
 use Rattle.aux_read.specs.declared.aux.AuxItem.TheVariants.{Cite, All, Input}
-use Rattle.bib_read.specs.declared.database.RawEntry.{RawEntry}
+use Rattle.bib_read.specs.RawEntries.{RawEntry}
 use Rattle.entry_list.specs.declared.citing.Seen.{Seen}
 use Rattle.entry_list.specs.Keys.{Listed, own}
 use Rattle.entry_list.specs.Citing.{asks_same, is_cited, uncited}

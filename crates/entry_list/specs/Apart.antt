@@ -1,6 +1,6 @@
 -- What holds of every joined list (docs/DATA.md, "The list of entries").
 use Rattle.std.specs.Prelude.{◌≡◌, false, List, [], ◌∷◌, Some}
-use Rattle.bib_read.specs.declared.database.RawEntry.{RawEntry}
+use Rattle.bib_read.specs.RawEntries.{RawEntry}
 use Rattle.entry_list.specs.Keys.{Listed, entry_of, is_listed}
 
 -- an entry of the list is the one that the databases have under its key

@@ -6,9 +6,9 @@ use Rattle.name_table.specs.declared.names.Kind.{Kind}
 use Rattle.name_table.specs.declared.names.Kind.TheVariants.{Field}
 use Rattle.name_table.specs.declared.style.Style.{Style}
 use Rattle.name_table.specs.Names.{same_name}
-use Rattle.bst_meaning.specs.declared.entry.Entry.{Entry}
+use Rattle.bst_meaning.specs.EntryLists.{Entry}
 use Rattle.bst_meaning.specs.FieldValues.{FieldValue}
-use Rattle.bib_read.specs.declared.database.RawEntry.{RawEntry}
+use Rattle.bib_read.specs.RawEntries.{RawEntry}
 use Rattle.entry_list.specs.Keys.{Listed, entry_of, is_listed}
 use Rattle.entry_list.specs.Parents.{text_of, crossref_of, parent_of}
 use Rattle.entry_list.specs.Warnings.{no_parent}

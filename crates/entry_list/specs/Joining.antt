@@ -3,8 +3,8 @@ use Rattle.std.specs.Prelude.{ℕ, List, ◌++◌, map}
 use Rattle.name_table.specs.declared.style.Style.{Style}
 use Rattle.aux_read.specs.declared.aux.AuxItem.{AuxItem}
 use Rattle.bib_read.specs.declared.database.Database.{Database}
-use Rattle.bib_read.specs.declared.database.RawEntry.{RawEntry}
-use Rattle.bst_meaning.specs.declared.entry.Entry.{Entry}
+use Rattle.bib_read.specs.RawEntries.{RawEntry}
+use Rattle.bst_meaning.specs.EntryLists.{Entry}
 use Rattle.entry_list.specs.declared.joined.Joined.{Joined}
 use Rattle.entry_list.specs.Citing.{no_entries}
 use Rattle.entry_list.specs.Fields.{declared_fields, joined_entry}

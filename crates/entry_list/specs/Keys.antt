@@ -5,7 +5,7 @@ use Rattle.bv_base.specs.Keys.{IsKey}
 use Rattle.name_table.specs.Names.{same_name, lowered}
 use Rattle.aux_read.specs.declared.aux.AuxItem.{AuxItem}
 use Rattle.aux_read.specs.declared.aux.AuxItem.TheVariants.{Cite, All, Input}
-use Rattle.bib_read.specs.declared.database.RawEntry.{RawEntry}
+use Rattle.bib_read.specs.RawEntries.{RawEntry}
 use Rattle.bib_read.specs.Names.{entry_under}
 
 -- two keys are equal once both are lowered

@@ -3,7 +3,7 @@ use Rattle.std.specs.Prelude.{ℕ, Bool, false, ◌&&◌, not, if◌then◌else�
 use Rattle.std.specs.Option.{option_and_then, option_map, option_to_list}
 use Rattle.bv_base.specs.KeySets.{has_lowered}
 use Rattle.aux_read.specs.declared.aux.AuxItem.{AuxItem}
-use Rattle.bib_read.specs.declared.database.RawEntry.{RawEntry}
+use Rattle.bib_read.specs.RawEntries.{RawEntry}
 pub use Rattle.bib_read.specs.Names.{text_of}
 use Rattle.entry_list.specs.Keys.{Listed, own, same_key, entry_of, is_listed, firsts}
 use Rattle.entry_list.specs.Citing.{cited_list}

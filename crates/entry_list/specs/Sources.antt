@@ -4,7 +4,7 @@ use Rattle.std.specs.Option.{option_map_or}
 use Rattle.name_table.specs.Names.{same_name}
 use Rattle.bib_read.specs.Names.{text_of}
 use Rattle.bib_read.specs.RawFields.{RawField}
-use Rattle.bib_read.specs.declared.database.RawEntry.{RawEntry}
+use Rattle.bib_read.specs.RawEntries.{RawEntry}
 use Rattle.entry_list.specs.Fields.{or_else}
 
 -- the fields of an entry, where there is one

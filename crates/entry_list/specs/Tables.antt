@@ -5,8 +5,8 @@ use Rattle.std.specs.Option.{option_map_or}
 use Rattle.bv_base.specs.KeySets.{has_lowered}
 use Rattle.aux_read.specs.declared.aux.AuxItem.{AuxItem}
 use Rattle.aux_read.specs.declared.aux.AuxItem.TheVariants.{Cite, All, Input}
-use Rattle.bib_read.specs.declared.database.RawEntry.{RawEntry}
-use Rattle.bst_meaning.specs.declared.entry.Entry.{Entry}
+use Rattle.bib_read.specs.RawEntries.{RawEntry}
+use Rattle.bst_meaning.specs.EntryLists.{Entry}
 use Rattle.entry_list.specs.declared.citing.Seen.{Seen}
 use Rattle.entry_list.specs.Fields.{Declared, entry_with, is_parent_listed}
 use Rattle.entry_list.specs.Keys.{Listed}

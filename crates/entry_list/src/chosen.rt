@@ -3,14 +3,14 @@
 ghost use Rattle.std.specs.Prelude.{◌≡◌};
 ghost use Rattle.entry_list.specs.Keys as keys;
 
-use bib_read::database::RawEntry;
+use bib_read::raw_entry::RawEntry;
 use std::marker::Model;
 
 /// An entry of the list: its key there, and the entry of the databases.
 #[derive(Drop)]
 pub(crate) struct Chosen<'a> {
     pub(crate) key: &'a [u8],
-    pub(crate) entry: &'a RawEntry,
+    pub(crate) entry: RawEntry<'a>,
 }
 
 impl<'a> Model for Chosen<'a> {
@@ -18,16 +18,16 @@ impl<'a> Model for Chosen<'a> {
 
     ghost Value = { Listed };
 
-    ghost view = { λ c. record { key = c.key.now; entry = c.entry.now } };
+    ghost view = { λ c. record { key = c.key.now; entry = c.entry } };
 }
 
 impl<'a> Chosen<'a> {
     /// An entry under its own key.
-    pub(crate) fn own(entry: &'a RawEntry) -> Chosen<'a>
-        ensures { result ≡ keys.own entry.now }
+    pub(crate) fn own(entry: RawEntry<'a>) -> Chosen<'a>
+        ensures { result ≡ keys.own entry.entry }
     {
         Chosen {
-            key: entry.key.as_slice(),
+            key: entry.key(),
             entry,
         }
     }
@@ -38,7 +38,7 @@ impl<'a> Chosen<'a> {
     {
         Chosen {
             key: self.key,
-            entry: self.entry,
+            entry: self.entry.copied(),
         }
     }
 }

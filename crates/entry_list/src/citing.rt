@@ -14,7 +14,7 @@ use crate::chosen::Chosen;
 use crate::entry_table::EntryTable;
 use crate::warnings::no_entry;
 use aux_read::aux::AuxItem;
-use bib_read::database::RawEntry;
+use bib_read::raw_entry::RawEntry;
 use bv_base::key_set::{KeySet, lowered};
 use bv_base::memory::NoMemory;
 use bv_base::seq::Seq;
@@ -80,7 +80,7 @@ fn take<'a>(
             if std::mem::replace(&mut seen.all, true) {
                 return Ok(());
             }
-            put_uncited(alloc, &mut cited.list, items, table.as_slice())
+            put_uncited(alloc, &mut cited.list, items, table)
         }
         AuxItem::Input(_, _) => Ok(()),
     }
@@ -114,12 +114,12 @@ fn put_cited<'a>(
     alloc: Global,
     cited: &mut Cited<'a>,
     key: &'a [u8],
-    entry: Option<&'a RawEntry>,
+    entry: Option<RawEntry<'a>>,
 ) -> Result<(), NoMemory>
     ensures list { OnOk result (cited.new.list.items ≡ cited.old.list.items
-        ++ option_to_list (option_map (citing.cited_as key.now) (option_map (λ e. e.now) entry.entry))) }
+        ++ option_to_list (option_map (citing.cited_as key.now) entry.entry)) }
     ensures warnings { OnOk result (cited.new.warnings ≡ cited.old.warnings
-        ++ (if is_some (option_map (λ e. e.now) entry.entry) then [] else warnings.no_entry key.now ∷ [])) }
+        ++ (if is_some entry.entry then [] else warnings.no_entry key.now ∷ [])) }
 {
     match entry {
         Some(entry) => cited.list.push(Chosen { key, entry })?,
@@ -133,12 +133,15 @@ fn put_uncited<'a>(
     alloc: Global,
     list: &mut Vec<Chosen<'a>>,
     items: &[AuxItem],
-    entries: &'a [RawEntry],
+    table: &EntryTable<'a>,
 ) -> Result<(), NoMemory>
-    ensures { OnOk result (list.new.items ≡ list.old.items ++ citing.uncited items.now entries.now) }
+    ensures { OnOk result (list.new.items ≡ list.old.items ++ citing.uncited items.now table.now) }
 {
     let cited = cited_keys(alloc, items)?;
-    for entry in entries {
+    for at in 0..table.len() {
+        let Some(entry) = table.get(at) else {
+            unreachable!()
+        };
         push_uncited(list, &cited, entry)?;
     }
     Ok(())
@@ -148,12 +151,12 @@ fn put_uncited<'a>(
 fn push_uncited<'a>(
     list: &mut Vec<Chosen<'a>>,
     cited: &KeySet,
-    entry: &'a RawEntry,
+    entry: RawEntry<'a>,
 ) -> Result<(), NoMemory>
     ensures { OnOk result (list.new.items
-        ≡ list.old.items ++ (if has_lowered entry.now.key cited.now then [] else own entry.now ∷ [])) }
+        ≡ list.old.items ++ (if has_lowered entry.entry.key cited.now then [] else own entry.entry ∷ [])) }
 {
-    if cited.has_lowered(entry.key.as_slice())? {
+    if cited.has_lowered(entry.key())? {
         return Ok(());
     }
     list.push(Chosen::own(entry))?;

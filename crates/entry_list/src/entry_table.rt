@@ -1,12 +1,11 @@
 //! The entries of the databases by their keys.
 
-ghost use Rattle.std.specs.Prelude.{◌≡◌, IfOk};
-ghost use Rattle.std.specs.Option.{option_map};
+ghost use Rattle.std.specs.Prelude.{◌≡◌, length, slice_get, IfOk};
 ghost use Rattle.bib_read.specs.Names.{entry_under};
 ghost use Rattle.entry_list.specs.Keys.{entry_of};
 
-use bib_read::database::RawEntry;
 use bib_read::entries::Entries;
+use bib_read::raw_entry::RawEntry;
 use bv_base::key_set::lowered;
 use bv_base::memory::NoMemory;
 use std::alloc::Global;
@@ -22,7 +21,7 @@ pub(crate) struct EntryTable<'a> {
 
 impl<'a> Model for EntryTable<'a> {
     ghost use Rattle.std.specs.Prelude.{List};
-    ghost use Rattle.bib_read.specs.declared.database.RawEntry.{RawEntry};
+    ghost use Rattle.bib_read.specs.RawEntries.{RawEntry};
 
     ghost Value = { List RawEntry };
 
@@ -37,24 +36,31 @@ impl<'a> EntryTable<'a> {
         EntryTable { alloc, entries }
     }
 
-    /// The entries, in order.
-    pub(crate) fn as_slice(&self) -> &'a [RawEntry]
-        ensures { result.now ≡ self.now }
+    /// How many entries there are.
+    pub(crate) fn len(&self) -> usize
+        ensures { result ≡ length self.now }
     {
-        self.entries.as_slice()
+        self.entries.len()
+    }
+
+    /// The entry at a place, counted from 0.
+    pub(crate) fn get(&self, at: usize) -> Option<RawEntry<'a>>
+        ensures { result ≡ slice_get self.now at }
+    {
+        self.entries.get(at)
     }
 
     /// The entry with this key, by one look-up in a hash table.
-    pub(crate) fn find(&self, key: &[u8]) -> Result<Option<&'a RawEntry>, NoMemory>
-        ensures { IfOk result (λ found. option_map (λ e. e.now) found ≡ entry_of key.now self.now) }
+    pub(crate) fn find(&self, key: &[u8]) -> Result<Option<RawEntry<'a>>, NoMemory>
+        ensures { IfOk result (λ found. found ≡ entry_of key.now self.now) }
     {
         let key = lowered(self.alloc, key)?;
         Ok(self.find_lowered(key.as_slice()))
     }
 
     /// The entry with a key that is given lowered, by one look-up in a hash table.
-    pub(crate) fn find_lowered(&self, key: &[u8]) -> Option<&'a RawEntry>
-        ensures { option_map (λ e. e.now) result ≡ entry_under key.now self.now }
+    pub(crate) fn find_lowered(&self, key: &[u8]) -> Option<RawEntry<'a>>
+        ensures { result ≡ entry_under key.now self.now }
     {
         self.entries.find(key)
     }

@@ -2,31 +2,29 @@
 
 ghost use Rattle.std.specs.Prelude.{◌≡◌, ◌++◌, ℕ, List, [], ◌∷◌, map, IfOk, OnOk};
 ghost use Rattle.std.specs.Option.{ForSome, option_map};
-ghost use Rattle.std.specs.List.{AllByRecursion};
 ghost use Rattle.bst_meaning.specs.Entries.{IsByteList};
+ghost use Rattle.entry_store.specs.PackedEntries.{with_one};
 ghost use Rattle.entry_list.specs.Fields as fields;
 ghost use Rattle.entry_list.specs.Sources.{value_among};
 ghost use Rattle.entry_list.specs.Tables.{TellsParents, entry_by, has_parent};
-ghost use Rattle.entry_list.specs.Bytes.{HasBytes, HaveBytes};
+ghost use Rattle.entry_list.specs.Bytes.{AreByteTexts, HasBytes, HaveBytes};
 
 use crate::chosen::Chosen;
 use crate::entry_table::EntryTable;
 use crate::parents::{crossref_of, parent_of};
 use crate::sources::Sources;
 use crate::warnings::no_parent;
-use bib_read::database::RawEntry;
-use bst_meaning::entry::{Entry, Fields};
+use bib_read::raw_entry::RawEntry;
 use bv_base::key_set::KeySet;
 use bv_base::memory::NoMemory;
-use bv_base::packed_texts::PackedTexts;
 use bv_base::seq::Seq;
 use bv_base::text::Text;
+use entry_store::packed_entries::PackedEntries;
 use name_table::laws::are_bytes;
 use name_table::names::{Kind, NameId};
 use name_table::style::Style;
 use std::alloc::Global;
 use std::marker::Model;
-use std::rc::Rc;
 
 /// A field of a style: its id and its name.
 #[derive(Drop)]
@@ -76,40 +74,6 @@ fn push_declared<'a>(
     }
 }
 
-/// The fields of a style with their names, which all entries of a list share. Contracts see the fields.
-#[derive(Drop)]
-pub(crate) struct SharedFields<'a> {
-    fields: Vec<DeclaredField<'a>>,
-    names: Rc<Vec<NameId>>,
-}
-
-impl<'a> Model for SharedFields<'a> {
-    ghost use Rattle.std.specs.Prelude.{◌≡◌, List, map};
-    ghost use Rattle.entry_list.specs.Fields.{Declared};
-
-    ghost Value = { List Declared };
-
-    ghost view = { λ f. f.fields.items };
-
-    ghost invariant = { λ f. f.names.value.items ≡ map (λ field. field.id) f.fields.items };
-}
-
-impl<'a> SharedFields<'a> {
-    /// Fields, with their names.
-    pub(crate) fn new(
-        alloc: Global,
-        fields: Vec<DeclaredField<'a>>,
-    ) -> Result<SharedFields<'a>, NoMemory>
-        ensures { IfOk result (λ shared. shared ≡ fields.entry.items) }
-    {
-        let names = names_of(alloc, fields.as_slice())?;
-        Ok(SharedFields {
-            fields,
-            names: Rc::new(alloc, names)?,
-        })
-    }
-}
-
 /// The names of fields.
 fn names_of(alloc: Global, fields: &[DeclaredField<'_>]) -> Result<Vec<NameId>, NoMemory>
     ensures { IfOk result (λ names. names.items ≡ map (λ field. field.id) fields.now) }
@@ -124,71 +88,72 @@ fn names_of(alloc: Global, fields: &[DeclaredField<'_>]) -> Result<Vec<NameId>, 
 /// The entries of a list with these fields and no other. Keys say of each parent whether it is in the list.
 pub(crate) fn join_entries<'a>(
     alloc: Global,
-    declared: &SharedFields<'_>,
+    declared: &[DeclaredField<'_>],
     table: &EntryTable<'a>,
     list: &[Chosen<'a>],
     listed: &KeySet,
-) -> Result<Seq<Entry>, NoMemory>
+) -> Result<PackedEntries, NoMemory>
     requires { TellsParents listed.now table.now list.now }
-    ensures joined { IfOk result (λ found. found ≡ map (fields.joined_entry declared.now table.now list.now) list.now) }
-    ensures bytes { IfOk result HaveBytes }
+    ensures joined { IfOk result (λ found. found.entries ≡ map (fields.joined_entry declared.now table.now list.now) list.now) }
+    ensures bytes { IfOk result (λ found. HaveBytes found.entries) }
 {
-    let mut found = Seq::from_vec(Vec::with_capacity(alloc, list.len())?);
+    let mut found = PackedEntries::new(alloc, names_of(alloc, declared)?);
     let mut buffers = Buffers::new(alloc);
     for chosen in list {
-        found.push(join_entry(alloc, &mut buffers, declared, table, listed, chosen)?)?;
+        join_entry(&mut found, &mut buffers, declared, table, listed, chosen)?;
     }
     Ok(found)
 }
 
 /// Whether a parent is there, and is in the list.
-fn is_parent_listed(listed: &KeySet, parent: Option<&RawEntry>) -> Result<bool, NoMemory>
+fn is_parent_listed(listed: &KeySet, parent: Option<&RawEntry<'_>>) -> Result<bool, NoMemory>
     ensures { IfOk result (λ keeps. keeps
         ≡ has_parent listed.now (option_map (λ e. e.now) parent.entry)) }
 {
     match parent {
-        Some(found) => listed.has_lowered(found.key.as_slice()),
+        Some(found) => listed.has_lowered(found.key()),
         None => Ok(false),
     }
 }
 
-/// An entry of the list with these fields and no other.
+/// Appends an entry of the list with these fields and no other.
 fn join_entry<'a>(
-    alloc: Global,
+    found: &mut PackedEntries,
     buffers: &mut Buffers<'a>,
-    declared: &SharedFields<'_>,
+    declared: &[DeclaredField<'_>],
     table: &EntryTable<'a>,
     listed: &KeySet,
     chosen: &Chosen<'a>,
-) -> Result<Entry, NoMemory>
-    ensures joined { IfOk result (λ entry. entry ≡ entry_by listed.now declared.now table.now chosen.now) }
-    ensures bytes { IfOk result HasBytes }
+) -> Result<(), NoMemory>
+    requires { found.old.names ≡ map (λ field. field.id) declared.now }
+    ensures joined { OnOk result (found.new ≡ with_one (entry_by listed.now declared.now table.now chosen.now) found.old) }
+    ensures bytes { OnOk result (HasBytes (entry_by listed.now declared.now table.now chosen.now)) }
 {
-    let parent = parent_of(table, chosen.entry)?;
-    let keeps = is_parent_listed(listed, parent)?;
-    Ok(Entry {
-        key: copied(alloc, chosen.key)?,
-        entry_type: copied(alloc, chosen.entry.entry_type.as_slice())?,
-        fields: fields_of(alloc, buffers, declared, chosen.entry, parent, keeps)?,
-    })
+    let parent = parent_of(table, &chosen.entry)?;
+    let keeps = is_parent_listed(listed, parent.as_ref())?;
+    append_entry(found, buffers, declared, chosen, parent.as_ref(), keeps)
 }
 
-/// The fields of an entry.
-fn fields_of<'a>(
-    alloc: Global,
+/// Appends an entry of the list with these fields and no other, by its parent.
+fn append_entry<'a>(
+    found: &mut PackedEntries,
     buffers: &mut Buffers<'a>,
-    declared: &SharedFields<'_>,
-    entry: &'a RawEntry,
-    parent: Option<&'a RawEntry>,
+    declared: &[DeclaredField<'_>],
+    chosen: &Chosen<'a>,
+    parent: Option<&RawEntry<'a>>,
     keeps: bool,
-) -> Result<Fields, NoMemory>
-    ensures values { IfOk result (λ found. found
-        ≡ fields.values_of declared.now entry.now (option_map (λ e. e.now) parent.entry) keeps) }
-    ensures bytes { IfOk result (AllByRecursion (λ f. ForSome f.value IsByteList)) }
+) -> Result<(), NoMemory>
+    requires { found.old.names ≡ map (λ field. field.id) declared.now }
+    ensures joined { OnOk result (found.new
+        ≡ with_one (fields.entry_with declared.now chosen.now (option_map (λ e. e.now) parent.entry) keeps) found.old) }
+    ensures bytes { OnOk result (HasBytes (fields.entry_with declared.now chosen.now (option_map (λ e. e.now) parent.entry) keeps)) }
 {
-    buffers.fill(declared.fields.as_slice(), entry, parent, keeps)?;
-    let packed = packed(alloc, buffers.values.as_slice())?;
-    Ok(Fields::new(declared.names.clone()?, packed))
+    buffers.fill(declared, &chosen.entry, parent, keeps)?;
+    let entry_type = chosen.entry.entry_type();
+    are_bytes(chosen.key);
+    are_bytes(entry_type);
+    found.push(chosen.key, entry_type, buffers.values.as_slice())?;
+    Ok(())
 }
 
 /// What one entry after the other is joined in: the fields that it takes its values from, and the values.
@@ -215,12 +180,13 @@ impl<'a> Buffers<'a> {
     fn fill(
         &mut self,
         declared: &[DeclaredField<'_>],
-        entry: &'a RawEntry,
-        parent: Option<&'a RawEntry>,
+        entry: &RawEntry<'a>,
+        parent: Option<&RawEntry<'a>>,
         keeps: bool,
     ) -> Result<(), NoMemory>
-        ensures { OnOk result (map (option_map (λ text. text.now)) self.new.values.items
+        ensures values { OnOk result (map (option_map (λ text. text.now)) self.new.values.items
             ≡ map (λ field. fields.value_of entry.now (option_map (λ e. e.now) parent.entry) keeps field.name) declared.now) }
+        ensures bytes { OnOk result (AreByteTexts (map (option_map (λ text. text.now)) self.new.values.items)) }
     {
         self.sources.fill(entry, parent)?;
         values_into(&mut self.values, declared, &self.sources, keeps)
@@ -234,51 +200,31 @@ fn values_into<'a>(
     sources: &Sources<'a>,
     keeps: bool,
 ) -> Result<(), NoMemory>
-    ensures { OnOk result (map (option_map (λ text. text.now)) found.new.items
+    ensures values { OnOk result (map (option_map (λ text. text.now)) found.new.items
         ≡ map (λ field. value_among sources.now.own.items sources.now.lent.items keeps field.name) declared.now) }
+    ensures bytes { OnOk result (AreByteTexts (map (option_map (λ text. text.now)) found.new.items)) }
 {
     found.clear();
     for field in declared {
-        found.push(sources.value_of(keeps, field.name))?;
+        push_value(found, sources.value_of(keeps, field.name))?;
     }
     Ok(())
 }
 
-/// Values, copied into one piece of memory of their size.
-fn packed(alloc: Global, values: &[Option<&[u8]>]) -> Result<PackedTexts, NoMemory>
-    ensures copied { IfOk result (λ packed. packed ≡ map (option_map (λ text. text.now)) values.now) }
-    ensures bytes { IfOk result (AllByRecursion (λ text. ForSome text IsByteList)) }
-{
-    let mut packed = PackedTexts::with_room(alloc, values.len(), length_of(values))?;
-    for value in values {
-        push_value(&mut packed, *value)?;
-    }
-    Ok(packed)
-}
-
-/// How many bytes values have together, for the room that they take.
-fn length_of(values: &[Option<&[u8]>]) -> usize {
-    let mut length: usize = 0;
-    for value in values {
-        if let Some(text) = value {
-            length = length.saturating_add(text.len());
-        }
-    }
-    length
-}
-
-/// Appends a copy of a value.
-fn push_value(packed: &mut PackedTexts, value: Option<&[u8]>) -> Result<(), NoMemory>
-    ensures copied { OnOk result (packed.new ≡ packed.old ++ option_map (λ text. text.now) value.entry ∷ []) }
+/// Appends a value.
+fn push_value<'a>(
+    found: &mut Vec<Option<&'a [u8]>>,
+    value: Option<&'a [u8]>,
+) -> Result<(), NoMemory>
+    ensures pushed { OnOk result (map (option_map (λ text. text.now)) found.new.items
+        ≡ map (option_map (λ text. text.now)) found.old.items ++ option_map (λ text. text.now) value.entry ∷ []) }
     ensures bytes { ForSome (option_map (λ text. text.now) value.entry) IsByteList }
 {
-    match value {
-        Some(text) => {
-            are_bytes(text);
-            packed.push(Some(text))
-        }
-        None => packed.push(None),
+    if let Some(text) = value {
+        are_bytes(text);
     }
+    found.push(value)?;
+    Ok(())
 }
 
 /// A copy of bytes.
@@ -314,7 +260,7 @@ fn warn_of_parent(
 ) -> Result<(), NoMemory>
     ensures { OnOk result (warnings.new ≡ warnings.old ++ fields.without_parent table.now chosen.now) }
 {
-    let Some(name) = crossref_of(chosen.entry) else {
+    let Some(name) = crossref_of(&chosen.entry) else {
         return Ok(());
     };
     if let Some(_) = table.find(name)? {

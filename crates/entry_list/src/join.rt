@@ -10,16 +10,17 @@ ghost use Rattle.entry_list.specs.Tables.{TellsParents};
 use crate::chosen::Chosen;
 use crate::citing::{Cited, cited_list};
 use crate::entry_table::EntryTable;
-use crate::fields::{SharedFields, copied, declared_fields, join_entries, warn_of_parents};
+use crate::fields::{copied, declared_fields, join_entries, warn_of_parents};
 use crate::joined::Joined;
 use crate::parents::{append_parents, listed_parents};
 use aux_read::aux::AuxItem;
 use bib_read::database::Database;
-use bst_meaning::entry::{Entry, EntryList};
 use bv_base::key_set::KeySet;
 use bv_base::memory::NoMemory;
 use bv_base::seq::Seq;
 use bv_base::text::Text;
+use entry_store::entry::EntryList;
+use entry_store::packed_entries::PackedEntries;
 use name_table::style::Style;
 use std::alloc::Global;
 
@@ -51,7 +52,7 @@ pub fn join(
     let entries = entries_of(alloc, style, &table, whole.list.as_slice(), &whole.listed)?;
     let preamble = copied(alloc, database.preamble.as_slice())?;
     Ok(Joined {
-        list: EntryList { entries, preamble },
+        list: EntryList::new(entries, preamble),
         warnings: whole.warnings,
     })
 }
@@ -94,11 +95,11 @@ fn entries_of<'a>(
     table: &EntryTable<'a>,
     list: &[Chosen<'a>],
     listed: &KeySet,
-) -> Result<Seq<Entry>, NoMemory>
+) -> Result<PackedEntries, NoMemory>
     requires { TellsParents listed.now table.now list.now }
-    ensures joined { IfOk result (λ entries. entries ≡ joining.all_joined style.now table.now list.now) }
-    ensures bytes { IfOk result HaveBytes }
+    ensures joined { IfOk result (λ found. found.entries ≡ joining.all_joined style.now table.now list.now) }
+    ensures bytes { IfOk result (λ found. HaveBytes found.entries) }
 {
-    let declared = SharedFields::new(alloc, declared_fields(alloc, style)?)?;
-    join_entries(alloc, &declared, table, list, listed)
+    let declared = declared_fields(alloc, style)?;
+    join_entries(alloc, declared.as_slice(), table, list, listed)
 }

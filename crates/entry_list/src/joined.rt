@@ -1,8 +1,8 @@
 //! What joining gives.
 
-use bst_meaning::entry::EntryList;
 use bv_base::seq::Seq;
 use bv_base::text::Text;
+use entry_store::entry::EntryList;
 
 /// What citations and databases are joined to.
 #[derive(Drop)]

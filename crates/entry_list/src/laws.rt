@@ -4,7 +4,7 @@ ghost use Rattle.std.specs.Prelude.{List, []};
 ghost use Rattle.std.specs.List.{AllByRecursion};
 ghost use Rattle.aux_read.specs.declared.aux.AuxItem.{AuxItem};
 ghost use Rattle.bib_read.specs.Additions.{AreNew};
-ghost use Rattle.bib_read.specs.declared.database.RawEntry.{RawEntry};
+ghost use Rattle.bib_read.specs.RawEntries.{RawEntry};
 ghost use Rattle.entry_list.specs.Apart.{AreApart, IsFrom};
 ghost use Rattle.entry_list.specs.Parents.{whole_list};
 

@@ -10,7 +10,7 @@ ghost use Rattle.entry_list.specs.Tables.{TellsParents};
 use crate::chosen::Chosen;
 use crate::entry_table::EntryTable;
 use crate::listed::listed_of;
-use bib_read::database::RawEntry;
+use bib_read::raw_entry::RawEntry;
 use bv_base::key_set::{KeySet, lowered};
 use bv_base::memory::NoMemory;
 use std::alloc::Global;
@@ -50,7 +50,7 @@ fn parents_of<'a>(
 {
     let mut found = Vec::new(alloc);
     for chosen in list {
-        push_parent(&mut found, table, chosen.entry)?;
+        push_parent(&mut found, table, &chosen.entry)?;
     }
     Ok(found)
 }
@@ -59,7 +59,7 @@ fn parents_of<'a>(
 fn push_parent<'a>(
     found: &mut Vec<Chosen<'a>>,
     table: &EntryTable<'a>,
-    entry: &RawEntry,
+    entry: &RawEntry<'a>,
 ) -> Result<(), NoMemory>
     ensures { OnOk result (found.new.items
         ≡ found.old.items ++ option_to_list (option_map keys.own (naming.parent_of table.now entry.now))) }
@@ -69,9 +69,9 @@ fn push_parent<'a>(
 }
 
 /// Adds an entry under its own key, where there is one.
-fn push_own<'a>(found: &mut Vec<Chosen<'a>>, entry: Option<&'a RawEntry>) -> Result<(), NoMemory>
+fn push_own<'a>(found: &mut Vec<Chosen<'a>>, entry: Option<RawEntry<'a>>) -> Result<(), NoMemory>
     ensures { OnOk result (found.new.items
-        ≡ found.old.items ++ option_to_list (option_map keys.own (option_map (λ e. e.now) entry.entry))) }
+        ≡ found.old.items ++ option_to_list (option_map keys.own entry.entry)) }
 {
     if let Some(entry) = entry {
         found.push(Chosen::own(entry))?;
@@ -82,9 +82,9 @@ fn push_own<'a>(found: &mut Vec<Chosen<'a>>, entry: Option<&'a RawEntry>) -> Res
 /// The entry that an entry's `crossref` names.
 pub(crate) fn parent_of<'a>(
     table: &EntryTable<'a>,
-    entry: &RawEntry,
-) -> Result<Option<&'a RawEntry>, NoMemory>
-    ensures { IfOk result (λ found. option_map (λ e. e.now) found ≡ naming.parent_of table.now entry.now) }
+    entry: &RawEntry<'a>,
+) -> Result<Option<RawEntry<'a>>, NoMemory>
+    ensures { IfOk result (λ found. found ≡ naming.parent_of table.now entry.now) }
 {
     match crossref_of(entry) {
         Some(name) => table.find(name),
@@ -93,10 +93,10 @@ pub(crate) fn parent_of<'a>(
 }
 
 /// What an entry has as `crossref`.
-pub(crate) fn crossref_of(entry: &RawEntry) -> Option<&[u8]>
+pub(crate) fn crossref_of<'a>(entry: &RawEntry<'a>) -> Option<&'a [u8]>
     ensures { option_map (λ text. text.now) result ≡ naming.crossref_of entry.now }
 {
-    entry.fields.find(b"crossref")
+    entry.find(b"crossref")
 }
 
 /// The wanted ones of these parents, in the order in which they are first named.

@@ -5,8 +5,8 @@ ghost use Rattle.std.specs.Option.{option_map};
 ghost use Rattle.bib_read.specs.Names.{text_of};
 ghost use Rattle.entry_list.specs.Sources as sources;
 
-use bib_read::database::RawEntry;
-use bib_read::raw_fields::{RawField, RawFields};
+use bib_read::raw_entry::RawEntry;
+use bib_read::raw_fields::RawField;
 use bv_base::memory::NoMemory;
 use std::alloc::Global;
 
@@ -34,13 +34,13 @@ impl<'a> Sources<'a> {
     /// Leaves the fields of an entry and of its parent.
     pub(crate) fn fill(
         &mut self,
-        entry: &'a RawEntry,
-        parent: Option<&'a RawEntry>,
+        entry: &RawEntry<'a>,
+        parent: Option<&RawEntry<'a>>,
     ) -> Result<(), NoMemory>
         ensures own { OnOk result (self.new.own.items ≡ entry.now.fields) }
         ensures lent { OnOk result (self.new.lent.items ≡ sources.fields_of (option_map (λ e. e.now) parent.entry)) }
     {
-        read_into(&mut self.own, &entry.fields)?;
+        read_into(&mut self.own, entry)?;
         lend_into(&mut self.lent, parent)
     }
 
@@ -73,12 +73,12 @@ impl<'a> Sources<'a> {
 /// Leaves of a buffer the fields of a parent, or none where there is no parent.
 fn lend_into<'a>(
     found: &mut Vec<RawField<'a>>,
-    parent: Option<&'a RawEntry>,
+    parent: Option<&RawEntry<'a>>,
 ) -> Result<(), NoMemory>
     ensures { OnOk result (found.new.items ≡ sources.fields_of (option_map (λ e. e.now) parent.entry)) }
 {
     match parent {
-        Some(entry) => read_into(found, &entry.fields),
+        Some(entry) => read_into(found, entry),
         None => {
             found.clear();
             Ok(())
@@ -86,13 +86,13 @@ fn lend_into<'a>(
     }
 }
 
-/// Leaves of a buffer these fields, each read out.
-fn read_into<'a>(found: &mut Vec<RawField<'a>>, fields: &'a RawFields) -> Result<(), NoMemory>
-    ensures { OnOk result (found.new.items ≡ fields.now) }
+/// Leaves of a buffer the fields of an entry, each read out.
+fn read_into<'a>(found: &mut Vec<RawField<'a>>, entry: &RawEntry<'a>) -> Result<(), NoMemory>
+    ensures { OnOk result (found.new.items ≡ entry.now.fields) }
 {
     found.clear();
-    for at in 0..fields.len() {
-        let Some(field) = fields.get(at) else {
+    for at in 0..entry.len() {
+        let Some(field) = entry.field(at) else {
             unreachable!()
         };
         found.push(field)?;

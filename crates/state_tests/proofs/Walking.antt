@@ -17,7 +17,7 @@ use Rattle.bst_meaning.specs.Keeping.{IsKept, is_plain}
 use Rattle.bst_meaning.specs.Machine.{assigned_by, call_step, context_of, frame_step, going_step, step, token_step, unless_stopped, with_assigned, with_effect, with_entered, with_value}
 use Rattle.bst_meaning.specs.StyleParts.{kind_of}
 use Rattle.bst_meaning.specs.declared.condition.Cond.{Cond}
-use Rattle.bst_meaning.specs.declared.entry.EntryList.{EntryList}
+use Rattle.bst_meaning.specs.EntryLists.{EntryList}
 use Rattle.bst_meaning.specs.declared.fault.Fault.{Fault}
 use Rattle.bst_meaning.specs.declared.value.Value.{Value}
 use Rattle.sym_state.specs.Cases.{IsTestOf}

@@ -18,7 +18,7 @@ use Rattle.bst_meaning.specs.Config.{Config}
 use Rattle.bst_meaning.specs.Machine.{call_step, token_step, visited_entry, with_found, with_value}
 use Rattle.bst_meaning.specs.StyleParts.{kind_of, text_of}
 use Rattle.bst_meaning.specs.declared.condition.Cond.{Cond}
-use Rattle.bst_meaning.specs.declared.entry.EntryList.{EntryList}
+use Rattle.bst_meaning.specs.EntryLists.{EntryList}
 use Rattle.bst_meaning.specs.declared.value.Target.TheVariants.{Named, Block}
 use Rattle.bst_meaning.specs.declared.value.Value.{Value}
 use Rattle.bst_meaning.specs.declared.value.Value.TheVariants.{Int as IntValue, Str as StrValue, Func as FuncValue}

@@ -11,7 +11,7 @@ use Rattle.bst_meaning.specs.Config.{Config, EntryState, Variable}
 use Rattle.bst_meaning.specs.Machine.{visited_entry}
 use Rattle.bst_meaning.specs.StyleParts.{kind_of}
 use Rattle.bst_meaning.specs.declared.condition.Cond.{Cond}
-use Rattle.bst_meaning.specs.declared.entry.EntryList.{EntryList}
+use Rattle.bst_meaning.specs.EntryLists.{EntryList}
 use Rattle.bst_meaning.specs.declared.value.Value.{Value}
 use Rattle.sym_state.specs.declared.piece.Piece.{Piece}
 use Rattle.sym_state.specs.State.{State}

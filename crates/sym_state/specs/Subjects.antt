@@ -4,7 +4,7 @@ pub use Rattle.bv_base.specs.declared.place.Place.{Place}
 pub use Rattle.name_table.specs.declared.builtin.Builtin.{Builtin}
 pub use Rattle.name_table.specs.declared.style.Style.{Style}
 pub use Rattle.bst_meaning.specs.declared.condition.Cond.{Cond}
-pub use Rattle.bst_meaning.specs.declared.entry.EntryList.{EntryList}
+pub use Rattle.bst_meaning.specs.EntryLists.{EntryList}
 pub use Rattle.bst_meaning.specs.declared.value.Value.{Value}
 pub use Rattle.bst_meaning.specs.Config.{Config}
 pub use Rattle.sym_state.specs.State.{State}

@@ -3,7 +3,7 @@
 ghost use Rattle.std.specs.Prelude.{◌≡◌, ◌+◌, ◌<◌, ◌≤◌, ◌^◌, ◌++◌, None, List, length, option_map, IfOk, IfSome};
 ghost use Rattle.std.specs.List.{All, list_all};
 ghost use Rattle.bst_meaning.specs.Config.{Config};
-ghost use Rattle.bst_meaning.specs.declared.entry.EntryList.{EntryList};
+ghost use Rattle.bst_meaning.specs.EntryLists.{EntryList};
 ghost use Rattle.bst_meaning.specs.declared.value.Value.{Value};
 ghost use Rattle.name_table.specs.declared.style.Style.{Style};
 ghost use Rattle.sym_state.specs.Entailing as rule;

@@ -1,13 +1,11 @@
 //! The entries over which small styles run.
 
-use bst_meaning::entry::{Entry, EntryList, Fields};
 use bv_base::memory::NoMemory;
-use bv_base::packed_texts::PackedTexts;
-use bv_base::seq::Seq;
 use bv_base::text::Text;
+use entry_store::entry::EntryList;
+use entry_store::packed_entries::PackedEntries;
 use name_table::names::NameId;
 use std::alloc::Global;
-use std::rc::Rc;
 
 /// The key, the type and the title of each entry. `-` is a title that is missing.
 static ENTRIES: [(&[u8], &[u8], &[u8]); 5] = [
@@ -20,50 +18,36 @@ static ENTRIES: [(&[u8], &[u8], &[u8]); 5] = [
 
 /// The entries, and the preamble.
 pub fn list(alloc: Global) -> Result<EntryList, NoMemory> {
-    let mut entries = Seq::new(alloc);
-    push_entries(alloc, &mut entries)?;
-    Ok(EntryList {
-        entries,
-        preamble: Text::from_slice(alloc, b"Preamble")?,
-    })
+    let mut entries = PackedEntries::new(alloc, names(alloc)?);
+    for (key, entry_type, title) in &ENTRIES {
+        push_entry(&mut entries, key, entry_type, title)?;
+    }
+    Ok(EntryList::new(entries, Text::from_slice(alloc, b"Preamble")?))
 }
 
 /// One entry with this title.
 pub fn titled(alloc: Global, title: &[u8]) -> Result<EntryList, NoMemory> {
-    let mut entries = Seq::new(alloc);
-    entries.push(entry(alloc, b"A1", b"book", title)?)?;
-    Ok(EntryList {
-        entries,
-        preamble: Text::from_slice(alloc, b"")?,
-    })
+    let mut entries = PackedEntries::new(alloc, names(alloc)?);
+    push_entry(&mut entries, b"A1", b"book", title)?;
+    Ok(EntryList::new(entries, Text::from_slice(alloc, b"")?))
 }
 
-/// Adds the entries.
-fn push_entries(alloc: Global, entries: &mut Seq<Entry>) -> Result<(), NoMemory> {
-    for (key, entry_type, title) in &ENTRIES {
-        entries.push(entry(alloc, key, entry_type, title)?)?;
-    }
-    Ok(())
-}
-
-/// An entry.
-fn entry(alloc: Global, key: &[u8], entry_type: &[u8], title: &[u8]) -> Result<Entry, NoMemory> {
-    Ok(Entry {
-        key: Text::from_slice(alloc, key)?,
-        entry_type: Text::from_slice(alloc, entry_type)?,
-        fields: fields(alloc, title)?,
-    })
-}
-
-/// The fields of an entry with this title.
-fn fields(alloc: Global, title: &[u8]) -> Result<Fields, NoMemory> {
+/// The names of the fields: `crossref` and the title.
+fn names(alloc: Global) -> Result<Vec<NameId>, NoMemory> {
     let mut names = Vec::new(alloc);
     names.push(NameId(37))?;
     names.push(NameId(41))?;
-    let mut values = PackedTexts::new(alloc);
-    values.push(None)?;
-    values.push(value_of(title))?;
-    Ok(Fields::new(Rc::new(alloc, names)?, values))
+    Ok(names)
+}
+
+/// Adds an entry with this title.
+fn push_entry(
+    entries: &mut PackedEntries,
+    key: &[u8],
+    entry_type: &[u8],
+    title: &[u8],
+) -> Result<(), NoMemory> {
+    entries.push(key, entry_type, &[None, value_of(title)])
 }
 
 /// The value of a title.

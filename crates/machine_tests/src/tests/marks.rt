@@ -3,9 +3,9 @@
 use crate::tests::entries::titled;
 use crate::tests::program::{add_words, empty_style};
 use crate::tests::rows::{Table, Telling, add, add_bytes, expect};
-use bst_meaning::entry::EntryList;
 use bst_step::machine::Machine;
 use bv_base::memory::NoMemory;
+use entry_store::entry::EntryList;
 use name_table::style::Style;
 use std::alloc::Global;
 use std::process::Abort;

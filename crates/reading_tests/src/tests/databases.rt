@@ -2,8 +2,9 @@
 //! arrow is a heading.
 
 use crate::tests::with_line_ends;
-use bib_read::database::{Database, RawEntry};
+use bib_read::database::Database;
 use bib_read::fault::BibFault;
+use bib_read::raw_entry::RawEntry;
 use bib_read::read::{opening, read};
 use bv_base::limits::DATA_BYTES;
 use bv_base::memory::NoMemory;
@@ -340,16 +341,10 @@ fn push_line(
 }
 
 /// Appends an entry and its fields as lines.
-fn push_entry(shown: &mut Vec<u8>, entry: &RawEntry) -> Result<(), NoMemory> {
-    push_line(
-        shown,
-        b'@',
-        entry.entry_type.as_slice(),
-        b' ',
-        entry.key.as_slice(),
-    )?;
-    for at in 0..entry.fields.len() {
-        if let Some(field) = entry.fields.get(at) {
+fn push_entry(shown: &mut Vec<u8>, entry: &RawEntry<'_>) -> Result<(), NoMemory> {
+    push_line(shown, b'@', entry.entry_type(), b' ', entry.key())?;
+    for at in 0..entry.len() {
+        if let Some(field) = entry.field(at) {
             push_line(shown, b'.', field.name, b'=', field.value)?;
         }
     }
@@ -368,8 +363,10 @@ fn shown(alloc: Global, database: &Database) -> Result<Vec<u8>, NoMemory> {
             one.value.as_slice(),
         )?;
     }
-    for one in database.entries.as_slice() {
-        push_entry(&mut shown, one)?;
+    for at in 0..database.entries.len() {
+        if let Some(entry) = database.entries.get(at) {
+            push_entry(&mut shown, &entry)?;
+        }
     }
     push_line(&mut shown, b'<', database.preamble.as_slice(), b'>', b"")?;
     for one in database.warnings.as_slice() {

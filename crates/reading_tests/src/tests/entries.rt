@@ -11,12 +11,12 @@ use crate::tests::with_line_ends;
 use aux_read::aux::AuxItem;
 use bib_read::database::Database;
 use bib_read::read::opening;
-use bst_meaning::entry::Entry;
 use bv_base::limits::DATA_BYTES;
 use bv_base::memory::NoMemory;
 use bv_base::seq::Seq;
 use entry_list::join::join;
 use entry_list::joined::Joined;
+use entry_store::entry::Entry;
 use name_table::names::{Kind, Names};
 use name_table::style::Style;
 use std::alloc::Global;
@@ -193,13 +193,13 @@ fn is_no_input(item: &AuxItem) -> bool
 }
 
 /// Appends an entry as `KEY:TYPE`, and for each field a `|` and its value, or `-` where it is missing.
-fn show(shown: &mut Vec<u8>, entry: &Entry) -> Result<(), NoMemory> {
-    shown.extend_from_slice(entry.key.as_slice())?;
+fn show(shown: &mut Vec<u8>, entry: &Entry<'_>) -> Result<(), NoMemory> {
+    shown.extend_from_slice(entry.key())?;
     shown.push(b':')?;
-    shown.extend_from_slice(entry.entry_type.as_slice())?;
-    for at in 0..entry.fields.len() {
+    shown.extend_from_slice(entry.entry_type())?;
+    for at in 0..entry.names().len() {
         shown.push(b'|')?;
-        match entry.fields.get(at) {
+        match entry.field(at) {
             Some(field) => shown.extend_from_slice(field.value.unwrap_or(b"-"))?,
             None => return Ok(()),
         }
@@ -211,8 +211,10 @@ fn show(shown: &mut Vec<u8>, entry: &Entry) -> Result<(), NoMemory> {
 /// What was joined, as lines.
 fn shown(alloc: Global, joined: &Joined) -> Result<Vec<u8>, NoMemory> {
     let mut shown = Vec::new(alloc);
-    for entry in joined.list.entries.as_slice() {
-        show(&mut shown, entry)?;
+    for at in 0..joined.list.len() {
+        if let Some(entry) = joined.list.at(at) {
+            show(&mut shown, &entry)?;
+        }
     }
     for warning in joined.warnings.as_slice() {
         shown.extend_from_slice(warning.as_slice())?;

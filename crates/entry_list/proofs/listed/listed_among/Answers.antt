@@ -12,7 +12,7 @@ loop-chosen-preserved c =
     let listed = c.loop-chosen.listed in
     let i = c.loop-chosen.chosen-index in
     let left = drop (i + 1) list in
-    let entry : Listed = record { key = c.chosen.inside.key.now; entry = c.chosen.inside.entry.now } in
+    let entry : Listed = record { key = c.chosen.inside.key.now; entry = c.chosen.inside.entry } in
     λ key. among_step listed c.add_named.new.listed named entry key left (c.in_ok-add_named.ensures key)
     ∙ ap (λ e. has_lowered key listed || (has_lowered key named && is_listed key (e ∷ left))) c.chosen.view_is
     ∙ ap (λ l. has_lowered key listed || (has_lowered key named && is_listed key l))

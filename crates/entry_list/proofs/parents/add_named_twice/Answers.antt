@@ -10,7 +10,7 @@ loop-parent-preserved c =
     let parents = c.args.parents.now in
     let i = c.loop-parent.parent-index in
     let left = drop (i + 1) parents in
-    let parent : Listed = record { key = c.parent.inside.key.now; entry = c.parent.inside.entry.now } in
+    let parent : Listed = record { key = c.parent.inside.key.now; entry = c.parent.inside.entry } in
     λ key. twice_step c.loop-parent.twice c.name.new.twice c.loop-parent.once c.name.new.once parent key left
     (c.in_ok-name.ensures.once key) (c.in_ok-name.ensures.twice key)
     ∙ ap (λ p. twice_with (has_lowered key c.loop-parent.twice) (has_lowered key c.loop-parent.once) key (p ∷ left)) c.parent.view_is

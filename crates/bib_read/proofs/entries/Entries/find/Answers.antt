@@ -9,7 +9,7 @@ use Rattle.bib_read.proofs.entries.Entries.find.Goals as goal
 pub returns-in-Some : goal.returns-in-Some
 returns-in-Some c =
     let key = c.args.key.now in
-    c.entry_at.ensures
+    c.get.ensures
     ∙ found_under key c.args.self.now c.in-Some.at
     (ap (λ entries. position (same_name key) (lowered_keys entries)) (sym c.self.view_is)
     ∙ ap (position (same_name key)) (sym c.self.invariant)

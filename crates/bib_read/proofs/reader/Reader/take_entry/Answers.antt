@@ -2,7 +2,7 @@ use Rattle.std.proofs.Common.{◌≡◌, ◌∙◌, List, ℕ, ap, length, sym}
 use Rattle.bib_read.specs.Names.{has_entry}
 use Rattle.bib_read.specs.Progress.{Progress}
 use Rattle.bib_read.specs.Progressing.{progress_of}
-use Rattle.bib_read.specs.declared.database.RawEntry.{RawEntry}
+use Rattle.bib_read.specs.RawEntries.{RawEntry}
 use Rattle.bib_read.proofs.Kept.{entries_stay}
 use Rattle.bib_read.proofs.reader.Reader.take_entry.Goals as goal
 
