@@ -8,11 +8,12 @@ use Rattle.name_table.specs.declared.names.NameId.{NameId}
 use Rattle.name_table.specs.declared.names.Kind.{Kind}
 use Rattle.name_table.specs.declared.names.Kind.TheVariants.{Field}
 use Rattle.name_table.specs.Names.{kind_at}
+use Rattle.bst_meaning.specs.EntryLists.{Entry}
 use Rattle.bst_meaning.specs.FieldValues.{FieldValue}
 use Rattle.bst_meaning.specs.declared.value.Value.TheVariants.{Missing}
 use Rattle.bst_meaning.specs.Entries.{field_ids_at, field_ids_from}
 use Rattle.bst_meaning.specs.Machine.{field_in, field_value}
-use Rattle.bst_step.specs.Places.{StandAt, place_of}
+use Rattle.bst_step.specs.Places.{FieldsStandAt, StandAt, place_of}
 use Rattle.bst_step.proofs.PlaceLookups.{another_stands_there, at_place, field_names, field_nowhere, field_there, no_place}
 use Rattle.bst_step.proofs.PlacesMade.{longer_table, name_more}
 
@@ -48,6 +49,29 @@ one_more_read places names at place d below within has same =
 -- all names stand at their places
 pub all_below : (places : List ℕ) (names : List NameId) (end : ℕ) → length names ≤ end → StandBelow end places names → StandAt places names
 all_below places names end all below at name here = below at name (omega (arith, all, slice_get_within names at name here)) here
+
+-- the fields of the entries before a place stand at their places
+abbrev pub FieldsStandBelow : ℕ → List ℕ → List Entry → Type 0
+FieldsStandBelow end places entries = (at : ℕ) (entry : Entry) → at < end → slice_get entries at ≡ Some entry → StandAt places (field_names entry.fields)
+
+pub no_entry_below : (places : List ℕ) (entries : List Entry) → FieldsStandBelow 0 places entries
+no_entry_below places entries at entry early here = absurd (omega (arith, early))
+
+pub one_more_entry : (places : List ℕ) (entries : List Entry) (at : ℕ) (e : Entry) → FieldsStandBelow at places entries
+    → slice_get entries at ≡ Some e → StandAt places (field_names e.fields) → FieldsStandBelow (at + 1) places entries
+one_more_entry places entries at e below here stand k entry early there =
+    elim (cases_lt k at) [
+      | inl before ↦ below k entry before there
+      | inr behind ↦
+          let same : k ≡ at = omega (arith, early, behind) in
+          let is : Some entry ≡ Some e = sym there ∙ ap (λ (i : ℕ). slice_get entries i) same ∙ here in
+          let same_entry : e ≡ entry = cc in
+          subst (λ (x : Entry). StandAt places (field_names x.fields)) same_entry stand
+    ]
+
+pub all_entries_below : (places : List ℕ) (entries : List Entry) (end : ℕ) → length entries ≤ end → FieldsStandBelow end places entries
+    → FieldsStandAt places entries
+all_entries_below places entries end all below at entry here = below at entry (omega (arith, all, slice_get_within entries at entry here)) here
 
 -- a table has no place for a name
 pub field_placeless : (places : List ℕ) (fields : List FieldValue) (name : NameId) → StandAt places (field_names fields)

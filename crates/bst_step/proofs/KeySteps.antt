@@ -13,11 +13,11 @@ use Rattle.bst_meaning.specs.Keeping.{placed}
 use Rattle.bst_step.specs.Machine.{HasEntriesOf, key_at, key_of}
 
 -- an entry with a position stands there in a list
-abbrev StandsAt : List Entry → Entry × ℕ → Type 0
+abbrev pub StandsAt : List Entry → Entry × ℕ → Type 0
 StandsAt whole p = slice_get whole p.1 ≡ Some p.0
 
 -- an entry has another position
-abbrev IsElsewhere : ℕ → Entry × ℕ → Type 0
+abbrev pub IsElsewhere : ℕ → Entry × ℕ → Type 0
 IsElsewhere position p = nat_eq p.1 position ≡ false
 
 -- the entries of an opening stand at their positions
@@ -48,7 +48,7 @@ none_there variables at (entry ∷ entries) (suc k) all =
     (All-tail (IsElsewhere (at + suc k)) (entry, at) (map placed (opening_entries variables (at + 1) entries)) all))
 
 -- a key that is found is that at its position, and where none is found no entry has the position
-found_or_none : (whole : List Entry) (position : ℕ) (entries : List EntryState) → All (StandsAt whole) (map placed entries)
+pub found_or_none : (whole : List Entry) (position : ℕ) (entries : List EntryState) → All (StandsAt whole) (map placed entries)
     → (All (IsElsewhere position) (map placed entries) → slice_get whole position ≡ None)
     → key_at position entries ≡ option_map_or (λ e. e.key) (slice_get whole position) []
 found_or_none whole position [] all none =

@@ -29,6 +29,7 @@ pub mod CutSteps
 pub mod KeySteps
 pub mod PlaceSteps
 pub mod RoomSteps
+pub mod RowSteps
 pub mod MarkSteps
 pub mod MarkMoves
 pub mod PreparedSteps

@@ -1,17 +1,19 @@
 -- The entries of a list, entry by entry, as a run opens.
-use Rattle.std.proofs.Common.{◌≡◌, ℕ, ◌+◌, ◌<◌, ◌≤◌, refl, sym, ap, subst, ◌∙◌, List, [], ◌∷◌, ◌++◌, add-one, append_assoc, arith, drop, drop-cons, get_or, length, map}
+use Rattle.std.proofs.Common.{◌≡◌, ℕ, zero, suc, ◌+◌, ◌*◌, ◌<◌, refl, sym, ap, subst, ◌∙◌, List, [], ◌∷◌, ◌++◌, add-one, append_assoc, arith, drop, get_or, length, map}
+use Rattle.std.proofs.Math.Nat.{suc-mul, zero-mul}
 use Rattle.std.proofs.Math.Seq.{drop-append_seam}
-use Rattle.std.proofs.lemmas.List.{append-nil, drop-append-le, drop_all, length-append, length-drop, length-map, map-append}
+use Rattle.std.proofs.lemmas.List.{append-nil, drop-drop, drop_all, drop_more, length-append, map-append}
 use Rattle.std.proofs.lemmas.List.Sorted.{IsPermutation-refl}
-use Rattle.name_table.specs.declared.names.NameId.{NameId}
+use Rattle.std.specs.List.{range_with_len}
+use Rattle.std.specs.List.Sorted.{IsPermutation}
 use Rattle.bst_meaning.specs.EntryLists.{Entry}
 use Rattle.bst_meaning.specs.Config as config
-use Rattle.bst_step.specs.declared.entry_states.Row.{Row}
+use Rattle.entry_store.specs.PackedEntries.{nothing}
 use Rattle.bst_step.specs.declared.held.Held.{Held}
 use Rattle.bst_step.specs.declared.variables.Variable.{Variable}
-use Rattle.bst_step.specs.EntryStates.{EntriesWithin, EntryState, InOrder, IsTable, state_at, state_in, states_at, states_from}
+use Rattle.bst_step.specs.EntryStates.{EntriesWithin, EntryState, IsTable, repeated, state_at, state_in, states_at, states_from}
 use Rattle.bst_step.specs.Variables.{VariablesWithin, named, names_in, values_in, variable_in}
-use Rattle.bst_step.proofs.VariableSteps.{all_named, more_behind}
+use Rattle.bst_step.proofs.VariableSteps.{all_named, as_many, more_behind}
 
 -- one variable more
 pub variable_opened : (vs more : List Variable) (v : Variable) (later : List config.Variable) → more ≡ vs ++ v ∷ []
@@ -33,76 +35,89 @@ pub opened_within : (end : ℕ) (vs : List Variable) (at : ℕ) (entries : List 
 opened_within end vs at [] within = tt
 opened_within end vs at (entry ∷ entries) within = (within, opened_within end vs (at + 1) entries within)
 
--- one row more stands in order behind the others
-rows_end : (count end at : ℕ) (rows : List Row) → InOrder count end at rows → at ≤ end
-rows_end count end at [] order = omega (arith, order)
-rows_end count end at (r ∷ rows) order = omega (arith, rows_end count end (at + count) rows order.1)
+-- one place more
+pub places_more : (at n : ℕ) → range_with_len at (suc n) ≡ range_with_len at n ++ (at + n) ∷ []
+places_more at zero = let same : at ≡ at + 0 = omega arith in ap (λ (p : ℕ). p ∷ []) same
+places_more at (suc n) =
+    let same : at + 1 + n ≡ at + suc n = omega arith in
+    ap (λ (l : List ℕ). at ∷ l) (places_more (at + 1) n ∙ ap (λ (p : ℕ). range_with_len (at + 1) n ++ p ∷ []) same)
 
-order_more : (count end at : ℕ) (rows : List Row) (r : Row) → InOrder count end at rows → r.first ≡ end → InOrder count (end + count) at (rows ++ r ∷ [])
-order_more count end at [] r order here = (here ∙ sym order, ap (λ (n : ℕ). n + count) order)
-order_more count end at (s ∷ rows) r order here = (order.0, order_more count end (at + count) rows r order.1 here)
+pub place_added : (rows more : List ℕ) (at : ℕ) → more ≡ rows ++ at ∷ [] → rows ≡ range_with_len 0 at → more ≡ range_with_len 0 (at + 1)
+place_added rows more at adds is =
+    let same : at ≡ 0 + at = omega arith in
+    adds
+    ∙ ap (λ (l : List ℕ). l ++ at ∷ []) is
+    ∙ ap (λ (p : ℕ). range_with_len 0 at ++ p ∷ []) same
+    ∙ sym (places_more 0 at)
+    ∙ ap (λ (n : ℕ). range_with_len 0 n) (sym (add-one at))
 
-pub row_in_order : (vs : List Variable) (values more : List Held) (rows all : List Row) (r : Row) → InOrder (length (names_in vs)) (length values) 0 rows
-    → all ≡ rows ++ r ∷ [] → more ≡ values ++ values_in vs → r.first ≡ length values → InOrder (length (names_in vs)) (length more) 0 all
-row_in_order vs values more rows all r order adds is here =
-    let count : length more ≡ length values + length (names_in vs) =
-    ap (λ (l : List Held). length l) is
-    ∙ length-append values (values_in vs)
-    ∙ ap (λ (n : ℕ). length values + n) (length-map vs (λ (v : Variable). v.value) ∙ sym (length-map vs (λ (v : Variable). v.name))) in
-    subst (λ (n : ℕ). InOrder (length (names_in vs)) n 0 all) (sym count)
-    (subst (λ (l : List Row). InOrder (length (names_in vs)) (length values + length (names_in vs)) 0 l) (sym adds)
-    (order_more (length (names_in vs)) (length values) 0 rows r order here))
+-- the same values once more
+repeated_more : (n : ℕ) (values : List Held) → repeated n values ++ values ≡ repeated (suc n) values
+repeated_more zero values = sym (append-nil values)
+repeated_more (suc n) values = append_assoc values (repeated n values) values ∙ ap (λ (l : List Held). values ++ l) (repeated_more n values)
 
--- the values of one entry more leave the others what they are
-states_kept : (names : List NameId) (values more : List Held) (at : ℕ) (rows : List Row) → InOrder (length names) (length values) at rows
-    → states_at names (values ++ more) rows ≡ states_at names values rows
-states_kept names values more at [] order = refl
-states_kept names values more at (r ∷ rows) order =
-    let last : at + length names ≤ length values = rows_end (length names) (length values) (at + length names) rows order.1 in
-    let there : r.first ≤ length values = omega (arith, last, order.0) in
-    let many : length names ≤ length (drop r.first values) = omega (arith, last, order.0, length-drop r.first values) in
-    ap (λ (vs : List Variable).
-    let e : EntryState = record { entry = r.entry; variables = vs; position = r.position } in
-    e ∷ states_at names (values ++ more) rows)
-    (ap (λ (l : List Held). named names l) (drop-append-le r.first values more there) ∙ more_behind names (drop r.first values) more many)
-    ∙ ap (λ (l : List EntryState). state_at names values r ∷ l) (states_kept names values more (at + length names) rows order.1)
+pub values_added : (own values more : List Held) (n : ℕ) → more ≡ values ++ own → values ≡ repeated n own → more ≡ repeated (n + 1) own
+values_added own values more n adds is =
+    adds ∙ ap (λ (l : List Held). l ++ own) is ∙ repeated_more n own ∙ ap (λ (k : ℕ). repeated k own) (sym (add-one n))
 
--- a row whose values stand at the end
-last_state : (vs : List Variable) (values : List Held) (r : Row) (entry : Entry) (n : ℕ) → r.first ≡ length values → r.entry ≡ entry → r.position ≡ n
-    → state_at (names_in vs) (values ++ values_in vs) r ≡ record { entry = entry; variables = vs; position = n }
-last_state vs values r entry n here is position =
-    ap (λ (k : ℕ). let e : EntryState = record { entry = r.entry; variables = named (names_in vs) (drop k (values ++ values_in vs)); position = r.position } in e) here
-    ∙ ap (λ (ws : List Variable). let e : EntryState = record { entry = r.entry; variables = ws; position = r.position } in e)
-    (ap (λ (l : List Held). named (names_in vs) l) (drop-append_seam values (values_in vs)) ∙ all_named vs)
-    ∙ ap (λ (x : Entry). let e : EntryState = record { entry = x; variables = vs; position = r.position } in e) is
-    ∙ ap (λ (k : ℕ). let e : EntryState = record { entry = entry; variables = vs; position = k } in e) position
+length_repeated : (n : ℕ) (values : List Held) → length (repeated n values) ≡ n * length values
+length_repeated zero values = sym (zero-mul (length values))
+length_repeated (suc n) values =
+    omega (arith, length-append values (repeated n values), length_repeated n values, suc-mul n (length values))
 
--- one entry more
-pub row_opened : (vs : List Variable) (values more : List Held) (rows all : List Row) (r : Row) (entries : List Entry) (i : ℕ) (d : Entry) (whole : List EntryState)
-    → InOrder (length (names_in vs)) (length values) 0 rows → all ≡ rows ++ r ∷ [] → more ≡ values ++ values_in vs → r.first ≡ length values
-    → r.entry ≡ get_or entries i d → r.position ≡ length rows → i < length entries
-    → states_at (names_in vs) values rows ++ states_from vs (length rows) (drop i entries) ≡ whole
-    → states_at (names_in vs) more all ++ states_from vs (length all) (drop (i + 1) entries) ≡ whole
-row_opened vs values more rows all r entries i d whole order adds is here entry position within so_far =
-    let names : List NameId = names_in vs in
-    let state : EntryState = record { entry = get_or entries i d; variables = vs; position = length rows } in
-    let behind : List EntryState = states_from vs (length rows + 1) (drop (i + 1) entries) in
-    ap (λ (l : List Held). states_at names l all ++ states_from vs (length all) (drop (i + 1) entries)) is
-    ∙ ap (λ (l : List Row). states_at names (values ++ values_in vs) l ++ states_from vs (length l) (drop (i + 1) entries)) adds
-    ∙ ap (λ (n : ℕ). states_at names (values ++ values_in vs) (rows ++ r ∷ []) ++ states_from vs n (drop (i + 1) entries)) (length-append rows (r ∷ []))
-    ∙ ap (λ (l : List EntryState). l ++ behind) (map-append (state_at names (values ++ values_in vs)) rows (r ∷ []))
-    ∙ append_assoc (states_at names (values ++ values_in vs) rows) (state_at names (values ++ values_in vs) r ∷ []) behind
-    ∙ ap (λ (l : List EntryState). l ++ state_at names (values ++ values_in vs) r ∷ behind) (states_kept names values (values_in vs) 0 rows order)
-    ∙ ap (λ (s : EntryState). states_at names values rows ++ s ∷ behind) (last_state vs values r (get_or entries i d) (length rows) here entry position)
-    ∙ ap (λ (l : List Entry). states_at names values rows ++ states_from vs (length rows) l)
-    (sym (drop-cons entries i d within ∙ ap (λ (n : ℕ). get_or entries i d ∷ drop n entries) (sym (add-one i))))
-    ∙ so_far
+-- at each place the entry has the variables that all have
+own_values : (vs : List Variable) (n place : ℕ) → place < n
+    → named (names_in vs) (drop (place * length (names_in vs)) (repeated n (values_in vs))) ≡ vs
+own_values vs zero place within = absurd (omega (arith, within))
+own_values vs (suc n) zero within =
+    ap (λ (k : ℕ). named (names_in vs) (drop k (values_in vs ++ repeated n (values_in vs)))) (zero-mul (length (names_in vs)))
+    ∙ more_behind (names_in vs) (values_in vs) (repeated n (values_in vs)) (omega (arith, as_many vs))
+    ∙ all_named vs
+own_values vs (suc n) (suc place) within =
+    let count : ℕ = length (names_in vs) in
+    let sum : suc place * count ≡ count + place * count = omega (arith, suc-mul place count) in
+    ap (λ (l : List Held). named (names_in vs) l)
+    (ap (λ (k : ℕ). drop k (values_in vs ++ repeated n (values_in vs))) sum
+    ∙ sym (drop-drop (place * count) count (values_in vs ++ repeated n (values_in vs)))
+    ∙ ap (λ (k : ℕ). drop (place * count) (drop k (values_in vs ++ repeated n (values_in vs)))) (sym (as_many vs))
+    ∙ ap (λ (l : List Held). drop (place * count) l) (drop-append_seam (values_in vs) (repeated n (values_in vs))))
+    ∙ own_values vs n place (omega (arith, within))
 
--- rows in their order are a table
-pub opened_table : (count : ℕ) (values : List Held) (rows : List Row) → InOrder count (length values) 0 rows → IsTable count values rows
-opened_table count values rows order = record { ordered = rows; in_order = order; permuted = IsPermutation-refl rows }
+-- the entries from a place on
+states_open : (vs : List Variable) (entries : List Entry) (at n : ℕ) → at + n ≡ length entries
+    → states_at (names_in vs) (repeated (length entries) (values_in vs)) entries (range_with_len at n) ≡ states_from vs at (drop at entries)
+states_open vs entries at zero all = ap (λ (l : List Entry). states_from vs at l) (sym (drop_all at entries (omega (arith, all))))
+states_open vs entries at (suc n) all =
+    let within : at < length entries = omega (arith, all) in
+    let values : List Held = repeated (length entries) (values_in vs) in
+    ap (λ (l : List EntryState). state_at (names_in vs) values entries at ∷ l) (states_open vs entries (at + 1) n (omega (arith, all)))
+    ∙ ap (λ (ws : List Variable).
+    let e : EntryState = record { entry = get_or entries at nothing; variables = ws; position = at } in
+    e ∷ states_from vs (at + 1) (drop (at + 1) entries)) (own_values vs (length entries) at within)
+    ∙ ap (λ (l : List Entry). states_from vs at l) (sym (drop_more entries at nothing within))
 
-pub all_opened : (vs : List Variable) (states whole : List EntryState) (n i : ℕ) (entries : List Entry) → length entries ≤ i
-    → states ++ states_from vs n (drop i entries) ≡ whole → states ≡ whole
-all_opened vs states whole n i entries past so_far =
-    sym (append-nil states) ∙ ap (λ (l : List Entry). states ++ states_from vs n l) (sym (drop_all i entries past)) ∙ so_far
+-- places and values that were made for a list are a table, whose entries are those of the list
+module _ (vs : List Variable) (entries : List Entry) (own values : List Held) (rows : List ℕ) (many : ℕ) (count : many ≡ length entries)
+    (placed : rows ≡ range_with_len 0 many) (lent : own ≡ values_in vs) (made : values ≡ repeated many own) where
+  all_placed : rows ≡ range_with_len 0 (length entries)
+  all_placed = placed ∙ ap (λ (n : ℕ). range_with_len 0 n) count
+
+  all_made : values ≡ repeated (length entries) (values_in vs)
+  all_made = made ∙ ap (λ (n : ℕ). repeated n own) count ∙ ap (λ (l : List Held). repeated (length entries) l) lent
+
+  pub table_opened : IsTable (length (names_in vs)) values entries rows
+  table_opened = record {
+    permuted =
+        subst (λ (l : List ℕ). IsPermutation (range_with_len 0 (length entries)) l) (sym all_placed) (IsPermutation-refl (range_with_len 0 (length entries)));
+    many =
+        ap (λ (l : List Held). length l) all_made
+        ∙ length_repeated (length entries) (values_in vs)
+        ∙ ap (λ (n : ℕ). length entries * n) (as_many vs);
+  }
+
+  pub rows_opened : states_at (names_in vs) values entries rows ≡ states_from vs 0 entries
+  rows_opened =
+      let all : 0 + length entries ≡ length entries = omega arith in
+      ap (λ (l : List Held). states_at (names_in vs) l entries rows) all_made
+      ∙ ap (λ (l : List ℕ). states_at (names_in vs) (repeated (length entries) (values_in vs)) entries l) all_placed
+      ∙ states_open vs entries 0 (length entries) all

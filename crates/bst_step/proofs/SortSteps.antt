@@ -1,5 +1,5 @@
 -- The order of SORT is the stable order by the sort keys' bytes.
-use Rattle.std.proofs.Common.{◌≡◌, refl, sym, ap, ◌∙◌, Bool, true, false, cond, not, ℕ, List, [], ◌∷◌, drop, map, slice_get, Option, None, Some, Ordering, Less, Equal, Greater}
+use Rattle.std.proofs.Common.{◌≡◌, refl, sym, ap, ◌∙◌, Bool, true, false, cond, not, ℕ, ◌*◌, List, [], ◌∷◌, drop, length, map, slice_get, Option, None, Some, Ordering, Less, Equal, Greater}
 use Rattle.std.specs.Ordering.{nat_cmp, is_lt, is_le, ordering_reverse}
 use Rattle.std.specs.Cmp.{IsStrictWeakOrder}
 use Rattle.std.specs.Cmp.Lexicographic.{slice_cmp}
@@ -9,9 +9,9 @@ use Rattle.std.specs.List.Sorted.{IsStableBy, IsSortedBy}
 use Rattle.std.specs.Option.{option_and_then, option_map}
 use Rattle.name_table.specs.declared.names.NameId.{NameId}
 use Rattle.bst_meaning.specs.Config as config
+use Rattle.bst_meaning.specs.EntryLists.{Entry}
 use Rattle.bst_meaning.specs.Machine.{value_at}
 use Rattle.bst_meaning.specs.Sorting.{sort_key, inserted, sorted, string_of}
-use Rattle.bst_step.specs.declared.entry_states.Row.{Row}
 use Rattle.bst_step.specs.declared.held.Held.{Held}
 use Rattle.bst_step.specs.EntryStates.{state_at, state_in, states_at}
 use Rattle.bst_step.specs.Held.{value_in}
@@ -85,52 +85,52 @@ module _ {R : Type 0} (seen : R → config.EntryState) (marked : R → List Mark
       → map marked ys ≡ sorted_marks (map seen xs) (map marked xs)
   sorted_with_marks xs ys up stays = ap (map marked) (sorted_stable key_lt key_order xs ys up stays) ∙ marks_sorted xs
 
-module _ (pool : List ℕ) (names : List NameId) (values : List Held) where
+module _ (pool : List ℕ) (names : List NameId) (values : List Held) (entries : List Entry) where
   -- a row of a table as it is seen, and its marks
-  abbrev pub row_seen : Row → config.EntryState
-  row_seen r = state_in pool (state_at names values r)
+  abbrev pub row_seen : ℕ → config.EntryState
+  row_seen r = state_in pool (state_at names values entries r)
 
-  abbrev pub row_marked : Row → List Marked
-  row_marked r = marked_in (state_at names values r)
+  abbrev pub row_marked : ℕ → List Marked
+  row_marked r = marked_in (state_at names values entries r)
 
-  all_seen : (rows : List Row) → map (state_in pool) (states_at names values rows) ≡ map row_seen rows
+  all_seen : (rows : List ℕ) → map (state_in pool) (states_at names values entries rows) ≡ map row_seen rows
   all_seen [] = refl
   all_seen (r ∷ rows) = ap (λ (l : List config.EntryState). row_seen r ∷ l) (all_seen rows)
 
-  all_marked : (rows : List Row) → map marked_in (states_at names values rows) ≡ map row_marked rows
+  all_marked : (rows : List ℕ) → map marked_in (states_at names values entries rows) ≡ map row_marked rows
   all_marked [] = refl
   all_marked (r ∷ rows) = ap (λ (l : List (List Marked)). row_marked r ∷ l) (all_marked rows)
 
-  pub rows_sorted : (xs ys : List Row) → IsSortedBy (key_lt row_seen row_marked) ys → IsStableBy (key_lt row_seen row_marked) xs ys
-      → map (state_in pool) (states_at names values ys) ≡ sorted (map (state_in pool) (states_at names values xs))
+  pub rows_sorted : (xs ys : List ℕ) → IsSortedBy (key_lt row_seen row_marked) ys → IsStableBy (key_lt row_seen row_marked) xs ys
+      → map (state_in pool) (states_at names values entries ys) ≡ sorted (map (state_in pool) (states_at names values entries xs))
   rows_sorted xs ys up stays =
       all_seen ys ∙ sorted_entries row_seen row_marked xs ys up stays ∙ ap (λ (l : List config.EntryState). sorted l) (sym (all_seen xs))
 
-  pub rows_with_marks : (xs ys : List Row) → IsSortedBy (key_lt row_seen row_marked) ys → IsStableBy (key_lt row_seen row_marked) xs ys
-      → map marked_in (states_at names values ys) ≡ sorted_marks (map (state_in pool) (states_at names values xs)) (map marked_in (states_at names values xs))
+  pub rows_with_marks : (xs ys : List ℕ) → IsSortedBy (key_lt row_seen row_marked) ys → IsStableBy (key_lt row_seen row_marked) xs ys
+      → map marked_in (states_at names values entries ys) ≡ sorted_marks (map (state_in pool) (states_at names values entries xs)) (map marked_in (states_at names values entries xs))
   rows_with_marks xs ys up stays =
       all_marked ys
       ∙ sorted_with_marks row_seen row_marked xs ys up stays
       ∙ ap (λ (l : List config.EntryState). sorted_marks l (map row_marked xs)) (sym (all_seen xs))
-      ∙ ap (λ (l : List (List Marked)). sorted_marks (map (state_in pool) (states_at names values xs)) l) (sym (all_marked xs))
+      ∙ ap (λ (l : List (List Marked)). sorted_marks (map (state_in pool) (states_at names values entries xs)) l) (sym (all_marked xs))
 
   -- the sort key is the string of a variable of the row
-  key_held : (r : Row) (o : Option ℕ) → o ≡ place_of 38 names
-      → option_map (value_in pool) (option_and_then (λ (at : ℕ). slice_get (drop r.first values) at) o) ≡ value_at 38 (row_seen r).variables
+  key_held : (r : ℕ) (o : Option ℕ) → o ≡ place_of 38 names
+      → option_map (value_in pool) (option_and_then (λ (at : ℕ). slice_get (drop (r * length names) values) at) o) ≡ value_at 38 (row_seen r).variables
   key_held r o is =
-      ap (λ (p : Option ℕ). option_map (value_in pool) (option_and_then (λ (at : ℕ). slice_get (drop r.first values) at) p)) is
-      ∙ ap (λ (h : Option Held). option_map (value_in pool) h) (sym (value_named 38 names (drop r.first values)))
-      ∙ sym (value_held pool 38 (named names (drop r.first values)))
+      ap (λ (p : Option ℕ). option_map (value_in pool) (option_and_then (λ (at : ℕ). slice_get (drop (r * length names) values) at) p)) is
+      ∙ ap (λ (h : Option Held). option_map (value_in pool) h) (sym (value_named 38 names (drop (r * length names) values)))
+      ∙ sym (value_held pool 38 (named names (drop (r * length names) values)))
 
-  pub key_found : (r : Row) (at : ℕ) (h : Held) → Some at ≡ place_of 38 names → Some h ≡ slice_get (drop r.first values) at
+  pub key_found : (r : ℕ) (at : ℕ) (h : Held) → Some at ≡ place_of 38 names → Some h ≡ slice_get (drop (r * length names) values) at
       → string_of (value_in pool h) ≡ sort_key (row_seen r)
   key_found r at h is there =
       string_found 38 (row_seen r).variables (value_in pool h)
       (ap (λ (o : Option Held). option_map (value_in pool) o) there ∙ key_held r (Some at) is)
 
-  pub no_key_there : (r : Row) (at : ℕ) → Some at ≡ place_of 38 names → None ≡ slice_get (drop r.first values) at → [] ≡ sort_key (row_seen r)
+  pub no_key_there : (r : ℕ) (at : ℕ) → Some at ≡ place_of 38 names → None ≡ slice_get (drop (r * length names) values) at → [] ≡ sort_key (row_seen r)
   no_key_there r at is none =
       string_missing 38 (row_seen r).variables (ap (λ (o : Option Held). option_map (value_in pool) o) none ∙ key_held r (Some at) is)
 
-  pub no_key : (r : Row) → None ≡ place_of 38 names → [] ≡ sort_key (row_seen r)
+  pub no_key : (r : ℕ) → None ≡ place_of 38 names → [] ≡ sort_key (row_seen r)
   no_key r is = string_missing 38 (row_seen r).variables (key_held r None is)

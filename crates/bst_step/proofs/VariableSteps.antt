@@ -3,7 +3,7 @@ use Rattle.std.proofs.Common.{◌≡◌, ℕ, zero, suc, ◌<◌, ◌≤◌, Boo
 use Rattle.std.specs.Option.{option_and_then, option_map}
 use Rattle.std.proofs.Math.ListN.{set}
 use Rattle.std.proofs.lemmas.Bool.{eqb-true}
-use Rattle.std.proofs.lemmas.List.{append-nil, drop_all}
+use Rattle.std.proofs.lemmas.List.{append-nil, drop_all, length-map}
 use Rattle.std.proofs.lemmas.Option.{slice_get-get_or}
 use Rattle.name_table.specs.declared.names.NameId.{NameId}
 use Rattle.bst_meaning.specs.declared.value.Value.{Value}
@@ -52,6 +52,10 @@ values_named [] [] many = refl
 values_named [] (h ∷ values) many = absurd (omega (arith, many))
 values_named (name ∷ names) [] many = refl
 values_named (name ∷ names) (h ∷ values) many = ap (λ (l : List Held). h ∷ l) (values_named names values (omega (arith, many)))
+
+-- as many names as values
+pub as_many : (vs : List Variable) → length (values_in vs) ≡ length (names_in vs)
+as_many vs = length-map vs (λ (v : Variable). v.value) ∙ sym (length-map vs (λ (v : Variable). v.name))
 
 pub all_named : (vs : List Variable) → named (names_in vs) (values_in vs) ≡ vs
 all_named [] = refl

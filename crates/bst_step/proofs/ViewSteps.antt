@@ -10,8 +10,7 @@ use Rattle.name_table.specs.declared.names.NameId.{NameId}
 use Rattle.bst_meaning.specs.declared.value.Value.{Value}
 use Rattle.bst_meaning.specs.declared.value.Value.TheVariants.{Str}
 use Rattle.bst_meaning.specs.Config as config
-use Rattle.bst_meaning.specs.EntryLists.{Entry}
-use Rattle.bst_meaning.specs.Machine.{field_in, with_entry_variable, with_variable}
+use Rattle.bst_meaning.specs.Machine.{with_entry_variable, with_variable}
 use Rattle.bst_meaning.specs.Sorting.{string_of}
 use Rattle.bst_step.specs.declared.held.Held.{Held}
 use Rattle.bst_step.specs.declared.held.Held.TheVariants.{Int, Str as LentStr, Missing, Func, Made}
@@ -101,21 +100,6 @@ seen_at {A} pool hs room gs es seen at f is =
     ∙ ap (λ (h : Holding). option_map f (slice_get h.entries at)) is
   where
     by : (o : Option EntryState) → option_map (λ (e : EntryState). f (state_in pool e)) o ≡ option_map f (option_map (state_in pool) o)
-    by None = refl
-    by (Some e) = refl
-
--- the field of an entry that is seen at a place
-pub field_seen : (pool : List ℕ) (hs : List Held) (room : ℕ) (gs : List Variable) (es : List EntryState) (seen : Holding) (at : ℕ) (name : NameId)
-    (o : Option Entry) → holding_in pool hs room gs es ≡ seen → o ≡ option_map (λ (e : EntryState). e.entry) (slice_get es at)
-    → option_map (λ (e : Entry). field_in name e.fields) o ≡ option_map (λ (e : config.EntryState). field_in name e.entry.fields) (slice_get seen.entries at)
-field_seen pool hs room gs es seen at name o is here =
-    ap (λ (p : Option Entry). option_map (λ (e : Entry). field_in name e.fields) p) here
-    ∙ by (slice_get es at)
-    ∙ seen_at pool hs room gs es seen at (λ e. field_in name e.entry.fields) is
-  where
-    by : (p : Option EntryState)
-        → option_map (λ (e : Entry). field_in name e.fields) (option_map (λ (e : EntryState). e.entry) p)
-        ≡ option_map (λ (e : EntryState). field_in name e.entry.fields) p
     by None = refl
     by (Some e) = refl
 

@@ -1,11 +1,12 @@
 -- Entries with their variables, as the machine's definition has them (docs/MACHINE.md, "How it is run").
-use Rattle.std.specs.Prelude.{◌≡◌, ℕ, ◌+◌, List, [], ◌∷◌, drop, length, map, slice_get, slice_set}
+use Rattle.std.specs.Prelude.{◌≡◌, ℕ, zero, suc, ◌+◌, ◌*◌, List, [], ◌∷◌, ◌++◌, drop, get_or, length, map, slice_get, slice_set}
+use Rattle.std.specs.List.{range_with_len}
 use Rattle.std.specs.List.Sorted.{IsPermutation}
 use Rattle.std.specs.Option.{option_map_or}
 use Rattle.name_table.specs.declared.names.NameId.{NameId}
 use Rattle.bst_meaning.specs.Config as config
 use Rattle.bst_meaning.specs.EntryLists.{Entry}
-use Rattle.bst_step.specs.declared.entry_states.Row.{Row}
+use Rattle.entry_store.specs.PackedEntries.{nothing}
 use Rattle.bst_step.specs.declared.held.Held.{Held}
 use Rattle.bst_step.specs.declared.variables.Variable.{Variable}
 use Rattle.bst_step.specs.Variables.{VariablesWithin, named, variable_in, with_held}
@@ -16,24 +17,28 @@ pub record EntryState : Type 0 where
   pub variables : List Variable
   pub position : ℕ
 
--- the entry of a row, whose variables have these names and hold what stands in a table from a place on
-abbrev pub state_at : List NameId → List Held → Row → EntryState
-state_at names values row = record { entry = row.entry; variables = named names (drop row.first values); position = row.position }
+-- the variables of these names for a place, where the values of one place after the other stand in a list
+abbrev pub variables_at : List NameId → List Held → ℕ → List Variable
+variables_at names values place = named names (drop (place * length names) values)
 
--- the entries of a table
-abbrev pub states_at : List NameId → List Held → List Row → List EntryState
-states_at names values rows = map (state_at names values) rows
+-- the entry at a place of a list, with its variables
+abbrev pub state_at : List NameId → List Held → List Entry → ℕ → EntryState
+state_at names values entries place =
+    record { entry = get_or entries place nothing; variables = variables_at names values place; position = place }
 
--- the values of rows stand one after the other from a place on to an end, as many of each
-abbrev pub InOrder : ℕ → ℕ → ℕ → List Row → Type 0
-InOrder count end at [] = at ≡ end
-InOrder count end at (row ∷ rows) = (row.first ≡ at) × InOrder count end (at + count) rows
+-- the entries at these places of a list
+abbrev pub states_at : List NameId → List Held → List Entry → List ℕ → List EntryState
+states_at names values entries rows = map (state_at names values entries) rows
 
--- the rows of a table, in any order: each has so many of the values, and between them they have all
-pub record IsTable (count : ℕ) (values : List Held) (rows : List Row) : Type 0 where
-  pub ordered : List Row
-  pub in_order : InOrder count (length values) 0 ordered
-  pub permuted : IsPermutation ordered rows
+-- the places of all entries of a list, in any order, and of the values so many for each entry
+pub record IsTable (count : ℕ) (values : List Held) (entries : List Entry) (rows : List ℕ) : Type 0 where
+  pub permuted : IsPermutation (range_with_len 0 (length entries)) rows
+  pub many : length values ≡ length entries * count
+
+-- these values so many times
+abbrev pub repeated : ℕ → List Held → List Held
+repeated zero values = []
+repeated (suc n) values = values ++ repeated n values
 
 -- the entries of a list from a position on, each with the same variables
 abbrev pub states_from : List Variable → ℕ → List Entry → List EntryState

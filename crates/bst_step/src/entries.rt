@@ -37,10 +37,10 @@ impl<'a> State<'a> {
         ensures fits { 1 ≤ self.old.values.room → Fits result }
         ensures entries { OnErr result (self.new.values.entries ≡ self.old.values.entries) }
     {
-        match self.visited_placed() {
-            Some(placed) => {
-                let entry_type = placed.entry().entry_type();
-                let name = defined_type(style, placed.type_id(), entry_type);
+        match self.visited_typed() {
+            Some(typed) => {
+                let entry_type = typed.entry().entry_type();
+                let name = defined_type(style, typed.type_id(), entry_type);
                 self.push_lent(Operand::Str(name))
             }
             None => Err(Stop::Fault(Fault::NoEntry)),

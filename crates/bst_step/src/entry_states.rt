@@ -1,36 +1,27 @@
 //! The entries of a run, each with its variables.
 
-ghost use Rattle.std.specs.Prelude.{◌≡◌, ◌≤◌, ℕ, List, [], length, map, option_map, slice_get, take, IfOk, OnErr, OnOk};
+ghost use Rattle.std.specs.Prelude.{◌≡◌, ℕ, List, [], length, map, option_map, slice_get, take, IfOk, OnErr, OnOk};
 ghost use Rattle.std.specs.Option.{option_and_then};
-ghost use Rattle.name_table.specs.declared.names.NameId.{NameId};
 ghost use Rattle.bst_meaning.specs.Config as config;
-ghost use Rattle.bst_meaning.specs.Sorting as rule;
-ghost use Rattle.bst_step.specs.declared.held.Held.{Held};
-ghost use Rattle.bst_step.specs.EntryStates.{EntriesWithin, state_in, states_at, with_held_in};
+ghost use Rattle.bst_meaning.specs.Machine as rule;
+ghost use Rattle.bst_meaning.specs.Sorting.{sorted};
+ghost use Rattle.bst_step.specs.EntryStates.{EntriesWithin, state_in, with_held_in};
+ghost use Rattle.bst_step.specs.Held.{value_of};
 ghost use Rattle.bst_step.specs.Machine.{key_at};
 ghost use Rattle.bst_step.specs.Marks.{AreLent, AreLentIn, marked_in, sorted_marks};
 ghost use Rattle.bst_step.specs.Variables.{VariablesWithin, held_at, variable_in};
 
-use crate::fields::PlacedEntry;
-use crate::held::{Held, gather_values, settle_values, value_from};
+use crate::fields::{field_of, standing};
+use crate::held::{Held, Operand, gather_values, settle_values};
 use crate::order::sort_rows;
+use crate::rows::{entry_at, place_at, rows_of, value_at, values_of};
+use crate::typed::{TypedEntry, type_id_at, type_ids};
 use crate::variables::{Variable, Variables};
 use bv_base::memory::NoMemory;
 use entry_store::entry::EntryList;
 use name_table::names::{NameId, Names};
-use name_table::opening::SORT_KEY;
 use std::alloc::Global;
 use std::marker::Model;
-use std::rc::Rc;
-
-/// An entry, and its position in the list with which the run opened, counted from 0.
-#[derive(Drop)]
-pub struct Row<'a> {
-    pub entry: PlacedEntry<'a>,
-    pub position: u64,
-    /// Where the values of its variables begin among those of all entries.
-    pub first: usize,
-}
 
 /// The entries of a run with their variables, whose values stand in one vector, so that an entry takes no allocation. Contracts
 /// see the list of the entries.
@@ -38,30 +29,41 @@ pub struct Row<'a> {
 pub struct EntryTable<'a> {
     /// The variables that each entry has, as the run opens.
     own: Variables<'a>,
-    rows: Vec<Row<'a>>,
+    /// The list with which the run opened.
+    list: &'a EntryList,
+    /// By the id of its name, the place of each field, where the fields of all entries stand so.
+    places: Option<Vec<usize>>,
+    /// By the place of each entry in the list, the id of the name that its type is.
+    type_ids: Vec<NameId>,
+    /// The places of the entries in the list, in their order now.
+    rows: Vec<u32>,
+    /// What the variables of the entry at each place hold.
     values: Vec<Held<'a>>,
 }
 
 impl<'a> Model for EntryTable<'a> {
-    ghost use Rattle.std.specs.Prelude.{List, length};
+    ghost use Rattle.std.specs.Prelude.{List, length, IfSome};
     ghost use Rattle.bst_step.specs.EntryStates.{EntryState, IsTable, states_at};
+    ghost use Rattle.bst_step.specs.Places.{FieldsStandAt};
     ghost use Rattle.bst_step.specs.Variables.{names_in};
 
     ghost Value = { List EntryState };
 
-    ghost view = { λ t. states_at (names_in t.own) t.values.items t.rows.items };
+    ghost view = { λ t. states_at (names_in t.own) t.values.items t.list.now.entries t.rows.items };
 
-    ghost invariant = { λ t. IsTable (length (names_in t.own)) t.values.items t.rows.items };
+    ghost invariant = { λ t.
+        IsTable (length (names_in t.own)) t.values.items t.list.now.entries t.rows.items
+        × IfSome t.places (λ places. FieldsStandAt places.items t.list.now.entries) };
 }
 
 impl<'a> EntryTable<'a> {
-    /// The entries of a list, each with the same variables, the places of its fields and the id of its type's name.
+    /// The entries of a list, each with the same variables, with the places of their fields.
     pub fn new(
         alloc: Global,
         own: Variables<'a>,
         list: &'a EntryList,
         names: &Names,
-        places: &Rc<Vec<usize>>,
+        places: Vec<usize>,
     ) -> Result<EntryTable<'a>, NoMemory>
         requires within { VariablesWithin 0 own }
         requires marks { AreLent own }
@@ -70,26 +72,18 @@ impl<'a> EntryTable<'a> {
         ensures opened { IfOk result (λ table.
             map (state_in []) table ≡ config.opening_entries (map (variable_in []) own.entry) 0 list.now.entries) }
     {
-        let length = list.len();
-        let count = length.saturating_mul(own.values().len());
-        let mut rows = Vec::with_capacity(alloc, length)?;
-        let mut values = Vec::with_capacity(alloc, count)?;
-        for at in 0..length {
-            let Some(entry) = list.at(at) else {
-                return Err(NoMemory);
-            };
-            let position = rows.as_slice().len() as u64;
-            let first = values.as_slice().len();
-            let type_id = names.find(entry.entry_type());
-            let placed = PlacedEntry::new(places, entry, type_id)?;
-            values.extend_from_slice(own.values())?;
-            rows.push(Row {
-                entry: placed,
-                position,
-                first,
-            })?;
-        }
-        Ok(EntryTable { own, rows, values })
+        let count = list.len();
+        let rows = rows_of(alloc, count)?;
+        let values = values_of(alloc, own.values(), count)?;
+        let type_ids = type_ids(alloc, list, names)?;
+        Ok(EntryTable {
+            own,
+            list,
+            places: standing(places, list),
+            type_ids,
+            rows,
+            values,
+        })
     }
 
     /// How many entries there are.
@@ -100,11 +94,27 @@ impl<'a> EntryTable<'a> {
     }
 
     /// The entry at a place.
-    pub fn entry(&self, at: usize) -> Option<&PlacedEntry<'a>>
-        ensures { option_map (λ e. e.now) result ≡ option_map (λ e. e.entry) (slice_get self.now at) }
+    pub fn entry(&self, at: usize) -> Option<TypedEntry<'a>>
+        ensures { result ≡ option_map (λ e. e.entry) (slice_get self.now at) }
     {
-        match self.rows.as_slice().get(at) {
-            Some(row) => Some(&row.entry),
+        let list = self.list;
+        let rows = self.rows.as_slice();
+        match entry_at(list, rows, at) {
+            Some(entry) => Some(TypedEntry::new(
+                entry,
+                type_id_at(self.type_ids.as_slice(), rows, at),
+            )),
+            None => None,
+        }
+    }
+
+    /// The value of a field of the entry at a place.
+    pub fn field(&self, at: usize, name: NameId) -> Option<Operand<'a>>
+        ensures { option_map value_of result ≡ option_map (λ e. rule.field_in name e.entry.fields) (slice_get self.now at) }
+    {
+        let list = self.list;
+        match entry_at(list, self.rows.as_slice(), at) {
+            Some(entry) => Some(field_of(&self.places, name, &entry)),
             None => None,
         }
     }
@@ -113,8 +123,8 @@ impl<'a> EntryTable<'a> {
     pub fn position(&self, at: usize) -> Option<u64>
         ensures { result ≡ option_map (λ e. e.position) (slice_get self.now at) }
     {
-        match self.rows.as_slice().get(at) {
-            Some(row) => Some(row.position),
+        match place_at(self.rows.as_slice(), at) {
+            Some(place) => Some(place as u64),
             None => None,
         }
     }
@@ -123,18 +133,23 @@ impl<'a> EntryTable<'a> {
     pub fn key(&self, position: u64) -> &'a [u8]
         ensures { (pool : List ℕ) → result.now ≡ key_at position (map (state_in pool) self.now) }
     {
-        key_in(self.rows.as_slice(), position)
+        let list = self.list;
+        match list.at(position as usize) {
+            Some(entry) => entry.key(),
+            None => &[],
+        }
     }
 
     /// What a variable of the entry at a place holds.
     pub fn value(&self, at: usize, name: NameId) -> Option<Held<'a>>
         ensures { result ≡ option_and_then (λ e. held_at name.0 e.variables) (slice_get self.now at) }
     {
-        let Some(place) = self.own.place(name) else {
+        let Some(index) = self.own.place(name) else {
             return None;
         };
-        match self.rows.as_slice().get(at) {
-            Some(row) => value_from(self.values.as_slice(), row.first, place),
+        let count = self.own.values().len();
+        match place_at(self.rows.as_slice(), at) {
+            Some(place) => value_at(self.values.as_slice(), place, count, index),
             None => None,
         }
     }
@@ -143,11 +158,12 @@ impl<'a> EntryTable<'a> {
     pub fn set(&mut self, at: usize, new: Variable<'a>)
         ensures { self.new ≡ with_held_in new.entry at self.old }
     {
-        let Some(place) = self.own.place(new.name) else {
+        let Some(among) = self.own.place(new.name) else {
             return;
         };
-        if let Some(row) = self.rows.as_slice().get(at) {
-            let index = row.first.saturating_add(place);
+        let count = self.own.values().len();
+        if let Some(place) = place_at(self.rows.as_slice(), at) {
+            let index = place.saturating_mul(count).saturating_add(among);
             if index < self.values.len() {
                 self.values[index] = new.value;
             }
@@ -156,7 +172,7 @@ impl<'a> EntryTable<'a> {
 
     /// Orders the entries by their sort keys, whose bytes may stand in a pool. Equal keys keep their order.
     pub fn sort(&mut self, pool: &[u8]) -> Result<(), NoMemory>
-        ensures sorted { OnOk result (map (state_in pool.now) self.new ≡ rule.sorted (map (state_in pool.now) self.old)) }
+        ensures sorted { OnOk result (map (state_in pool.now) self.new ≡ sorted (map (state_in pool.now) self.old)) }
         ensures within { (end : ℕ) → EntriesWithin end self.old → EntriesWithin end self.new }
         ensures marks { OnOk result (map marked_in self.new ≡ sorted_marks (map (state_in pool.now) self.old) (map marked_in self.old)) }
         ensures kept { OnErr result (self.new ≡ self.old) }
@@ -178,17 +194,4 @@ impl<'a> EntryTable<'a> {
         settle_values(self.values.as_mut_slice(), at);
         Ok(())
     }
-}
-
-/// The key of the entry with this position.
-fn key_in<'a>(rows: &[Row<'a>], position: u64) -> &'a [u8]
-    ensures { (pool : List ℕ) (names : List NameId) (values : List Held) →
-        result.now ≡ key_at position (map (state_in pool) (states_at names values rows.now)) }
-{
-    for row in rows {
-        if row.position == position {
-            return row.entry.entry().key();
-        }
-    }
-    &[]
 }

@@ -1,84 +1,50 @@
-//! Entries whose fields are found by their places.
+//! The fields of entries, which are found by their places.
 
-ghost use Rattle.std.specs.Prelude.{◌≡◌, true, map, option_map, IfOk};
+ghost use Rattle.std.specs.Prelude.{◌≡◌, true, map, option_map, IfSome};
 ghost use Rattle.bst_meaning.specs.Machine as rule;
 ghost use Rattle.bst_step.specs.Held.{value_of};
-ghost use Rattle.bst_step.specs.Places.{StandAt};
+ghost use Rattle.bst_step.specs.Places.{FieldsStandAt, StandAt};
 
 use crate::held::Operand;
-use bv_base::memory::NoMemory;
-use entry_store::entry::Entry;
+use entry_store::entry::{Entry, EntryList};
 use name_table::names::NameId;
-use std::marker::Model;
-use std::rc::Rc;
 
-/// An entry, whose fields are found by their places. Contracts see the entry.
-#[derive(Drop)]
-pub struct PlacedEntry<'a> {
-    entry: Entry<'a>,
-    /// By the id of its name, the place of each field, where the entry's fields stand so. All entries share this table.
-    places: Option<Rc<Vec<usize>>>,
-    /// The id of the name that its type is, where the style has one when the run opens; a hint, which is tested where it is used.
-    type_id: Option<NameId>,
+/// The value of a field of an entry: its bytes, or that the entry doesn't have it. Where there is a table, the entry's fields stand at
+/// the places that it has.
+pub fn field_of<'a>(places: &Option<Vec<usize>>, name: NameId, entry: &Entry<'a>) -> Operand<'a>
+    requires { IfSome places.now (λ places. StandAt places.items (map (λ f. f.name) entry.now.fields)) }
+    ensures { value_of result ≡ rule.field_in name entry.now.fields }
+{
+    match places {
+        Some(places) => field_by(places.as_slice(), name, entry),
+        None => field_among(name, entry),
+    }
 }
 
-impl<'a> Model for PlacedEntry<'a> {
-    ghost use Rattle.std.specs.Prelude.{IfSome, map};
-    ghost use Rattle.bst_meaning.specs.EntryLists.{Entry};
-    ghost use Rattle.bst_step.specs.Places.{StandAt};
-
-    ghost Value = { Entry };
-
-    ghost view = { λ e. e.entry };
-
-    ghost invariant = { λ e. IfSome e.places (λ places. StandAt places.value.items (map (λ f. f.name) e.entry.fields)) };
+/// A table of places, where the fields of all entries of a list stand so.
+pub fn standing(places: Vec<usize>, list: &EntryList) -> Option<Vec<usize>>
+    ensures { IfSome result (λ places. FieldsStandAt places.items list.now.entries) }
+{
+    if all_stand(places.as_slice(), list) {
+        Some(places)
+    } else {
+        None
+    }
 }
 
-impl<'a> PlacedEntry<'a> {
-    /// An entry, with a table of places where its fields stand so.
-    pub fn new(
-        places: &Rc<Vec<usize>>,
-        entry: Entry<'a>,
-        type_id: Option<NameId>,
-    ) -> Result<PlacedEntry<'a>, NoMemory>
-        ensures { IfOk result (λ placed. placed ≡ entry.entry) }
-    {
-        if stand(places.as_slice(), entry.names()) {
-            let places = places.clone()?;
-            return Ok(PlacedEntry {
-                entry,
-                places: Some(places),
-                type_id,
-            });
-        }
-        Ok(PlacedEntry {
-            entry,
-            places: None,
-            type_id,
-        })
-    }
-
-    /// The entry.
-    pub fn entry(&self) -> &Entry<'a>
-        ensures { result.now ≡ self.now }
-    {
-        &self.entry
-    }
-
-    /// The id that was given for its type, which is tested where it is used.
-    pub fn type_id(&self) -> Option<NameId> {
-        self.type_id
-    }
-
-    /// The value of a field: its bytes, or that the entry doesn't have it.
-    pub fn field(&self, name: NameId) -> Operand<'a>
-        ensures { value_of result ≡ rule.field_in name self.now.fields }
-    {
-        match &self.places {
-            Some(places) => field_by(places.as_slice(), name, &self.entry),
-            None => field_among(name, &self.entry),
+/// Whether the fields of each entry of a list stand at the places that a table has for them.
+fn all_stand(places: &[usize], list: &EntryList) -> bool
+    ensures { result ≡ true → FieldsStandAt places.now list.now.entries }
+{
+    for at in 0..list.len() {
+        let Some(entry) = list.at(at) else {
+            return false;
+        };
+        if !stand(places, entry.names()) {
+            return false;
         }
     }
+    true
 }
 
 /// Whether each of the names of fields stands at the place that a table has for it.

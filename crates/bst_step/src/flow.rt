@@ -55,11 +55,11 @@ impl<'a> State<'a> {
             (built_in Builtin.CallType (context_of style.now (config_of self.old)) self.old.values.stack) (λ m. m) }
         ensures entries { OnErr result (self.new.values.entries ≡ self.old.values.entries) }
     {
-        let Some(placed) = self.visited_placed() else {
+        let Some(typed) = self.visited_typed() else {
             return Err(Stop::Fault(Fault::NoEntry));
         };
-        let entry_type = placed.entry().entry_type();
-        let name = match style.type_target_by(placed.type_id(), entry_type) {
+        let entry_type = typed.entry().entry_type();
+        let name = match style.type_target_by(typed.type_id(), entry_type) {
             TypeTarget::Function(name) => name,
             TypeTarget::Default(name) => name,
             TypeTarget::Skip => SKIP,

@@ -24,7 +24,6 @@ use name_table::names::{Kind, NameId, Names};
 use name_table::opening::{ENTRY_MAX, GLOBAL_MAX};
 use name_table::style::Style;
 use std::alloc::Global;
-use std::rc::Rc;
 
 /// Whose variables are meant.
 #[derive(Clone, Copy)]
@@ -47,7 +46,7 @@ pub fn opening<'a>(
     let own = variables(alloc, Owner::Entry, &style.names)?;
     let places = field_places(alloc, &style.names)?;
     let globals = variables(alloc, Owner::Style, &style.names)?;
-    let entries = EntryTable::new(alloc, own, list, &style.names, &places)?;
+    let entries = EntryTable::new(alloc, own, list, &style.names, places)?;
     Ok(State {
         alloc,
         preamble: list.preamble(),
@@ -131,8 +130,8 @@ fn push_variable<'a>(
 }
 
 /// By the ids of the style's names, the place of each field among its fields.
-fn field_places(alloc: Global, names: &Names) -> Result<Rc<Vec<usize>>, NoMemory>
-    ensures { IfOk result (λ places. StandAt places.value.items (field_ids_from 0 names.now)) }
+fn field_places(alloc: Global, names: &Names) -> Result<Vec<usize>, NoMemory>
+    ensures { IfOk result (λ places. StandAt places.items (field_ids_from 0 names.now)) }
 {
     let mut places = Vec::new(alloc);
     let mut fields = 0;
@@ -140,7 +139,7 @@ fn field_places(alloc: Global, names: &Names) -> Result<Rc<Vec<usize>>, NoMemory
         places.push(fields)?;
         fields += count_of_fields(names.kind(NameId(id)));
     }
-    Ok(Rc::new(alloc, places)?)
+    Ok(places)
 }
 
 /// How many fields a name of a kind is.

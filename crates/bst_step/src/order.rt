@@ -1,15 +1,17 @@
 //! SORT: the entries in the order of `sort.key$`.
 
-ghost use Rattle.std.specs.Prelude.{◌≡◌, ℕ, List, map, OnErr, OnOk};
+ghost use Rattle.std.specs.Prelude.{◌≡◌, List, map, OnErr, OnOk};
 ghost use Rattle.std.specs.List.Sorted.{IsPermutation};
+ghost use Rattle.name_table.specs.Opening as names;
+ghost use Rattle.bst_meaning.specs.EntryLists.{Entry};
 ghost use Rattle.bst_meaning.specs.Sorting as rule;
-ghost use Rattle.bst_step.specs.EntryStates.{state_at, state_in, states_at};
+ghost use Rattle.bst_step.specs.EntryStates.{state_in, states_at, variables_at};
 ghost use Rattle.bst_step.specs.Held.{value_of};
 ghost use Rattle.bst_step.specs.Marks.{marked_in, sorted_marks};
-ghost use Rattle.bst_step.specs.Variables.{names_in};
+ghost use Rattle.bst_step.specs.Variables.{names_in, variable_in};
 
-use crate::entry_states::Row;
-use crate::held::{Held, Operand, value_from};
+use crate::held::{Held, Operand};
+use crate::rows::value_at;
 use crate::variables::Variables;
 use bv_base::memory::NoMemory;
 use name_table::opening::SORT_KEY;
@@ -19,28 +21,29 @@ pub fn sort_rows(
     pool: &[u8],
     own: &Variables<'_>,
     values: &[Held<'_>],
-    rows: &mut Vec<Row<'_>>,
+    rows: &mut Vec<u32>,
 ) -> Result<(), NoMemory>
-    ensures sorted { OnOk result (map (state_in pool.now) (states_at (names_in own.now) values.now rows.new.items)
-        ≡ rule.sorted (map (state_in pool.now) (states_at (names_in own.now) values.now rows.old.items))) }
-    ensures marks { OnOk result (map marked_in (states_at (names_in own.now) values.now rows.new.items)
-        ≡ sorted_marks (map (state_in pool.now) (states_at (names_in own.now) values.now rows.old.items))
-        (map marked_in (states_at (names_in own.now) values.now rows.old.items))) }
+    ensures sorted { (entries : List Entry) → OnOk result (map (state_in pool.now) (states_at (names_in own.now) values.now entries rows.new.items)
+        ≡ rule.sorted (map (state_in pool.now) (states_at (names_in own.now) values.now entries rows.old.items))) }
+    ensures marks { (entries : List Entry) → OnOk result (map marked_in (states_at (names_in own.now) values.now entries rows.new.items)
+        ≡ sorted_marks (map (state_in pool.now) (states_at (names_in own.now) values.now entries rows.old.items))
+        (map marked_in (states_at (names_in own.now) values.now entries rows.old.items))) }
     ensures permuted { IsPermutation rows.old.items rows.new.items }
     ensures kept { OnErr result (rows.new.items ≡ rows.old.items) }
 {
-    rows.sort_by(|a, b| sort_key(pool, own, values, a).cmp(sort_key(pool, own, values, b)))?;
+    rows.sort_by(|a, b| sort_key(pool, own, values, *a).cmp(sort_key(pool, own, values, *b)))?;
     Ok(())
 }
 
-/// The bytes of `sort.key$`.
-fn sort_key<'b>(pool: &'b [u8], own: &Variables<'_>, values: &[Held<'b>], row: &Row<'_>) -> &'b [u8]
-    ensures { result.now ≡ rule.sort_key (state_in pool.now (state_at (names_in own.now) values.now row.now)) }
+/// The bytes of `sort.key$` of the entry at a place.
+fn sort_key<'b>(pool: &'b [u8], own: &Variables<'_>, values: &[Held<'b>], place: u32) -> &'b [u8]
+    ensures { result.now ≡
+        rule.string_at names.sort_key.0 (map (variable_in pool.now) (variables_at (names_in own.now) values.now place)) }
 {
-    let Some(place) = own.place(SORT_KEY) else {
+    let Some(index) = own.place(SORT_KEY) else {
         return &[];
     };
-    match value_from(values, row.first, place) {
+    match value_at(values, place as usize, own.values().len(), index) {
         Some(held) => string_of(held.operand(pool)),
         None => &[],
     }

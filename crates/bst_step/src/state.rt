@@ -9,10 +9,10 @@ ghost use Rattle.bst_step.specs.State.{config_of, visit_in, LeavesRoom};
 ghost use Rattle.bst_step.specs.Frames.{part_of, tokens_left};
 ghost use Rattle.bst_step.specs.Surroundings.{context_in};
 
-use crate::fields::PlacedEntry;
 use crate::frame_list::Frames;
 use crate::held::Operand;
 use crate::surroundings::Surroundings;
+use crate::typed::TypedEntry;
 use crate::values::Values;
 use bst_meaning::fault::Fault;
 use bst_meaning::value::Target;
@@ -125,15 +125,15 @@ impl<'a> State<'a> {
     pub fn visited_entry(&self) -> Option<Entry<'a>>
         ensures { result ≡ option_map (λ e. e.entry) (rule.visited_entry (config_of self.now)) }
     {
-        match self.visited_placed() {
-            Some(placed) => Some(placed.entry().copied()),
+        match self.visited_typed() {
+            Some(typed) => Some(typed.entry().copied()),
             None => None,
         }
     }
 
-    /// The visited entry, with the places of its fields and the hint to its type.
-    pub fn visited_placed(&self) -> Option<&PlacedEntry<'a>>
-        ensures { option_map (λ e. e.now) result ≡ option_map (λ e. e.entry) (rule.visited_entry (config_of self.now)) }
+    /// The visited entry, with the hint to its type.
+    pub fn visited_typed(&self) -> Option<TypedEntry<'a>>
+        ensures { result ≡ option_map (λ e. e.entry) (rule.visited_entry (config_of self.now)) }
     {
         match self.visited_index() {
             Some(at) => self.values.entry(at),

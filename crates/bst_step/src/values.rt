@@ -15,9 +15,9 @@ ghost use Rattle.bst_step.specs.Values.{cut, given_globally, given_in_entry, joi
 ghost use Rattle.bst_step.specs.Variables.{VariablesWithin, variable_in};
 
 use crate::entry_states::EntryTable;
-use crate::fields::PlacedEntry;
 use crate::held::{Held, Operand, joined_in, made_in};
 use crate::stack::Stack;
+use crate::typed::TypedEntry;
 use crate::variables::{Variable, Variables};
 use bv_base::memory::NoMemory;
 use name_format::known::Known;
@@ -407,8 +407,8 @@ impl<'a> Values<'a> {
     }
 
     /// The entry at a place.
-    pub fn entry(&self, at: usize) -> Option<&PlacedEntry<'a>>
-        ensures { option_map (λ e. e.now) result ≡ option_map (λ e. e.entry) (slice_get self.now.entries at) }
+    pub fn entry(&self, at: usize) -> Option<TypedEntry<'a>>
+        ensures { result ≡ option_map (λ e. e.entry) (slice_get self.now.entries at) }
     {
         self.entries.entry(at)
     }
@@ -424,10 +424,7 @@ impl<'a> Values<'a> {
     pub fn field(&self, at: usize, name: NameId) -> Option<Operand<'a>>
         ensures { option_map value_of result ≡ option_map (λ e. rule.field_in name e.entry.fields) (slice_get self.now.entries at) }
     {
-        match self.entries.entry(at) {
-            Some(entry) => Some(entry.field(name)),
-            None => None,
-        }
+        self.entries.field(at, name)
     }
 
     /// The key of the entry with this position in the list with which the run opened, and no bytes where there is none.

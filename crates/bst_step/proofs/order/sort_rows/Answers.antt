@@ -7,16 +7,18 @@ use Rattle.bst_step.proofs.order.sort_rows.Goals as goal
 
 pub returns-clause-sorted : goal.returns-clause-sorted
 returns-clause-sorted c =
-    let seen = row_seen c.args.pool.now (names_in c.args.own.now) c.args.values.now in
-    let marked = row_marked c.args.pool.now (names_in c.args.own.now) c.args.values.now in
-    rows_sorted c.args.pool.now (names_in c.args.own.now) c.args.values.now c.args.rows.now.items c.sort_by.new.self.items
+    λ entries.
+    let seen = row_seen c.args.pool.now (names_in c.args.own.now) c.args.values.now entries in
+    let marked = row_marked c.args.pool.now (names_in c.args.own.now) c.args.values.now entries in
+    rows_sorted c.args.pool.now (names_in c.args.own.now) c.args.values.now entries c.args.rows.now.items c.sort_by.new.self.items
     (c.in_ok-sort_by.ensures.sorted (key_lt seen marked) (key_order seen marked) (always_returns_same _ _ _ (λ a r f k. search rules)))
     (c.in_ok-sort_by.ensures.stable (key_lt seen marked) (key_order seen marked) (always_returns_same _ _ _ (λ a r f k. search rules)))
 
 pub returns-clause-marks : goal.returns-clause-marks
 returns-clause-marks c =
-    let seen = row_seen c.args.pool.now (names_in c.args.own.now) c.args.values.now in
-    let marked = row_marked c.args.pool.now (names_in c.args.own.now) c.args.values.now in
-    rows_with_marks c.args.pool.now (names_in c.args.own.now) c.args.values.now c.args.rows.now.items c.sort_by.new.self.items
+    λ entries.
+    let seen = row_seen c.args.pool.now (names_in c.args.own.now) c.args.values.now entries in
+    let marked = row_marked c.args.pool.now (names_in c.args.own.now) c.args.values.now entries in
+    rows_with_marks c.args.pool.now (names_in c.args.own.now) c.args.values.now entries c.args.rows.now.items c.sort_by.new.self.items
     (c.in_ok-sort_by.ensures.sorted (key_lt seen marked) (key_order seen marked) (always_returns_same _ _ _ (λ a r f k. search rules)))
     (c.in_ok-sort_by.ensures.stable (key_lt seen marked) (key_order seen marked) (always_returns_same _ _ _ (λ a r f k. search rules)))

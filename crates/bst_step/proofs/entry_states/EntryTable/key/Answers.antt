@@ -1,14 +1,17 @@
--- The key is that of the row with the position.
-use Rattle.std.proofs.Common.{◌∙◌, List, ap, map}
-use Rattle.bst_step.specs.declared.entry_states.Row.{Row}
-use Rattle.bst_step.specs.EntryStates.{EntryState, state_in, states_at}
-use Rattle.bst_step.specs.Machine.{key_at}
-use Rattle.bst_step.specs.Variables.{names_in}
+-- The key is that of the entry at the place in the list.
+use Rattle.std.proofs.Common.{◌∙◌, [], Option, ap}
+use Rattle.std.specs.Option.{option_map_or}
+use Rattle.bst_meaning.specs.EntryLists.{Entry}
+use Rattle.bst_step.proofs.RowSteps.{key_there}
 use Rattle.bst_step.proofs.entry_states.EntryTable.key.Goals as goal
 
-pub returns : goal.returns
-returns c =
-    λ pool. c.key_in.ensures pool (names_in c.self.inside.own) c.self.inside.values.items
-    ∙ ap (λ (rows : List Row). key_at c.args.position (map (state_in pool) (states_at (names_in c.self.inside.own) c.self.inside.values.items rows)))
-    c.as_slice.ensures.value
-    ∙ ap (λ (es : List EntryState). key_at c.args.position (map (state_in pool) es)) c.self.view_is
+pub returns-in-Some : goal.returns-in-Some
+returns-in-Some c =
+    λ pool. c.key.ensures
+    ∙ ap (λ (o : Option Entry). option_map_or (λ (e : Entry). e.key) o []) c.in-Some.ensures
+    ∙ key_there pool _ _ _ _ _ _ c.args.position c.self.invariant.0 c.self.view_is
+
+pub returns-in-None : goal.returns-in-None
+returns-in-None c =
+    λ pool. ap (λ (o : Option Entry). option_map_or (λ (e : Entry). e.key) o []) c.in-None.ensures
+    ∙ key_there pool _ _ _ _ _ _ c.args.position c.self.invariant.0 c.self.view_is

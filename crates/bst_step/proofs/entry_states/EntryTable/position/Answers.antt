@@ -1,11 +1,16 @@
--- The position is that of the row at the place.
-use Rattle.bst_step.proofs.TableSteps.{none_seen, read_seen}
+-- The position is the place of the row's entry.
+use Rattle.std.proofs.Common.{◌∙◌, List, ℕ, ap, slice_get}
+use Rattle.bst_step.proofs.TableSteps.{place_there}
 use Rattle.bst_step.proofs.entry_states.EntryTable.position.Goals as goal
 
 pub returns-in-Some : goal.returns-in-Some
 returns-in-Some c =
-    read_seen _ _ _ _ _ c.args.at c.in-Some.row.now (λ e. e.position) c.self.view_is c.as_slice.ensures.value c.in-Some.ensures.lookup.3.0
-    c.in-Some.ensures.lookup.1
+    c.in-Some.ensures
+    ∙ ap (λ (rows : List ℕ). slice_get rows c.args.at) c.as_slice.ensures.value
+    ∙ place_there _ _ _ _ _ c.args.at c.self.view_is
 
 pub returns-in-None : goal.returns-in-None
-returns-in-None c = none_seen _ _ _ _ _ c.args.at (λ e. e.position) c.self.view_is c.as_slice.ensures.value c.in-None.ensures.lookup.3
+returns-in-None c =
+    c.in-None.ensures
+    ∙ ap (λ (rows : List ℕ). slice_get rows c.args.at) c.as_slice.ensures.value
+    ∙ place_there _ _ _ _ _ c.args.at c.self.view_is

@@ -10,7 +10,7 @@ use Rattle.bst_step.proofs.entry_states.EntryTable.renew.Goals as goal
 pub settle_values-requires : goal.settle_values-requires
 settle_values-requires c =
     let end = renewed_end c.args.pool.now c.args.fresh.now.items c.gather_values.new.fresh.items (length c.as_slice-at.result.now) (names_in c.self.inside.own)
-    c.self.inside.values.items c.self.inside.rows.items c.args.self.now c.self.invariant c.self.view_is c.requires (ap length c.as_slice-at.ensures.value)
+    c.self.inside.values.items c.self.inside.list.now.entries c.self.inside.rows.items c.args.self.now c.self.invariant.0 c.self.view_is c.requires (ap length c.as_slice-at.ensures.value)
     (c.in_ok-gather_values.ensures
     ∙ ap (λ (values : List Held). c.args.fresh.now.items ++ values_bytes c.args.pool.now values) c.as_slice.ensures.value) in
     let fits = c.gather_values.new.fresh.small in
@@ -26,7 +26,7 @@ settle_values-requires c =
 pub returns-clause-seen : goal.returns-clause-seen
 returns-clause-seen c =
     renewed_seen c.args.pool.now c.args.fresh.now.items c.gather_values.new.fresh.items (length c.as_slice-at.result.now) (names_in c.self.inside.own)
-    c.self.inside.values.items c.self.inside.rows.items c.args.self.now c.self.invariant c.self.view_is c.requires (ap length c.as_slice-at.ensures.value)
+    c.self.inside.values.items c.self.inside.list.now.entries c.self.inside.rows.items c.args.self.now c.self.invariant.0 c.self.view_is c.requires (ap length c.as_slice-at.ensures.value)
     (c.in_ok-gather_values.ensures
     ∙ ap (λ (values : List Held). c.args.fresh.now.items ++ values_bytes c.args.pool.now values) c.as_slice.ensures.value)
     _ (values_written (length c.as_slice-at.result.now) c.as_mut_slice.result.now c.self.inside.values.items c.settle_values.new.values
@@ -34,7 +34,7 @@ returns-clause-seen c =
 
 pub returns-clause-marks : goal.returns-clause-marks
 returns-clause-marks c =
-    renewed_marks (length c.as_slice-at.result.now) (names_in c.self.inside.own) c.self.inside.values.items _ c.self.inside.rows.items c.args.self.now
+    renewed_marks (length c.as_slice-at.result.now) (names_in c.self.inside.own) c.self.inside.values.items _ c.self.inside.list.now.entries c.self.inside.rows.items c.args.self.now
     c.self.view_is
     (values_written (length c.as_slice-at.result.now) c.as_mut_slice.result.now c.self.inside.values.items c.settle_values.new.values
     c.self.inside.values.len c.as_mut_slice.ensures.value c.as_mut_slice.ensures.len c.settle_values.ensures)
@@ -42,7 +42,7 @@ returns-clause-marks c =
 pub returns-clause-within : goal.returns-clause-within
 returns-clause-within c =
     renewed_within c.args.pool.now c.args.fresh.now.items c.gather_values.new.fresh.items (length c.as_slice-at.result.now) (names_in c.self.inside.own)
-    c.self.inside.values.items c.self.inside.rows.items c.args.self.now c.self.invariant c.self.view_is c.requires (ap length c.as_slice-at.ensures.value)
+    c.self.inside.values.items c.self.inside.list.now.entries c.self.inside.rows.items c.args.self.now c.self.invariant.0 c.self.view_is c.requires (ap length c.as_slice-at.ensures.value)
     (c.in_ok-gather_values.ensures
     ∙ ap (λ (values : List Held). c.args.fresh.now.items ++ values_bytes c.args.pool.now values) c.as_slice.ensures.value)
     _ (values_written (length c.as_slice-at.result.now) c.as_mut_slice.result.now c.self.inside.values.items c.settle_values.new.values

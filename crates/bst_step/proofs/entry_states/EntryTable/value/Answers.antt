@@ -1,32 +1,33 @@
 -- The value is that of the variable at the place of the name, in the row at the place.
-use Rattle.std.proofs.Common.{◌∙◌, List, ap, drop, sym, length, slice_get, refl}
-use Rattle.std.proofs.lemmas.Option.{slice_get_past, slice_get_read}
+use Rattle.std.proofs.Common.{◌∙◌, ◌*◌, List, ℕ, ap, drop, length, slice_get, sym}
 use Rattle.std.specs.Option.{option_and_then}
-use Rattle.bst_step.specs.declared.entry_states.Row.{Row}
 use Rattle.bst_step.specs.declared.held.Held.{Held}
 use Rattle.bst_step.specs.EntryStates.{EntryState}
 use Rattle.bst_step.specs.Variables.{held_at, names_in}
 use Rattle.bst_step.proofs.TableSteps.{no_entry_there, no_value_there, value_there}
+use Rattle.bst_step.proofs.VariableSteps.{as_many}
 use Rattle.bst_step.proofs.entry_states.EntryTable.value.Goals as goal
 
-pub returns-in-Some-get : goal.returns-in-Some-get
-returns-in-Some-get c =
-    c.value_from.ensures
-    ∙ ap (λ (vs : List Held). slice_get (drop c.in-Some-get.row.now.first vs) c.in-Some.place) c.as_slice-in-Some-get.ensures.value
-    ∙ value_there (names_in c.self.inside.own) c.self.inside.values.items c.self.inside.rows.items c.args.at c.args.name.0 c.in-Some.place c.in-Some-get.row.now
-    (sym (ap (λ (rows : List Row). slice_get rows c.args.at) c.as_slice.ensures.value)
-    ∙ slice_get_read c.as_slice.result.now (length c.as_slice.result.now) c.args.at c.in-Some-get.row.now refl c.in-Some-get.ensures.lookup.3.0 c.in-Some-get.ensures.lookup.1)
-    c.in-Some.ensures
+pub returns-in-Some-place_at : goal.returns-in-Some-place_at
+returns-in-Some-place_at c =
+    c.value_at.ensures
+    ∙ ap (λ (vs : List Held). slice_get (drop (c.in-Some-place_at.place * length c.values-count.result.now) vs) c.in-Some.index)
+    c.as_slice-in-Some-place_at.ensures.value
+    ∙ ap (λ (n : ℕ). slice_get (drop (c.in-Some-place_at.place * n) c.self.inside.values.items) c.in-Some.index)
+    (ap length c.values-count.ensures ∙ as_many c.self.inside.own)
+    ∙ value_there (names_in c.self.inside.own) c.self.inside.values.items c.self.inside.list.now.entries c.self.inside.rows.items c.args.at
+    c.args.name.0 c.in-Some.index c.in-Some-place_at.place
+    (sym (c.in-Some-place_at.ensures ∙ ap (λ (rows : List ℕ). slice_get rows c.args.at) c.as_slice.ensures.value)) c.in-Some.ensures
     ∙ ap (λ (es : List EntryState). option_and_then (λ (e : EntryState). held_at c.args.name.0 e.variables) (slice_get es c.args.at)) c.self.view_is
 
 pub returns-in-None : goal.returns-in-None
 returns-in-None c =
-    no_entry_there (names_in c.self.inside.own) c.self.inside.values.items c.self.inside.rows.items c.args.at c.args.name.0
-    (sym (ap (λ (rows : List Row). slice_get rows c.args.at) c.as_slice.ensures.value)
-    ∙ slice_get_past c.as_slice.result.now c.args.at c.in-None.ensures.lookup.3)
+    no_entry_there (names_in c.self.inside.own) c.self.inside.values.items c.self.inside.list.now.entries c.self.inside.rows.items c.args.at
+    c.args.name.0 (sym (c.in-None.ensures ∙ ap (λ (rows : List ℕ). slice_get rows c.args.at) c.as_slice.ensures.value))
     ∙ ap (λ (es : List EntryState). option_and_then (λ (e : EntryState). held_at c.args.name.0 e.variables) (slice_get es c.args.at)) c.self.view_is
 
 pub returns-in_default : goal.returns-in_default
 returns-in_default c =
-    no_value_there (names_in c.self.inside.own) c.self.inside.values.items c.self.inside.rows.items c.args.at c.args.name.0 c.in_default.ensures
+    no_value_there (names_in c.self.inside.own) c.self.inside.values.items c.self.inside.list.now.entries c.self.inside.rows.items c.args.at
+    c.args.name.0 c.in_default.ensures
     ∙ ap (λ (es : List EntryState). option_and_then (λ (e : EntryState). held_at c.args.name.0 e.variables) (slice_get es c.args.at)) c.self.view_is
