@@ -251,7 +251,7 @@ entry_end pool kept hs gs es at id h held is = by (slice_get es at) refl is
     by (Some s) there e =
         omega (arith, held.in_front, held_within kept id s.variables h (entry_within kept at es s held.in_entries there) e)
 
--- the top is given to a variable
+-- one of the entries is another
 set_within : (end at : ℕ) (new : EntryState) (es : List EntryState) → VariablesWithin end new.variables → EntriesWithin end es
     → EntriesWithin end (set es at new)
 set_within end at new [] here within = within
@@ -279,15 +279,15 @@ written_back {A} written lent xs later more n as_many is count same =
     ∙ same
     ∙ ap written is
 
-pub held_given : (pool : List ℕ) (kept more : ℕ) (h : Held) (name : NameId) (hs fewer : List Held) (gs later : List Variable) (es : List EntryState)
-    → hs ≡ h ∷ drop 1 hs → fewer ≡ drop 1 hs → more ≡ max kept (end_of h) → later ≡ with_held (record { name = name; value = h }) gs
-    → IsHeld pool kept hs gs es → IsHeld pool more fewer later es
-held_given pool kept more h name hs fewer gs later es top is end given held =
-    let here : end_of h ≤ length pool = top_within pool kept hs gs es h held top in
+-- one variable holds another value, whose bytes stand in the pool
+pub held_given : (pool : List ℕ) (kept more : ℕ) (h : Held) (name : NameId) (hs : List Held) (gs later : List Variable) (es : List EntryState)
+    → end_of h ≤ length pool → more ≡ max kept (end_of h) → later ≡ with_held (record { name = name; value = h }) gs
+    → IsHeld pool kept hs gs es → IsHeld pool more hs later es
+held_given pool kept more h name hs gs later es here end given held =
     let last : end_of h ≤ more = omega (arith, end) in
     let first : kept ≤ more = omega (arith, end) in
     record {
-      on_stack = subst (ValuesWithin (length pool)) (sym is) (values_dropped (length pool) hs 1 held.on_stack);
+      on_stack = held.on_stack;
       in_globals =
           subst (VariablesWithin more) (sym given)
           (with_held_within more (record { name = name; value = h }) gs last (variables_later kept more first gs held.in_globals));
@@ -295,15 +295,14 @@ held_given pool kept more h name hs fewer gs later es top is end given held =
       in_front = omega (arith, held.in_front, here, end);
     }
 
-pub held_given_in : (pool : List ℕ) (kept more at : ℕ) (h : Held) (name : NameId) (hs fewer : List Held) (gs : List Variable) (es later : List EntryState)
-    → hs ≡ h ∷ drop 1 hs → fewer ≡ drop 1 hs → more ≡ max kept (end_of h) → later ≡ with_held_in (record { name = name; value = h }) at es
-    → IsHeld pool kept hs gs es → IsHeld pool more fewer gs later
-held_given_in pool kept more at h name hs fewer gs es later top is end given held =
-    let here : end_of h ≤ length pool = top_within pool kept hs gs es h held top in
+pub held_given_in : (pool : List ℕ) (kept more at : ℕ) (h : Held) (name : NameId) (hs : List Held) (gs : List Variable) (es later : List EntryState)
+    → end_of h ≤ length pool → more ≡ max kept (end_of h) → later ≡ with_held_in (record { name = name; value = h }) at es
+    → IsHeld pool kept hs gs es → IsHeld pool more hs gs later
+held_given_in pool kept more at h name hs gs es later here end given held =
     let last : end_of h ≤ more = omega (arith, end) in
     let first : kept ≤ more = omega (arith, end) in
     record {
-      on_stack = subst (ValuesWithin (length pool)) (sym is) (values_dropped (length pool) hs 1 held.on_stack);
+      on_stack = held.on_stack;
       in_globals = variables_later kept more first gs held.in_globals;
       in_entries =
           subst (EntriesWithin more) (sym given)

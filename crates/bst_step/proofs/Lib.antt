@@ -8,6 +8,7 @@ pub mod TableSteps
 pub mod RenewedSteps
 pub mod CutValues
 pub mod HeldSteps
+pub mod MovedSteps
 pub mod ValueSteps
 pub mod ViewSteps
 pub mod SettledSteps

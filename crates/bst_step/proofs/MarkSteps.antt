@@ -139,29 +139,31 @@ pub none_found : (o : Option Mark) (m : Marks) → o ≡ None → m ≡ found o 
 none_found None m is = refl
 none_found (Some mark) m is = absurd (cc)
 
--- the top goes to a variable of the whole style
-pub given_marks : (name : NameId) (hs more : List Held) (gs later : List Variable) (es : List EntryState) (h : Held) → hs ≡ h ∷ drop 1 hs
-    → more ≡ drop 1 hs → later ≡ with_held (record { name = name; value = h }) gs
+-- the top goes to a variable of the whole style, as a value of the same mark
+pub given_marks : (name : NameId) (hs more : List Held) (gs later : List Variable) (es : List EntryState) (h k : Held) → hs ≡ h ∷ drop 1 hs
+    → more ≡ drop 1 hs → later ≡ with_held (record { name = name; value = k }) gs → mark_of k ≡ mark_of h
     → marks_in more later es ≡ given_globally name (map mark_of hs) (marks_in hs gs es)
-given_marks name [] more gs later es h top left given = absurd (cc)
-given_marks name (x ∷ hs) more gs later es h top left given =
+given_marks name [] more gs later es h k top left given mark = absurd (cc)
+given_marks name (x ∷ hs) more gs later es h k top left given mark =
     let same : h ≡ x = cc in
     ap (λ (l : List Held). marks_in l later es) left
     ∙ ap (λ (vs : List Variable). marks_in hs vs es) given
-    ∙ ap (λ (l : List Marked). let m : Marks = record (marks_in hs gs es) { globals = l } in m) (with_marked_held (record { name = name; value = h }) gs)
-    ∙ ap (λ (k : Held). let m : Marks = record (marks_in hs gs es) { globals = with_marked (record { name = name; mark = mark_of k }) (map marked_of gs) } in m) same
+    ∙ ap (λ (l : List Marked). let m : Marks = record (marks_in hs gs es) { globals = l } in m) (with_marked_held (record { name = name; value = k }) gs)
+    ∙ ap (λ (t : Mark). let m : Marks = record (marks_in hs gs es) { globals = with_marked (record { name = name; mark = t }) (map marked_of gs) } in m)
+    (mark ∙ ap (λ (y : Held). mark_of y) same)
 
--- the top goes to a variable of an entry
-pub given_in_marks : (name : NameId) (at : ℕ) (hs more : List Held) (gs : List Variable) (es later : List EntryState) (h : Held) → hs ≡ h ∷ drop 1 hs
-    → more ≡ drop 1 hs → later ≡ with_held_in (record { name = name; value = h }) at es
+-- the top goes to a variable of an entry, as a value of the same mark
+pub given_in_marks : (name : NameId) (at : ℕ) (hs more : List Held) (gs : List Variable) (es later : List EntryState) (h k : Held) → hs ≡ h ∷ drop 1 hs
+    → more ≡ drop 1 hs → later ≡ with_held_in (record { name = name; value = k }) at es → mark_of k ≡ mark_of h
     → marks_in more gs later ≡ given_in_entry name (Some at) (map mark_of hs) (marks_in hs gs es)
-given_in_marks name at [] more gs es later h top left given = absurd (cc)
-given_in_marks name at (x ∷ hs) more gs es later h top left given =
+given_in_marks name at [] more gs es later h k top left given mark = absurd (cc)
+given_in_marks name at (x ∷ hs) more gs es later h k top left given mark =
     let same : h ≡ x = cc in
     ap (λ (l : List Held). marks_in l gs later) left
     ∙ ap (λ (vs : List EntryState). marks_in hs gs vs) given
-    ∙ ap (λ (l : List (List Marked)). let m : Marks = record (marks_in hs gs es) { entries = l } in m) (with_entry_marked_held (record { name = name; value = h }) at es)
-    ∙ ap (λ (k : Held). let m : Marks = record (marks_in hs gs es) { entries = with_entry_marked (record { name = name; mark = mark_of k }) (Some at) (map marked_in es) } in m) same
+    ∙ ap (λ (l : List (List Marked)). let m : Marks = record (marks_in hs gs es) { entries = l } in m) (with_entry_marked_held (record { name = name; value = k }) at es)
+    ∙ ap (λ (t : Mark). let m : Marks = record (marks_in hs gs es) { entries = with_entry_marked (record { name = name; mark = t }) (Some at) (map marked_in es) } in m)
+    (mark ∙ ap (λ (y : Held). mark_of y) same)
 
 -- none is on the stack, and none goes to a variable
 pub none_given : (name : NameId) (hs : List Held) (gs : List Variable) (es : List EntryState) → hs ≡ []

@@ -1,8 +1,7 @@
--- The values of all entries are brought to a fresh pool, and the entries are seen as they were.
-use Rattle.std.proofs.Common.{◌≡◌, ℕ, zero, suc, ◌+◌, ◌*◌, sym, ap, subst, ◌∙◌, List, [], ◌∷◌, ◌++◌, add-one, drop, get_or, length, map, arith, refl}
+-- Where values are renewed, the variables and the entries that hold them are seen as they were.
+use Rattle.std.proofs.Common.{◌≡◌, ℕ, zero, suc, ◌+◌, ◌*◌, ◌≤◌, sym, ap, subst, ◌∙◌, List, [], ◌∷◌, ◌++◌, add-one, drop, get_or, length, map, take, arith, refl}
 use Rattle.std.proofs.Math.Nat.{suc-mul, zero-mul}
-use Rattle.std.proofs.Math.Seq.{drop-append_seam}
-use Rattle.std.proofs.lemmas.List.{append-nil, drop-drop, drop-map, drop_all, length-append}
+use Rattle.std.proofs.lemmas.List.{drop-drop, drop-map, drop_all, length-map}
 use Rattle.std.proofs.lemmas.List.Elements.{All-cons, All-head, All-nil, All-tail}
 use Rattle.std.proofs.lemmas.List.Sorted.{All-permutation, IsPermutation-sym}
 use Rattle.std.specs.List.{All, range_with_len}
@@ -12,14 +11,23 @@ use Rattle.bst_meaning.specs.Config as config
 use Rattle.bst_meaning.specs.EntryLists.{Entry}
 use Rattle.entry_store.specs.PackedEntries.{nothing}
 use Rattle.bst_step.specs.declared.held.Held.{Held}
+use Rattle.bst_step.specs.declared.variables.Variable.{Variable}
 use Rattle.bst_step.specs.EntryStates.{EntriesWithin, EntryState, IsTable, state_at, state_in, states_at}
 use Rattle.bst_step.specs.Held.{ValuesWithin, value_in}
-use Rattle.bst_step.specs.Marks.{Mark, Marked, mark_of, marked_in}
-use Rattle.bst_step.specs.Settled.{values_bytes, values_count, values_settled}
-use Rattle.bst_step.specs.Variables.{VariablesWithin, named}
-use Rattle.bst_step.proofs.HeldSteps.{values_dropped}
-use Rattle.bst_step.proofs.SettledSteps.{marks_settled, values_counted, values_end, values_same}
-use Rattle.bst_step.proofs.VariableSteps.{marks_named, named_within, seen_named, within_named}
+use Rattle.bst_step.specs.Marks.{Mark, Marked, Marks, mark_of, marked_in, marked_of, marks_in}
+use Rattle.bst_step.specs.Settled.{IsRenewed}
+use Rattle.bst_step.specs.Values.{IsHeld}
+use Rattle.bst_step.specs.Variables.{AreNamed, VariablesWithin, named, variable_in}
+use Rattle.bst_step.proofs.HeldSteps.{none_within, values_dropped, written_back}
+use Rattle.bst_step.proofs.TableSteps.{table_stays}
+use Rattle.bst_step.proofs.VariableSteps.{marks_named, named_within, seen_named, still_named, within_named}
+
+-- as many values are left
+as_many : (pool fresh : List ℕ) (vs later : List Held) → IsRenewed pool vs fresh later → length later ≡ length vs
+as_many pool fresh vs later renewed =
+    sym (length-map later (λ (h : Held). mark_of h))
+    ∙ ap (λ (l : List Mark). length l) renewed.marks
+    ∙ length-map vs (λ (h : Held). mark_of h)
 
 -- what all variables hold ends where all values do
 pub states_within : (end : ℕ) (names : List NameId) (values : List Held) (entries : List Entry) (rows : List ℕ) → ValuesWithin end values
@@ -82,46 +90,73 @@ states_marked names xs ys entries (r ∷ rows) same =
     (sym (drop-map mark_of (r * length names) xs) ∙ ap (λ (l : List Mark). drop (r * length names) l) same ∙ drop-map mark_of (r * length names) ys))
     ∙ ap (λ (l : List (List Marked)). marked_in (state_at names ys entries r) ∷ l) (states_marked names xs ys entries rows same)
 
--- the values of a table are settled behind what stands in a fresh pool
-module _ (pool front fresh : List ℕ) (at : ℕ) (names : List NameId) (values : List Held) (entries : List Entry) (rows : List ℕ) (seen : List EntryState)
-    (table : IsTable (length names) values entries rows) (is : states_at names values entries rows ≡ seen) (within : EntriesWithin (length pool) seen)
-    (begin : at ≡ length front) (appended : fresh ≡ front ++ values_bytes pool values) where
-  old_within : ValuesWithin (length pool) values
-  old_within = table_within (length pool) names values entries rows table (subst (λ (es : List EntryState). EntriesWithin (length pool) es) (sym is) within)
+-- values that were lent of a vector are written back, so many as it has
+module _ (pool fresh : List ℕ) (lent values later : List Held) (n : ℕ) (same : lent ≡ values) (count : length lent ≡ n)
+    (renewed : IsRenewed pool lent fresh later) where
+  abbrev back : List Held
+  back = take n (later ++ drop (length later) values)
 
-  pub renewed_end : at + values_count values ≡ length fresh
-  renewed_end =
-      omega (
-        arith,
-        begin,
-        ap (λ (l : List ℕ). length l) appended,
-        length-append front (values_bytes pool values),
-        values_counted pool values old_within,
-      )
+  written : back ≡ later
+  written =
+      written_back (λ (l : List Held). later) lent values later (drop (length later) values) n (as_many pool fresh lent later renewed) same count refl
 
-  behind : drop at fresh ≡ values_bytes pool values ++ []
-  behind =
-      ap (λ (l : List ℕ). drop at l) appended
-      ∙ ap (λ (n : ℕ). drop n (front ++ values_bytes pool values)) begin
-      ∙ drop-append_seam front (values_bytes pool values)
-      ∙ sym (append-nil (values_bytes pool values))
+  as_long : length back ≡ length values
+  as_long =
+      ap (λ (l : List Held). length l) written ∙ as_many pool fresh lent later renewed ∙ ap (λ (l : List Held). length l) same
 
-  pub renewed_seen : (later : List Held) → later ≡ values_settled at values
-      → map (state_in fresh) (states_at names later entries rows) ≡ map (state_in pool) seen
-  renewed_seen later settled =
-      states_seen fresh pool names later values entries rows
-      (ap (λ (l : List Held). map (value_in fresh) l) settled ∙ values_same pool fresh [] at values old_within behind)
-      ∙ ap (λ (es : List EntryState). map (state_in pool) es) is
+  all_end : ValuesWithin (length fresh) back
+  all_end = subst (λ (l : List Held). ValuesWithin (length fresh) l) (sym written) renewed.within
 
-  pub renewed_within : (later : List Held) → later ≡ values_settled at values → EntriesWithin (length fresh) (states_at names later entries rows)
-  renewed_within later settled =
-      states_within (length fresh) names later entries rows
-      (subst (λ (l : List Held). ValuesWithin (length fresh) l) (sym settled)
-      (values_end at (length fresh) values (omega (arith, renewed_end))))
+  all_seen : map (value_in fresh) back ≡ map (value_in pool) values
+  all_seen = ap (λ (l : List Held). map (value_in fresh) l) written ∙ renewed.seen ∙ ap (λ (l : List Held). map (value_in pool) l) same
 
-pub renewed_marks : (at : ℕ) (names : List NameId) (values later : List Held) (entries : List Entry) (rows : List ℕ) (seen : List EntryState)
-    → states_at names values entries rows ≡ seen → later ≡ values_settled at values
-    → map marked_in (states_at names later entries rows) ≡ map marked_in seen
-renewed_marks at names values later entries rows seen is settled =
-    states_marked names later values entries rows (ap (λ (l : List Held). map mark_of l) settled ∙ marks_settled at values)
-    ∙ ap (λ (es : List EntryState). map marked_in es) is
+  all_marked : map mark_of back ≡ map mark_of values
+  all_marked = ap (λ (l : List Held). map mark_of l) written ∙ renewed.marks ∙ ap (λ (l : List Held). map mark_of l) same
+
+  -- the variables that hold them
+  module _ (names : List NameId) where
+    pub variables_named : (places : List ℕ) → AreNamed places names values → AreNamed places names back
+    variables_named places all = still_named places names values back as_long all
+
+    pub variables_end : VariablesWithin (length fresh) (named names back)
+    variables_end = named_within (length fresh) names back all_end
+
+    pub variables_seen : (seen : List Variable) → named names values ≡ seen → map (variable_in fresh) (named names back) ≡ map (variable_in pool) seen
+    variables_seen seen is =
+        seen_named fresh pool names back values all_seen ∙ ap (λ (vs : List Variable). map (variable_in pool) vs) is
+
+    pub variables_marked : (seen : List Variable) → named names values ≡ seen → map marked_of (named names back) ≡ map marked_of seen
+    variables_marked seen is = marks_named names back values all_marked ∙ ap (λ (vs : List Variable). map marked_of vs) is
+
+  -- the entries that hold them
+  module _ (names : List NameId) (entries : List Entry) (rows : List ℕ) where
+    pub table_whole : IsTable (length names) values entries rows → IsTable (length names) back entries rows
+    table_whole table = table_stays (length names) values back entries rows as_long table
+
+    pub table_end : EntriesWithin (length fresh) (states_at names back entries rows)
+    table_end = states_within (length fresh) names back entries rows all_end
+
+    pub table_seen : (seen : List EntryState) → states_at names values entries rows ≡ seen
+        → map (state_in fresh) (states_at names back entries rows) ≡ map (state_in pool) seen
+    table_seen seen is =
+        states_seen fresh pool names back values entries rows all_seen ∙ ap (λ (es : List EntryState). map (state_in pool) es) is
+
+    pub table_marked : (seen : List EntryState) → states_at names values entries rows ≡ seen
+        → map marked_in (states_at names back entries rows) ≡ map marked_in seen
+    table_marked seen is = states_marked names back values entries rows all_marked ∙ ap (λ (es : List EntryState). map marked_in es) is
+
+-- the variables that are renewed stand in the pool
+pub held_renewed : (fresh lent : List ℕ) (hs : List Held) (gs : List Variable) (es : List EntryState) → length hs ≤ 0 → lent ≡ fresh
+    → VariablesWithin (length fresh) gs → EntriesWithin (length fresh) es → IsHeld fresh (length lent) hs gs es
+held_renewed fresh lent hs gs es none same globals entries = record {
+  on_stack = none_within (length fresh) hs none;
+  in_globals = subst (λ (l : List ℕ). VariablesWithin (length l) gs) (sym same) globals;
+  in_entries = subst (λ (l : List ℕ). EntriesWithin (length l) es) (sym same) entries;
+  in_front = omega (arith, ap (λ (l : List ℕ). length l) same);
+}
+
+pub marks_renewed : (hs : List Held) (gs later : List Variable) (es more : List EntryState) → map marked_of later ≡ map marked_of gs
+    → map marked_in more ≡ map marked_in es → marks_in hs later more ≡ marks_in hs gs es
+marks_renewed hs gs later es more globals entries =
+    ap (λ (m : List Marked). let all : Marks = record { stack = map mark_of hs; globals = m; entries = map marked_in more } in all) globals
+    ∙ ap (λ (m : List (List Marked)). let all : Marks = record { stack = map mark_of hs; globals = map marked_of gs; entries = m } in all) entries

@@ -15,7 +15,7 @@ use Rattle.bst_step.specs.declared.variables.Variable.{Variable}
 use Rattle.bst_step.specs.Held.{ValuesWithin, value_in}
 use Rattle.bst_step.specs.Marks.{Mark, Marked, mark_of, marked_of}
 use Rattle.bst_step.specs.Places.{StandAt, place_of}
-use Rattle.bst_step.specs.Variables.{VariablesWithin, held_at, named, names_in, values_in, variable_in, with_held}
+use Rattle.bst_step.specs.Variables.{AreNamed, VariablesWithin, held_at, named, names_in, values_in, variable_in, with_held}
 use Rattle.bst_step.proofs.PlaceLookups.{another_there, at_place, no_place}
 
 -- a table has no place for a name
@@ -177,6 +177,11 @@ place_within id (name ∷ names) at is = by (nat_eq name.0 id) (place_of id name
     by true o there later is = let front : at ≡ 0 = cc in omega (arith, front)
     by false None there later is = absurd (cc)
     by false (Some k) there later is = let behind : at ≡ suc k = cc in omega (arith, behind, later k (sym there))
+
+-- as many values have the names
+pub still_named : (places : List ℕ) (names : List NameId) (vs later : List Held) → length later ≡ length vs → AreNamed places names vs
+    → AreNamed places names later
+still_named places names vs later many all = record { stand = all.stand; many = many ∙ all.many }
 
 -- what values hold ends where what their variables hold does
 pub named_within : (end : ℕ) (names : List NameId) (values : List Held) → ValuesWithin end values → VariablesWithin end (named names values)

@@ -146,22 +146,26 @@ cut_view pool (x ∷ hs) more h part from count top is value =
     ∙ ap (λ (v : Value). v ∷ map (value_in pool) hs) value
     ∙ ap (λ (k : Held). part_from from count (value_in pool k) ∷ map (value_in pool) hs) same
 
--- the top is given to a variable
-pub given_view : (pool : List ℕ) (hs : List Held) (gs : List Variable) (name : NameId) (h : Held) → hs ≡ h ∷ drop 1 hs
-    → map (variable_in pool) (with_held (record { name = name; value = h }) gs) ≡ given_globally name (map (value_in pool) hs) (map (variable_in pool) gs)
-given_view pool [] gs name h is = absurd (cc)
-given_view pool (x ∷ hs) gs name h is =
-    let same : h ≡ x = cc in
-    with_variable_held pool (record { name = name; value = h }) gs
-    ∙ ap (λ (k : Held). with_variable (record { name = name; value = value_in pool k }) (map (variable_in pool) gs)) same
+-- the top is given to a variable, over a pool in which the variables are seen as before
+pub given_view : (pool later : List ℕ) (hs : List Held) (gs : List Variable) (name : NameId) (h k : Held) → hs ≡ h ∷ drop 1 hs
+    → value_in later k ≡ value_in pool h → map (variable_in later) gs ≡ map (variable_in pool) gs
+    → map (variable_in later) (with_held (record { name = name; value = k }) gs) ≡ given_globally name (map (value_in pool) hs) (map (variable_in pool) gs)
+given_view pool later [] gs name h k is same others = absurd (cc)
+given_view pool later (x ∷ hs) gs name h k is same others =
+    let top : h ≡ x = cc in
+    with_variable_held later (record { name = name; value = k }) gs
+    ∙ ap (λ (v : Value). with_variable (record { name = name; value = v }) (map (variable_in later) gs)) (same ∙ ap (λ (y : Held). value_in pool y) top)
+    ∙ ap (λ (vs : List config.Variable). with_variable (record { name = name; value = value_in pool x }) vs) others
 
-pub given_in_view : (pool : List ℕ) (hs : List Held) (es : List EntryState) (name : NameId) (at : ℕ) (h : Held) → hs ≡ h ∷ drop 1 hs
-    → map (state_in pool) (with_held_in (record { name = name; value = h }) at es) ≡ given_in_entry name (Some at) (map (value_in pool) hs) (map (state_in pool) es)
-given_in_view pool [] es name at h is = absurd (cc)
-given_in_view pool (x ∷ hs) es name at h is =
-    let same : h ≡ x = cc in
-    with_entry_held pool (record { name = name; value = h }) at es
-    ∙ ap (λ (k : Held). with_entry_variable (record { name = name; value = value_in pool k }) (Some at) (map (state_in pool) es)) same
+pub given_in_view : (pool later : List ℕ) (hs : List Held) (es : List EntryState) (name : NameId) (at : ℕ) (h k : Held) → hs ≡ h ∷ drop 1 hs
+    → value_in later k ≡ value_in pool h → map (state_in later) es ≡ map (state_in pool) es
+    → map (state_in later) (with_held_in (record { name = name; value = k }) at es) ≡ given_in_entry name (Some at) (map (value_in pool) hs) (map (state_in pool) es)
+given_in_view pool later [] es name at h k is same others = absurd (cc)
+given_in_view pool later (x ∷ hs) es name at h k is same others =
+    let top : h ≡ x = cc in
+    with_entry_held later (record { name = name; value = k }) at es
+    ∙ ap (λ (v : Value). with_entry_variable (record { name = name; value = v }) (Some at) (map (state_in later) es)) (same ∙ ap (λ (y : Held). value_in pool y) top)
+    ∙ ap (λ (states : List config.EntryState). with_entry_variable (record { name = name; value = value_in pool x }) (Some at) states) others
 
 -- where there are no two values, nothing is done
 pub no_second : (pool : List ℕ) (hs : List Held) → slice_get hs 1 ≡ None → swapped (map (value_in pool) hs) ≡ map (value_in pool) hs

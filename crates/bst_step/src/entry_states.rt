@@ -1,6 +1,6 @@
 //! The entries of a run, each with its variables.
 
-ghost use Rattle.std.specs.Prelude.{◌≡◌, ℕ, List, [], length, map, option_map, slice_get, take, IfOk, OnErr, OnOk};
+ghost use Rattle.std.specs.Prelude.{◌≡◌, ◌≤◌, ℕ, List, [], length, map, option_map, slice_get, IfOk, OnErr, OnOk};
 ghost use Rattle.std.specs.Option.{option_and_then};
 ghost use Rattle.bst_meaning.specs.Config as config;
 ghost use Rattle.bst_meaning.specs.Machine as rule;
@@ -8,11 +8,11 @@ ghost use Rattle.bst_meaning.specs.Sorting.{sorted};
 ghost use Rattle.bst_step.specs.EntryStates.{EntriesWithin, state_in, with_held_in};
 ghost use Rattle.bst_step.specs.Held.{value_of};
 ghost use Rattle.bst_step.specs.Machine.{key_at};
-ghost use Rattle.bst_step.specs.Marks.{AreLent, AreLentIn, marked_in, sorted_marks};
+ghost use Rattle.bst_step.specs.Marks.{AreLent, AreLentIn, marked_in, marked_of, sorted_marks};
 ghost use Rattle.bst_step.specs.Variables.{VariablesWithin, held_at, variable_in};
 
 use crate::fields::{field_of, standing};
-use crate::held::{Held, Operand, gather_values, settle_values};
+use crate::held::{Held, Operand};
 use crate::order::sort_rows;
 use crate::rows::{entry_at, place_at, rows_of, value_at, values_of};
 use crate::typed::{TypedEntry, type_id_at, type_ids};
@@ -180,18 +180,17 @@ impl<'a> EntryTable<'a> {
         sort_rows(pool, &self.own, self.values.as_slice(), &mut self.rows)
     }
 
-    /// Brings the bytes of all strings that were made from a pool to the end of a fresh one.
-    pub fn renew(&mut self, pool: &[u8], fresh: &mut Vec<u8>) -> Result<(), NoMemory>
-        requires { EntriesWithin (length pool.now) self.old }
-        ensures seen { OnOk result (map (state_in fresh.new.items) self.new ≡ map (state_in pool.now) self.old) }
-        ensures marks { OnOk result (map marked_in self.new ≡ map marked_in self.old) }
-        ensures within { OnOk result (EntriesWithin (length fresh.new.items) self.new) }
-        ensures grown { OnOk result (take (length fresh.old.items) fresh.new.items ≡ fresh.old.items) }
-        ensures kept { OnErr result (self.new ≡ self.old) }
+    /// Brings the bytes of the strings that these variables and those of entries hold to the front of their pool.
+    pub fn renew(&mut self, globals: &mut Variables<'a>, pool: &mut Vec<u8>) -> Result<(), NoMemory>
+        requires globals { VariablesWithin (length pool.old.items) globals.old }
+        requires entries { EntriesWithin (length pool.old.items) self.old }
+        ensures globals_within { VariablesWithin (length pool.new.items) globals.new }
+        ensures globals_seen { map (variable_in pool.new.items) globals.new ≡ map (variable_in pool.old.items) globals.old }
+        ensures globals_marks { map marked_of globals.new ≡ map marked_of globals.old }
+        ensures within { EntriesWithin (length pool.new.items) self.new }
+        ensures seen { map (state_in pool.new.items) self.new ≡ map (state_in pool.old.items) self.old }
+        ensures marks { map marked_in self.new ≡ map marked_in self.old }
     {
-        let at = fresh.as_slice().len();
-        gather_values(self.values.as_slice(), pool, fresh)?;
-        settle_values(self.values.as_mut_slice(), at);
-        Ok(())
+        globals.renew(self.values.as_mut_slice(), pool)
     }
 }

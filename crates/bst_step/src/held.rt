@@ -1,17 +1,22 @@
 //! Values as the machine holds them: the bytes of a string are lent, or were made and stand in a pool.
 
-ghost use Rattle.std.specs.Prelude.{◌≡◌, ◌+◌, ◌≤◌, ℕ, List, ◌++◌, drop, length, option_map, slice_get, take, IfOk, OnErr, OnOk};
+ghost use Rattle.std.specs.Prelude.{◌≡◌, ◌+◌, ◌<◌, ◌≤◌, ℕ, List, ◌++◌, drop, length, option_map, slice_get, take, IfOk, OnErr, OnOk};
 ghost use Rattle.bst_meaning.specs.declared.value.Value.TheVariants.{Str};
 ghost use Rattle.bst_meaning.specs.Sorting.{string_of};
 ghost use Rattle.bst_step.specs.Held.{end_of, lent_of, part_from, value_in, value_of};
 ghost use Rattle.bst_step.specs.Marks as mark;
 ghost use Rattle.bst_step.specs.Marks.{lent_mark, mark_of};
-ghost use Rattle.bst_step.specs.Settled.{made_bytes, made_count, settled, values_bytes, values_count, values_settled};
 
 use bst_meaning::value::Target;
 use bv_base::bytes::part_of;
 use bv_base::memory::NoMemory;
 use name_table::names::NameId;
+
+/// A pool isn't made anew for fewer bytes that nobody holds.
+const LEAST_SPARED: usize = 65536;
+
+/// Nor for fewer bytes for each entry, whose values are gone through then.
+const ENTRY_BYTES: usize = 16;
 
 /// A value whose bytes are lent: those of an operand to a built-in function, or those of the style, of the entry list or of
 /// a constant text to the machine.
@@ -117,33 +122,11 @@ impl<'a> Held<'a> {
         }
     }
 
-    /// Appends the bytes of a string that was made and stands in a pool to a fresh one.
-    pub fn gather(self, pool: &[u8], fresh: &mut Vec<u8>) -> Result<(), NoMemory>
-        ensures { OnOk result (fresh.new.items ≡ fresh.old.items ++ made_bytes pool.now self.entry) }
-    {
-        match self {
-            Held::Made(start, count) => Ok(fresh.extend_from_slice(part_of(pool, start, count))?),
-            _ => Ok(()),
-        }
-    }
-
-    /// How many bytes of a string were made.
-    pub fn made_count(self) -> usize
-        ensures { result ≡ made_count self.entry }
-    {
+    /// How many bytes of a string were made. No clause speaks of it.
+    fn made_count(self) -> usize {
         match self {
             Held::Made(_, count) => count,
             _ => 0,
-        }
-    }
-
-    /// A string that was made, with its bytes from a place on. Another value stays.
-    pub fn settled(self, at: usize) -> Held<'a>
-        ensures { result ≡ settled at self.entry }
-    {
-        match self {
-            Held::Made(_, count) => Held::Made(at, count),
-            other => other,
         }
     }
 
@@ -172,6 +155,39 @@ pub fn made_in<'a>(bytes: &[u8], pool: &mut Vec<u8>) -> Result<Held<'a>, NoMemor
     let start = pool.as_slice().len();
     pool.extend_from_slice(bytes)?;
     Ok(Held::Made(start, bytes.len()))
+}
+
+/// A value whose bytes, where they were made and stand behind a place in the pool, are brought down to that place, and nothing
+/// is left behind them. Where values are left on the stack nothing is moved.
+#[inline(always)]
+pub fn brought_down<'a>(value: Held<'a>, left: usize, place: usize, pool: &mut Vec<u8>) -> Held<'a>
+    requires { end_of value ≤ length pool.old.items }
+    ensures value { value_in pool.new.items result ≡ value_in pool.old.items value.entry }
+    ensures within { end_of result ≤ length pool.new.items }
+    ensures mark { mark_of result ≡ mark_of value.entry }
+    ensures front { take place pool.new.items ≡ take place pool.old.items }
+    ensures left { 0 < left → pool.new.items ≡ pool.old.items }
+{
+    match value {
+        Held::Made(start, count) if left == 0 && place < start => {
+            bring_down(pool, start, count, place);
+            Held::Made(place, count)
+        }
+        other => other,
+    }
+}
+
+/// Brings so many bytes of a pool down from one place to another, and leaves nothing behind them.
+#[inline(never)]
+fn bring_down(pool: &mut Vec<u8>, start: usize, count: usize, place: usize)
+    requires behind { place < start }
+    requires within { start + count ≤ length pool.old.items }
+    ensures bytes { take count (drop place pool.new.items) ≡ take count (drop start pool.old.items) }
+    ensures front { take place pool.new.items ≡ take place pool.old.items }
+    ensures end { place + count ≤ length pool.new.items }
+{
+    pool.copy_within(start..start + count, place);
+    pool.truncate(place + count);
 }
 
 /// The strings a and b one after the other, in the pool in which they stand. Where a stands at its end, b alone is copied.
@@ -207,29 +223,6 @@ fn brought_to_end(a: Held<'_>, pool: &mut Vec<u8>) -> Result<usize, NoMemory>
     Ok(end)
 }
 
-/// Appends the bytes of all strings that were made and stand in a pool to a fresh one.
-pub fn gather_values(values: &[Held<'_>], pool: &[u8], fresh: &mut Vec<u8>) -> Result<(), NoMemory>
-    ensures { OnOk result (fresh.new.items ≡ fresh.old.items ++ values_bytes pool.now values.now) }
-{
-    for value in values {
-        value.gather(pool, fresh)?;
-    }
-    Ok(())
-}
-
-/// Puts the strings that were made one after the other from a place on.
-pub fn settle_values(values: &mut [Held<'_>], at: usize)
-    requires { at + values_count values.old ≤ 18446744073709551615 }
-    ensures { values.new ≡ values_settled at values.old }
-{
-    let mut end = at;
-    for i in 0..values.len() {
-        let value = values[i];
-        values[i] = value.settled(end);
-        end += value.made_count();
-    }
-}
-
 /// The value so far behind a place.
 pub fn value_from<'a>(values: &[Held<'a>], first: usize, place: usize) -> Option<Held<'a>>
     ensures { result ≡ slice_get (drop first values.now) place }
@@ -240,4 +233,22 @@ pub fn value_from<'a>(values: &[Held<'a>], first: usize, place: usize) -> Option
     } else {
         None
     }
+}
+
+/// How many bytes variables hold once one of them has another value, if there is that one.
+pub fn live_after(live: usize, old: Option<Held<'_>>, new: Held<'_>) -> usize {
+    match old {
+        Some(old) => live
+            .saturating_sub(old.made_count())
+            .saturating_add(new.made_count()),
+        None => live,
+    }
+}
+
+/// Whether a pool is worth to be made anew, of whose bytes so many are kept and variables hold so many: so that all pools that
+/// are made take a few times what was written at most.
+pub fn is_worth(kept: usize, live: usize, entries: usize) -> bool {
+    let rows = entries.saturating_mul(ENTRY_BYTES);
+    let least = (kept / 4).saturating_add(rows).saturating_add(LEAST_SPARED);
+    kept.saturating_sub(live) > least
 }

@@ -25,6 +25,7 @@ mod operands;
 mod order;
 mod page;
 mod prepared;
+mod renewal;
 mod rows;
 mod stack;
 mod state;

@@ -15,7 +15,7 @@ ghost use Rattle.bst_step.specs.Values.{cut, given_globally, given_in_entry, joi
 ghost use Rattle.bst_step.specs.Variables.{VariablesWithin, variable_in};
 
 use crate::entry_states::EntryTable;
-use crate::held::{Held, Operand, joined_in, made_in};
+use crate::held::{Held, Operand, brought_down, is_worth, joined_in, live_after, made_in};
 use crate::stack::Stack;
 use crate::typed::TypedEntry;
 use crate::variables::{Variable, Variables};
@@ -25,12 +25,6 @@ use name_table::names::NameId;
 use std::alloc::Global;
 use std::marker::Model;
 
-/// The most bytes of a pool that isn't worth to be made anew.
-const LEAST_LIMIT: usize = 65536;
-
-/// About as many bytes are written anew for each entry when a pool is made anew.
-const ENTRY_BYTES: usize = 64;
-
 /// The literal stack, the variables of the whole style, and the entries with theirs. What strings were made stand in a
 /// pool, and contracts see the values alone.
 #[derive(Drop)]
@@ -38,8 +32,8 @@ pub struct Values<'a> {
     pool: Vec<u8>,
     /// Where the bytes end that variables may hold.
     kept: usize,
-    /// From how many bytes on the pool is made anew.
-    limit: usize,
+    /// How many bytes the strings have that variables hold and that were made: as many has a pool that is made anew.
+    live: usize,
     stack: Stack<Held<'a>>,
     globals: Variables<'a>,
     entries: EntryTable<'a>,
@@ -67,11 +61,10 @@ impl<'a> Values<'a> {
         ensures entries { result.entries ≡ map (state_in []) entries.entry }
         ensures marks { result.marks ≡ marks_in [] globals.entry entries.entry }
     {
-        let limit = limit_of(0, entries.len());
         Values {
             pool: Vec::new(alloc),
             kept: 0,
-            limit,
+            live: 0,
             stack: Stack::new(alloc),
             globals,
             entries,
@@ -377,9 +370,11 @@ impl<'a> Values<'a> {
         ensures marks { self.new.marks ≡ mark.given_globally name self.old.marks.stack self.old.marks }
         ensures room { self.old.room ≤ self.new.room }
     {
-        if let Some(value) = self.stack.top() {
+        if let Some(top) = self.stack.top() {
             self.stack.drop_top(1);
+            let value = brought_down(top, self.stack.len(), self.kept, &mut self.pool);
             self.kept = self.kept.max(value.end(self.pool.as_slice()));
+            self.live = live_after(self.live, self.globals.value(name), value);
             self.globals.set(Variable { name, value });
         }
     }
@@ -392,9 +387,11 @@ impl<'a> Values<'a> {
         ensures marks { self.new.marks ≡ mark.given_in_entry name (Some at) self.old.marks.stack self.old.marks }
         ensures room { self.old.room ≤ self.new.room }
     {
-        if let Some(value) = self.stack.top() {
+        if let Some(top) = self.stack.top() {
             self.stack.drop_top(1);
+            let value = brought_down(top, self.stack.len(), self.kept, &mut self.pool);
             self.kept = self.kept.max(value.end(self.pool.as_slice()));
+            self.live = live_after(self.live, self.entries.value(at, name), value);
             self.entries.set(at, Variable { name, value });
         }
     }
@@ -456,8 +453,7 @@ impl<'a> Values<'a> {
         self.pool.truncate(self.kept);
     }
 
-    /// Makes the pool anew of what variables hold, where the stack is empty and overwritten variables may have left more
-    /// than that.
+    /// Makes the pool anew of what variables hold, where the stack is empty and enough is left of what they held before.
     pub fn renew(&mut self) -> Result<(), NoMemory>
         ensures stack { OnOk result (self.new.stack ≡ self.old.stack) }
         ensures globals { OnOk result (self.new.globals ≡ self.old.globals) }
@@ -468,25 +464,12 @@ impl<'a> Values<'a> {
         if self.stack.len() > 0 {
             return Ok(());
         }
-        if self.kept <= self.limit {
+        if !is_worth(self.kept, self.live, self.entries.len()) {
             return Ok(());
         }
-        let mut fresh = Vec::with_capacity(*self.pool.allocator(), self.kept)?;
-        self.globals.gather(self.pool.as_slice(), &mut fresh)?;
-        self.entries.renew(self.pool.as_slice(), &mut fresh)?;
-        self.globals.settle(0);
-        self.kept = fresh.as_slice().len();
-        self.limit = limit_of(self.kept, self.entries.len());
-        self.pool = fresh;
-        Ok(())
+        let renewed = self.entries.renew(&mut self.globals, &mut self.pool);
+        self.kept = self.pool.as_slice().len();
+        self.live = self.kept;
+        renewed
     }
-}
-
-/// From how many bytes on a pool is made anew that had so many, for so many entries: so that to make it anew costs a few times
-/// what was written since at most.
-fn limit_of(kept: usize, entries: usize) -> usize {
-    let rows = entries.saturating_mul(ENTRY_BYTES);
-    kept.saturating_add(kept / 2)
-        .saturating_add(rows)
-        .saturating_add(LEAST_LIMIT)
 }

@@ -1,11 +1,14 @@
 //! Variables with their values, each found by its place.
 
-ghost use Rattle.std.specs.Prelude.{◌≡◌, ◌+◌, ◌<◌, ◌≤◌, ◌++◌, length, IfOk, IfSome, OnOk};
+ghost use Rattle.std.specs.Prelude.{◌≡◌, ◌<◌, length, map, IfOk, IfSome};
+ghost use Rattle.bst_step.specs.Held.{ValuesWithin};
+ghost use Rattle.bst_step.specs.Marks.{marked_of};
 ghost use Rattle.bst_step.specs.Places.{StandAt, place_of};
-ghost use Rattle.bst_step.specs.Settled.{values_bytes, values_count, variables_settled};
-ghost use Rattle.bst_step.specs.Variables.{held_at, names_in, values_in, with_held};
+ghost use Rattle.bst_step.specs.Settled.{IsRenewed};
+ghost use Rattle.bst_step.specs.Variables.{VariablesWithin, held_at, names_in, values_in, variable_in, with_held};
 
-use crate::held::{Held, gather_values, settle_values};
+use crate::held::Held;
+use crate::renewal::renew_values;
 use bv_base::memory::NoMemory;
 use name_table::names::NameId;
 use std::alloc::Global;
@@ -97,19 +100,16 @@ impl<'a> Variables<'a> {
         }
     }
 
-    /// Appends the bytes of all strings that were made and stand in a pool to a fresh one.
-    pub fn gather(&self, pool: &[u8], fresh: &mut Vec<u8>) -> Result<(), NoMemory>
-        ensures { OnOk result (fresh.new.items ≡ fresh.old.items ++ values_bytes pool.now (values_in self.now)) }
+    /// Brings the bytes of the strings that the variables and other values hold to the front of their pool.
+    pub fn renew(&mut self, others: &mut [Held<'a>], pool: &mut Vec<u8>) -> Result<(), NoMemory>
+        requires own { VariablesWithin (length pool.old.items) self.old }
+        requires others { ValuesWithin (length pool.old.items) others.old }
+        ensures within { VariablesWithin (length pool.new.items) self.new }
+        ensures seen { map (variable_in pool.new.items) self.new ≡ map (variable_in pool.old.items) self.old }
+        ensures marks { map marked_of self.new ≡ map marked_of self.old }
+        ensures others { IsRenewed pool.old.items others.old pool.new.items others.new }
     {
-        gather_values(self.values.as_slice(), pool, fresh)
-    }
-
-    /// Puts the strings that were made one after the other from a place on.
-    pub fn settle(&mut self, at: usize)
-        requires { at + values_count (values_in self.old) ≤ 18446744073709551615 }
-        ensures { self.new ≡ variables_settled at self.old }
-    {
-        settle_values(self.values.as_mut_slice(), at);
+        renew_values(self.values.as_mut_slice(), others, pool)
     }
 }
 

@@ -1,49 +1,39 @@
--- The values that were written are settled behind what stood in the fresh pool.
-use Rattle.std.proofs.Common.{◌∙◌, ◌++◌, List, ap, arith, length}
+-- The values that were written are renewed, and the entries are seen as they were.
+use Rattle.std.proofs.Common.{List, length, subst, sym}
 use Rattle.bst_step.specs.declared.held.Held.{Held}
-use Rattle.bst_step.specs.Settled.{values_bytes, values_count}
+use Rattle.bst_step.specs.EntryStates.{EntriesWithin, EntryState}
+use Rattle.bst_step.specs.Held.{ValuesWithin}
 use Rattle.bst_step.specs.Variables.{names_in}
-use Rattle.bst_step.proofs.RenewedSteps.{renewed_end, renewed_marks, renewed_seen, renewed_within}
-use Rattle.bst_step.proofs.SettledSteps.{values_written}
+use Rattle.bst_step.proofs.RenewedSteps.{table_end, table_marked, table_seen, table_whole, table_within}
 use Rattle.bst_step.proofs.entry_states.EntryTable.renew.Goals as goal
 
-pub settle_values-requires : goal.settle_values-requires
-settle_values-requires c =
-    let end = renewed_end c.args.pool.now c.args.fresh.now.items c.gather_values.new.fresh.items (length c.as_slice-at.result.now) (names_in c.self.inside.own)
-    c.self.inside.values.items c.self.inside.list.now.entries c.self.inside.rows.items c.args.self.now c.self.invariant.0 c.self.view_is c.requires (ap length c.as_slice-at.ensures.value)
-    (c.in_ok-gather_values.ensures
-    ∙ ap (λ (values : List Held). c.args.fresh.now.items ++ values_bytes c.args.pool.now values) c.as_slice.ensures.value) in
-    let fits = c.gather_values.new.fresh.small in
-    omega (
-      arith,
-      end,
-      ap (λ (values : List Held). values_count values) c.as_mut_slice.ensures.value,
-      c.gather_values.new.fresh.ok.0,
-      c.gather_values.new.fresh.ok.1,
-      fits,
-    )
+pub renew-requires-clause-others : goal.renew-requires-clause-others
+renew-requires-clause-others c =
+    subst (λ (vs : List Held). ValuesWithin (length c.args.pool.now.items) vs) (sym c.as_mut_slice.ensures.value)
+    (table_within (length c.args.pool.now.items) (names_in c.self.inside.own) c.self.inside.values.items c.self.inside.list.now.entries c.self.inside.rows.items c.self.invariant.0
+    (subst (λ (es : List EntryState). EntriesWithin (length c.args.pool.now.items) es) (sym c.self.view_is) c.requires.entries))
 
-pub returns-clause-seen : goal.returns-clause-seen
-returns-clause-seen c =
-    renewed_seen c.args.pool.now c.args.fresh.now.items c.gather_values.new.fresh.items (length c.as_slice-at.result.now) (names_in c.self.inside.own)
-    c.self.inside.values.items c.self.inside.list.now.entries c.self.inside.rows.items c.args.self.now c.self.invariant.0 c.self.view_is c.requires (ap length c.as_slice-at.ensures.value)
-    (c.in_ok-gather_values.ensures
-    ∙ ap (λ (values : List Held). c.args.fresh.now.items ++ values_bytes c.args.pool.now values) c.as_slice.ensures.value)
-    _ (values_written (length c.as_slice-at.result.now) c.as_mut_slice.result.now c.self.inside.values.items c.settle_values.new.values
-    c.self.inside.values.len c.as_mut_slice.ensures.value c.as_mut_slice.ensures.len c.settle_values.ensures)
-
-pub returns-clause-marks : goal.returns-clause-marks
-returns-clause-marks c =
-    renewed_marks (length c.as_slice-at.result.now) (names_in c.self.inside.own) c.self.inside.values.items _ c.self.inside.list.now.entries c.self.inside.rows.items c.args.self.now
-    c.self.view_is
-    (values_written (length c.as_slice-at.result.now) c.as_mut_slice.result.now c.self.inside.values.items c.settle_values.new.values
-    c.self.inside.values.len c.as_mut_slice.ensures.value c.as_mut_slice.ensures.len c.settle_values.ensures)
+pub invariant_of-self : goal.invariant_of-self
+invariant_of-self c = (
+  table_whole c.args.pool.now.items c.renew.new.pool.items c.as_mut_slice.result.now c.self.inside.values.items c.renew.new.others c.self.inside.values.len
+      c.as_mut_slice.ensures.value c.as_mut_slice.ensures.len c.renew.ensures.others (names_in c.self.inside.own) c.self.inside.list.now.entries c.self.inside.rows.items
+      c.self.invariant.0,
+  c.self.invariant.1,
+)
 
 pub returns-clause-within : goal.returns-clause-within
 returns-clause-within c =
-    renewed_within c.args.pool.now c.args.fresh.now.items c.gather_values.new.fresh.items (length c.as_slice-at.result.now) (names_in c.self.inside.own)
-    c.self.inside.values.items c.self.inside.list.now.entries c.self.inside.rows.items c.args.self.now c.self.invariant.0 c.self.view_is c.requires (ap length c.as_slice-at.ensures.value)
-    (c.in_ok-gather_values.ensures
-    ∙ ap (λ (values : List Held). c.args.fresh.now.items ++ values_bytes c.args.pool.now values) c.as_slice.ensures.value)
-    _ (values_written (length c.as_slice-at.result.now) c.as_mut_slice.result.now c.self.inside.values.items c.settle_values.new.values
-    c.self.inside.values.len c.as_mut_slice.ensures.value c.as_mut_slice.ensures.len c.settle_values.ensures)
+    table_end c.args.pool.now.items c.renew.new.pool.items c.as_mut_slice.result.now c.self.inside.values.items c.renew.new.others c.self.inside.values.len
+    c.as_mut_slice.ensures.value c.as_mut_slice.ensures.len c.renew.ensures.others (names_in c.self.inside.own) c.self.inside.list.now.entries c.self.inside.rows.items
+
+pub returns-clause-seen : goal.returns-clause-seen
+returns-clause-seen c =
+    table_seen c.args.pool.now.items c.renew.new.pool.items c.as_mut_slice.result.now c.self.inside.values.items c.renew.new.others c.self.inside.values.len
+    c.as_mut_slice.ensures.value c.as_mut_slice.ensures.len c.renew.ensures.others (names_in c.self.inside.own) c.self.inside.list.now.entries c.self.inside.rows.items
+    c.args.self.now c.self.view_is
+
+pub returns-clause-marks : goal.returns-clause-marks
+returns-clause-marks c =
+    table_marked c.args.pool.now.items c.renew.new.pool.items c.as_mut_slice.result.now c.self.inside.values.items c.renew.new.others c.self.inside.values.len
+    c.as_mut_slice.ensures.value c.as_mut_slice.ensures.len c.renew.ensures.others (names_in c.self.inside.own) c.self.inside.list.now.entries c.self.inside.rows.items
+    c.args.self.now c.self.view_is

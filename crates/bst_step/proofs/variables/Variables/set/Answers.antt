@@ -5,8 +5,7 @@ use Rattle.name_table.specs.declared.names.NameId.{NameId}
 use Rattle.bst_step.specs.declared.variables.Variable.{Variable}
 use Rattle.bst_step.specs.Places.{place_of}
 use Rattle.bst_step.specs.Variables.{with_held}
-use Rattle.bst_step.proofs.SettledSteps.{still_named}
-use Rattle.bst_step.proofs.VariableSteps.{set_missing, set_named}
+use Rattle.bst_step.proofs.VariableSteps.{set_missing, set_named, still_named}
 use Rattle.bst_step.proofs.variables.Variables.set.Goals as goal
 
 pub invariant_of-self : goal.invariant_of-self

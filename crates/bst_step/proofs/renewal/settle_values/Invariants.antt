@@ -1,11 +1,11 @@
 use Rattle.std.proofs.Common.{◌≡◌, ◌+◌, ◌++◌, drop, length, take}
 use Rattle.bst_step.specs.Settled.{values_count, values_settled}
-use Rattle.bst_step.proofs.held.settle_values.Given as goal
+use Rattle.bst_step.proofs.renewal.settle_values.Given as goal
 
 -- the values so far are settled, and with the others settled behind them all are
 abbrev pub invariant-loop-i : goal.invariant-loop-i
 invariant-loop-i l = record {
-  settled : take l.i l.values ++ values_settled l.end (drop l.i l.values) ≡ values_settled l.fn.at l.fn.values;
-  end : l.end + values_count (drop l.i l.values) ≡ l.fn.at + values_count l.fn.values;
+  settled : take l.i l.values ++ values_settled l.window l.end (drop l.i l.values) ≡ values_settled l.window l.to l.fn.values;
+  end : l.end + values_count l.window (drop l.i l.values) ≡ l.to + values_count l.window l.fn.values;
   many : length l.values ≡ length l.fn.values;
 }
