@@ -19,7 +19,7 @@ use bv_base::text::Text;
 use std::alloc::Global;
 
 /// After so many steps what was written is put.
-const PART: u32 = 1_048_576;
+const PART: u32 = 65_536;
 
 /// Delivers what the words of a command came to, and answers its status. Where memory was wanting for it nothing is put.
 pub fn deliver_answer<O: Sink, E: Sink>(
