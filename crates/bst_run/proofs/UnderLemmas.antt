@@ -25,7 +25,7 @@ use Rattle.cond_eval.specs.declared.unmet.Unmet.{Unmet}
 use Rattle.entry_list.specs.declared.joined.Joined.{Joined}
 use Rattle.entry_list.specs.Joining.{joined}
 use Rattle.bst_run.specs.declared.files.sources.Sources.{Sources}
-use Rattle.bst_run.specs.Ran.{answered, logged, run_joined}
+use Rattle.bst_run.specs.Ran.{answered, logged, run_joined, run_over}
 use Rattle.bst_run.specs.Stops.{IsDecided}
 use Rattle.bst_run.specs.Under.{FaultsOutside, IsBegunBy, joined_under, meeting_text, run_under}
 
@@ -99,6 +99,11 @@ run_decided : (steps : ℕ) (log : List ℕ) (turn : Turn) (c : Config) → IsDe
 run_decided steps log Ended c = tt
 run_decided steps log Went c = tt
 run_decided steps log (Faulted fault site) c = tt
+
+pub over_decided : (steps : ℕ) (sources : Sources) → IsDecided (run_over steps sources).status
+over_decided steps sources =
+    let c : Config = run sources.style (joined sources.style sources.items sources.database).list steps in
+    run_decided steps _ (turn_of c) c
 
 pub under_decided : (steps : ℕ) (cond : Cond) (sources : Sources) → IsDecided (run_under steps cond sources).status
 under_decided steps cond sources =
