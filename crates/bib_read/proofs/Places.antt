@@ -1,12 +1,13 @@
 -- The places of keys tell the entries that have them.
 use Rattle.std.proofs.Common.{arith, ◌≡◌, ℕ, zero, suc, ◌+◌, ◌<◌, Bool, true, false, cond, ◌||◌, nat_eq, nat_lt, List, [], ◌∷◌, ◌++◌, Some, None, not, length, map, get_or, position, slice_get, refl, sym, ap, ◌∙◌}
 use Rattle.std.proofs.lemmas.Bool.{or_parts}
-use Rattle.std.proofs.lemmas.List.{length-map}
+use Rattle.std.proofs.lemmas.List.{length-map, map-append}
 use Rattle.std.proofs.lemmas.List.Quantifiers.{position-Some}
 use Rattle.std.proofs.lemmas.Option.{slice_get-get_or}
 use Rattle.std.specs.Cmp.Lexicographic.{pointwise, same_text}
 use Rattle.std.specs.List.{position_or_len}
-use Rattle.bv_base.specs.KeySets.{has_key}
+use Rattle.indexmap.specs.IndexSet.{insert_key}
+use Rattle.bv_base.specs.KeySets.{has_item, has_key}
 use Rattle.name_table.specs.Names.{lowered, same_name}
 use Rattle.bib_read.specs.RawEntries.{RawEntry}
 use Rattle.bib_read.specs.Names.{entry_under, has_entry, lowered_keys}
@@ -22,6 +23,22 @@ place_seen f p xs =
     let n = position_or_len p (map f xs) in
     ap (λ i. cond (nat_lt i (length xs)) (Some i) None) (length_before f p xs)
     ∙ ap (λ m. cond (nat_lt n m) (Some n) None) (sym (length-map xs f))
+
+-- a key is among those that are seen of items where an item has it
+pub has_seen : {X : Type 0} (f : X → List ℕ) (key : List ℕ) (xs : List X) → has_item f key xs ≡ has_key key (map f xs)
+has_seen f key [] = refl
+has_seen f key (x ∷ xs) = ap (λ b. pointwise nat_eq key (f x) || b) (has_seen f key xs)
+
+-- an item with a key that none of the others has is put behind them
+pub put_behind : {X : Type 0} (f : X → List ℕ) (xs : List X) (x : X) (keys : List (List ℕ)) (key : List ℕ)
+    → map f xs ≡ keys → f x ≡ key → has_key key keys ≡ false
+    → map f (insert_key (λ a b. pointwise nat_eq (f a) (f b)) xs x) ≡ keys ++ key ∷ []
+put_behind f xs x keys key seen has none =
+    ap (λ b. map f (cond b xs (xs ++ x ∷ [])))
+    (has_seen f (f x) xs ∙ ap (has_key (f x)) seen ∙ ap (λ k. has_key k keys) has ∙ none)
+    ∙ map-append f xs (x ∷ [])
+    ∙ ap (λ ks. ks ++ f x ∷ []) seen
+    ∙ ap (λ k. keys ++ k ∷ []) has
 
 -- a key is among the keys of entries where an entry has it
 pub has_keyed : (key : List ℕ) (entries : List RawEntry) → has_key key (lowered_keys entries) ≡ has_entry key entries
@@ -60,14 +77,11 @@ key_placed key keys at is =
     slice_get-get_or keys at [] there.0 ∙ ap Some (sym (same_text key (get_or keys at []) (sym there.1)))
 
 -- a key that is put behind others stands there
-pub key_behind : (keys later : List (List ℕ)) (copy key : List ℕ) (count : ℕ) → count ≡ length keys → later ≡ keys ++ copy ∷ [] → copy ≡ key
+pub key_behind : (keys later : List (List ℕ)) (key : List ℕ) (count : ℕ) → count ≡ length keys → later ≡ keys ++ key ∷ []
     → slice_get later count ≡ Some key
-key_behind keys later copy key count long added same =
-    ap (λ (n : ℕ). slice_get later n) long
-    ∙ ap (λ (l : List (List ℕ)). slice_get l (length keys)) added
-    ∙ last keys
-    ∙ ap Some same
+key_behind keys later key count long added =
+    ap (λ (n : ℕ). slice_get later n) long ∙ ap (λ (l : List (List ℕ)). slice_get l (length keys)) added ∙ last keys
   where
-    last : (keys : List (List ℕ)) → slice_get (keys ++ copy ∷ []) (length keys) ≡ Some copy
+    last : (keys : List (List ℕ)) → slice_get (keys ++ key ∷ []) (length keys) ≡ Some key
     last [] = refl
     last (first ∷ keys) = last keys

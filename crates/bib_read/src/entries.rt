@@ -77,18 +77,19 @@ impl Entries {
     /// Adds an entry, of which the lowered key is given, too, where no entry has it.
     pub(crate) fn add(
         &mut self,
-        lowered_key: Vec<u8>,
+        alloc: Global,
+        lowered_key: &[u8],
         key: &[u8],
         entry_type: &[u8],
         fields: &RawFields,
     ) -> Result<(), NoMemory>
-        requires lowered { lowered_key.items ≡ lowered key.now }
-        requires fresh { has_entry lowered_key.items self.old ≡ false }
+        requires lowered { lowered_key.now ≡ lowered key.now }
+        requires fresh { has_entry lowered_key.now self.old ≡ false }
         ensures { OnOk result (self.new
             ≡ self.old ++ record { key = key.now; entry_type = entry_type.now; fields = fields.now } ∷ []) }
     {
         self.list.push(key, entry_type, fields)?;
-        let Ok(()) = self.places.add(lowered_key) else {
+        let Ok(()) = self.places.add(alloc, lowered_key) else {
             self.list.drop_last();
             return Err(NoMemory);
         };

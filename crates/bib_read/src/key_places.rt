@@ -1,18 +1,42 @@
 //! Keys, and at which place each stands.
 
 ghost use Rattle.std.specs.Prelude.{◌≡◌, false, nat_eq, is_some, [], ◌∷◌, ◌++◌, Some, get_or, length, position, slice_get, take, IfOk, OnOk, OnErr};
-ghost use Rattle.std.specs.Cmp.Lexicographic.{pointwise};
+ghost use Rattle.std.proofs.Common.{ap};
+ghost use Rattle.std.specs.Cmp.Lexicographic.{pointwise, bytes_decides, nat_list_eq_equiv};
+ghost use Rattle.std.specs.Hash as fed;
 ghost use Rattle.bv_base.specs.KeySets.{has_key};
 
 use bv_base::memory::NoMemory;
-use indexmap::IndexSet;
+use indexmap::{Equivalent, IndexSet};
+use smallvec::SmallVec;
 use std::alloc::Global;
+use std::hash::Hash;
 use std::marker::Model;
+
+/// A key, whose bytes stand in the table itself where they are few. Nearly all keys of databases have 24 bytes or less; one that has
+/// more has an allocation of its own.
+#[derive(Drop, PartialEq, Eq, Hash)]
+struct Key {
+    bytes: SmallVec<u8, 24>,
+}
+
+/// Bytes stand for the key that has them, so that a look-up copies none.
+impl Equivalent<Key> for &[u8] {
+    ghost equivalent = { λ q k. pointwise nat_eq q.now k.bytes.items };
+
+    ghost respects_hash = { λ q k same. ap (fed.slice fed.u8) ((bytes_decides q.now k.bytes.items).0 same) };
+
+    ghost respects_eq = { λ q x y. nat_list_eq_equiv.congr q.now x.bytes.items y.bytes.items };
+
+    fn equivalent(&self, key: &Key) -> bool {
+        *self == key.bytes.as_slice()
+    }
+}
 
 /// Lowered keys in order, none twice, in a hash table that tells their places. Contracts see their list.
 #[derive(Drop)]
 pub(crate) struct KeyPlaces {
-    table: IndexSet<Vec<u8>>,
+    table: IndexSet<Key>,
 }
 
 impl Model for KeyPlaces {
@@ -20,7 +44,7 @@ impl Model for KeyPlaces {
 
     ghost Value = { List (List ℕ) };
 
-    ghost view = { λ p. map (λ key. key.items) p.table.keys };
+    ghost view = { λ p. map (λ key. key.bytes.items) p.table.keys };
 }
 
 impl KeyPlaces {
@@ -53,7 +77,7 @@ impl KeyPlaces {
         ensures { result.now ≡ get_or self.now at [] }
     {
         match self.table.get_index(at) {
-            Some(key) => key.as_slice(),
+            Some(key) => key.bytes.as_slice(),
             None => &[],
         }
     }
@@ -67,17 +91,18 @@ impl KeyPlaces {
             return Ok(at);
         }
         let at = self.table.len();
-        self.add(key.to_vec(alloc)?)?;
+        self.add(alloc, key)?;
         Ok(at)
     }
 
     /// Puts a new key behind those that are there. Where memory is wanting the keys stay.
-    pub(crate) fn add(&mut self, key: Vec<u8>) -> Result<(), NoMemory>
-        requires { has_key key.items self.old ≡ false }
-        ensures added { OnOk result (self.new ≡ self.old ++ key.items ∷ []) }
+    pub(crate) fn add(&mut self, alloc: Global, key: &[u8]) -> Result<(), NoMemory>
+        requires { has_key key.now self.old ≡ false }
+        ensures added { OnOk result (self.new ≡ self.old ++ key.now ∷ []) }
         ensures unchanged { OnErr result (self.new ≡ self.old) }
     {
-        let Ok(_) = self.table.insert(key) else {
+        let bytes = SmallVec::from_slice(alloc, key)?;
+        let Ok(_) = self.table.insert(Key { bytes }) else {
             return Err(NoMemory);
         };
         Ok(())

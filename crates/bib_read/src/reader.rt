@@ -154,7 +154,13 @@ impl<'a> Reader<'a> {
         ensures { OnOk result
             (progress_of self.new ≡ entering.with_entry key.now entry_type (progress_of self.old)) }
     {
-        self.entries.add(lowered_key, key, entry_type.as_slice(), self.fields.list())?;
+        self.entries.add(
+            self.alloc,
+            lowered_key.as_slice(),
+            key,
+            entry_type.as_slice(),
+            self.fields.list(),
+        )?;
         self.fields.clear();
         Ok(())
     }

@@ -7,7 +7,7 @@ use Rattle.bib_read.proofs.entries.Entries.add.Goals as goal
 -- no entry has the key, so it isn't among theirs
 pub add-requires : goal.add-requires
 add-requires c =
-    let key = c.args.lowered_key.items in
+    let key = c.args.lowered_key.now in
     ap (has_key key) c.self.invariant
     ∙ has_keyed key c.self.inside.list
     ∙ ap (has_entry key) c.self.view_is
