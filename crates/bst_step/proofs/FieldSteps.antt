@@ -165,11 +165,10 @@ fields_counted names fields more id kind so_far one has =
     ∙ sym (length-append (field_ids_from 0 (take id names)) (field_ids_at id kind []))
     ∙ ap (λ (l : List NameId). length l) (sym (fields_so_far names id kind has))
 
--- the field at a place, with what is left behind it
-drop_read : (fields : List FieldValue) (at : ℕ) (f : FieldValue) → slice_get fields at ≡ Some f → drop at fields ≡ f ∷ drop (at + 1) fields
-drop_read fields at f here =
-    drop_more fields at f (slice_get_within fields at f here)
-    ∙ ap (λ (g : FieldValue). g ∷ drop (at + 1) fields) (get_or_from_slice_get fields at f f here)
+-- what stands at a place, with what is left behind it
+pub drop_read : {A : Type 0} (xs : List A) (at : ℕ) (x : A) → slice_get xs at ≡ Some x → drop at xs ≡ x ∷ drop (at + 1) xs
+drop_read xs at x here =
+    drop_more xs at x (slice_get_within xs at x here) ∙ ap (λ y. y ∷ drop (at + 1) xs) (get_or_from_slice_get xs at x x here)
 
 -- a field of the name, where none before it has the name
 pub among_found : (name : NameId) (fields : List FieldValue) (at : ℕ) (f : FieldValue) → field_in name (drop at fields) ≡ field_in name fields

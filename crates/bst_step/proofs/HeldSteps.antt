@@ -9,7 +9,7 @@ use Rattle.bst_meaning.specs.Config as config
 use Rattle.bst_meaning.specs.declared.value.Value.{Value}
 use Rattle.bst_meaning.specs.declared.value.Value.TheVariants.{Str}
 use Rattle.bst_step.specs.declared.held.Held.{Held}
-use Rattle.bst_step.specs.declared.held.Held.TheVariants.{Int, Str as LentStr, Missing, Func, Made}
+use Rattle.bst_step.specs.declared.held.Held.TheVariants.{Int, Str as LentStr, Empty, Missing, Func, Made}
 use Rattle.bst_step.specs.declared.variables.Variable.{Variable}
 use Rattle.bst_step.specs.EntryStates.{EntriesWithin, EntryState, state_in, with_held_in}
 use Rattle.bst_step.specs.Held.{ValuesWithin, end_of, value_in}
@@ -21,6 +21,7 @@ use Rattle.bst_step.specs.Variables.{VariablesWithin, held_at, variable_in, with
 pub same_value : (end : ℕ) (a b : List ℕ) → take end a ≡ take end b → (h : Held) → end_of h ≤ end → value_in a h ≡ value_in b h
 same_value end a b same (Int n) within = refl
 same_value end a b same (LentStr bytes) within = refl
+same_value end a b same Empty within = refl
 same_value end a b same (Missing name) within = refl
 same_value end a b same (Func target) within = refl
 same_value end a b same (Made start count) within =

@@ -4,6 +4,7 @@ pub mod VariableSteps
 pub mod PlaceLookups
 pub mod PlacesMade
 pub mod FieldSteps
+pub mod PackedSteps
 pub mod TableSteps
 pub mod RenewedSteps
 pub mod CutValues

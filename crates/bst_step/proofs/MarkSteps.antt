@@ -183,6 +183,7 @@ lent_held pool zero [] = refl
 lent_held pool (suc depth) [] = refl
 lent_held pool zero (Int n ∷ hs) = refl
 lent_held pool zero (Str bytes ∷ hs) = refl
+lent_held pool zero (held.Empty ∷ hs) = refl
 lent_held pool zero (Missing name ∷ hs) = refl
 lent_held pool zero (Func target ∷ hs) = refl
 lent_held pool zero (held.Made start count ∷ hs) = refl

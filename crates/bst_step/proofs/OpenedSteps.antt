@@ -52,13 +52,13 @@ place_added rows more at adds is =
     ∙ ap (λ (n : ℕ). range_with_len 0 n) (sym (add-one at))
 
 -- the same values once more
-repeated_more : (n : ℕ) (values : List Held) → repeated n values ++ values ≡ repeated (suc n) values
+repeated_more : {A : Type 0} (n : ℕ) (values : List A) → repeated n values ++ values ≡ repeated (suc n) values
 repeated_more zero values = sym (append-nil values)
-repeated_more (suc n) values = append_assoc values (repeated n values) values ∙ ap (λ (l : List Held). values ++ l) (repeated_more n values)
+repeated_more (suc n) values = append_assoc values (repeated n values) values ∙ ap (λ l. values ++ l) (repeated_more n values)
 
-pub values_added : (own values more : List Held) (n : ℕ) → more ≡ values ++ own → values ≡ repeated n own → more ≡ repeated (n + 1) own
+pub values_added : {A : Type 0} (own values more : List A) (n : ℕ) → more ≡ values ++ own → values ≡ repeated n own → more ≡ repeated (n + 1) own
 values_added own values more n adds is =
-    adds ∙ ap (λ (l : List Held). l ++ own) is ∙ repeated_more n own ∙ ap (λ (k : ℕ). repeated k own) (sym (add-one n))
+    adds ∙ ap (λ l. l ++ own) is ∙ repeated_more n own ∙ ap (λ (k : ℕ). repeated k own) (sym (add-one n))
 
 length_repeated : (n : ℕ) (values : List Held) → length (repeated n values) ≡ n * length values
 length_repeated zero values = sym (zero-mul (length values))

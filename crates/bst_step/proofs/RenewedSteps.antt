@@ -128,22 +128,23 @@ module _ (pool fresh : List ℕ) (lent values later : List Held) (n : ℕ) (same
     pub variables_marked : (seen : List Variable) → named names values ≡ seen → map marked_of (named names back) ≡ map marked_of seen
     variables_marked seen is = marks_named names back values all_marked ∙ ap (λ (vs : List Variable). map marked_of vs) is
 
-  -- the entries that hold them
-  module _ (names : List NameId) (entries : List Entry) (rows : List ℕ) where
-    pub table_whole : IsTable (length names) values entries rows → IsTable (length names) back entries rows
-    table_whole table = table_stays (length names) values back entries rows as_long table
+-- the entries that hold values are those that hold them where they are renewed
+module _ (pool fresh : List ℕ) (values later : List Held) (renewed : IsRenewed pool values fresh later) (names : List NameId) (entries : List Entry)
+    (rows : List ℕ) where
+  pub table_whole : IsTable (length names) values entries rows → IsTable (length names) later entries rows
+  table_whole table = table_stays (length names) values later entries rows (as_many pool fresh values later renewed) table
 
-    pub table_end : EntriesWithin (length fresh) (states_at names back entries rows)
-    table_end = states_within (length fresh) names back entries rows all_end
+  pub table_end : EntriesWithin (length fresh) (states_at names later entries rows)
+  table_end = states_within (length fresh) names later entries rows renewed.within
 
-    pub table_seen : (seen : List EntryState) → states_at names values entries rows ≡ seen
-        → map (state_in fresh) (states_at names back entries rows) ≡ map (state_in pool) seen
-    table_seen seen is =
-        states_seen fresh pool names back values entries rows all_seen ∙ ap (λ (es : List EntryState). map (state_in pool) es) is
+  pub table_seen : (seen : List EntryState) → states_at names values entries rows ≡ seen
+      → map (state_in fresh) (states_at names later entries rows) ≡ map (state_in pool) seen
+  table_seen seen is =
+      states_seen fresh pool names later values entries rows renewed.seen ∙ ap (λ (es : List EntryState). map (state_in pool) es) is
 
-    pub table_marked : (seen : List EntryState) → states_at names values entries rows ≡ seen
-        → map marked_in (states_at names back entries rows) ≡ map marked_in seen
-    table_marked seen is = states_marked names back values entries rows all_marked ∙ ap (λ (es : List EntryState). map marked_in es) is
+  pub table_marked : (seen : List EntryState) → states_at names values entries rows ≡ seen
+      → map marked_in (states_at names later entries rows) ≡ map marked_in seen
+  table_marked seen is = states_marked names later values entries rows renewed.marks ∙ ap (λ (es : List EntryState). map marked_in es) is
 
 -- the variables that are renewed stand in the pool
 pub held_renewed : (fresh lent : List ℕ) (hs : List Held) (gs : List Variable) (es : List EntryState) → length hs ≤ 0 → lent ≡ fresh

@@ -7,7 +7,7 @@ use Rattle.std.proofs.lemmas.List.Sums.{sum_by-cons}
 use Rattle.bst_meaning.specs.declared.value.Value.{Value}
 use Rattle.bst_meaning.specs.declared.value.Value.TheVariants.{Str as Text}
 use Rattle.bst_step.specs.declared.held.Held.{Held}
-use Rattle.bst_step.specs.declared.held.Held.TheVariants.{Int, Str, Missing, Func, Made}
+use Rattle.bst_step.specs.declared.held.Held.TheVariants.{Int, Str, Empty, Missing, Func, Made}
 use Rattle.bst_step.specs.declared.renewal.Window.{Window}
 use Rattle.bst_step.specs.Held.{ValuesWithin, end_of, value_in}
 use Rattle.bst_step.specs.Marks.{Mark, mark_of}
@@ -23,6 +23,7 @@ as_many_settled w at (v ∷ vs) = ap suc (as_many_settled w (at + moved_count w 
 mark_settled : (w : Window) (at : ℕ) (h : Held) → mark_of (settled w at h) ≡ mark_of h
 mark_settled w at (Int n) = refl
 mark_settled w at (Str bytes) = refl
+mark_settled w at Empty = refl
 mark_settled w at (Missing name) = refl
 mark_settled w at (Func target) = refl
 mark_settled w at (Made start count) = by (begins_in w start)
@@ -41,6 +42,7 @@ marks_settled w at (v ∷ vs) =
 bytes_counted : (w : Window) (pool : List ℕ) (h : Held) → end_of h ≤ length pool → length (moved_bytes w pool h) ≡ moved_count w h
 bytes_counted w pool (Int n) within = refl
 bytes_counted w pool (Str bytes) within = refl
+bytes_counted w pool Empty within = refl
 bytes_counted w pool (Missing name) within = refl
 bytes_counted w pool (Func target) within = refl
 bytes_counted w pool (Made start count) within = by (begins_in w start)
@@ -72,6 +74,7 @@ AllBehind until next (v ∷ vs) = Behind until next v × AllBehind until next vs
 behind_earlier : (until m n : ℕ) (h : Held) → m ≤ n → Behind until n h → Behind until m h
 behind_earlier until m n (Int k) less behind = tt
 behind_earlier until m n (Str bytes) less behind = tt
+behind_earlier until m n Empty less behind = tt
 behind_earlier until m n (Missing name) less behind = tt
 behind_earlier until m n (Func target) less behind = tt
 behind_earlier until m n (Made start count) less behind = λ later. omega (arith, less, behind later)
@@ -83,6 +86,7 @@ all_earlier until m n (v ∷ vs) less behind = (behind_earlier until m n v less 
 next_least : (until other : ℕ) (h : Held) → next_behind until other h ≤ other
 next_least until other (Int n) = le_refl other
 next_least until other (Str bytes) = le_refl other
+next_least until other Empty = le_refl other
 next_least until other (Missing name) = le_refl other
 next_least until other (Func target) = le_refl other
 next_least until other (Made start count) = by (nat_le until start)
@@ -94,6 +98,7 @@ next_least until other (Made start count) = by (nat_le until start)
 next_after : (until other : ℕ) (h : Held) → until ≤ other → until ≤ next_behind until other h
 next_after until other (Int n) later = later
 next_after until other (Str bytes) later = later
+next_after until other Empty later = later
 next_after until other (Missing name) later = later
 next_after until other (Func target) later = later
 next_after until other (Made start count) later = by (nat_le until start) refl
@@ -105,6 +110,7 @@ next_after until other (Made start count) later = by (nat_le until start) refl
 next_is_behind : (until other : ℕ) (h : Held) → Behind until (next_behind until other h) h
 next_is_behind until other (Int n) = tt
 next_is_behind until other (Str bytes) = tt
+next_is_behind until other Empty = tt
 next_is_behind until other (Missing name) = tt
 next_is_behind until other (Func target) = tt
 next_is_behind until other (Made start count) = λ later. by later (nat_le until start) refl
@@ -142,6 +148,7 @@ begins_elsewhere w start is later = by (nat_le w.from start) refl (nat_lt start 
 at_front : (h : Held) → Stands 0 0 h
 at_front (Int n) = tt
 at_front (Str bytes) = tt
+at_front Empty = tt
 at_front (Missing name) = tt
 at_front (Func target) = tt
 at_front (Made start count) = inr (omega arith)
@@ -157,6 +164,7 @@ none_moved pool globals own = record { here = omega arith; globals_stand = all_a
 is_finished : (to from end : ℕ) (h : Held) → end < from → end_of h ≤ end → Stands to from h → end_of h ≤ to
 is_finished to from end (Int n) far within stands = omega arith
 is_finished to from end (Str bytes) far within stands = omega arith
+is_finished to from end Empty far within stands = omega arith
 is_finished to from end (Missing name) far within stands = omega arith
 is_finished to from end (Func target) far within stands = omega arith
 is_finished to from end (Made start count) far within (inl here) = here
@@ -172,6 +180,7 @@ stands_settled : (w : Window) (to next at end : ℕ) (h : Held) → Stands to w.
     → Stands end next (settled w at h)
 stands_settled w to next at end (Int n) stands behind more last = tt
 stands_settled w to next at end (Str bytes) stands behind more last = tt
+stands_settled w to next at end Empty stands behind more last = tt
 stands_settled w to next at end (Missing name) stands behind more last = tt
 stands_settled w to next at end (Func target) stands behind more last = tt
 stands_settled w to next at end (Made start count) stands behind more last = by (begins_in w start) refl stands last
@@ -195,6 +204,7 @@ values_stand w to next at end (v ∷ vs) stand behind more last =
 end_settled : (w : Window) (at m n : ℕ) (h : Held) → end_of h ≤ m → m ≤ n → at + moved_count w h ≤ n → end_of (settled w at h) ≤ n
 end_settled w at m n (Int k) within more last = omega arith
 end_settled w at m n (Str bytes) within more last = omega arith
+end_settled w at m n Empty within more last = omega arith
 end_settled w at m n (Missing name) within more last = omega arith
 end_settled w at m n (Func target) within more last = omega arith
 end_settled w at m n (Made start count) within more last = by (begins_in w start) last
@@ -236,6 +246,7 @@ module _ (w : Window) (pool fresh : List ℕ) (to next : ℕ) (front : take to f
       → drop at fresh ≡ moved_bytes w pool h ++ back → value_in fresh (settled w at h) ≡ value_in pool h
   value_settled back at (Int n) within stands behind is = refl
   value_settled back at (Str bytes) within stands behind is = refl
+  value_settled back at Empty within stands behind is = refl
   value_settled back at (Missing name) within stands behind is = refl
   value_settled back at (Func target) within stands behind is = refl
   value_settled back at (Made start count) within stands behind is = by (begins_in w start) refl stands is

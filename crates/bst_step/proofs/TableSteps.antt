@@ -1,10 +1,9 @@
 -- The entries of a table share one list of values, and what one of them is given leaves the others.
-use Rattle.std.proofs.Common.{◌≡◌, ℕ, zero, suc, ◌+◌, ◌-◌, ◌*◌, ◌<◌, ◌≤◌, min, nat_eq, nat_le, Bool, true, false, refl, inl, inr, ◌⊎◌, sym, ap, subst, ◌∙◌, List, [], ◌∷◌, drop, get_or, length, map, slice_get, Option, None, Some, arith}
+use Rattle.std.proofs.Common.{◌≡◌, ℕ, zero, suc, ◌+◌, ◌-◌, ◌*◌, ◌<◌, ◌≤◌, nat_eq, false, refl, inl, inr, ◌⊎◌, sym, ap, subst, ◌∙◌, List, [], ◌∷◌, drop, get_or, length, map, slice_get, Option, None, Some, arith}
 use Rattle.std.proofs.lemmas.Bool.Decides.{nat_tests}
 use Rattle.std.proofs.Math.ListN.{set}
 use Rattle.std.proofs.Math.Nat.{mul-le-mul_right, suc-mul}
-use Rattle.std.proofs.lemmas.Bool.{cases_lt}
-use Rattle.std.proofs.lemmas.List.{drop-set-add, drop-set-lt, drop_all, set_past}
+use Rattle.std.proofs.lemmas.List.{drop-set-add, drop-set-lt, set_past}
 use Rattle.std.proofs.lemmas.List.Elements.{All-cons, All-nil, All-weaker, recursion_from_All}
 use Rattle.std.proofs.lemmas.List.Sorted.{All-permutation, IsPermutation-trans}
 use Rattle.std.proofs.lemmas.Map.Keys.{IsDistinct-IsPermutation}
@@ -32,30 +31,11 @@ get_drop (v ∷ values) (suc first) at =
     let same : suc (first + at) ≡ suc first + at = omega arith in
     get_drop values first at ∙ ap (λ (n : ℕ). slice_get (v ∷ values) n) same
 
-pub read_behind : (values : List Held) (first at index : ℕ) (h : Held) → slice_get values index ≡ Some h → index ≡ first + at
-    → Some h ≡ slice_get (drop first values) at
-read_behind values first at index h here is =
-    sym (get_drop values first at ∙ ap (λ (n : ℕ). slice_get values n) (sym is) ∙ here)
+pub read_behind : (values : List Held) (first at index : ℕ) → index ≡ first + at → slice_get values index ≡ slice_get (drop first values) at
+read_behind values first at index is = ap (λ (n : ℕ). slice_get values n) is ∙ sym (get_drop values first at)
 
 pub none_behind : (values : List Held) (first at : ℕ) → length values ≤ first + at → None ≡ slice_get (drop first values) at
 none_behind values first at past = sym (get_drop values first at ∙ slice_get_past values (first + at) past)
-
--- behind a place that is cut off where a machine's numbers end, all values that are left stand
-pub cut_off : (values : List Held) (first n : ℕ) → first ≡ min n 18446744073709551615 → length values ≤ 18446744073709551615
-    → drop first values ≡ drop n values
-cut_off values first n is fits =
-    elim (nat_le n 18446744073709551615) as (λ (t : Bool). nat_le n 18446744073709551615 ≡ t → drop first values ≡ drop n values) [
-      | true ↦ λ small. ap (λ (k : ℕ). drop k values) (let within = at_most _ _ small in let same : first ≡ n = omega (arith, within, is) in same)
-      | false ↦ λ large.
-          let beyond = more_than _ _ large in
-          drop_all first values (omega (arith, beyond, is, fits)) ∙ sym (drop_all n values (omega (arith, beyond, fits)))
-    ] refl
-  where
-    at_most : (m n : ℕ) → nat_le m n ≡ true → m ≤ n
-    at_most m n e = grind (arith, nat_tests)
-
-    more_than : (m n : ℕ) → nat_le m n ≡ false → n < m
-    more_than m n e = grind (arith, nat_tests)
 
 -- the values of an entry at a place end where those of the next begin, or before
 pub times_next : (count a b : ℕ) → a < b → a * count + count ≤ b * count

@@ -13,7 +13,7 @@ use Rattle.bst_meaning.specs.Config as config
 use Rattle.bst_meaning.specs.Machine.{with_entry_variable, with_variable}
 use Rattle.bst_meaning.specs.Sorting.{string_of}
 use Rattle.bst_step.specs.declared.held.Held.{Held}
-use Rattle.bst_step.specs.declared.held.Held.TheVariants.{Int, Str as LentStr, Missing, Func, Made}
+use Rattle.bst_step.specs.declared.held.Held.TheVariants.{Int, Str as LentStr, Empty, Missing, Func, Made}
 use Rattle.bst_step.specs.declared.variables.Variable.{Variable}
 use Rattle.bst_step.specs.EntryStates.{EntryState, state_in, with_held_in}
 use Rattle.bst_step.specs.Held.{end_of, lent_of, part_from, value_in}
@@ -59,6 +59,7 @@ top_view pool hs h v is value =
 -- the top, whose bytes are lent
 lent_value : (pool : List ℕ) (h : Held) (bytes : List ℕ) → lent_of h ≡ Some bytes → Str bytes ≡ value_in pool h
 lent_value pool (LentStr lent) bytes is = let same : bytes ≡ lent.now = cc in ap Str same
+lent_value pool Empty bytes is = let same : bytes ≡ [] = cc in ap Str same
 lent_value pool (Int n) bytes is = absurd (cc)
 lent_value pool (Missing name) bytes is = absurd (cc)
 lent_value pool (Func target) bytes is = absurd (cc)

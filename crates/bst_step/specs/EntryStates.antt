@@ -36,7 +36,7 @@ pub record IsTable (count : ℕ) (values : List Held) (entries : List Entry) (ro
   pub many : length values ≡ length entries * count
 
 -- these values so many times
-abbrev pub repeated : ℕ → List Held → List Held
+abbrev pub repeated : {A : Type 0} → ℕ → List A → List A
 repeated zero values = []
 repeated (suc n) values = values ++ repeated n values
 

@@ -18,6 +18,7 @@ value_of (operand.Func target) = Func target
 abbrev pub value_in : List ℕ → Held → Value
 value_in pool (held.Int n) = Int n
 value_in pool (held.Str bytes) = Str bytes.now
+value_in pool held.Empty = Str []
 value_in pool (held.Missing name) = Missing name
 value_in pool (held.Func target) = Func target
 value_in pool (held.Made start count) = Str (take count (drop start pool))
@@ -25,6 +26,7 @@ value_in pool (held.Made start count) = Str (take count (drop start pool))
 -- the bytes of a string that are lent
 abbrev pub lent_of : Held → Option (List ℕ)
 lent_of (held.Str bytes) = Some bytes.now
+lent_of held.Empty = Some []
 lent_of _ = None
 
 -- where its bytes end in the pool

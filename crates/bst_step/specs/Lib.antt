@@ -4,6 +4,7 @@ pub mod Stack
 pub mod Operands
 pub mod Variables
 pub mod EntryStates
+pub mod PackedValues
 pub mod Marks
 pub mod Settled
 pub mod Values

@@ -57,6 +57,7 @@ lent_marks c = record {
 -- the mark of a value as it is held
 abbrev pub mark_of : Held → Mark
 mark_of (held.Str bytes) = Lent
+mark_of held.Empty = Lent
 mark_of (held.Made start count) = Made
 mark_of _ = NoString
 

@@ -14,7 +14,8 @@ ghost use Rattle.bst_step.specs.Variables.{VariablesWithin, held_at, variable_in
 use crate::fields::{field_of, standing};
 use crate::held::{Held, Operand};
 use crate::order::sort_rows;
-use crate::rows::{entry_at, place_at, rows_of, value_at, values_of};
+use crate::packed_values::PackedValues;
+use crate::rows::{entry_at, place_at, rows_of, value_at};
 use crate::typed::{TypedEntry, type_id_at, type_ids};
 use crate::variables::{Variable, Variables};
 use bv_base::memory::NoMemory;
@@ -23,7 +24,7 @@ use name_table::names::{NameId, Names};
 use std::alloc::Global;
 use std::marker::Model;
 
-/// The entries of a run with their variables, whose values stand in one vector, so that an entry takes no allocation. Contracts
+/// The entries of a run with their variables, whose values stand in one list, so that an entry takes no allocation. Contracts
 /// see the list of the entries.
 #[derive(Drop)]
 pub struct EntryTable<'a> {
@@ -38,7 +39,7 @@ pub struct EntryTable<'a> {
     /// The places of the entries in the list, in their order now.
     rows: Vec<u32>,
     /// What the variables of the entry at each place hold.
-    values: Vec<Held<'a>>,
+    values: PackedValues<'a>,
 }
 
 impl<'a> Model for EntryTable<'a> {
@@ -49,10 +50,10 @@ impl<'a> Model for EntryTable<'a> {
 
     ghost Value = { List EntryState };
 
-    ghost view = { λ t. states_at (names_in t.own) t.values.items t.list.now.entries t.rows.items };
+    ghost view = { λ t. states_at (names_in t.own) t.values t.list.now.entries t.rows.items };
 
     ghost invariant = { λ t.
-        IsTable (length (names_in t.own)) t.values.items t.list.now.entries t.rows.items
+        IsTable (length (names_in t.own)) t.values t.list.now.entries t.rows.items
         × IfSome t.places (λ places. FieldsStandAt places.items t.list.now.entries) };
 }
 
@@ -74,7 +75,7 @@ impl<'a> EntryTable<'a> {
     {
         let count = list.len();
         let rows = rows_of(alloc, count)?;
-        let values = values_of(alloc, own.values(), count)?;
+        let values = PackedValues::repeated(alloc, own.values(), count)?;
         let type_ids = type_ids(alloc, list, names)?;
         Ok(EntryTable {
             own,
@@ -149,7 +150,7 @@ impl<'a> EntryTable<'a> {
         };
         let count = self.own.values().len();
         match place_at(self.rows.as_slice(), at) {
-            Some(place) => value_at(self.values.as_slice(), place, count, index),
+            Some(place) => value_at(&self.values, place, count, index),
             None => None,
         }
     }
@@ -165,7 +166,7 @@ impl<'a> EntryTable<'a> {
         if let Some(place) = place_at(self.rows.as_slice(), at) {
             let index = place.saturating_mul(count).saturating_add(among);
             if index < self.values.len() {
-                self.values[index] = new.value;
+                self.values.set(index, new.value);
             }
         }
     }
@@ -177,7 +178,7 @@ impl<'a> EntryTable<'a> {
         ensures marks { OnOk result (map marked_in self.new ≡ sorted_marks (map (state_in pool.now) self.old) (map marked_in self.old)) }
         ensures kept { OnErr result (self.new ≡ self.old) }
     {
-        sort_rows(pool, &self.own, self.values.as_slice(), &mut self.rows)
+        sort_rows(pool, &self.own, &self.values, &mut self.rows)
     }
 
     /// Brings the bytes of the strings that these variables and those of entries hold to the front of their pool.
@@ -191,6 +192,6 @@ impl<'a> EntryTable<'a> {
         ensures seen { map (state_in pool.new.items) self.new ≡ map (state_in pool.old.items) self.old }
         ensures marks { map marked_in self.new ≡ map marked_in self.old }
     {
-        globals.renew(self.values.as_mut_slice(), pool)
+        globals.renew(&mut self.values, pool)
     }
 }

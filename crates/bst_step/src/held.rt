@@ -16,7 +16,7 @@ use name_table::names::NameId;
 const LEAST_SPARED: usize = 65536;
 
 /// Nor for fewer bytes for each entry, whose values are gone through then.
-const ENTRY_BYTES: usize = 16;
+const ENTRY_BYTES: usize = 8;
 
 /// A value whose bytes are lent: those of an operand to a built-in function, or those of the style, of the entry list or of
 /// a constant text to the machine.
@@ -35,6 +35,8 @@ pub enum Held<'a> {
     Int(i32),
     /// A string whose bytes the machine doesn't own.
     Str(&'a [u8]),
+    /// Such a string of no bytes, which is the same wherever it comes from.
+    Empty,
     /// A field that the entry doesn't have.
     Missing(NameId),
     Func(Target),
@@ -58,7 +60,13 @@ impl<'a> Operand<'a> {
     {
         match self {
             Operand::Int(n) => Held::Int(n),
-            Operand::Str(bytes) => Held::Str(bytes),
+            Operand::Str(bytes) => {
+                if bytes.is_empty() {
+                    Held::Empty
+                } else {
+                    Held::Str(bytes)
+                }
+            }
             Operand::Missing(name) => Held::Missing(name),
             Operand::Func(target) => Held::Func(target),
         }
@@ -76,6 +84,7 @@ impl<'a> Held<'a> {
         match self {
             Held::Int(n) => Operand::Int(n),
             Held::Str(bytes) => Operand::Str(bytes),
+            Held::Empty => Operand::Str(&[]),
             Held::Missing(name) => Operand::Missing(name),
             Held::Func(target) => Operand::Func(target),
             Held::Made(start, count) => Operand::Str(part_of(pool, start, count)),
@@ -89,6 +98,7 @@ impl<'a> Held<'a> {
     {
         match self {
             Held::Str(bytes) => Some(bytes),
+            Held::Empty => Some(&[]),
             _ => None,
         }
     }
@@ -113,7 +123,7 @@ impl<'a> Held<'a> {
         ensures mark { mark_of result ≡ mark_of self.entry }
     {
         match self {
-            Held::Str(bytes) => Held::Str(part_of(bytes, from, count)),
+            Held::Str(bytes) => Operand::Str(part_of(bytes, from, count)).held(),
             Held::Made(start, length) => {
                 let skipped = from.min(length);
                 Held::Made(start + skipped, count.min(length - skipped))
@@ -223,18 +233,6 @@ fn brought_to_end(a: Held<'_>, pool: &mut Vec<u8>) -> Result<usize, NoMemory>
     Ok(end)
 }
 
-/// The value so far behind a place.
-pub fn value_from<'a>(values: &[Held<'a>], first: usize, place: usize) -> Option<Held<'a>>
-    ensures { result ≡ slice_get (drop first values.now) place }
-{
-    let index = first.saturating_add(place);
-    if index < values.len() {
-        Some(values[index])
-    } else {
-        None
-    }
-}
-
 /// How many bytes variables hold once one of them has another value, if there is that one.
 pub fn live_after(live: usize, old: Option<Held<'_>>, new: Held<'_>) -> usize {
     match old {
@@ -249,6 +247,6 @@ pub fn live_after(live: usize, old: Option<Held<'_>>, new: Held<'_>) -> usize {
 /// are made take a few times what was written at most.
 pub fn is_worth(kept: usize, live: usize, entries: usize) -> bool {
     let rows = entries.saturating_mul(ENTRY_BYTES);
-    let least = (kept / 4).saturating_add(rows).saturating_add(LEAST_SPARED);
+    let least = (kept / 8).saturating_add(rows).saturating_add(LEAST_SPARED);
     kept.saturating_sub(live) > least
 }

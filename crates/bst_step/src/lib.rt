@@ -23,6 +23,7 @@ mod numbers;
 mod opening;
 mod operands;
 mod order;
+mod packed_values;
 mod page;
 mod prepared;
 mod renewal;

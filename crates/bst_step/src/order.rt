@@ -10,7 +10,8 @@ ghost use Rattle.bst_step.specs.Held.{value_of};
 ghost use Rattle.bst_step.specs.Marks.{marked_in, sorted_marks};
 ghost use Rattle.bst_step.specs.Variables.{names_in, variable_in};
 
-use crate::held::{Held, Operand};
+use crate::held::Operand;
+use crate::packed_values::PackedValues;
 use crate::rows::value_at;
 use crate::variables::Variables;
 use bv_base::memory::NoMemory;
@@ -20,7 +21,7 @@ use name_table::opening::SORT_KEY;
 pub fn sort_rows(
     pool: &[u8],
     own: &Variables<'_>,
-    values: &[Held<'_>],
+    values: &PackedValues<'_>,
     rows: &mut Vec<u32>,
 ) -> Result<(), NoMemory>
     ensures sorted { (entries : List Entry) → OnOk result (map (state_in pool.now) (states_at (names_in own.now) values.now entries rows.new.items)
@@ -36,7 +37,12 @@ pub fn sort_rows(
 }
 
 /// The bytes of `sort.key$` of the entry at a place.
-fn sort_key<'b>(pool: &'b [u8], own: &Variables<'_>, values: &[Held<'b>], place: u32) -> &'b [u8]
+fn sort_key<'b>(
+    pool: &'b [u8],
+    own: &Variables<'_>,
+    values: &PackedValues<'b>,
+    place: u32,
+) -> &'b [u8]
     ensures { result.now ≡
         rule.string_at names.sort_key.0 (map (variable_in pool.now) (variables_at (names_in own.now) values.now place)) }
 {

@@ -1,10 +1,13 @@
 //! A pool made anew in place, one window of it after the other.
 
-ghost use Rattle.std.specs.Prelude.{◌≡◌, ◌+◌, ◌<◌, ◌≤◌, ◌++◌, ℕ, length, IfOk, MatchOption, OnErr, OnOk};
+ghost use Rattle.std.specs.Prelude.{◌≡◌, ◌+◌, ◌<◌, ◌≤◌, ◌++◌, ℕ, get_or, length, pos, slice_set, IfOk, MatchOption, OnErr, OnOk};
+ghost use Rattle.std.specs.Bool.{OnFalse};
+ghost use Rattle.bst_step.specs.declared.held.Held.TheVariants.{Int};
 ghost use Rattle.bst_step.specs.Held.{ValuesWithin};
 ghost use Rattle.bst_step.specs.Settled.{AreParted, IsGathered, IsRenewed, begins_in, first_behind, moved_bytes, moved_count, next_behind, put_over, settled, values_bytes, values_count, values_settled};
 
 use crate::held::Held;
+use crate::packed_values::PackedValues;
 use bv_base::bytes::part_of;
 use bv_base::memory::NoMemory;
 
@@ -39,7 +42,7 @@ impl Window {
 /// Where memory is wanting the pool is longer than that.
 pub fn renew_values(
     globals: &mut [Held<'_>],
-    own: &mut [Held<'_>],
+    own: &mut PackedValues<'_>,
     pool: &mut Vec<u8>,
 ) -> Result<(), NoMemory>
     requires globals { ValuesWithin (length pool.old.items) globals.old }
@@ -74,7 +77,7 @@ pub fn renew_values(
 /// gives where that one begins. `None` says that they have no room, and that nothing has moved.
 fn move_window(
     globals: &mut [Held<'_>],
-    own: &mut [Held<'_>],
+    own: &mut PackedValues<'_>,
     window: Window,
     pool: &mut Vec<u8>,
     moved: &mut Vec<u8>,
@@ -91,14 +94,14 @@ fn move_window(
 {
     moved.clear();
     let next = gather_values(globals, window, NOWHERE, pool.as_slice(), moved)?;
-    let next = gather_values(own, window, next, pool.as_slice(), moved)?;
+    let next = gather_packed(own, window, next, pool.as_slice(), moved)?;
     put_window(globals, own, window, next, pool, moved.as_slice())
 }
 
 /// Puts the strings that begin in a window, whose bytes were gathered, behind the finished part.
 fn put_window(
     globals: &mut [Held<'_>],
-    own: &mut [Held<'_>],
+    own: &mut PackedValues<'_>,
     window: Window,
     next: usize,
     pool: &mut Vec<u8>,
@@ -116,7 +119,7 @@ fn put_window(
     }
     put_over(pool, window.to, moved)?;
     let end = settle_values(globals, window, window.to);
-    settle_values(own, window, end);
+    settle_packed(own, window, end);
     Ok(Some(next))
 }
 
@@ -136,6 +139,29 @@ fn gather_values(
     for value in values {
         gather(*value, window, pool, moved)?;
         next = next_behind(*value, window, next);
+    }
+    Ok(next)
+}
+
+/// Appends the bytes of the strings that begin in a window, of values that are packed, and gives where the first string behind
+/// it begins, or another place that comes before that.
+fn gather_packed(
+    values: &PackedValues<'_>,
+    window: Window,
+    other: usize,
+    pool: &[u8],
+    moved: &mut Vec<u8>,
+) -> Result<usize, NoMemory>
+    ensures moved { OnOk result (moved.new.items ≡ moved.old.items ++ values_bytes window pool.now values.now) }
+    ensures next { IfOk result (λ next. next ≡ first_behind window.until other values.now) }
+{
+    let mut next = other;
+    for at in 0..values.len() {
+        let Some(value) = values.get(at) else {
+            unreachable!()
+        };
+        gather(value, window, pool, moved)?;
+        next = next_behind(value, window, next);
     }
     Ok(next)
 }
@@ -175,6 +201,48 @@ fn settle_values(values: &mut [Held<'_>], window: Window, to: usize) -> usize
         end += moved_count(value, window);
     }
     end
+}
+
+/// Puts the strings that begin in a window, of values that are packed, one after the other from a place on, and gives where
+/// they end.
+fn settle_packed(values: &mut PackedValues<'_>, window: Window, to: usize) -> usize
+    requires { to + values_count window values.old ≤ 18446744073709551615 }
+    ensures settled { values.new ≡ values_settled window to values.old }
+    ensures end { result ≡ to + values_count window values.old }
+{
+    let mut end = to;
+    for at in 0..values.len() {
+        end += settle_at(values, at, window, end);
+    }
+    end
+}
+
+/// Puts the string at a place of values that are packed from another place on, if it begins in a window, and gives how many
+/// bytes it has then. Another value isn't put again: one that takes more than eight bytes would be kept once more.
+fn settle_at(values: &mut PackedValues<'_>, at: usize, window: Window, to: usize) -> usize
+    requires { at < length values.old }
+    ensures settled { values.new ≡ slice_set values.old at (settled window to (get_or values.old at (Int (pos 0)))) }
+    ensures count { result ≡ moved_count window (get_or values.old at (Int (pos 0))) }
+{
+    let Some(value) = values.get(at) else {
+        unreachable!()
+    };
+    if !moves(value, window) {
+        return 0;
+    }
+    values.set(at, settled(value, window, to));
+    moved_count(value, window)
+}
+
+/// Whether a value is a string that begins in a window.
+fn moves(value: Held<'_>, window: Window) -> bool
+    ensures stays { OnFalse result ((to : ℕ) → settled window to value.entry ≡ value.entry) }
+    ensures none { OnFalse result (moved_count window value.entry ≡ 0) }
+{
+    match value {
+        Held::Made(start, _) => window.has(start),
+        _ => false,
+    }
 }
 
 /// How many bytes a string has that begins in a window.

@@ -3,9 +3,9 @@
 ghost use Rattle.std.specs.Prelude.{◌≡◌, ◌*◌, drop, length, slice_get, IfOk};
 ghost use Rattle.std.specs.List.{range_with_len};
 ghost use Rattle.std.specs.Option.{option_and_then};
-ghost use Rattle.bst_step.specs.EntryStates.{repeated};
 
-use crate::held::{Held, value_from};
+use crate::held::Held;
+use crate::packed_values::PackedValues;
 use bv_base::memory::NoMemory;
 use entry_store::entry::{Entry, EntryList};
 use std::alloc::Global;
@@ -22,21 +22,6 @@ pub fn rows_of(alloc: Global, count: usize) -> Result<Vec<u32>, NoMemory>
         rows.push(place)?;
     }
     Ok(rows)
-}
-
-/// The values that so many entries have, where each has the same.
-pub fn values_of<'a>(
-    alloc: Global,
-    own: &[Held<'a>],
-    count: usize,
-) -> Result<Vec<Held<'a>>, NoMemory>
-    ensures { IfOk result (λ values. values.items ≡ repeated count own.now) }
-{
-    let mut values = Vec::with_capacity(alloc, count.saturating_mul(own.len()))?;
-    for times in 0..count {
-        values.extend_from_slice(own)?;
-    }
-    Ok(values)
 }
 
 /// The place of the entry of a row.
@@ -61,12 +46,17 @@ pub fn entry_at<'a>(list: &'a EntryList, rows: &[u32], at: usize) -> Option<Entr
 
 /// The value at an index among those of the entry at a place, where each entry has so many.
 pub fn value_at<'a>(
-    values: &[Held<'a>],
+    values: &PackedValues<'a>,
     place: usize,
     count: usize,
     index: usize,
 ) -> Option<Held<'a>>
     ensures { result ≡ slice_get (drop (place * count) values.now) index }
 {
-    value_from(values, place.saturating_mul(count), index)
+    let index = place.saturating_mul(count).saturating_add(index);
+    if index < values.len() {
+        values.get(index)
+    } else {
+        None
+    }
 }

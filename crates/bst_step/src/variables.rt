@@ -8,6 +8,7 @@ ghost use Rattle.bst_step.specs.Settled.{IsRenewed};
 ghost use Rattle.bst_step.specs.Variables.{VariablesWithin, held_at, names_in, values_in, variable_in, with_held};
 
 use crate::held::Held;
+use crate::packed_values::PackedValues;
 use crate::renewal::renew_values;
 use bv_base::memory::NoMemory;
 use name_table::names::NameId;
@@ -101,7 +102,11 @@ impl<'a> Variables<'a> {
     }
 
     /// Brings the bytes of the strings that the variables and other values hold to the front of their pool.
-    pub fn renew(&mut self, others: &mut [Held<'a>], pool: &mut Vec<u8>) -> Result<(), NoMemory>
+    pub fn renew(
+        &mut self,
+        others: &mut PackedValues<'a>,
+        pool: &mut Vec<u8>,
+    ) -> Result<(), NoMemory>
         requires own { VariablesWithin (length pool.old.items) self.old }
         requires others { ValuesWithin (length pool.old.items) others.old }
         ensures within { VariablesWithin (length pool.new.items) self.new }

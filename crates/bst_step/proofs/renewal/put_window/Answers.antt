@@ -16,8 +16,8 @@ settle_values-end-requires c =
     (omega (arith, c.if-window-moved.false)) c.in_ok-put_over.ensures.put in
     omega (arith, fit, c.put_over.new.pool.ok.0, c.put_over.new.pool.ok.1, c.put_over.new.pool.small)
 
-pub settle_values-requires : goal.settle_values-requires
-settle_values-requires c =
+pub settle_packed-requires : goal.settle_packed-requires
+settle_packed-requires c =
     let fit =
     own_fit c.args.window c.args.next c.args.pool.now.items c.args.moved.now c.args.globals.now c.args.own.now c.requires c.put_over.new.pool.items
     (omega (arith, c.if-window-moved.false)) c.in_ok-put_over.ensures.put c.settle_values-end.result c.settle_values-end.ensures.end in
@@ -32,12 +32,12 @@ returns-clause-globals c =
 pub returns-clause-own : goal.returns-clause-own
 returns-clause-own c =
     own_renewed c.args.window c.args.next c.args.pool.now.items c.args.moved.now c.args.globals.now c.args.own.now c.requires
-    c.put_over.new.pool.items (omega (arith, c.if-window-moved.false)) c.in_ok-put_over.ensures.put c.settle_values-end.result c.settle_values.new.values
-    c.settle_values-end.ensures.end c.settle_values.ensures.settled
+    c.put_over.new.pool.items (omega (arith, c.if-window-moved.false)) c.in_ok-put_over.ensures.put c.settle_values-end.result c.settle_packed.new.values
+    c.settle_values-end.ensures.end c.settle_packed.ensures.settled
 
 pub returns-clause-parted : goal.returns-clause-parted
 returns-clause-parted c =
     has_moved c.args.window c.args.next c.args.pool.now.items c.args.moved.now c.args.globals.now c.args.own.now c.requires
     c.put_over.new.pool.items (omega (arith, c.if-window-moved.false)) c.in_ok-put_over.ensures.put c.settle_values-end.result
-    c.settle_values-end.new.values c.settle_values.new.values c.settle_values-end.ensures.end c.settle_values-end.ensures.settled
-    c.settle_values.ensures.settled
+    c.settle_values-end.new.values c.settle_packed.new.values c.settle_values-end.ensures.end c.settle_values-end.ensures.settled
+    c.settle_packed.ensures.settled

@@ -1,4 +1,4 @@
-use Rattle.std.proofs.Common.{◌+◌, ◌-◌, ◌<◌, length}
+use Rattle.std.proofs.Common.{◌+◌, ◌-◌, ◌<◌}
 use Rattle.bst_step.specs.Settled.{AreParted, IsRenewed}
 use Rattle.bst_step.proofs.renewal.renew_values.Given as goal
 

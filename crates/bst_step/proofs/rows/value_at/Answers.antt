@@ -1,11 +1,15 @@
--- Where the product is beyond a machine's numbers, no value stands there.
-use Rattle.std.proofs.Common.{◌∙◌, ◌*◌, List, ap, arith, slice_get}
-use Rattle.bst_step.specs.declared.held.Held.{Held}
-use Rattle.bst_step.proofs.TableSteps.{cut_off}
+-- The value stands so far behind the first one of the place, or the values end before.
+use Rattle.std.proofs.Common.{◌∙◌, ◌*◌, arith}
+use Rattle.bst_step.proofs.TableSteps.{none_behind, read_behind}
 use Rattle.bst_step.proofs.rows.value_at.Goals as goal
 
-pub returns : goal.returns
-returns c =
-    c.value_from.ensures
-    ∙ ap (λ (l : List Held). slice_get l c.args.index)
-    (cut_off c.args.values.now c.saturating_mul.result (c.args.place * c.args.count) c.saturating_mul.ensures (omega arith))
+pub returns-then-index-len : goal.returns-then-index-len
+returns-then-index-len c =
+    c.get.ensures
+    ∙ read_behind c.args.values.now (c.args.place * c.args.count) c.args.index c.saturating_add-index.result
+    (omega (arith, c.saturating_mul.ensures, c.saturating_add-index.ensures, c.if-index-len.true))
+
+pub returns-else-index-len : goal.returns-else-index-len
+returns-else-index-len c =
+    none_behind c.args.values.now (c.args.place * c.args.count) c.args.index
+    (omega (arith, c.saturating_mul.ensures, c.saturating_add-index.ensures, c.if-index-len.false, c.len.ensures))

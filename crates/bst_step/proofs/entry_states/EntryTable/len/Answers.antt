@@ -8,5 +8,5 @@ use Rattle.bst_step.proofs.entry_states.EntryTable.len.Goals as goal
 pub returns : goal.returns
 returns c =
     ap length c.as_slice.ensures.value
-    ∙ sym (length-map c.self.inside.rows.items (state_at (names_in c.self.inside.own) c.self.inside.values.items c.self.inside.list.now.entries))
+    ∙ sym (length-map c.self.inside.rows.items (state_at (names_in c.self.inside.own) c.self.inside.values c.self.inside.list.now.entries))
     ∙ ap (λ (es : List EntryState). length es) c.self.view_is

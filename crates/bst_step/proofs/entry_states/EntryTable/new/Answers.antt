@@ -8,7 +8,7 @@ use Rattle.bst_step.proofs.entry_states.EntryTable.new.Goals as goal
 
 pub invariant_of-result : goal.invariant_of-result
 invariant_of-result c = (
-  table_opened c.args.own c.args.list.now.entries c.values.result.now c.in_ok-values.values.items c.in_ok-rows.rows.items c.len-count.result c.len-count.ensures
+  table_opened c.args.own c.args.list.now.entries c.values.result.now c.in_ok-values.values c.in_ok-rows.rows.items c.len-count.result c.len-count.ensures
       c.in_ok-rows.ensures c.values.ensures c.in_ok-values.ensures,
   c.standing.ensures,
 )
@@ -16,18 +16,18 @@ invariant_of-result c = (
 pub returns-clause-within : goal.returns-clause-within
 returns-clause-within c =
     subst (λ (es : List EntryState). EntriesWithin 0 es)
-    (sym (rows_opened c.args.own c.args.list.now.entries c.values.result.now c.in_ok-values.values.items c.in_ok-rows.rows.items c.len-count.result c.len-count.ensures
+    (sym (rows_opened c.args.own c.args.list.now.entries c.values.result.now c.in_ok-values.values c.in_ok-rows.rows.items c.len-count.result c.len-count.ensures
     c.in_ok-rows.ensures c.values.ensures c.in_ok-values.ensures)) (opened_within 0 c.args.own 0 c.args.list.now.entries c.requires.within)
 
 pub returns-clause-marks : goal.returns-clause-marks
 returns-clause-marks c =
     subst (λ (es : List EntryState). AreLentIn es)
-    (sym (rows_opened c.args.own c.args.list.now.entries c.values.result.now c.in_ok-values.values.items c.in_ok-rows.rows.items c.len-count.result c.len-count.ensures
+    (sym (rows_opened c.args.own c.args.list.now.entries c.values.result.now c.in_ok-values.values c.in_ok-rows.rows.items c.len-count.result c.len-count.ensures
     c.in_ok-rows.ensures c.values.ensures c.in_ok-values.ensures)) (entries_lent c.args.own 0 c.args.list.now.entries c.requires.marks)
 
 pub returns-clause-opened : goal.returns-clause-opened
 returns-clause-opened c =
     ap (λ (es : List EntryState). map (state_in []) es)
-    (rows_opened c.args.own c.args.list.now.entries c.values.result.now c.in_ok-values.values.items c.in_ok-rows.rows.items c.len-count.result c.len-count.ensures
+    (rows_opened c.args.own c.args.list.now.entries c.values.result.now c.in_ok-values.values c.in_ok-rows.rows.items c.len-count.result c.len-count.ensures
     c.in_ok-rows.ensures c.values.ensures c.in_ok-values.ensures)
     ∙ states_opened c.args.own 0 c.args.list.now.entries

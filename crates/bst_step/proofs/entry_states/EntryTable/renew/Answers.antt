@@ -1,39 +1,33 @@
 -- The values that were written are renewed, and the entries are seen as they were.
 use Rattle.std.proofs.Common.{List, length, subst, sym}
-use Rattle.bst_step.specs.declared.held.Held.{Held}
 use Rattle.bst_step.specs.EntryStates.{EntriesWithin, EntryState}
-use Rattle.bst_step.specs.Held.{ValuesWithin}
 use Rattle.bst_step.specs.Variables.{names_in}
 use Rattle.bst_step.proofs.RenewedSteps.{table_end, table_marked, table_seen, table_whole, table_within}
 use Rattle.bst_step.proofs.entry_states.EntryTable.renew.Goals as goal
 
 pub renew-requires-clause-others : goal.renew-requires-clause-others
 renew-requires-clause-others c =
-    subst (λ (vs : List Held). ValuesWithin (length c.args.pool.now.items) vs) (sym c.as_mut_slice.ensures.value)
-    (table_within (length c.args.pool.now.items) (names_in c.self.inside.own) c.self.inside.values.items c.self.inside.list.now.entries c.self.inside.rows.items c.self.invariant.0
-    (subst (λ (es : List EntryState). EntriesWithin (length c.args.pool.now.items) es) (sym c.self.view_is) c.requires.entries))
+    table_within (length c.args.pool.now.items) (names_in c.self.inside.own) c.self.inside.values c.self.inside.list.now.entries c.self.inside.rows.items
+    c.self.invariant.0 (subst (λ (es : List EntryState). EntriesWithin (length c.args.pool.now.items) es) (sym c.self.view_is) c.requires.entries)
 
 pub invariant_of-self : goal.invariant_of-self
 invariant_of-self c = (
-  table_whole c.args.pool.now.items c.renew.new.pool.items c.as_mut_slice.result.now c.self.inside.values.items c.renew.new.others c.self.inside.values.len
-      c.as_mut_slice.ensures.value c.as_mut_slice.ensures.len c.renew.ensures.others (names_in c.self.inside.own) c.self.inside.list.now.entries c.self.inside.rows.items
-      c.self.invariant.0,
+  table_whole c.args.pool.now.items c.renew.new.pool.items c.self.inside.values c.renew.new.others c.renew.ensures.others (names_in c.self.inside.own)
+      c.self.inside.list.now.entries c.self.inside.rows.items c.self.invariant.0,
   c.self.invariant.1,
 )
 
 pub returns-clause-within : goal.returns-clause-within
 returns-clause-within c =
-    table_end c.args.pool.now.items c.renew.new.pool.items c.as_mut_slice.result.now c.self.inside.values.items c.renew.new.others c.self.inside.values.len
-    c.as_mut_slice.ensures.value c.as_mut_slice.ensures.len c.renew.ensures.others (names_in c.self.inside.own) c.self.inside.list.now.entries c.self.inside.rows.items
+    table_end c.args.pool.now.items c.renew.new.pool.items c.self.inside.values c.renew.new.others c.renew.ensures.others (names_in c.self.inside.own)
+    c.self.inside.list.now.entries c.self.inside.rows.items
 
 pub returns-clause-seen : goal.returns-clause-seen
 returns-clause-seen c =
-    table_seen c.args.pool.now.items c.renew.new.pool.items c.as_mut_slice.result.now c.self.inside.values.items c.renew.new.others c.self.inside.values.len
-    c.as_mut_slice.ensures.value c.as_mut_slice.ensures.len c.renew.ensures.others (names_in c.self.inside.own) c.self.inside.list.now.entries c.self.inside.rows.items
-    c.args.self.now c.self.view_is
+    table_seen c.args.pool.now.items c.renew.new.pool.items c.self.inside.values c.renew.new.others c.renew.ensures.others (names_in c.self.inside.own)
+    c.self.inside.list.now.entries c.self.inside.rows.items c.args.self.now c.self.view_is
 
 pub returns-clause-marks : goal.returns-clause-marks
 returns-clause-marks c =
-    table_marked c.args.pool.now.items c.renew.new.pool.items c.as_mut_slice.result.now c.self.inside.values.items c.renew.new.others c.self.inside.values.len
-    c.as_mut_slice.ensures.value c.as_mut_slice.ensures.len c.renew.ensures.others (names_in c.self.inside.own) c.self.inside.list.now.entries c.self.inside.rows.items
-    c.args.self.now c.self.view_is
+    table_marked c.args.pool.now.items c.renew.new.pool.items c.self.inside.values c.renew.new.others c.renew.ensures.others (names_in c.self.inside.own)
+    c.self.inside.list.now.entries c.self.inside.rows.items c.args.self.now c.self.view_is

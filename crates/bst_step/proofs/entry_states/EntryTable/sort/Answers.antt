@@ -2,7 +2,6 @@
 use Rattle.std.proofs.Common.{◌≡◌, List, length, map, subst, sym}
 use Rattle.std.specs.Prelude.{OnOk}
 use Rattle.bst_meaning.specs.Sorting.{sorted}
-use Rattle.bst_step.specs.declared.held.Held.{Held}
 use Rattle.bst_step.specs.EntryStates.{EntriesWithin, EntryState, state_in, states_at}
 use Rattle.bst_step.specs.Marks.{marked_in, sorted_marks}
 use Rattle.bst_step.specs.Variables.{names_in}
@@ -12,34 +11,27 @@ use Rattle.bst_step.proofs.entry_states.EntryTable.sort.Goals as goal
 
 pub invariant_of-self : goal.invariant_of-self
 invariant_of-self c = (
-  table_permuted (length (names_in c.self.inside.own)) c.self.inside.values.items c.self.inside.list.now.entries c.self.inside.rows.items
+  table_permuted (length (names_in c.self.inside.own)) c.self.inside.values c.self.inside.list.now.entries c.self.inside.rows.items
       c.sort_rows.new.rows.items c.sort_rows.ensures.permuted c.self.invariant.0,
   c.self.invariant.1,
 )
 
 pub returns-clause-within : goal.returns-clause-within
 returns-clause-within c =
-    λ end within. states_within end (names_in c.self.inside.own) c.self.inside.values.items c.self.inside.list.now.entries c.sort_rows.new.rows.items
-    (table_within end (names_in c.self.inside.own) c.self.inside.values.items c.self.inside.list.now.entries c.self.inside.rows.items
+    λ end within. states_within end (names_in c.self.inside.own) c.self.inside.values c.self.inside.list.now.entries c.sort_rows.new.rows.items
+    (table_within end (names_in c.self.inside.own) c.self.inside.values c.self.inside.list.now.entries c.self.inside.rows.items
     c.self.invariant.0 (subst (λ (es : List EntryState). EntriesWithin end es) (sym c.self.view_is) within))
 
 pub returns-clause-sorted : goal.returns-clause-sorted
 returns-clause-sorted c =
     subst (λ (es : List EntryState). OnOk c.sort_rows.result
-    (map (state_in c.args.pool.now) (states_at (names_in c.self.inside.own) c.self.inside.values.items c.self.inside.list.now.entries c.sort_rows.new.rows.items)
+    (map (state_in c.args.pool.now) (states_at (names_in c.self.inside.own) c.self.inside.values c.self.inside.list.now.entries c.sort_rows.new.rows.items)
     ≡ sorted (map (state_in c.args.pool.now) es))) c.self.view_is
-    (subst (λ (values : List Held). OnOk c.sort_rows.result
-    (map (state_in c.args.pool.now) (states_at (names_in c.self.inside.own) values c.self.inside.list.now.entries c.sort_rows.new.rows.items)
-    ≡ sorted (map (state_in c.args.pool.now) (states_at (names_in c.self.inside.own) values c.self.inside.list.now.entries c.self.inside.rows.items))))
-    c.as_slice.ensures.value (c.sort_rows.ensures.sorted c.self.inside.list.now.entries))
+    (c.sort_rows.ensures.sorted c.self.inside.list.now.entries)
 
 pub returns-clause-marks : goal.returns-clause-marks
 returns-clause-marks c =
     subst (λ (es : List EntryState). OnOk c.sort_rows.result
-    (map marked_in (states_at (names_in c.self.inside.own) c.self.inside.values.items c.self.inside.list.now.entries c.sort_rows.new.rows.items)
+    (map marked_in (states_at (names_in c.self.inside.own) c.self.inside.values c.self.inside.list.now.entries c.sort_rows.new.rows.items)
     ≡ sorted_marks (map (state_in c.args.pool.now) es) (map marked_in es))) c.self.view_is
-    (subst (λ (values : List Held). OnOk c.sort_rows.result
-    (map marked_in (states_at (names_in c.self.inside.own) values c.self.inside.list.now.entries c.sort_rows.new.rows.items)
-    ≡ sorted_marks (map (state_in c.args.pool.now) (states_at (names_in c.self.inside.own) values c.self.inside.list.now.entries c.self.inside.rows.items))
-    (map marked_in (states_at (names_in c.self.inside.own) values c.self.inside.list.now.entries c.self.inside.rows.items))))
-    c.as_slice.ensures.value (c.sort_rows.ensures.marks c.self.inside.list.now.entries))
+    (c.sort_rows.ensures.marks c.self.inside.list.now.entries)
