@@ -19,7 +19,7 @@ use bv_base::text::Text;
 use std::alloc::Global;
 
 /// After so many steps what was written is put.
-const PART: u32 = 65_536;
+const PART: u32 = 8_192;
 
 /// Delivers what the words of a command came to, and answers its status. Where memory was wanting for it nothing is put.
 pub fn deliver_answer<O: Sink, E: Sink>(
@@ -194,7 +194,7 @@ fn whole_log(alloc: Global, run: &Run, machine: &Machine<'_>) -> Result<Vec<u8>,
     log.extend_from_slice(run.front.as_slice())?;
     add_lines(&mut log, run.reading.as_slice())?;
     add_lines(&mut log, run.found.warnings.as_slice())?;
-    log.extend_from_slice(machine.log()?.as_slice())?;
+    machine.add_log(&mut log)?;
     Ok(log)
 }
 

@@ -1,6 +1,6 @@
 //! The lines that a run has written (docs/MACHINE.md, "Lines").
 
-ghost use Rattle.std.specs.Prelude.{if◌then◌else◌, ◌≡◌, ◌+◌, ◌++◌, ◌∷◌, ◌≤◌, [], drop, length, map, option_map, None, IfOk, OnOk, IfSome};
+ghost use Rattle.std.specs.Prelude.{if◌then◌else◌, ◌≡◌, ◌+◌, ◌++◌, ◌∷◌, ◌≤◌, [], drop, length, map, option_map, None, OnOk, IfSome};
 ghost use Rattle.std.specs.List.{flat_map};
 ghost use Rattle.bst_meaning.specs.Lines as rule;
 ghost use Rattle.bst_step.specs.Lines.{cut_in};
@@ -8,7 +8,6 @@ ghost use Rattle.bst_step.specs.Lines.{cut_in};
 use bv_base::bytes::is_white;
 use bv_base::memory::NoMemory;
 use bv_base::text::Text;
-use std::alloc::Global;
 use text_ops::is_blank::is_blank;
 
 /// A line that is finished, and where the buffer goes on: its first two bytes there are to be spaces.
@@ -18,15 +17,14 @@ pub struct Cut<'a> {
     pub next: usize,
 }
 
-/// Lines, each with its line end.
-pub fn with_ends(alloc: Global, lines: &[Text]) -> Result<Vec<u8>, NoMemory>
-    ensures { IfOk result (λ v. v.items ≡ flat_map (λ line. line ++ 10 ∷ []) lines.now) }
+/// Appends lines, each with its line end.
+pub fn push_lines(text: &mut Vec<u8>, lines: &[Text]) -> Result<(), NoMemory>
+    ensures { OnOk result (text.new.items ≡ text.old.items ++ flat_map (λ line. line ++ 10 ∷ []) lines.now) }
 {
-    let mut text = Vec::new(alloc);
     for line in lines {
-        push_line(&mut text, line.as_slice())?;
+        push_line(text, line.as_slice())?;
     }
-    Ok(text)
+    Ok(())
 }
 
 /// Appends a line and its line end.

@@ -1,6 +1,6 @@
 //! The machine that runs a style over a list of entries.
 
-ghost use Rattle.std.specs.Prelude.{◌≡◌, ◌-◌, ◌≤◌, true, false, option_map, IfOk, IsOk, OnOk, OnErr};
+ghost use Rattle.std.specs.Prelude.{◌≡◌, ◌-◌, ◌++◌, ◌≤◌, true, false, option_map, IfOk, IsOk, OnOk, OnErr};
 ghost use Rattle.bst_meaning.specs.Config as config;
 ghost use Rattle.bst_meaning.specs.Lines as rule;
 ghost use Rattle.bst_meaning.specs.Machine.{step, steps};
@@ -11,7 +11,7 @@ ghost use Rattle.bst_step.specs.MarkRules.{marks_after, marks_after_steps};
 ghost use Rattle.bst_step.specs.Room.{TakeRoom, step_takes_room};
 
 use crate::commands::first_step;
-use crate::lines::with_ends;
+use crate::lines::push_lines;
 use crate::opening::opening;
 pub use crate::page::Page;
 use crate::page::lines_of;
@@ -194,15 +194,15 @@ impl<'a> Machine<'a> {
         Ok(())
     }
 
-    /// The lines of the log, each with its line end.
-    pub fn log(&self) -> Result<Vec<u8>, NoMemory>
-        ensures log { IfOk result (λ v. v.items ≡ log_of (configuration self.now)) }
+    /// Adds the lines of the log to a text, each with its line end.
+    pub fn add_log(&self, text: &mut Vec<u8>) -> Result<(), NoMemory>
+        ensures added { OnOk result (text.new.items ≡ text.old.items ++ log_of (configuration self.now)) }
         ensures whole { OnOk result (is_broken self.now ≡ false) }
     {
         if self.broken {
             return Err(NoMemory);
         }
-        with_ends(self.state.alloc, self.state.log.as_slice())
+        push_lines(text, self.state.log.as_slice())
     }
 
     /// The bytes of the string so far below the top of the literal stack, which is at 0, where they are lent: a slice of the

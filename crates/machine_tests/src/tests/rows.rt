@@ -226,7 +226,7 @@ fn is_named(telling: Telling, site: Site, last: Place) -> bool {
 
 /// Adds what is told of a run that has ended.
 fn add_text(told: &mut String, telling: Telling, machine: &Machine<'_>) -> Result<(), NoMemory> {
-    let text = text_of(telling, machine)?;
+    let text = text_of(*told.allocator(), telling, machine)?;
     match telling {
         Telling::Lengths => add_lengths(told, text.as_slice()),
         _ => add_bytes(told, text.as_slice()),
@@ -234,9 +234,13 @@ fn add_text(told: &mut String, telling: Telling, machine: &Machine<'_>) -> Resul
 }
 
 /// The log or the lines of a machine.
-fn text_of(telling: Telling, machine: &Machine<'_>) -> Result<Vec<u8>, NoMemory> {
+fn text_of(alloc: Global, telling: Telling, machine: &Machine<'_>) -> Result<Vec<u8>, NoMemory> {
     match telling {
-        Telling::Log => machine.log(),
+        Telling::Log => {
+            let mut log = Vec::new(alloc);
+            machine.add_log(&mut log)?;
+            Ok(log)
+        }
         _ => machine.lines(),
     }
 }

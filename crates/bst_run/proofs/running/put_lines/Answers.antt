@@ -13,26 +13,26 @@ pub returns-in_err-put_part-clause-failed : goal.returns-in_err-put_part-clause-
 returns-in_err-put_part-clause-failed g c =
     let p = err_from_is_err_and c.from_residual.result c.from_residual.ensures.1 in
     let inv = c.loop-left.invariant in
-    let all : c.args.count - c.loop-left.left + 65536 + (c.loop-left.left - 65536) ≡ c.args.count = omega (arith, inv.0, c.loop-left-test.true) in
+    let all : c.args.count - c.loop-left.left + 8192 + (c.loop-left.left - 8192) ≡ c.args.count = omega (arith, inv.0, c.loop-left-test.true) in
     rw (p.1, p.2)
     (λ is.
     comes_as IsCut (style_of c.loop-left.machine) (style_of c.args.machine.now) _ c.args.count (configuration c.args.machine.now)
     (sunk g.O.Sink c.args.out.now c.put_part.new.out) inv.1 all
     (c.in_err-put_part.ensures.failed (refused_as c.in_err-put_part.field-0.0 Failed is)
-    (c.args.count - c.loop-left.left) ((c.loop-left.left - 65536)) (configuration c.args.machine.now) c.args.out.now
+    (c.args.count - c.loop-left.left) ((c.loop-left.left - 8192)) (configuration c.args.machine.now) c.args.out.now
     (so_far_as (style_of c.args.machine.now) (style_of c.loop-left.machine) _ _ _ _ _ _ (sym inv.1) refl inv.2)))
 
 pub returns-in_err-put_part-clause-wanting : goal.returns-in_err-put_part-clause-wanting
 returns-in_err-put_part-clause-wanting g c =
     let p = err_from_is_err_and c.from_residual.result c.from_residual.ensures.1 in
     let inv = c.loop-left.invariant in
-    let all : c.args.count - c.loop-left.left + 65536 + (c.loop-left.left - 65536) ≡ c.args.count = omega (arith, inv.0, c.loop-left-test.true) in
+    let all : c.args.count - c.loop-left.left + 8192 + (c.loop-left.left - 8192) ≡ c.args.count = omega (arith, inv.0, c.loop-left-test.true) in
     rw (p.1, p.2)
     (λ is.
     comes_as IsHeld (style_of c.loop-left.machine) (style_of c.args.machine.now) _ c.args.count (configuration c.args.machine.now)
     (sunk g.O.Sink c.args.out.now c.put_part.new.out) inv.1 all
     (c.in_err-put_part.ensures.wanting (refused_as c.in_err-put_part.field-0.0 NoMemory is)
-    (c.args.count - c.loop-left.left) ((c.loop-left.left - 65536)) (configuration c.args.machine.now) c.args.out.now
+    (c.args.count - c.loop-left.left) ((c.loop-left.left - 8192)) (configuration c.args.machine.now) c.args.out.now
     (so_far_as (style_of c.args.machine.now) (style_of c.loop-left.machine) _ _ _ _ _ _ (sym inv.1) refl inv.2)))
 
 -- the last part
