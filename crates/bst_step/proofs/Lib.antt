@@ -13,6 +13,7 @@ pub mod MovedSteps
 pub mod ValueSteps
 pub mod ViewSteps
 pub mod SettledSteps
+pub mod PassedSteps
 pub mod AssignSteps
 pub mod EffectSteps
 pub mod FoundSteps

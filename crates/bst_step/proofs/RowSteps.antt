@@ -1,8 +1,7 @@
 -- The key of the entry with a position of a table is that of the entry at the place of the list.
-use Rattle.std.proofs.Common.{◌≡◌, ℕ, zero, suc, ◌+◌, ◌<◌, ◌≤◌, nat_eq, false, sym, ap, ◌∙◌, List, [], ◌∷◌, arith, get_or, length, map, slice_get, Some}
-use Rattle.std.proofs.lemmas.Bool.{cases_lt}
+use Rattle.std.proofs.Common.{◌≡◌, ℕ, zero, suc, ◌+◌, ◌<◌, ◌≤◌, nat_eq, false, sym, ap, ◌∙◌, List, [], ◌∷◌, arith, get_or, length, map, slice_get}
 use Rattle.std.proofs.lemmas.Bool.Decides.{nat_tests}
-use Rattle.std.proofs.lemmas.List.Elements.{All-cons, All-head, All-nil, All-tail, All-weaker}
+use Rattle.std.proofs.lemmas.List.Elements.{All-cons, All-head, All-nil, All-tail}
 use Rattle.std.proofs.lemmas.List.Sorted.{All-permutation, IsPermutation-sym}
 use Rattle.std.proofs.lemmas.Option.{slice_get-get_or, slice_get_past}
 use Rattle.std.specs.List.{All, range_with_len}
@@ -12,7 +11,7 @@ use Rattle.bst_meaning.specs.EntryLists.{Entry}
 use Rattle.bst_meaning.specs.Keeping.{placed}
 use Rattle.entry_store.specs.PackedEntries.{nothing}
 use Rattle.bst_step.specs.declared.held.Held.{Held}
-use Rattle.bst_step.specs.EntryStates.{EntryState, IsTable, state_at, state_in, states_at}
+use Rattle.bst_step.specs.EntryStates.{EntryState, IsTable, state_in, states_at}
 use Rattle.bst_step.specs.Machine.{key_at}
 use Rattle.bst_step.proofs.KeySteps.{IsElsewhere, StandsAt, found_or_none}
 use Rattle.bst_step.proofs.TableSteps.{rows_within}

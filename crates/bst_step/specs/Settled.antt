@@ -1,6 +1,6 @@
 -- The strings that were made are brought to the front of their pool, one window of it after the other (docs/MACHINE.md, "How it is
 -- run").
-use Rattle.std.specs.Prelude.{◌≡◌, ℕ, ◌+◌, ◌≤◌, ◌⊎◌, min, Bool, true, false, ◌&&◌, nat_le, nat_lt, if◌then◌else◌, List, [], ◌∷◌, ◌++◌, drop, length, map, take}
+use Rattle.std.specs.Prelude.{◌≡◌, ℕ, ◌+◌, ◌<◌, ◌≤◌, ◌⊎◌, min, Bool, ◌&&◌, nat_le, nat_lt, if◌then◌else◌, List, [], ◌∷◌, ◌++◌, drop, length, map, take}
 use Rattle.std.specs.List.{flat_map, sum_by}
 use Rattle.bst_step.specs.declared.held.Held.{Held}
 use Rattle.bst_step.specs.declared.held.Held.TheVariants as held
@@ -59,6 +59,20 @@ Stands to from _ = Unit {0}
 abbrev pub ValuesStand : ℕ → ℕ → List Held → Type 0
 ValuesStand to from [] = Unit {0}
 ValuesStand to from (value ∷ values) = Stands to from value × ValuesStand to from values
+
+-- a string that was made ends before a place
+abbrev pub IsBefore : ℕ → Held → Type 0
+IsBefore front (held.Made start count) = start + count < front
+IsBefore front _ = Unit {0}
+
+-- all strings among values do
+abbrev pub AreBefore : ℕ → List Held → Type 0
+AreBefore front [] = Unit {0}
+AreBefore front (value ∷ values) = IsBefore front value × AreBefore front values
+
+-- a window begins at a place or behind it, and doesn't end before it begins
+abbrev pub BeginsBehind : ℕ → Window → Type 0
+BeginsBehind front window = (front ≤ window.from) × (window.from ≤ window.until)
 
 -- the strings of two lists of values stand in the finished part of a pool, which ends at one place, or are to come, from another on
 pub record AreParted (to from : ℕ) (pool : List ℕ) (globals own : List Held) : Type 0 where

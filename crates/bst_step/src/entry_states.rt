@@ -182,7 +182,12 @@ impl<'a> EntryTable<'a> {
     }
 
     /// Brings the bytes of the strings that these variables and those of entries hold to the front of their pool.
-    pub fn renew(&mut self, globals: &mut Variables<'a>, pool: &mut Vec<u8>) -> Result<(), NoMemory>
+    pub fn renew(
+        &mut self,
+        globals: &mut Variables<'a>,
+        pool: &mut Vec<u8>,
+        front: usize,
+    ) -> Result<(), NoMemory>
         requires globals { VariablesWithin (length pool.old.items) globals.old }
         requires entries { EntriesWithin (length pool.old.items) self.old }
         ensures globals_within { VariablesWithin (length pool.new.items) globals.new }
@@ -192,6 +197,6 @@ impl<'a> EntryTable<'a> {
         ensures seen { map (state_in pool.new.items) self.new ≡ map (state_in pool.old.items) self.old }
         ensures marks { map marked_in self.new ≡ map marked_in self.old }
     {
-        globals.renew(&mut self.values, pool)
+        globals.renew(&mut self.values, pool, front)
     }
 }

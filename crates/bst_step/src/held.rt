@@ -243,10 +243,10 @@ pub fn live_after(live: usize, old: Option<Held<'_>>, new: Held<'_>) -> usize {
     }
 }
 
-/// Whether a pool is worth to be made anew, of whose bytes so many are kept and variables hold so many: so that all pools that
-/// are made take a few times what was written at most.
-pub fn is_worth(kept: usize, live: usize, entries: usize) -> bool {
-    let rows = entries.saturating_mul(ENTRY_BYTES);
-    let least = (kept / 8).saturating_add(rows).saturating_add(LEAST_SPARED);
-    kept.saturating_sub(live) > least
+/// A pool of which so many bytes are kept, beside so many entries, is made anew where variables don't hold more of them than
+/// this: so that all pools that are made take a few times what was written at most.
+pub fn least_spared(kept: usize, entries: usize) -> usize {
+    (kept / 8)
+        .saturating_add(entries.saturating_mul(ENTRY_BYTES))
+        .saturating_add(LEAST_SPARED)
 }

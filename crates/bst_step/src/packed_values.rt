@@ -1,8 +1,10 @@
 //! Values of which most take eight bytes.
 
-ghost use Rattle.std.specs.Prelude.{◌≡◌, ◌<◌, ◌≤◌, [], length, map, slice_get, slice_set, take, vec_capacity, IfOk, IfSome};
+ghost use Rattle.std.specs.Prelude.{◌≡◌, ◌-◌, ◌<◌, ◌≤◌, [], drop, length, map, slice_get, slice_set, take, vec_capacity, IfOk, IfSome};
+ghost use Rattle.std.specs.Bool.{OnTrue};
 ghost use Rattle.bst_step.specs.EntryStates.{repeated};
 ghost use Rattle.bst_step.specs.PackedValues.{AreAmong, IsAmong, unpacked};
+ghost use Rattle.bst_step.specs.Settled.{AreBefore, IsBefore};
 
 use crate::held::Held;
 use bv_base::memory::NoMemory;
@@ -96,6 +98,26 @@ impl<'a> PackedValues<'a> {
             Some(packed) => Some(unpacked(*packed, self.others.as_slice())),
             None => None,
         }
+    }
+
+    /// The first place, from one on, at which a string ends at a place in the pool or behind it, and where there is none, how
+    /// many values there are.
+    #[inline(never)]
+    pub fn next_behind(&self, from: usize, front: usize) -> usize
+        requires { from ≤ length self.now }
+        ensures least { from ≤ result }
+        ensures within { result ≤ length self.now }
+        ensures passed { AreBefore front (take (result - from) (drop from self.now)) }
+    {
+        for at in from..self.len() {
+            let Some(value) = self.get(at) else {
+                unreachable!()
+            };
+            if !is_before(value, front) {
+                return at;
+            }
+        }
+        self.len()
     }
 
     /// Puts a value in the place of another.
@@ -218,5 +240,16 @@ fn widen<'a>(packed: &[Packed], others: &[Held<'a>], wide: &mut Vec<Held<'a>>)
 {
     for value in packed {
         wide.push_reserved(unpacked(*value, others));
+    }
+}
+
+/// Whether a string ends before a place in the pool. What is no string that was made does.
+#[inline(always)]
+fn is_before(value: Held<'_>, front: usize) -> bool
+    ensures { OnTrue result (IsBefore front value.entry) }
+{
+    match value {
+        Held::Made(start, count) => start < front && count < front - start,
+        _ => true,
     }
 }

@@ -1,18 +1,18 @@
 //! A pool made anew in place, one window of it after the other.
 
 ghost use Rattle.std.specs.Prelude.{◌≡◌, ◌+◌, ◌<◌, ◌≤◌, ◌++◌, ℕ, get_or, length, pos, slice_set, IfOk, MatchOption, OnErr, OnOk};
-ghost use Rattle.std.specs.Bool.{OnFalse};
+ghost use Rattle.std.specs.Bool.{OnFalse, OnTrue};
 ghost use Rattle.bst_step.specs.declared.held.Held.TheVariants.{Int};
 ghost use Rattle.bst_step.specs.Held.{ValuesWithin};
-ghost use Rattle.bst_step.specs.Settled.{AreParted, IsGathered, IsRenewed, begins_in, first_behind, moved_bytes, moved_count, next_behind, put_over, settled, values_bytes, values_count, values_settled};
+ghost use Rattle.bst_step.specs.Settled.{AreParted, IsGathered, IsRenewed, Stands, ValuesStand, begins_in, first_behind, moved_bytes, moved_count, next_behind, put_over, settled, values_bytes, values_count, values_settled, BeginsBehind};
 
 use crate::held::Held;
 use crate::packed_values::PackedValues;
 use bv_base::bytes::part_of;
 use bv_base::memory::NoMemory;
 
-/// The least room for the strings of a window.
-const LEAST_ROOM: usize = 65536;
+/// The least room for the strings of a window, in which most have room that were made since the pool was made anew.
+const LEAST_ROOM: usize = 1048576;
 
 /// A window takes about such a part of the pool.
 const WINDOWS: usize = 8;
@@ -38,30 +38,34 @@ impl Window {
     }
 }
 
-/// Brings the bytes of the strings that two lists of values hold to the front of the pool, so that the pool has no others.
-/// Where memory is wanting the pool is longer than that.
+/// Brings the bytes of the strings that two lists of values hold, and that stand behind a place in the pool, down to that place,
+/// so that behind it the pool has no others. Where a string stands on both sides of the place all are brought to the front of
+/// the pool. Where memory is wanting the pool is longer than that.
 pub fn renew_values(
     globals: &mut [Held<'_>],
     own: &mut PackedValues<'_>,
     pool: &mut Vec<u8>,
+    place: usize,
 ) -> Result<(), NoMemory>
     requires globals { ValuesWithin (length pool.old.items) globals.old }
     requires own { ValuesWithin (length pool.old.items) own.old }
     ensures globals { IsRenewed pool.old.items globals.old pool.new.items globals.new }
     ensures own { IsRenewed pool.old.items own.old pool.new.items own.new }
 {
-    let room = LEAST_ROOM.max(pool.as_slice().len() / WINDOWS);
+    let front = front_of(globals, own, pool.as_slice(), place);
+    let behind = pool.as_slice().len().saturating_sub(front);
+    let room = LEAST_ROOM.max(behind / WINDOWS);
     let mut moved = Vec::with_capacity(*pool.allocator(), room)?;
     let mut size = room - room / 8;
-    let mut to = 0;
-    let mut from = 0;
+    let mut to = front;
+    let mut from = front;
     while from < NOWHERE {
         let window = Window {
             to,
             from,
             until: from.saturating_add(size),
         };
-        match move_window(globals, own, window, pool, &mut moved)? {
+        match move_window(globals, own, front, window, pool, &mut moved)? {
             Some(next) => {
                 to += moved.as_slice().len();
                 from = next;
@@ -73,11 +77,63 @@ pub fn renew_values(
     Ok(())
 }
 
+/// A place in a pool, where no string of two lists of values stands on both sides of it, and else the front of the pool.
+fn front_of(globals: &[Held<'_>], own: &PackedValues<'_>, pool: &[u8], place: usize) -> usize
+    ensures { AreParted result result pool.now globals.now own.now }
+{
+    if place <= pool.len() && values_stand(globals, place) && packed_stand(own, place) {
+        place
+    } else {
+        0
+    }
+}
+
+/// Whether no string of values stands on both sides of a place in their pool.
+fn values_stand(values: &[Held<'_>], place: usize) -> bool
+    ensures { OnTrue result (ValuesStand place place values.now) }
+{
+    for value in values {
+        if !stands(*value, place) {
+            return false;
+        }
+    }
+    true
+}
+
+/// Whether no string of values that are packed stands on both sides of a place in their pool.
+fn packed_stand(values: &PackedValues<'_>, place: usize) -> bool
+    ensures { OnTrue result (ValuesStand place place values.now) }
+{
+    let mut at = values.next_behind(0, place);
+    while at < values.len() {
+        let Some(value) = values.get(at) else {
+            unreachable!()
+        };
+        if !stands(value, place) {
+            return false;
+        }
+        at = values.next_behind(at + 1, place);
+    }
+    true
+}
+
+/// Whether a string ends at a place at the latest, or begins there or behind it. What is no string that was made does.
+#[inline(always)]
+fn stands(value: Held<'_>, place: usize) -> bool
+    ensures { OnTrue result (Stands place place value.entry) }
+{
+    match value {
+        Held::Made(start, count) => place <= start || count <= place - start,
+        _ => true,
+    }
+}
+
 /// Brings the strings that begin in a window to the end of the finished part, where they end in front of the next one, and
 /// gives where that one begins. `None` says that they have no room, and that nothing has moved.
 fn move_window(
     globals: &mut [Held<'_>],
     own: &mut PackedValues<'_>,
+    front: usize,
     window: Window,
     pool: &mut Vec<u8>,
     moved: &mut Vec<u8>,
@@ -86,6 +142,7 @@ fn move_window(
     requires globals { ValuesWithin (length pool.old.items) globals.old }
     requires own { ValuesWithin (length pool.old.items) own.old }
     requires parted { AreParted window.to window.from pool.old.items globals.old own.old }
+    requires behind { BeginsBehind front window }
     ensures globals { IsRenewed pool.old.items globals.old pool.new.items globals.new }
     ensures own { IsRenewed pool.old.items own.old pool.new.items own.new }
     ensures parted { IfOk result (λ place. MatchOption place
@@ -94,20 +151,22 @@ fn move_window(
 {
     moved.clear();
     let next = gather_values(globals, window, NOWHERE, pool.as_slice(), moved)?;
-    let next = gather_packed(own, window, next, pool.as_slice(), moved)?;
-    put_window(globals, own, window, next, pool, moved.as_slice())
+    let next = gather_packed(own, front, window, next, pool.as_slice(), moved)?;
+    put_window(globals, own, front, window, next, pool, moved.as_slice())
 }
 
 /// Puts the strings that begin in a window, whose bytes were gathered, behind the finished part.
 fn put_window(
     globals: &mut [Held<'_>],
     own: &mut PackedValues<'_>,
+    front: usize,
     window: Window,
     next: usize,
     pool: &mut Vec<u8>,
     moved: &[u8],
 ) -> Result<Option<usize>, NoMemory>
-    requires { IsGathered window next pool.old.items moved.now globals.old own.old }
+    requires gathered { IsGathered window next pool.old.items moved.now globals.old own.old }
+    requires behind { BeginsBehind front window }
     ensures globals { IsRenewed pool.old.items globals.old pool.new.items globals.new }
     ensures own { IsRenewed pool.old.items own.old pool.new.items own.new }
     ensures parted { IfOk result (λ place. MatchOption place
@@ -119,7 +178,7 @@ fn put_window(
     }
     put_over(pool, window.to, moved)?;
     let end = settle_values(globals, window, window.to);
-    settle_packed(own, window, end);
+    settle_packed(own, front, window, end);
     Ok(Some(next))
 }
 
@@ -144,24 +203,28 @@ fn gather_values(
 }
 
 /// Appends the bytes of the strings that begin in a window, of values that are packed, and gives where the first string behind
-/// it begins, or another place that comes before that.
+/// it begins, or another place that comes before that. Those in front of a place are passed over.
 fn gather_packed(
     values: &PackedValues<'_>,
+    front: usize,
     window: Window,
     other: usize,
     pool: &[u8],
     moved: &mut Vec<u8>,
 ) -> Result<usize, NoMemory>
+    requires { BeginsBehind front window }
     ensures moved { OnOk result (moved.new.items ≡ moved.old.items ++ values_bytes window pool.now values.now) }
     ensures next { IfOk result (λ next. next ≡ first_behind window.until other values.now) }
 {
     let mut next = other;
-    for at in 0..values.len() {
+    let mut at = values.next_behind(0, front);
+    while at < values.len() {
         let Some(value) = values.get(at) else {
             unreachable!()
         };
         gather(value, window, pool, moved)?;
         next = next_behind(value, window, next);
+        at = values.next_behind(at + 1, front);
     }
     Ok(next)
 }
@@ -204,15 +267,18 @@ fn settle_values(values: &mut [Held<'_>], window: Window, to: usize) -> usize
 }
 
 /// Puts the strings that begin in a window, of values that are packed, one after the other from a place on, and gives where
-/// they end.
-fn settle_packed(values: &mut PackedValues<'_>, window: Window, to: usize) -> usize
-    requires { to + values_count window values.old ≤ 18446744073709551615 }
+/// they end. Those in front of another place are passed over.
+fn settle_packed(values: &mut PackedValues<'_>, front: usize, window: Window, to: usize) -> usize
+    requires behind { BeginsBehind front window }
+    requires fits { to + values_count window values.old ≤ 18446744073709551615 }
     ensures settled { values.new ≡ values_settled window to values.old }
     ensures end { result ≡ to + values_count window values.old }
 {
     let mut end = to;
-    for at in 0..values.len() {
+    let mut at = values.next_behind(0, front);
+    while at < values.len() {
         end += settle_at(values, at, window, end);
+        at = values.next_behind(at + 1, front);
     }
     end
 }

@@ -15,7 +15,7 @@ ghost use Rattle.bst_step.specs.Values.{cut, given_globally, given_in_entry, joi
 ghost use Rattle.bst_step.specs.Variables.{VariablesWithin, variable_in};
 
 use crate::entry_states::EntryTable;
-use crate::held::{Held, Operand, brought_down, is_worth, joined_in, live_after, made_in};
+use crate::held::{Held, Operand, brought_down, joined_in, least_spared, live_after, made_in};
 use crate::stack::Stack;
 use crate::typed::TypedEntry;
 use crate::variables::{Variable, Variables};
@@ -34,6 +34,10 @@ pub struct Values<'a> {
     kept: usize,
     /// How many bytes the strings have that variables hold and that were made: as many has a pool that is made anew.
     live: usize,
+    /// Where the bytes ended when the pool was last made anew.
+    front: usize,
+    /// How many of these no variable held then.
+    left: usize,
     stack: Stack<Held<'a>>,
     globals: Variables<'a>,
     entries: EntryTable<'a>,
@@ -65,6 +69,8 @@ impl<'a> Values<'a> {
             pool: Vec::new(alloc),
             kept: 0,
             live: 0,
+            front: 0,
+            left: 0,
             stack: Stack::new(alloc),
             globals,
             entries,
@@ -464,12 +470,15 @@ impl<'a> Values<'a> {
         if self.stack.len() > 0 {
             return Ok(());
         }
-        if !is_worth(self.kept, self.live, self.entries.len()) {
+        let least = least_spared(self.kept, self.entries.len());
+        if self.kept.saturating_sub(self.live) <= least {
             return Ok(());
         }
-        let renewed = self.entries.renew(&mut self.globals, &mut self.pool);
+        let front = if self.left > least / 2 { 0 } else { self.front };
+        let renewed = self.entries.renew(&mut self.globals, &mut self.pool, front);
         self.kept = self.pool.as_slice().len();
-        self.live = self.kept;
+        self.front = self.kept;
+        self.left = self.kept.saturating_sub(self.live);
         renewed
     }
 }

@@ -106,6 +106,7 @@ impl<'a> Variables<'a> {
         &mut self,
         others: &mut PackedValues<'a>,
         pool: &mut Vec<u8>,
+        front: usize,
     ) -> Result<(), NoMemory>
         requires own { VariablesWithin (length pool.old.items) self.old }
         requires others { ValuesWithin (length pool.old.items) others.old }
@@ -114,7 +115,7 @@ impl<'a> Variables<'a> {
         ensures marks { map marked_of self.new ≡ map marked_of self.old }
         ensures others { IsRenewed pool.old.items others.old pool.new.items others.new }
     {
-        renew_values(self.values.as_mut_slice(), others, pool)
+        renew_values(self.values.as_mut_slice(), others, pool, front)
     }
 }
 

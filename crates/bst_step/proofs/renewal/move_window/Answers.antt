@@ -3,8 +3,8 @@ use Rattle.std.proofs.Common.{◌++◌, ◌∙◌, List, ℕ, ap}
 use Rattle.bst_step.specs.Settled.{first_behind, values_bytes}
 use Rattle.bst_step.proofs.renewal.move_window.Goals as goal
 
-pub put_window-requires : goal.put_window-requires
-put_window-requires c = record {
+pub put_window-requires-clause-gathered : goal.put_window-requires-clause-gathered
+put_window-requires-clause-gathered c = record {
   until = c.requires.until;
   globals_within = c.requires.globals;
   own_within = c.requires.own;

@@ -1,6 +1,7 @@
--- At first all strings are to come, and in the end none is.
-use Rattle.std.proofs.Common.{arith}
-use Rattle.bst_step.proofs.SettledSteps.{none_moved, renewed_not, renewed_whole}
+-- At first all strings in front are finished and the others are to come, and in the end none is.
+use Rattle.std.proofs.Common.{List, ℕ, arith, le_refl, subst}
+use Rattle.bst_step.specs.Settled.{AreParted}
+use Rattle.bst_step.proofs.SettledSteps.{renewed_not, renewed_whole}
 use Rattle.bst_step.proofs.renewal.renew_values.Goals as goal
 
 pub loop-from-init : goal.loop-from-init
@@ -8,7 +9,10 @@ loop-from-init c = record {
   size = omega (arith, c.max-room.ensures);
   globals = renewed_not c.args.pool.now.items c.args.globals.now c.requires.globals;
   own = renewed_not c.args.pool.now.items c.args.own.now c.requires.own;
-  parted = none_moved c.args.pool.now.items c.args.globals.now c.args.own.now;
+  behind = le_refl c.front_of-front.result;
+  parted =
+      subst (λ (l : List ℕ). AreParted c.front_of-front.result c.front_of-front.result l c.args.globals.now c.args.own.now) c.as_slice.ensures.value
+      c.front_of-front.ensures;
 }
 
 pub returns-clause-globals : goal.returns-clause-globals

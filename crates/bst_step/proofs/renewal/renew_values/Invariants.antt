@@ -1,4 +1,4 @@
-use Rattle.std.proofs.Common.{◌+◌, ◌-◌, ◌<◌}
+use Rattle.std.proofs.Common.{◌+◌, ◌-◌, ◌<◌, ◌≤◌}
 use Rattle.bst_step.specs.Settled.{AreParted, IsRenewed}
 use Rattle.bst_step.proofs.renewal.renew_values.Given as goal
 
@@ -6,6 +6,7 @@ use Rattle.bst_step.proofs.renewal.renew_values.Given as goal
 abbrev pub invariant-loop-from : goal.invariant-loop-from
 invariant-loop-from l = record {
   size : 0 < l.size;
+  behind : l.front ≤ l.from;
   globals : IsRenewed l.fn.pool.items l.fn.globals l.pool.items l.globals;
   own : IsRenewed l.fn.pool.items l.fn.own l.pool.items l.own;
   parted : AreParted l.to l.from l.pool.items l.globals l.own;

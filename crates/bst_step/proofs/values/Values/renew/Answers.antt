@@ -1,8 +1,6 @@
 -- What variables hold is renewed over the pool.
-use Rattle.std.proofs.Common.{◌∙◌, ap, arith, length}
-use Rattle.bst_step.specs.Values.{Holding}
+use Rattle.std.proofs.Common.{length}
 use Rattle.bst_step.proofs.HeldSteps.{entries_later, variables_later}
-use Rattle.bst_step.proofs.RenewedSteps.{held_renewed, marks_renewed}
 use Rattle.bst_step.proofs.values.Values.renew.Goals as goal
 
 pub renew-renewed-requires-clause-globals : goal.renew-renewed-requires-clause-globals
