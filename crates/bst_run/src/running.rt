@@ -1,6 +1,6 @@
 //! A run that is delivered while it goes: its lines are put part by part.
 
-ghost use Rattle.std.specs.Prelude.{◌≡◌, ◌+◌, ◌++◌, ℕ, [], IfOk, OnOk, IsErrOf};
+ghost use Rattle.std.specs.Prelude.{◌≡◌, ◌+◌, ◌≤◌, ◌++◌, ℕ, [], IfOk, OnOk, IsErrOf};
 ghost use Rattle.bst_run.specs.Answers as answers;
 ghost use Rattle.bst_run.specs.Delivery.{sunk, IsPut, IsCut, IsHeld, IsDelivered, Delivers};
 ghost use Rattle.bst_run.specs.Putting.{AreSoFar, HasEnding, unwritten};
@@ -61,7 +61,7 @@ fn put_run<O: Sink, E: Sink>(alloc: Global, run: &Run, out: &mut O, err: &mut E)
 }
 
 /// Takes so many steps, or those up to the first that doesn't go on, and puts the lines that are finished. The answer is
-/// what the machine then stands at, without what was written.
+/// what the machine then stands at, without what was written. Once a part doesn't go on, the steps that are left are one part.
 fn put_lines<O: Sink>(
     alloc: Global,
     machine: &mut Machine<'_>,
@@ -79,13 +79,25 @@ fn put_lines<O: Sink>(
 {
     let mut page = Page::new(alloc);
     let mut left = count;
-    while left > PART {
-        put_part(machine, PART, &mut page, out)?;
-        left -= PART;
+    let mut part = PART;
+    while left > part {
+        let so_far = put_part(machine, part, &mut page, out)?;
+        left -= part;
+        part = next_part(&so_far, left);
     }
     let turn = put_part(machine, left, &mut page, out)?;
     put_rest(page, out)?;
     Ok(turn)
+}
+
+/// How many steps the next part has: all that are left, where the last one didn't go on, since none of these changes anything.
+fn next_part(so_far: &Turn, left: u32) -> u32
+    ensures { 1 ≤ result }
+{
+    match so_far {
+        Turn::Went => PART,
+        _ => left.max(1),
+    }
 }
 
 /// Takes so many steps, and puts the lines that they finish.

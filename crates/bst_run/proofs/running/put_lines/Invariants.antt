@@ -5,12 +5,13 @@ use Rattle.bst_run.specs.Delivery.{sunk}
 use Rattle.bst_run.specs.Putting.{AreSoFar}
 use Rattle.bst_run.proofs.running.put_lines.Given as goal
 
--- so many steps are left, and what those before wrote was put, but for what is on the page
-abbrev pub invariant-loop-left : goal.invariant-loop-left
-invariant-loop-left g l =
+-- so many steps are left, what those before wrote was put, but for what is on the page, and a part has a step
+abbrev pub invariant-loop-part : goal.invariant-loop-part
+invariant-loop-part g l =
     (l.left ≤ l.fn.count) × (style_of l.machine ≡ style_of l.fn.machine)
     × AreSoFar (style_of l.fn.machine) (l.fn.count - l.left) (configuration l.fn.machine) (configuration l.machine) (page_in l.page)
     (sunk g.O.Sink l.fn.out l.out)
+    × (1 ≤ l.part)
 
-abbrev pub decreases-loop-left : goal.decreases-loop-left
-decreases-loop-left g l = l.left
+abbrev pub decreases-loop-part : goal.decreases-loop-part
+decreases-loop-part g l = l.left
