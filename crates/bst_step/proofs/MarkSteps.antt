@@ -1,6 +1,6 @@
 -- The marks of values as they are held.
-use Rattle.std.proofs.Common.{◌≡◌, ℕ, zero, suc, nat_eq, ◌+◌, ◌≤◌, arith, refl, sym, ap, ◌∙◌, subst, cond, Bool, true, false, List, [], ◌∷◌, ◌++◌, drop, get_or, length, map, slice_get, Option, None, Some}
-use Rattle.std.specs.Option.{option_and_then, option_map, option_map_or}
+use Rattle.std.proofs.Common.{◌≡◌, ℕ, ℤ, zero, suc, nat_eq, ◌+◌, ◌≤◌, arith, refl, sym, ap, ◌∙◌, subst, cond, Bool, true, false, List, [], ◌∷◌, ◌++◌, drop, get_or, length, map, slice_get, Option, None, Some}
+use Rattle.std.specs.Option.{IfSome, option_and_then, option_map, option_map_or}
 use Rattle.std.proofs.Math.ListN.{set}
 use Rattle.std.proofs.lemmas.List.{drop-map, map-set, map_push}
 use Rattle.std.proofs.lemmas.Option.{slice_get-map}
@@ -13,7 +13,7 @@ use Rattle.bst_meaning.specs.Config as config
 use Rattle.bst_meaning.specs.EntryLists.{Entry}
 use Rattle.bst_step.specs.EntryStates.{EntryState, state_in, states_from, with_held_in}
 use Rattle.bst_step.specs.Held.{lent_of, value_in}
-use Rattle.bst_step.specs.Marks.{AreLent, AreLentIn, Made, Mark, Marked, Marks, found, given_globally, given_in_entry, lent_at, lent_mark, lent_marked, lent_marked_in, mark_at, mark_of, marked_in, marked_of, marks_in, with_entry_marked, with_marked}
+use Rattle.bst_step.specs.Marks.{AreLent, AreLentIn, Lent, Made, Mark, Marked, Marks, NoString, found, given_globally, given_in_entry, lent_at, lent_mark, lent_marked, lent_marked_in, mark_at, mark_of, marked_in, marked_of, marks_in, with_entry_marked, with_marked}
 use Rattle.bst_step.specs.Marks as marks
 use Rattle.bst_step.specs.Stack.{doubled, swapped}
 use Rattle.bst_step.specs.Variables.{held_at, variable_in, with_held}
@@ -90,6 +90,14 @@ pub mark_held : (id : ℕ) (vs : List Variable) → mark_at id (map marked_of vs
 mark_held id [] = refl
 mark_held id (v ∷ vs) = chosen (nat_eq v.name.0 id) v (mark_at id (map marked_of vs)) (held_at id vs) (mark_held id vs)
 
+-- a variable holds a value that is no string
+pub integer_marked : (id : ℕ) (vs : List Variable) (globals : List Marked) (h : Held) (o : Option ℤ) → globals ≡ map marked_of vs
+    → Some h ≡ held_at id vs → IfSome o (λ n. mark_of h ≡ NoString) → IfSome o (λ n. mark_at id globals ≡ Some NoString)
+integer_marked id vs globals h None seen there is = tt
+integer_marked id vs globals h (Some n) seen there is =
+    ap (λ (l : List Marked). mark_at id l) seen ∙ mark_held id vs
+    ∙ ap (λ (held : Option Held). option_map mark_of held) (sym there) ∙ ap (λ (t : Mark). Some t) is
+
 -- variables of which one has another value
 given_to : (b : Bool) (new v : Variable) (vs : List Variable) (later : List Marked) (held : List Variable) → map marked_of held ≡ later
     → map marked_of (cond b (new ∷ vs) (v ∷ held)) ≡ cond b (marked_of new ∷ map marked_of vs) (marked_of v ∷ later)
@@ -151,6 +159,15 @@ given_marks name (x ∷ hs) more gs later es h k top left given mark =
     ∙ ap (λ (l : List Marked). let m : Marks = record (marks_in hs gs es) { globals = l } in m) (with_marked_held (record { name = name; value = k }) gs)
     ∙ ap (λ (t : Mark). let m : Marks = record (marks_in hs gs es) { globals = with_marked (record { name = name; mark = t }) (map marked_of gs) } in m)
     (mark ∙ ap (λ (y : Held). mark_of y) same)
+
+-- a variable of the whole style is given a lent string that isn't pushed before
+pub lent_given : (name : NameId) (hs : List Held) (gs later : List Variable) (es : List EntryState) (k : Held)
+    → later ≡ with_held (record { name = name; value = k }) gs → mark_of k ≡ Lent
+    → marks_in hs later es ≡ given_globally name (Lent ∷ map mark_of hs) (marks_in hs gs es)
+lent_given name hs gs later es k given mark =
+    ap (λ (vs : List Variable). marks_in hs vs es) given
+    ∙ ap (λ (l : List Marked). let m : Marks = record (marks_in hs gs es) { globals = l } in m) (with_marked_held (record { name = name; value = k }) gs)
+    ∙ ap (λ (t : Mark). let m : Marks = record (marks_in hs gs es) { globals = with_marked (record { name = name; mark = t }) (map marked_of gs) } in m) mark
 
 -- the top goes to a variable of an entry, as a value of the same mark
 pub given_in_marks : (name : NameId) (at : ℕ) (hs more : List Held) (gs : List Variable) (es later : List EntryState) (h k : Held) → hs ≡ h ∷ drop 1 hs

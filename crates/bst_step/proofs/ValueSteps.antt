@@ -1,13 +1,16 @@
 -- What variables hold over a pool, as the machine's definition has it.
-use Rattle.std.proofs.Common.{◌≡◌, ℕ, refl, sym, ap, ◌∙◌, Bool, true, false, cond, nat_eq, List, [], ◌∷◌, map, slice_get, Option, None, Some}
-use Rattle.std.specs.Option.{option_and_then, option_map, option_map_or}
+use Rattle.std.proofs.Common.{◌≡◌, ℕ, ℤ, refl, sym, ap, ◌∙◌, Bool, true, false, cond, nat_eq, List, [], ◌∷◌, map, slice_get, Option, None, Some}
+use Rattle.std.specs.Option.{IfSome, option_and_then, option_map, option_map_or}
 use Rattle.std.proofs.Math.ListN.{set}
 use Rattle.std.proofs.lemmas.List.{map-set}
 use Rattle.std.proofs.lemmas.Option.{slice_get-map}
 use Rattle.name_table.specs.declared.names.NameId.{NameId}
+use Rattle.bst_meaning.specs.declared.value.Value.{Value}
+use Rattle.bst_meaning.specs.declared.value.Value.TheVariants.{Int}
 use Rattle.bst_meaning.specs.Config as config
 use Rattle.bst_meaning.specs.Invariant.{names_of}
 use Rattle.bst_meaning.specs.Machine.{value_at, with_entry_variable, with_variable}
+use Rattle.bst_step.specs.declared.held.Held.{Held}
 use Rattle.bst_step.specs.declared.variables.Variable.{Variable}
 use Rattle.bst_step.specs.EntryStates.{EntryState, state_in, with_held_in}
 use Rattle.bst_step.specs.Held.{value_in}
@@ -27,6 +30,15 @@ value_held pool id (v ∷ vs) = by (nat_eq v.name.0 id) (value_held pool id vs)
         → cond t (Some (value_in pool v.value)) (value_at id (map (variable_in pool) vs)) ≡ option_map (value_in pool) (cond t (Some v.value) (held_at id vs))
     by true later = refl
     by false later = later
+
+-- a variable holds an integer
+pub integer_held : (pool : List ℕ) (id : ℕ) (vs : List Variable) (globals : List config.Variable) (h : Held) (o : Option ℤ)
+    → globals ≡ map (variable_in pool) vs → Some h ≡ held_at id vs → IfSome o (λ n. value_in pool h ≡ Int n)
+    → IfSome o (λ n. value_at id globals ≡ Some (Int n))
+integer_held pool id vs globals h None seen there is = tt
+integer_held pool id vs globals h (Some n) seen there is =
+    ap (λ (l : List config.Variable). value_at id l) seen ∙ value_held pool id vs
+    ∙ ap (λ (held : Option Held). option_map (value_in pool) held) (sym there) ∙ ap (λ (v : Value). Some v) is
 
 -- a variable has a new value
 pub with_variable_held : (pool : List ℕ) (new : Variable) (vs : List Variable)

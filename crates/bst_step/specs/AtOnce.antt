@@ -2,9 +2,10 @@
 use Rattle.std.specs.Prelude.{◌≡◌, ℕ, ℤ, ◌+◌, ◌≤◌, Bool, true, false, length, nat_le, List, [], ◌∷◌, Option, None, Some, is_some, option_map}
 use Rattle.bv_base.specs.declared.place.Place.{Place}
 use Rattle.name_table.specs.declared.builtin.Builtin.{Builtin}
-use Rattle.name_table.specs.declared.builtin.Builtin.TheVariants.{IfElse, Skip}
+use Rattle.name_table.specs.declared.builtin.Builtin.TheVariants.{Assign, IfElse, Skip}
 use Rattle.name_table.specs.declared.names.Kind.{Kind}
 use Rattle.name_table.specs.declared.names.Kind.TheVariants.{Builtin as BuiltinKind, IntEntry, StrEntry, IntGlobal, StrGlobal}
+use Rattle.name_table.specs.declared.names.NameId.{NameId}
 use Rattle.name_table.specs.declared.style.Style.{Style}
 use Rattle.name_table.specs.declared.style.Token.{Token}
 use Rattle.name_table.specs.declared.style.Token.TheVariants.{Quote, Block as BlockToken, Call}
@@ -18,7 +19,7 @@ use Rattle.bst_meaning.specs.Builtins.{Context, built_in}
 use Rattle.bst_meaning.specs.Config.{Config, Frame}
 use Rattle.bst_meaning.specs.Effect.{pushed}
 use Rattle.bst_meaning.specs.Machine.{steps, visited_entry}
-use Rattle.bst_meaning.specs.StyleParts.{kind_of}
+use Rattle.bst_meaning.specs.StyleParts.{kind_of, tokens_of}
 use Rattle.bst_step.specs.declared.state.State.{State}
 use Rattle.bst_step.specs.MarkRules.{built_in_marks, marks_after_steps}
 use Rattle.bst_step.specs.Marks.{Marks, NoString, resulting}
@@ -41,6 +42,12 @@ Branches style (t ∷ u ∷ tokens) other place later =
     (function_of t.token ≡ Some other) × (kind_called style u.token ≡ Some (BuiltinKind IfElse)) × (u.place ≡ place) × (tokens ≡ later)
 Branches style _ other place later = ⊥
 
+-- the first of these tokens quotes a name, the second calls `:=`, and these are left then
+abbrev pub Assigns : Style → List TokenAt → NameId → List TokenAt → Type 0
+Assigns style (t ∷ u ∷ tokens) name later =
+    (t.token ≡ Quote name) × (kind_called style u.token ≡ Some (BuiltinKind Assign)) × (tokens ≡ later)
+Assigns style _ name later = ⊥
+
 -- the first of these tokens calls a built-in function, and these are left then
 abbrev pub Calls : Style → List TokenAt → Builtin → List TokenAt → Type 0
 Calls style (t ∷ tokens) function later = (kind_called style t.token ≡ Some (BuiltinKind function)) × (tokens ≡ later)
@@ -55,6 +62,11 @@ is_skip_kind _ = false
 abbrev pub is_skip : Style → Target → Bool
 is_skip style (Named name) = is_skip_kind (kind_of style name)
 is_skip style (Block body) = false
+
+-- a target is a block with nothing in it
+abbrev pub HasNothing : Style → Target → Type 0
+HasNothing style (Named name) = ⊥
+HasNothing style (Block body) = tokens_of style body ≡ []
 
 -- a built-in function makes this one of two integers, the lower one first
 abbrev pub Computes : Builtin → ℤ → ℤ → ℤ → Type 0

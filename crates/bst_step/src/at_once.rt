@@ -2,25 +2,25 @@
 
 ghost use Rattle.std.specs.Prelude.{◌≡◌, ◌+◌, ◌≤◌, true, None, IfOk, IfSome, IsOk, OnErr};
 ghost use Rattle.bst_meaning.specs.declared.value.Target.TheVariants.{Named};
-ghost use Rattle.bst_meaning.specs.declared.value.Value.TheVariants.{Func, Int};
+ghost use Rattle.bst_meaning.specs.declared.value.Value.TheVariants.{Func, Int, Str};
 ghost use Rattle.bst_meaning.specs.Machine.{steps, with_value};
 ghost use Rattle.bst_meaning.specs.StyleParts as parts;
 ghost use Rattle.bst_step.specs.AtOnce as rule;
-ghost use Rattle.bst_step.specs.AtOnce.{Branches, Calls, Computes, IsWithin, Took};
+ghost use Rattle.bst_step.specs.AtOnce.{Assigns, Branches, Calls, Computes, HasNothing, IsWithin, Took};
 ghost use Rattle.bst_step.specs.MarkRules.{marks_after_steps};
-ghost use Rattle.bst_step.specs.Marks.{NoString, pushed};
+ghost use Rattle.bst_step.specs.Marks.{Lent, NoString, pushed};
 ghost use Rattle.bst_step.specs.State.{config_of, HasRoom, LeavesRoom};
 
 use crate::effects::entered_at;
 use crate::held::Operand;
 use crate::state::{Part, State};
-use bst_meaning::style_parts::kind_of;
+use bst_meaning::style_parts::{kind_of, text_of, tokens_of};
 use bst_meaning::value::{ENTRY_SIZE, GLOBAL_SIZE, Target};
 use bv_base::memory::NoMemory;
 use bv_base::place::Place;
 use name_table::builtin::Builtin;
 use name_table::names::{Kind, NameId};
-use name_table::style::{Style, Token, TokenAt};
+use name_table::style::{Style, TextId, Token, TokenAt};
 
 impl<'a> State<'a> {
     /// Pushes a function, and takes the steps that are taken with it, whose number is given.
@@ -69,8 +69,29 @@ impl<'a> State<'a> {
         Ok(0)
     }
 
+    /// Pushes a text of the style, and takes the steps that are taken with it, whose number is given.
+    #[inline(always)]
+    pub fn text_steps(&mut self, style: &'a Style, text: TextId, left: u64) -> Result<u64, NoMemory>
+        requires { (config_of self.old).stopped ≡ None }
+        ensures moved { IfOk result (λ more. config_of self.new ≡
+            steps style.now more (with_value (Str (parts.text_of style.now text)) (config_of self.old))) }
+        ensures entries { OnErr result (self.new.values.entries ≡ self.old.values.entries) }
+        ensures marks { IfOk result (λ more. self.new.values.marks ≡
+            marks_after_steps style.now more (with_value (Str (parts.text_of style.now text)) (config_of self.old)) (pushed Lent self.old.values.marks)) }
+        ensures fits { HasRoom self.old → IsOk result }
+        ensures room { IfOk result (λ more. LeavesRoom (more + 1) self.old self.new) }
+        ensures few { IfOk result (λ more. IsWithin more left) }
+    {
+        let bytes = text_of(style, text);
+        if let Some(more) = self.gives(style, bytes, left) {
+            return Ok(more);
+        }
+        self.push(Operand::Str(bytes))?;
+        Ok(0)
+    }
+
     /// Enters a function or another one that would be pushed behind it, where `if$` is called then and an integer is on top. One
-    /// that is `skip$` is left again.
+    /// that is `skip$` or has nothing in it is left again.
     #[inline(always)]
     fn branches(
         &mut self,
@@ -99,6 +120,9 @@ impl<'a> State<'a> {
         if left > 4 && is_skip(style, chosen) {
             return Ok(Some(4));
         }
+        if left > 3 && has_nothing(style, chosen) {
+            return Ok(Some(3));
+        }
         self.enter(entered_at(style, chosen, place), place, Part::Whole)?;
         Ok(Some(2))
     }
@@ -121,6 +145,26 @@ impl<'a> State<'a> {
         self.frames.go_to(later);
         self.assign_top(style, name);
         Some(1)
+    }
+
+    /// Gives a text to the variable of the whole style that would be named behind it, where `:=` is called then and cuts nothing.
+    #[inline(always)]
+    fn gives(&mut self, style: &'a Style, text: &'a [u8], left: u64) -> Option<u64>
+        requires { (config_of self.old).stopped ≡ None }
+        ensures { Took style.now left result (with_value (Str text.now) (config_of self.old)) (pushed Lent self.old.values.marks) self.old self.new }
+    {
+        if left <= 2 || text.len() > GLOBAL_SIZE as usize {
+            return None;
+        }
+        let Some((name, later)) = assignment_ahead(style, self.frames.tokens()) else {
+            return None;
+        };
+        let Some(Kind::StrGlobal) = kind_of(style, name) else {
+            return None;
+        };
+        self.frames.go_to(later);
+        self.values.give_lent(name, text);
+        Some(2)
     }
 
     /// Computes with the integer on top and one that would be pushed, where a function on two integers is called then and gives one.
@@ -225,6 +269,23 @@ fn call_ahead<'a>(style: &Style, tokens: &'a [TokenAt]) -> Option<(Builtin, &'a 
     }
 }
 
+/// The name that the first of these tokens quotes, where the second calls `:=`, and the tokens that are left then.
+#[inline(always)]
+fn assignment_ahead<'a>(style: &Style, tokens: &'a [TokenAt]) -> Option<(NameId, &'a [TokenAt])>
+    ensures { IfSome result (λ assignment. Assigns style.now tokens.now assignment.0 assignment.1.now) }
+{
+    let [first, second, later @ ..] = tokens else {
+        return None;
+    };
+    let Token::Quote(name) = first.token else {
+        return None;
+    };
+    match kind_called(style, second.token) {
+        Some(Kind::Builtin(Builtin::Assign)) => Some((name, later)),
+        _ => None,
+    }
+}
+
 /// Whether a function is `skip$`.
 #[inline(always)]
 fn is_skip(style: &Style, target: Target) -> bool
@@ -233,6 +294,17 @@ fn is_skip(style: &Style, target: Target) -> bool
     match target {
         Target::Named(name) => matches!(kind_of(style, name), Some(Kind::Builtin(Builtin::Skip))),
         Target::Block(_) => false,
+    }
+}
+
+/// Whether a function is a block with nothing in it.
+#[inline(always)]
+fn has_nothing(style: &Style, target: Target) -> bool
+    ensures { result ≡ true → HasNothing style.now target }
+{
+    match target {
+        Target::Named(_) => false,
+        Target::Block(body) => tokens_of(style, body).is_empty(),
     }
 }
 

@@ -93,10 +93,8 @@ impl<'a> State<'a> {
             Token::Quote(name) => self.function_steps(style.base, Target::Named(name), left),
             Token::Block(body) => self.function_steps(style.base, Target::Block(body), left),
             Token::Int(n) => self.integer_steps(style.base, n, left),
-            token => {
-                self.token_step(style, token, place)?;
-                Ok(0)
-            }
+            Token::Str(text) => self.text_steps(style.base, text, left),
+            Token::Call(name) => self.call_steps(style, name, place, left),
         }
     }
 

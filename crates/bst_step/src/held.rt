@@ -1,7 +1,7 @@
 //! Values as the machine holds them: the bytes of a string are lent, or were made and stand in a pool.
 
-ghost use Rattle.std.specs.Prelude.{◌≡◌, ◌+◌, ◌<◌, ◌≤◌, ℕ, List, ◌++◌, drop, length, option_map, slice_get, take, IfOk, OnErr, OnOk};
-ghost use Rattle.bst_meaning.specs.declared.value.Value.TheVariants.{Str};
+ghost use Rattle.std.specs.Prelude.{◌≡◌, ◌+◌, ◌<◌, ◌≤◌, ℕ, List, ◌++◌, drop, length, option_map, slice_get, take, IfOk, IfSome, OnErr, OnOk};
+ghost use Rattle.bst_meaning.specs.declared.value.Value.TheVariants.{Int, Str};
 ghost use Rattle.bst_meaning.specs.Sorting.{string_of};
 ghost use Rattle.bst_step.specs.Held.{end_of, lent_of, part_from, value_in, value_of};
 ghost use Rattle.bst_step.specs.Marks as mark;
@@ -88,6 +88,18 @@ impl<'a> Held<'a> {
             Held::Missing(name) => Operand::Missing(name),
             Held::Func(target) => Operand::Func(target),
             Held::Made(start, count) => Operand::Str(part_of(pool, start, count)),
+        }
+    }
+
+    /// The integer that it is.
+    #[inline(always)]
+    pub fn integer(self) -> Option<i32>
+        ensures value { (pool : List ℕ) → IfSome result (λ n. value_in pool self.entry ≡ Int n) }
+        ensures mark { IfSome result (λ n. mark_of self.entry ≡ mark.NoString) }
+    {
+        match self {
+            Held::Int(n) => Some(n),
+            _ => None,
         }
     }
 

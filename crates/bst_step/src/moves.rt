@@ -10,6 +10,7 @@ use crate::stop::Stop;
 use crate::values::Values;
 
 /// `duplicate$`
+#[inline(always)]
 pub fn duplicate(values: &mut Values<'_>) -> Result<(), Stop>
     ensures left { Leaves result values.old values.new (one_operand values.old.stack (λ a rest. pushed a (a ∷ rest))) mark.doubled }
     ensures fits { 1 ≤ values.old.room → Fits result }
@@ -20,6 +21,7 @@ pub fn duplicate(values: &mut Values<'_>) -> Result<(), Stop>
 }
 
 /// `pop$`
+#[inline(always)]
 pub fn pop(values: &mut Values<'_>) -> Result<(), Stop>
     ensures left { Leaves result values.old values.new (one_operand values.old.stack (λ a rest. Ok (left rest))) (mark.taken 1) }
     ensures fits { Fits result }
@@ -30,6 +32,7 @@ pub fn pop(values: &mut Values<'_>) -> Result<(), Stop>
 }
 
 /// `swap$`
+#[inline(always)]
 pub fn swap(values: &mut Values<'_>) -> Result<(), Stop>
     ensures left { Leaves result values.old values.new (two_operands values.old.stack (λ a b rest. Ok (left (a ∷ b ∷ rest)))) mark.swapped }
     ensures fits { Fits result }

@@ -75,6 +75,7 @@ pub fn change_case(alloc: Global, values: &mut Values<'_>) -> Result<(), Stop>
 }
 
 /// `empty$`
+#[inline(always)]
 pub fn empty(values: &mut Values<'_>) -> Result<(), Stop>
     ensures left { Leaves result values.old values.new (field (λ bytes rest. pushed (truth (is_empty bytes)) rest) values.old.stack) (mark.resulting 1 mark.NoString) }
     ensures fits { Fits result }
@@ -88,6 +89,7 @@ pub fn empty(values: &mut Values<'_>) -> Result<(), Stop>
 }
 
 /// `missing$`
+#[inline(always)]
 pub fn missing(values: &mut Values<'_>) -> Result<(), Stop>
     ensures left { Leaves result values.old values.new (field (λ bytes rest. pushed (truth (is_none bytes)) rest) values.old.stack) (mark.resulting 1 mark.NoString) }
     ensures fits { Fits result }

@@ -1,71 +1,103 @@
-//! The execution of a token.
+//! The calls of names.
 
-ghost use Rattle.std.specs.Prelude.{◌≡◌, true, is_some, option_map, IfOk, IsOk, OnErr, OnOk};
+ghost use Rattle.std.specs.Prelude.{◌≡◌, ◌+◌, true, is_some, option_map, None, IfOk, IsOk, OnErr, OnOk};
 ghost use Rattle.std.specs.Option.{option_and_then};
 ghost use Rattle.bst_meaning.specs.StyleParts as parts;
 ghost use Rattle.bst_meaning.specs.Builtins.{built_in};
 ghost use Rattle.bst_meaning.specs.Machine as rule;
+ghost use Rattle.bst_step.specs.AtOnce.{IsWithin};
 ghost use Rattle.bst_step.specs.MarkRules as rules;
 ghost use Rattle.bst_step.specs.Marks as mark;
 ghost use Rattle.bst_step.specs.Marks.{lent_mark, mark_at};
-ghost use Rattle.bst_step.specs.Room.{built_in_takes_room, call_takes_room, token_takes_room};
+ghost use Rattle.bst_step.specs.Room.{built_in_takes_room, call_takes_room};
 ghost use Rattle.bst_step.specs.State.{config_of, HasRoom, LeavesRoom};
 ghost use Rattle.bst_step.specs.Moves.{with_field, with_entry_value, with_global, with_stack};
 ghost use Rattle.bst_step.specs.Values.{with_pushed};
 
-use crate::held::Operand;
 use crate::prepared::PreparedStyle;
 use crate::state::{Part, Rest, State};
 use crate::stop::Stop;
 use bst_meaning::fault::Fault;
-use bst_meaning::style_parts::{kind_of, text_of, tokens_of};
-use bst_meaning::value::Target;
+use bst_meaning::style_parts::{kind_of, tokens_of};
 use bv_base::memory::NoMemory;
 use bv_base::place::Place;
 use name_table::builtin::Builtin;
 use name_table::names::{Kind, NameId};
-use name_table::style::Token;
+use name_table::style::Style;
 
 impl<'a> State<'a> {
-    /// Executes a token, which its frame no longer has.
+    /// Calls a name, and takes the steps that are taken with it, whose number is given.
     #[inline(always)]
-    pub fn token_step(
-        &mut self,
-        style: &PreparedStyle<'a>,
-        token: Token,
-        place: Place,
-    ) -> Result<(), NoMemory>
-        ensures moved { OnOk result (config_of self.new ≡ rule.token_step style.now token place (config_of self.old)) }
-        ensures entries { OnErr result (self.new.values.entries ≡ self.old.values.entries) }
-        ensures marks { OnOk result (self.new.values.marks ≡ rules.token_marks style.now token (config_of self.old) self.old.values.marks) }
-        ensures fits { token_takes_room style.now token (config_of self.old) ≡ true → HasRoom self.old → IsOk result }
-        ensures room { OnOk result (LeavesRoom 1 self.old self.new) }
-    {
-        match token {
-            Token::Int(n) => self.push(Operand::Int(n)),
-            Token::Str(text) => self.push(Operand::Str(text_of(style.base, text))),
-            Token::Quote(name) => self.push(Operand::Func(Target::Named(name))),
-            Token::Block(body) => self.push(Operand::Func(Target::Block(body))),
-            Token::Call(name) => self.call_step(style, name, place),
-        }
-    }
-
-    /// Calls a name.
-    #[inline(always)]
-    fn call_step(
+    pub fn call_steps(
         &mut self,
         style: &PreparedStyle<'a>,
         name: NameId,
         place: Place,
-    ) -> Result<(), NoMemory>
-        ensures moved { OnOk result (config_of self.new ≡ rule.call_step style.now (parts.kind_of style.now name) name place (config_of self.old)) }
+        left: u64,
+    ) -> Result<u64, NoMemory>
+        requires { (config_of self.old).stopped ≡ None }
+        ensures moved { IfOk result (λ more. config_of self.new ≡
+            rule.steps style.now more (rule.call_step style.now (parts.kind_of style.now name) name place (config_of self.old))) }
         ensures entries { OnErr result (self.new.values.entries ≡ self.old.values.entries) }
-        ensures marks { OnOk result (self.new.values.marks ≡
-            rules.call_marks style.now (parts.kind_of style.now name) name (config_of self.old) self.old.values.marks) }
+        ensures marks { IfOk result (λ more. self.new.values.marks ≡
+            rules.marks_after_steps style.now more (rule.call_step style.now (parts.kind_of style.now name) name place (config_of self.old))
+            (rules.call_marks style.now (parts.kind_of style.now name) name (config_of self.old) self.old.values.marks)) }
         ensures fits { call_takes_room style.now (parts.kind_of style.now name) (config_of self.old) ≡ true → HasRoom self.old → IsOk result }
-        ensures room { OnOk result (LeavesRoom 1 self.old self.new) }
+        ensures room { IfOk result (λ more. LeavesRoom (more + 1) self.old self.new) }
+        ensures few { IfOk result (λ more. IsWithin more left) }
     {
         match kind_of(style.base, name) {
+            Some(Kind::IntGlobal) => self.integer_variable_steps(style.base, name, place, left),
+            kind => {
+                self.kind_step(style, kind, name, place)?;
+                Ok(0)
+            }
+        }
+    }
+
+    /// Pushes an integer variable of the whole style, and takes the steps that are taken with it, whose number is given.
+    #[inline(always)]
+    fn integer_variable_steps(
+        &mut self,
+        style: &Style,
+        name: NameId,
+        place: Place,
+        left: u64,
+    ) -> Result<u64, NoMemory>
+        requires { (config_of self.old).stopped ≡ None }
+        ensures moved { IfOk result (λ more. config_of self.new ≡ rule.steps style.now more (with_global name place (config_of self.old))) }
+        ensures entries { OnErr result (self.new.values.entries ≡ self.old.values.entries) }
+        ensures marks { IfOk result (λ more. self.new.values.marks ≡ rules.marks_after_steps style.now more (with_global name place (config_of self.old))
+            (mark.found (mark_at name.0 self.old.values.marks.globals) self.old.values.marks)) }
+        ensures fits { HasRoom self.old → IsOk result }
+        ensures room { IfOk result (λ more. LeavesRoom (more + 1) self.old self.new) }
+        ensures few { IfOk result (λ more. IsWithin more left) }
+    {
+        match self.values.global_integer(name) {
+            Some(n) => self.integer_steps(style, n, left),
+            None => {
+                self.push_global(name, place)?;
+                Ok(0)
+            }
+        }
+    }
+
+    /// Calls a name of a kind.
+    #[inline(always)]
+    fn kind_step(
+        &mut self,
+        style: &PreparedStyle<'a>,
+        kind: Option<Kind>,
+        name: NameId,
+        place: Place,
+    ) -> Result<(), NoMemory>
+        ensures moved { OnOk result (config_of self.new ≡ rule.call_step style.now kind name place (config_of self.old)) }
+        ensures entries { OnErr result (self.new.values.entries ≡ self.old.values.entries) }
+        ensures marks { OnOk result (self.new.values.marks ≡ rules.call_marks style.now kind name (config_of self.old) self.old.values.marks) }
+        ensures fits { call_takes_room style.now kind (config_of self.old) ≡ true → HasRoom self.old → IsOk result }
+        ensures room { OnOk result (LeavesRoom 1 self.old self.new) }
+    {
+        match kind {
             Some(Kind::Builtin(op)) => self.built_in_step(style, op, place),
             Some(Kind::Wizard(body)) => {
                 self.enter(

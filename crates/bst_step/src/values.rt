@@ -153,6 +153,7 @@ impl<'a> Values<'a> {
     }
 
     /// The value so far below the top.
+    #[inline(always)]
     pub fn below(&self, depth: usize) -> Option<Operand<'_>>
         ensures { option_map value_of result ≡ slice_get self.now.stack depth }
     {
@@ -326,7 +327,20 @@ impl<'a> Values<'a> {
             .replace_top(top.part(self.pool.as_slice(), from, count));
     }
 
+    /// The integer that a variable of the whole style holds. Nothing else is looked at.
+    #[inline(always)]
+    pub fn global_integer(&self, name: NameId) -> Option<i32>
+        ensures value { IfSome result (λ n. rule.value_at name.0 self.now.globals ≡ Some (Int n)) }
+        ensures mark { IfSome result (λ n. mark_at name.0 self.now.marks.globals ≡ Some mark.NoString) }
+    {
+        match self.globals.value(name) {
+            Some(held) => held.integer(),
+            None => None,
+        }
+    }
+
     /// Pushes the value of a variable of the whole style, and tells whether there is one.
+    #[inline(always)]
     pub fn push_global(&mut self, name: NameId) -> Result<bool, NoMemory>
         ensures stack { OnOk result (self.new.stack ≡ with_pushed (rule.value_at name.0 self.old.globals) self.old.stack) }
         ensures found { IfOk result (λ found. found ≡ is_some (rule.value_at name.0 self.old.globals)) }
@@ -383,6 +397,20 @@ impl<'a> Values<'a> {
             self.live = live_after(self.live, self.globals.value(name), value);
             self.globals.set(Variable { name, value });
         }
+    }
+
+    /// Gives a string whose bytes are lent to a variable of the whole style, as if it had been pushed before.
+    #[inline(always)]
+    pub fn give_lent(&mut self, name: NameId, bytes: &'a [u8])
+        ensures stack { self.new.stack ≡ self.old.stack }
+        ensures globals { self.new.globals ≡ given_globally name (Str bytes.now ∷ self.old.stack) self.old.globals }
+        ensures entries { self.new.entries ≡ self.old.entries }
+        ensures marks { self.new.marks ≡ mark.given_globally name (mark.Lent ∷ self.old.marks.stack) self.old.marks }
+        ensures room { self.old.room ≤ self.new.room }
+    {
+        let value = Operand::Str(bytes).held();
+        self.live = live_after(self.live, self.globals.value(name), value);
+        self.globals.set(Variable { name, value });
     }
 
     /// Takes the top off, and gives it to a variable of the entry at a place.

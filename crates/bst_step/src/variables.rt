@@ -81,6 +81,7 @@ impl<'a> Variables<'a> {
     }
 
     /// What the variable with this name holds.
+    #[inline(always)]
     pub fn value(&self, name: NameId) -> Option<Held<'a>>
         ensures { result ≡ held_at name.0 self.now }
     {
@@ -120,6 +121,7 @@ impl<'a> Variables<'a> {
 }
 
 /// The place of the variable with this name, by a table that has the place of each.
+#[inline(always)]
 fn place_in(places: &[usize], names: &[NameId], name: NameId) -> Option<usize>
     requires { StandAt places.now names.now }
     ensures place { result ≡ place_of name.0 names.now }
